@@ -7,19 +7,24 @@ use Rattle.cs_types.specs.declared.data_model.DataModel.{DataModel}
 use Rattle.cs_types.specs.Shape.{Shape}
 use Rattle.cs_ast.specs.declared.typed.operator.Allocator.{Allocator}
 use Rattle.cs_ast.specs.declared.typed.operator.Allocator.TheVariants.{Malloc, Calloc}
-use Rattle.cs_ast.specs.TypedTree.{Typed, Of, Form, Number, Null, Text, Local, Global, Through, Index, Member, Arrow, Load, Address, Decay, Convert, Unary, Not, Binary, Compare, Sum, Difference, And, Or, Choice, Comma, Assign, Update, Move, Call, Allocate, Free, TypedList, NoMore, Further, Initial, Value, Parts, Bytes, Initials, NoPart, Part, Statement, Block, Declare, Run, If, IfElse, While, Do, For, Switch, Goto, Label, Break, Continue, Return, Statements, Empty, Then}
+use Rattle.cs_ast.specs.TypedTree.{Typed, Of, Form, Number, Null, Text, Local, Global, Through, Index, Member, Arrow, Load, Address, Decay, Convert, Unary, Not}
+use Rattle.cs_ast.specs.TypedTree.{Binary, Compare, Sum, Difference, And, Or, Choice, Comma, Assign, Update, Move, Call, Allocate, Free, TypedList, NoMore}
+use Rattle.cs_ast.specs.TypedTree.{Further, Initial, Value, Parts, Bytes, Initials, NoPart, Part, Statement, Block, Declare, Run, If, IfElse, While, Do, For}
+use Rattle.cs_ast.specs.TypedTree.{Switch, Goto, Label, Break, Continue, Return, Statements, Empty, Then}
 use Rattle.cs_ast.specs.TypedProgram.{TypedProgram, Routine}
 use Rattle.cs_meaning.specs.Expressions.{count_all}
 use Rattle.cs_meaning.specs.Machine.{NOWHERE, no_routine}
 use Rattle.cs_cfg.specs.Working.{allocator_takes}
-use Rattle.cs_lower.specs.Allocations.{HasArguments, FormHasArguments, AllHaveArguments, OptionHasArguments, InitialHasArguments, InitialsHaveArguments, OptionInitialHasArguments, StatementHasArguments, StatementsHaveArguments, AllocationsHaveArguments}
+use Rattle.cs_lower.specs.Allocations.{HasArguments, FormHasArguments, AllHaveArguments, OptionHasArguments, InitialHasArguments, InitialsHaveArguments}
+use Rattle.cs_lower.specs.Allocations.{OptionInitialHasArguments, StatementHasArguments, StatementsHaveArguments, AllocationsHaveArguments}
 use Rattle.cs_well_formed.specs.Expressions.{Setting, IsWell, IsWellForm, AreWell, AreValuesOf, sizes_of}
 use Rattle.cs_well_formed.specs.Initials.{IsWellInitial, AreWellParts}
 use Rattle.cs_well_formed.specs.Statements.{IsDroppedIfAny, IsTestIfAny, IsReturned, IsWellStatement, AreWellStatements}
 use Rattle.cs_well_formed.specs.Programs.{setting_of, IsWellBody, IsWellRoutine, IsWellFormed}
 
 -- values that have the types of an allocation's sizes are as many
-sizes-counted : (model : DataModel) (allocator : Allocator) (arguments : TypedList) → AreValuesOf arguments (sizes_of model allocator) → count_all arguments ≡ allocator_takes allocator
+sizes-counted : (model : DataModel) (allocator : Allocator) (arguments : TypedList) → AreValuesOf arguments (sizes_of model allocator)
+    → count_all arguments ≡ allocator_takes allocator
 sizes-counted model Malloc (Further one NoMore) h = refl
 sizes-counted model Malloc NoMore h = absurd h
 sizes-counted model Malloc (Further one (Further two others)) h = absurd h.1

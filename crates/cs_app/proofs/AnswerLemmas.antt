@@ -1,5 +1,6 @@
 -- Which text belongs to a status: for the functions that make an answer.
-use Rattle.std.proofs.Common.{◌≡◌, ℕ, ◌+◌, ◌<◌, ◌≤◌, Bool, true, false, cond, List, ◌++◌, length, Option, Some, None, inl, inr, refl, sym, subst, arith}
+use Rattle.std.proofs.Common.{◌≡◌, ℕ, ◌+◌, ◌<◌, ◌≤◌, Bool, true, false, cond, List, ◌++◌, length, Option, Some, None, inl, inr, refl}
+use Rattle.std.proofs.Common.{sym, subst, arith}
 use Rattle.std.specs.Prelude.{◌⊎◌, Result, Ok, Err, IfOk, IfSome, codes, replicate}
 use Rattle.std.specs.List.{list_any}
 use Rattle.std.proofs.lemmas.List.{length-replicate}
@@ -34,37 +35,46 @@ use Rattle.cs_app.proofs.ReplayLemmas.{no_outcome}
 
 -- ---- a program
 -- a status that no analysis answers
-pub no_analysis : {A : Type 0} (status : Status) (found : Bool) → (status ≡ Clean → ⊥) → (status ≡ Found → ⊥) → status ≡ cond found Found Clean → A
+pub no_analysis : {A : Type 0} (status : Status) (found : Bool) → (status ≡ Clean → ⊥) → (status ≡ Found → ⊥)
+    → status ≡ cond found Found Clean → A
 no_analysis status true not_clean not_found is = absurd (not_found is)
 no_analysis status false not_clean not_found is = absurd (not_clean is)
 
 -- the answer of a command to the program that a file's tree is
-pub answers_program : (command : Command) (file : List ℕ) (lexed : Lexed) (parsed : List RawExternal) (program : TypedProgram) (status : Status) (text : List ℕ) → Parses file lexed parsed → typed_tree (model_of command) lexed parsed ≡ Fine program → IsProgramAnswer command lexed.files.items program status text → IsAnswer command file status text
+pub answers_program : (command : Command) (file : List ℕ) (lexed : Lexed) (parsed : List RawExternal) (program : TypedProgram) (status : Status)
+    (text : List ℕ) → Parses file lexed parsed → typed_tree (model_of command) lexed parsed ≡ Fine program
+    → IsProgramAnswer command lexed.files.items program status text → IsAnswer command file status text
 answers_program command file lexed parsed program BadFile text h typed answer =
     inr (record { lexed = lexed; tree = parsed; program = program; accepted = record { parsed = h; typed = typed }; answer = answer })
 answers_program command file lexed parsed program _ text h typed answer =
     record { lexed = lexed; tree = parsed; program = program; accepted = record { parsed = h; typed = typed }; answer = answer }
 
 -- a program has no answer of words
-no_answer_of_words : {A : Type 0} (command : Command) (files : List (List ℕ)) (program : TypedProgram) (text : List ℕ) → IsProgramAnswer command files program BadWords text → A
+no_answer_of_words : {A : Type 0} (command : Command) (files : List (List ℕ)) (program : TypedProgram) (text : List ℕ)
+    → IsProgramAnswer command files program BadWords text → A
 no_answer_of_words (Analyze words) files program text answer = no_analysis BadWords (list_any has_report answer.2.results) (λ e. cc) (λ e. cc) answer.2.found
 no_answer_of_words (Flow words) files program text answer = absurd (let is = answer.0 in cc)
 no_answer_of_words (Replay words) files program text answer = no_outcome BadWords answer.2.outcome (λ e. cc) (λ e. cc) answer.2.yields
 
 -- ---- a file
 -- the line that refuses a tree that is no program answers the file that has it
-pub refuses_type : (command : Command) (file : List ℕ) (lexed : Lexed) (parsed : List RawExternal) (refusal : TypeRefusal) (status : Status) (text : List ℕ) → status ≡ BadFile → verdicts.IsRefused (typed_tree (model_of command) lexed parsed) refusal → IsTypeLine lexed.files.items refusal text → Parses file lexed parsed → IsAnswer command file status text
+pub refuses_type : (command : Command) (file : List ℕ) (lexed : Lexed) (parsed : List RawExternal) (refusal : TypeRefusal) (status : Status) (text : List ℕ)
+    → status ≡ BadFile → verdicts.IsRefused (typed_tree (model_of command) lexed parsed) refusal → IsTypeLine lexed.files.items refusal text
+    → Parses file lexed parsed → IsAnswer command file status text
 refuses_type command file lexed parsed (types.Code code place) status text is refused line h =
     subst (λ s. IsAnswer command file s text) (sym is) (inl (by_type lexed parsed h code place refused line))
 refuses_type command file lexed parsed types.Memory status text is refused line h = absurd line
 
 -- the line that refuses tokens that are no file answers the file that has them
-pub refuses_syntax : (command : Command) (file : List ℕ) (lexed : Lexed) (refusal : SyntaxRefusal) (status : Status) (text : List ℕ) → status ≡ BadFile → IsFileRefusal lexed.list.items lexed.end refusal → IsSyntaxLine lexed.files.items refusal text → length file ≤ MOST_BYTES → Lexes file lexed → IsAnswer command file status text
+pub refuses_syntax : (command : Command) (file : List ℕ) (lexed : Lexed) (refusal : SyntaxRefusal) (status : Status) (text : List ℕ) → status ≡ BadFile
+    → IsFileRefusal lexed.list.items lexed.end refusal → IsSyntaxLine lexed.files.items refusal text → length file ≤ MOST_BYTES → Lexes file lexed
+    → IsAnswer command file status text
 refuses_syntax command file lexed refusal status text is refused line short has =
     subst (λ s. IsAnswer command file s text) (sym is) (inl (by_syntax short lexed has refusal refused line))
 
 -- the line that refuses a text without tokens answers it
-pub refuses_tokens : (command : Command) (file : List ℕ) (refusal : LexRefusal) (status : Status) (text : List ℕ) → status ≡ BadFile → length file ≤ MOST_BYTES → IsRefused file refusal → IsLexLine refusal text → IsAnswer command file status text
+pub refuses_tokens : (command : Command) (file : List ℕ) (refusal : LexRefusal) (status : Status) (text : List ℕ) → status ≡ BadFile
+    → length file ≤ MOST_BYTES → IsRefused file refusal → IsLexLine refusal text → IsAnswer command file status text
 refuses_tokens command file refusal status text is short refused line =
     subst (λ s. IsAnswer command file s text) (sym is) (inl (by_lexing short refusal refused line))
 
@@ -72,52 +82,64 @@ refuses_tokens command file refusal status text is short refused line =
 some_longer : (n : ℕ) → (file : List ℕ) × (n < length file)
 some_longer n = (replicate (n + 1) 0, omega (arith, length-replicate {A = ℕ} (n + 1) 0))
 
-long_answer : (command : Command) (file : List ℕ) (status : Status) (text : List ℕ) → status ≡ BadFile → text ≡ codes "refused too-long 4194305\n" → MOST_BYTES < length file → IsAnswer command file status text
+long_answer : (command : Command) (file : List ℕ) (status : Status) (text : List ℕ) → status ≡ BadFile → text ≡ codes "refused too-long 4194305\n"
+    → MOST_BYTES < length file → IsAnswer command file status text
 long_answer command file status text is line long = subst (λ s. IsAnswer command file s text) (sym is) (inl (too_long long line))
 
 -- the line that refuses a file that is too long answers it
-pub refuses_length : (command : Command) (left : Option (List ℕ)) (status : Status) (text : List ℕ) → status ≡ BadFile → text ≡ codes "refused too-long 4194305\n" → IfSome left (λ file. MOST_BYTES < length file) → IsFileAnswer command left status text
+pub refuses_length : (command : Command) (left : Option (List ℕ)) (status : Status) (text : List ℕ) → status ≡ BadFile
+    → text ≡ codes "refused too-long 4194305\n" → IfSome left (λ file. MOST_BYTES < length file) → IsFileAnswer command left status text
 refuses_length command (Some file) status text is line long = (file, refl, long_answer command file status text is line long)
 refuses_length command None status text is line long =
     let some = some_longer MOST_BYTES in
     (some.0, tt, long_answer command some.0 status text is line some.1)
 
 -- an answer to the bytes that were read is one to the file, where the source tells what it is
-pub answers_left : (command : Command) (left : Option (List ℕ)) (file : List ℕ) (status : Status) (text : List ℕ) → IfSome left (λ bytes. file ≡ bytes) → IsAnswer command file status text → IsFileAnswer command left status text
+pub answers_left : (command : Command) (left : Option (List ℕ)) (file : List ℕ) (status : Status) (text : List ℕ)
+    → IfSome left (λ bytes. file ≡ bytes) → IsAnswer command file status text → IsFileAnswer command left status text
 answers_left command (Some bytes) file status text same answer = (file, same, answer)
 answers_left command None file status text same answer = (file, tt, answer)
 
 -- ---- words
 -- an answer to the file answers the words, too, where they mean the command
-whole_of_file : (words : List (List ℕ)) (left : Option (List ℕ)) (command : Command) (status : Status) (text : List ℕ) → WordsMean words command → IsFileAnswer command left status text → IsWhole words left status text
+whole_of_file : (words : List (List ℕ)) (left : Option (List ℕ)) (command : Command) (status : Status) (text : List ℕ) → WordsMean words command
+    → IsFileAnswer command left status text → IsWhole words left status text
 whole_of_file words left command BadWords text meant answer =
     let a = answer.2 in
     no_answer_of_words command a.lexed.files.items a.program text a.answer
 whole_of_file words left command _ text meant answer = (command, meant, answer)
 
 -- the same of a function's result
-pub whole_of_result : (words : List (List ℕ)) (left : Option (List ℕ)) (command : Command) (r : Result Answer Failure) → WordsMean words command → IfOk r (λ answer. IsFileAnswer command left answer.status answer.text.items) → IfOk r (λ answer. IsWhole words left answer.status answer.text.items)
+pub whole_of_result : (words : List (List ℕ)) (left : Option (List ℕ)) (command : Command) (r : Result Answer Failure) → WordsMean words command
+    → IfOk r (λ answer. IsFileAnswer command left answer.status answer.text.items) → IfOk r (λ answer. IsWhole words left answer.status answer.text.items)
 whole_of_result words left command (Ok answer) meant h = whole_of_file words left command answer.status answer.text.items meant h
 whole_of_result words left command (Err failure) meant h = tt
 
 -- the line that refuses the words
-pub whole_of_words : (words : List (List ℕ)) (left : Option (List ℕ)) (status : Status) (text : List ℕ) (refusal : WordsRefusal) (n : ℕ) → status ≡ BadWords → refusal ≡ words_refusal.Words n → scan.IsRefusal words refusal → text ≡ codes "refused words " ++ (decimal n ++ codes "\n") → IsWhole words left status text
+pub whole_of_words : (words : List (List ℕ)) (left : Option (List ℕ)) (status : Status) (text : List ℕ) (refusal : WordsRefusal) (n : ℕ)
+    → status ≡ BadWords → refusal ≡ words_refusal.Words n → scan.IsRefusal words refusal
+    → text ≡ codes "refused words " ++ (decimal n ++ codes "\n") → IsWhole words left status text
 whole_of_words words left status text refusal n is one refused line =
     subst (λ s. IsWhole words left s text) (sym is) (n, subst (λ r. scan.IsRefusal words r) one refused, line)
 
 -- the words that were read as a command mean it alone
-pub only_command : (words : List (List ℕ)) (left : Option (List ℕ)) (one other : Command) (read : Result Command WordsRefusal) (r : Result Answer Failure) → read ≡ Ok one → (read ≡ Ok other) ⊎ (read ≡ Err words_refusal.Memory) → IfOk r (λ answer. IsFileAnswer one left answer.status answer.text.items) → IfOk r (λ answer. IsFileAnswer other left answer.status answer.text.items)
+pub only_command : (words : List (List ℕ)) (left : Option (List ℕ)) (one other : Command) (read : Result Command WordsRefusal) (r : Result Answer Failure)
+    → read ≡ Ok one → (read ≡ Ok other) ⊎ (read ≡ Err words_refusal.Memory)
+    → IfOk r (λ answer. IsFileAnswer one left answer.status answer.text.items)
+    → IfOk r (λ answer. IsFileAnswer other left answer.status answer.text.items)
 only_command words left one other read r is (inl e) h =
     let same : one ≡ other = cc in
     subst (λ command. IfOk r (λ answer. IsFileAnswer command left answer.status answer.text.items)) same h
 only_command words left one other read r is (inr e) h = absurd cc
 
 -- the words that were read as a command aren't refused
-pub not_refused_words : {A : Type 0} (one : Command) (n : ℕ) (read : Result Command WordsRefusal) → read ≡ Ok one → (read ≡ Err (words_refusal.Words n)) ⊎ (read ≡ Err words_refusal.Memory) → A
+pub not_refused_words : {A : Type 0} (one : Command) (n : ℕ) (read : Result Command WordsRefusal) → read ≡ Ok one
+    → (read ≡ Err (words_refusal.Words n)) ⊎ (read ≡ Err words_refusal.Memory) → A
 not_refused_words one n read is (inl e) = absurd cc
 not_refused_words one n read is (inr e) = absurd cc
 
 -- the words that are refused mean no command
-pub none_meant : {A : Type 0} (other : Command) (n : ℕ) (refusal : WordsRefusal) (read : Result Command WordsRefusal) → read ≡ Err refusal → refusal ≡ words_refusal.Words n → (read ≡ Ok other) ⊎ (read ≡ Err words_refusal.Memory) → A
+pub none_meant : {A : Type 0} (other : Command) (n : ℕ) (refusal : WordsRefusal) (read : Result Command WordsRefusal) → read ≡ Err refusal
+    → refusal ≡ words_refusal.Words n → (read ≡ Ok other) ⊎ (read ≡ Err words_refusal.Memory) → A
 none_meant other n refusal read is one (inl e) = absurd cc
 none_meant other n refusal read is one (inr e) = absurd cc

@@ -1,5 +1,6 @@
 -- The entry of a replay, and which texts belong to a status of its run: for the functions that answer a replay.
-use Rattle.std.proofs.Common.{◌≡◌, ℕ, suc, Bool, true, false, List, [], ◌∷◌, ◌++◌, map, length, Option, Some, None, refl, sym, ap, ◌∙◌, subst, rules}
+use Rattle.std.proofs.Common.{◌≡◌, ℕ, suc, Bool, true, false, List, [], ◌∷◌, ◌++◌, map, length, Option, Some, None, refl, sym, ap, ◌∙◌}
+use Rattle.std.proofs.Common.{subst, rules}
 use Rattle.std.specs.Prelude.{is_some, codes, option_map, nat_eq, ◌&&◌}
 use Rattle.std.specs.List.{position, prefix_len}
 use Rattle.std.specs.Cmp.Lexicographic.{pointwise}
@@ -37,26 +38,34 @@ position-map : {X Y : Type 0} (p : Y → Bool) (f : X → Y) (xs : List X) → p
 position-map p f xs = simp (prefix_len-map, length-map)
 
 -- the entry is sought among the functions of the program
-pub entry_among : (functions : List Function) (name : List ℕ) → position (is_entry name) (map routine functions) ≡ position (λ f. is_entry name (routine f)) functions
+pub entry_among : (functions : List Function) (name : List ℕ)
+    → position (is_entry name) (map routine functions) ≡ position (λ f. is_entry name (routine f)) functions
 entry_among functions name = position-map (is_entry name) routine functions
 
 -- a status that no run has
-pub no_outcome : {A : Type 0} (status : Status) (outcome : Outcome) → (status ≡ Clean → ⊥) → (status ≡ Found → ⊥) → status ≡ outcome_status outcome → A
+pub no_outcome : {A : Type 0} (status : Status) (outcome : Outcome) → (status ≡ Clean → ⊥) → (status ≡ Found → ⊥)
+    → status ≡ outcome_status outcome → A
 no_outcome status (Done returned) not_clean not_found is = absurd (not_clean is)
 no_outcome status (Fault kind place) not_clean not_found is = absurd (not_found is)
 no_outcome status (Over budget place) not_clean not_found is = absurd (not_clean is)
 
 -- the line of the run answers the replay of the entry
-pub answers_replay : (files : List (List ℕ)) (program : TypedProgram) (words : ReplayWords) (entry : ℕ) (status : Status) (text : List ℕ) → entry_of words.entry program ≡ Some entry → IsReplayOf files program words entry status text → IsReplayAnswer files program words status text
+pub answers_replay : (files : List (List ℕ)) (program : TypedProgram) (words : ReplayWords) (entry : ℕ) (status : Status) (text : List ℕ)
+    → entry_of words.entry program ≡ Some entry → IsReplayOf files program words entry status text → IsReplayAnswer files program words status text
 answers_replay files program words entry NoEntry text found replay = no_outcome NoEntry replay.outcome (λ e. cc) (λ e. cc) replay.yields
 answers_replay files program words entry _ text found replay = (entry, found, replay)
 
 -- the line says that there is no entry
-pub refuses_entry : (files : List (List ℕ)) (program : TypedProgram) (words : ReplayWords) (status : Status) (text : List ℕ) → entry_of words.entry program ≡ None → status ≡ NoEntry → text ≡ codes "refused entry " ++ (words.entry ++ codes "\n") → IsReplayAnswer files program words status text
+pub refuses_entry : (files : List (List ℕ)) (program : TypedProgram) (words : ReplayWords) (status : Status) (text : List ℕ)
+    → entry_of words.entry program ≡ None → status ≡ NoEntry → text ≡ codes "refused entry " ++ (words.entry ++ codes "\n")
+    → IsReplayAnswer files program words status text
 refuses_entry files program words status text none is line = subst (λ s. IsReplayAnswer files program words s text) (sym is) (none, line)
 
 -- a run that begins with no guesses, told by its line
-pub replay_is : (files : List (List ℕ)) (program : TypedProgram) (words : ReplayWords) (entry number : ℕ) (guesses : List Guess) (outcome : Outcome) (log : Log) (status : Status) (text : List ℕ) → number ≡ entry → guesses ≡ [] → RunGives program number (record { inputs = words.inputs; guesses = guesses }) words.budgets outcome log → text ≡ replay_line files outcome → status ≡ outcome_status outcome → IsReplayOf files program words entry status text
+pub replay_is : (files : List (List ℕ)) (program : TypedProgram) (words : ReplayWords) (entry number : ℕ) (guesses : List Guess) (outcome : Outcome)
+    (log : Log) (status : Status) (text : List ℕ) → number ≡ entry → guesses ≡ []
+    → RunGives program number (record { inputs = words.inputs; guesses = guesses }) words.budgets outcome log → text ≡ replay_line files outcome
+    → status ≡ outcome_status outcome → IsReplayOf files program words entry status text
 replay_is files program words entry number guesses outcome log status text same none ends says yields = record {
   outcome = outcome;
   log = log;
@@ -67,11 +76,13 @@ replay_is files program words entry number guesses outcome log status text same 
 }
 
 -- the entry that is found has a body
-pub entry_has_body : (program : TypedProgram) (name : List ℕ) (entry : ℕ) → entry_of name program ≡ Some entry → (routine_of program entry).body ≡ None → ⊥
+pub entry_has_body : (program : TypedProgram) (name : List ℕ) (entry : ℕ) → entry_of name program ≡ Some entry
+    → (routine_of program entry).body ≡ None → ⊥
 entry_has_body program name entry found none =
     let nowhere = no_routine NOWHERE in
     let is = (position-Some (is_entry name) program.routines entry nowhere found).1 in
-    let has = right (pointwise nat_eq (routine_of program entry).name name) (is_some (routine_of program entry).body) (ap (is_entry name) (unwrap_or-slice_get program.routines entry nowhere) ∙ is) in
+    let has = right (pointwise nat_eq (routine_of program entry).name name) (is_some (routine_of program entry).body)
+    (ap (is_entry name) (unwrap_or-slice_get program.routines entry nowhere) ∙ is) in
     lacks (ap is_some none ∙ refl) has
   where
     right : (a b : Bool) → (a && b) ≡ true → b ≡ true

@@ -29,11 +29,15 @@ answer_is_covered count (Single (Parameter at declaration)) within = within
 answer_is_covered count (Single (Literal at value)) within = literal_is_int value within
 answer_is_covered count (Quotient at left right) within = (atom_is_covered count left within.0, atom_is_covered count right within.1)
 
-body_is_covered : (count : ℕ) (guards : List Guard) (at : Place) (answer : Answer) → All (IsGuardWithin count) guards → IsAnswerWithin count answer → IsBody count (body_trees guards at answer)
+body_is_covered : (count : ℕ) (guards : List Guard) (at : Place) (answer : Answer) → All (IsGuardWithin count) guards → IsAnswerWithin count answer
+    → IsBody count (body_trees guards at answer)
 body_is_covered count [] at answer guards_within within = answer_is_covered count answer within
 body_is_covered count (guard ∷ guards) at answer guards_within within =
-    let first = All-head (IsGuardWithin count) guard guards guards_within in
-    ((first.tested, literal_is_int guard.literal first.literal), answer_is_covered count guard.answer first.answer, body_is_covered count guards at answer (All-tail (IsGuardWithin count) guard guards guards_within) within)
+    let first = All-head (IsGuardWithin count) guard guards guards_within in (
+      (first.tested, literal_is_int guard.literal first.literal),
+      answer_is_covered count guard.answer first.answer,
+      body_is_covered count guards at answer (All-tail (IsGuardWithin count) guard guards guards_within) within,
+    )
 
 count_of-body_trees : (guards : List Guard) (at : Place) (answer : Answer) → count_of (body_trees guards at answer) ≡ length guards + 1
 count_of-body_trees [] at answer = refl
@@ -54,4 +58,6 @@ small_is_analyzable small within = record {
 pub form_is_analyzable : (program : TypedProgram) (functions : List Definition) → IsOfForm program functions → All IsAnalyzable functions
 form_is_analyzable program functions form =
     let read = map_some (map tree) (reading.functions program.routines) functions form in
-    subst (All IsAnalyzable) read.2 (All-map IsAnalyzable tree read.0 (All-weaker IsWithinLimits (λ small. IsAnalyzable (tree small)) small_is_analyzable read.0 (functions_within program.routines read.0 read.1)))
+    subst (All IsAnalyzable) read.2
+    (All-map IsAnalyzable tree read.0
+    (All-weaker IsWithinLimits (λ small. IsAnalyzable (tree small)) small_is_analyzable read.0 (functions_within program.routines read.0 read.1)))

@@ -49,7 +49,8 @@ pub record IsReplayOf (files : List (List ℕ)) (program : TypedProgram) (words 
 -- the replay of the entry that the words name, or the line that says that there is none
 abbrev pub IsReplayAnswer : List (List ℕ) → TypedProgram → ReplayWords → Status → List ℕ → Type 0
 IsReplayAnswer files program words NoEntry text = (entry_of words.entry program ≡ None) × (text ≡ codes "refused entry " ++ (words.entry ++ codes "\n"))
-IsReplayAnswer files program words status text = (entry : ℕ) × (entry_of words.entry program ≡ Some entry) × IsReplayOf files program words entry status text
+IsReplayAnswer files program words status text = (entry : ℕ) × (entry_of words.entry program ≡ Some entry)
+    × IsReplayOf files program words entry status text
 
 -- the text tells the control points of each function, and what is met next on each way out of them
 abbrev pub IsFlowAnswer : TypedProgram → Status → List ℕ → Type 0
@@ -144,4 +145,5 @@ pub record IsAcceptable (words : List (List ℕ)) (file : Option (List ℕ)) : T
   pub lexed : Lexed
   pub tree : List RawExternal
   pub parsed : Parses bytes lexed tree
-  pub suits : (other : List RawExternal) → Parses bytes lexed other → (program : TypedProgram) × (typed_tree (model_of command) lexed other ≡ Fine program) × Suits command program
+  pub suits : (other : List RawExternal) → Parses bytes lexed other
+      → (program : TypedProgram) × (typed_tree (model_of command) lexed other ≡ Fine program) × Suits command program

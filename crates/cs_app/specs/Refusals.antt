@@ -53,6 +53,8 @@ pub data IsRefusal (model : DataModel) (file text : List ℕ) : Type 0 where
   too_long : MOST_BYTES < length file → text ≡ codes "refused too-long 4194305\n" → IsRefusal model file text
   by_lexing : length file ≤ MOST_BYTES → (refusal : LexRefusal) → IsRefused file refusal → IsLexLine refusal text → IsRefusal model file text
   by_syntax : length file ≤ MOST_BYTES → (lexed : Lexed) → Lexes file lexed
-      → (refusal : SyntaxRefusal) → IsFileRefusal lexed.list.items lexed.end refusal → IsSyntaxLine lexed.files.items refusal text → IsRefusal model file text
+      → (refusal : SyntaxRefusal) → IsFileRefusal lexed.list.items lexed.end refusal → IsSyntaxLine lexed.files.items refusal text
+      → IsRefusal model file text
   by_type : (lexed : Lexed) → (tree : List RawExternal) → Parses file lexed tree
-      → (code : TypeCode) → (place : Place) → typed_tree model lexed tree ≡ Fault code place → text ≡ type_line lexed.files.items code place → IsRefusal model file text
+      → (code : TypeCode) → (place : Place) → typed_tree model lexed tree ≡ Fault code place → text ≡ type_line lexed.files.items code place
+      → IsRefusal model file text

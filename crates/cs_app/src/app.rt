@@ -23,22 +23,32 @@ pub fn csa<S: Source, K: Sink>(
     sink: &mut K,
 ) -> Status
     // The whole text is written that belongs to the words, the file and the status.
-    ensures written { IsDone result → IsWritten (words_text words.now) (S.left source.old) result (K.written sink.old) (K.written sink.new) }
+    ensures written { IsDone result
+        → IsWritten (words_text words.now) (S.left source.old) result (K.written sink.old)
+        (K.written sink.new) }
     ensures read_to_the_end { IsRead result → IsAtEnd (S.left source.new) }
-    ensures unread { (n : ℕ) → AreRefusedAt (words_text words.now) n → source.new ≡ source.old }
+    ensures unread { (n : ℕ) → AreRefusedAt (words_text words.now) n
+        → source.new ≡ source.old }
 
     // Every other status has its cause, and leaves the sink as it was or with a part of such a text.
-    ensures read_fault { result ≡ Status.ReadFault → Rose (S.faults source.old) (S.faults source.new) }
-    ensures read_fault_writes_nothing { result ≡ Status.ReadFault → Keeps (K.written sink.old) (K.written sink.new) }
-    ensures write_fault { result ≡ Status.WriteFault → SinkRose (K.faults sink.old) (K.faults sink.new) (K.empty_takes sink.old) (K.empty_takes sink.new) }
+    ensures read_fault { result ≡ Status.ReadFault
+        → Rose (S.faults source.old) (S.faults source.new) }
+    ensures read_fault_writes_nothing { result ≡ Status.ReadFault
+        → Keeps (K.written sink.old) (K.written sink.new) }
+    ensures write_fault { result ≡ Status.WriteFault
+        → SinkRose (K.faults sink.old) (K.faults sink.new) (K.empty_takes sink.old)
+        (K.empty_takes sink.new) }
     ensures write_fault_writes_a_part { result ≡ Status.WriteFault →
-        IsPartWritten (words_text words.now) (S.left source.old) (K.written sink.old) (K.written sink.new) }
-    ensures memory_writes_nothing { result ≡ Status.Memory → Keeps (K.written sink.old) (K.written sink.new) }
+        IsPartWritten (words_text words.now) (S.left source.old) (K.written sink.old)
+        (K.written sink.new) }
+    ensures memory_writes_nothing { result ≡ Status.Memory
+        → Keeps (K.written sink.old) (K.written sink.new) }
 
     // What is accepted is answered, where no count rises and there is memory.
     ensures complete { IsAcceptable (words_text words.now) (S.left source.old)
         → (Rose (S.faults source.old) (S.faults source.new) → ⊥)
-        → (SinkRose (K.faults sink.old) (K.faults sink.new) (K.empty_takes sink.old) (K.empty_takes sink.new) → ⊥)
+        → (SinkRose (K.faults sink.old) (K.faults sink.new) (K.empty_takes sink.old)
+        (K.empty_takes sink.new) → ⊥)
         → (result ≡ Status.Memory → ⊥) → IsAnswered result }
 {
     match answer_for(alloc, words, source) {

@@ -24,11 +24,14 @@ pub fn answer_for<S: Source>(
 ) -> Result<Answer, Failure>
     ensures whole { IfOk result (λ answer.
         IsWhole (words_text words.now) (S.left source.old) answer.status answer.text.items) }
-    ensures only { (command : Command) → WordsMean (words_text words.now) command → IfOk result (λ answer.
+    ensures only { (command : Command) → WordsMean (words_text words.now) command
+        → IfOk result (λ answer.
         IsFileAnswer command (S.left source.old) answer.status answer.text.items) }
     ensures read { IfOk result (λ answer. IsRead answer.status → IsAtEnd (S.left source.new)) }
-    ensures unread { (n : ℕ) → AreRefusedAt (words_text words.now) n → source.new ≡ source.old }
-    ensures fault { result ≡ Err Failure.Read → Rose (S.faults source.old) (S.faults source.new) }
+    ensures unread { (n : ℕ) → AreRefusedAt (words_text words.now) n
+        → source.new ≡ source.old }
+    ensures fault { result ≡ Err Failure.Read
+        → Rose (S.faults source.old) (S.faults source.new) }
 {
     match words_of(alloc, words) {
         Ok(command) => answer_from(alloc, &command, source),
@@ -43,7 +46,8 @@ pub fn answer_for<S: Source>(
 /// The answer to refused words: the number of the first word that fits no command.
 fn refused_words(alloc: Global, number: u64) -> Result<Answer, AllocError>
     ensures status { IfOk result (λ answer. answer.status ≡ Status.BadWords) }
-    ensures text { IfOk result (λ answer. answer.text.items ≡ codes "refused words " ++ (decimal number ++ codes "\n")) }
+    ensures text { IfOk result (λ answer.
+        answer.text.items ≡ codes "refused words " ++ (decimal number ++ codes "\n")) }
 {
     let line = format!(in alloc; "refused words {number}\n")?;
     Ok(Answer {
@@ -58,9 +62,11 @@ fn answer_from<S: Source>(
     command: &Command,
     source: &mut S,
 ) -> Result<Answer, Failure>
-    ensures whole { IfOk result (λ answer. IsFileAnswer command.now (S.left source.old) answer.status answer.text.items) }
+    ensures whole { IfOk result (λ answer.
+        IsFileAnswer command.now (S.left source.old) answer.status answer.text.items) }
     ensures read { IfOk result (λ answer. IsRead answer.status → IsAtEnd (S.left source.new)) }
-    ensures fault { result ≡ Err Failure.Read → Rose (S.faults source.old) (S.faults source.new) }
+    ensures fault { result ≡ Err Failure.Read
+        → Rose (S.faults source.old) (S.faults source.new) }
 {
     match read_all(alloc, source) {
         Ok(file) => {

@@ -18,7 +18,8 @@ pub fn analyzed(
     functions: &[SmallFunction],
 ) -> Result<Answer, AllocError>
     requires { All IsAnalyzable (map definition functions.now) }
-    ensures { IfOk result (λ answer. IsAnalysisOf files.now (map definition functions.now) answer.status answer.text.items) }
+    ensures { IfOk result (λ answer.
+        IsAnalysisOf files.now (map definition functions.now) answer.status answer.text.items) }
 {
     let mut text = Vec::new(alloc);
     let mut status = Status::Clean;

@@ -27,7 +27,8 @@ use std::alloc::{AllocError, Global};
 /// The answer of a command to a file.
 pub fn answer_to(alloc: Global, command: &Command, file: &[u8]) -> Result<Answer, AllocError>
     requires { length file.now ≤ MOST_BYTES }
-    ensures { IfOk result (λ answer. IsAnswer command.now file.now answer.status answer.text.items) }
+    ensures { IfOk result (λ answer.
+        IsAnswer command.now file.now answer.status answer.text.items) }
 {
     match tokens(alloc, file) {
         Ok(lexed) => {
@@ -45,7 +46,8 @@ pub fn answer_to(alloc: Global, command: &Command, file: &[u8]) -> Result<Answer
 fn answer_by_syntax(alloc: Global, command: &Command, lexed: &Lexed) -> Result<Answer, AllocError>
     requires few { length lexed.now.list.items ≤ MOST_TOKENS }
     requires lexed { IsOfFile lexed.now }
-    ensures { IfOk result (λ answer. (file : List ℕ) → length file ≤ MOST_BYTES → Lexes file lexed.now
+    ensures { IfOk result (λ answer.
+        (file : List ℕ) → length file ≤ MOST_BYTES → Lexes file lexed.now
         → IsAnswer command.now file answer.status answer.text.items) }
 {
     match parse(alloc, lexed.list.as_slice(), lexed.end) {
@@ -102,7 +104,9 @@ fn answer_of(
     program: &Program,
 ) -> Result<Answer, AllocError>
     requires { IsWellFormed (typed_program program.now) }
-    ensures { IfOk result (λ answer. IsProgramAnswer command.now files.now (typed_program program.now) answer.status answer.text.items) }
+    ensures { IfOk result (λ answer.
+        IsProgramAnswer command.now files.now (typed_program program.now) answer.status
+        answer.text.items) }
 {
     match command {
         Command::Analyze(_) => {
@@ -122,7 +126,8 @@ fn answer_of(
 
 /// The analysis of a program, whose places are in these files.
 fn analysis(alloc: Global, files: &[Name], program: &Program) -> Result<Answer, AllocError>
-    ensures { IfOk result (λ answer. IsAnalysisAnswer files.now (typed_program program.now) answer.status answer.text.items) }
+    ensures { IfOk result (λ answer.
+        IsAnalysisAnswer files.now (typed_program program.now) answer.status answer.text.items) }
 {
     match functions_of(alloc, program) {
         Ok(functions) => {

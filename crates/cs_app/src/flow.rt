@@ -11,7 +11,8 @@ use std::alloc::{AllocError, Global};
 
 /// The flow of a program.
 pub fn flow(alloc: Global, program: &Program) -> Result<Answer, AllocError>
-    ensures { IfOk result (λ answer. IsFlowAnswer (typed_program program.now) answer.status answer.text.items) }
+    ensures { IfOk result (λ answer.
+        IsFlowAnswer (typed_program program.now) answer.status answer.text.items) }
 {
     let mut text = Vec::new(alloc);
     append_flow(&mut text, program)?;

@@ -16,7 +16,8 @@ use std::alloc::{AllocError, Global};
 /// The answer to a file that is too long.
 pub fn refused_length(alloc: Global) -> Result<Answer, AllocError>
     ensures status { IfOk result (λ answer. answer.status ≡ Status.BadFile) }
-    ensures text { IfOk result (λ answer. answer.text.items ≡ codes "refused too-long 4194305\n") }
+    ensures text { IfOk result (λ answer.
+        answer.text.items ≡ codes "refused too-long 4194305\n") }
 {
     refused_line(alloc, b"refused too-long 4194305\n")
 }
@@ -87,7 +88,9 @@ fn refused_word(
     place: Place,
 ) -> Result<Answer, AllocError>
     ensures status { IfOk result (λ answer. answer.status ≡ Status.BadFile) }
-    ensures text { IfOk result (λ answer. answer.text.items ≡ line_in files.now (codes "refused left-out " ++ word.now ++ codes " ") place) }
+    ensures text { IfOk result (λ answer.
+        answer.text.items ≡ line_in files.now (codes "refused left-out " ++ word.now ++ codes " ")
+        place) }
 {
     let mut words = Vec::from_slice(alloc, b"refused left-out ")?;
     words.extend_from_slice(word.as_bytes())?;
@@ -104,7 +107,8 @@ fn refused_in(
     place: Place,
 ) -> Result<Answer, AllocError>
     ensures status { IfOk result (λ answer. answer.status ≡ Status.BadFile) }
-    ensures text { IfOk result (λ answer. answer.text.items ≡ line_in files.now words.now place) }
+    ensures text { IfOk result (λ answer.
+        answer.text.items ≡ line_in files.now words.now place) }
 {
     match files.get(place.file as usize) {
         Some(file) => refused_at(alloc, words, file, place),
@@ -118,7 +122,8 @@ fn refused_in(
 /// The answer to a file that is refused at a place of the file with this name, with these words.
 fn refused_at(alloc: Global, words: &[u8], file: &Name, place: Place) -> Result<Answer, AllocError>
     ensures status { IfOk result (λ answer. answer.status ≡ Status.BadFile) }
-    ensures text { IfOk result (λ answer. answer.text.items ≡ refusal_line words.now file.now place) }
+    ensures text { IfOk result (λ answer.
+        answer.text.items ≡ refusal_line words.now file.now place) }
 {
     let mut text = Vec::from_slice(alloc, words)?;
     append_refusal(&mut text, "", file, place)?;

@@ -55,7 +55,9 @@ pub fn replayed(
     words: &ReplayWords,
 ) -> Result<Answer, AllocError>
     requires { IsWellFormed (typed_program program.now) }
-    ensures { IfOk result (λ answer. IsReplayAnswer files.now (typed_program program.now) words.now answer.status answer.text.items) }
+    ensures { IfOk result (λ answer.
+        IsReplayAnswer files.now (typed_program program.now) words.now answer.status
+        answer.text.items) }
 {
     match entry_of(&program.functions, &words.entry) {
         Some(entry) => {
@@ -79,7 +81,9 @@ fn run_of(
 ) -> Result<Answer, AllocError>
     requires well_formed { IsWellFormed (typed_program program.now) }
     requires found { entry_of words.now.entry (typed_program program.now) ≡ Some entry }
-    ensures { IfOk result (λ answer. IsReplayOf files.now (typed_program program.now) words.now entry answer.status answer.text.items) }
+    ensures { IfOk result (λ answer.
+        IsReplayOf files.now (typed_program program.now) words.now entry answer.status
+        answer.text.items) }
 {
     let number = number_of(entry)?;
     let code = lower(alloc, program)?;
@@ -119,7 +123,8 @@ fn outcome_of(alloc: Global, files: &[Name], outcome: Outcome) -> Result<Answer,
 /// The answer where the program has no function with this name and a body.
 fn refused_entry(alloc: Global, name: &Name) -> Result<Answer, AllocError>
     ensures status { IfOk result (λ answer. answer.status ≡ Status.NoEntry) }
-    ensures text { IfOk result (λ answer. answer.text.items ≡ codes "refused entry " ++ (name.now ++ codes "\n")) }
+    ensures text { IfOk result (λ answer.
+        answer.text.items ≡ codes "refused entry " ++ (name.now ++ codes "\n")) }
 {
     let mut text = Vec::from_slice(alloc, b"refused entry ")?;
     text.extend_from_slice(name.as_bytes())?;

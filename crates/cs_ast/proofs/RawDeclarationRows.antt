@@ -40,7 +40,8 @@ abbrev items_of : RawInitial → (n : Count) × first_value.Row_of-RawInitial n
 items_of (first_value.TheVariants.List' shape row comma) = (_, row)
 items_of _ = (_, first_value.end_of-RawInitial)
 
-pub initial-List : (list : Vec RawInitial Global) (comma : Bool) → initial (first_value.TheVariants.List list comma) ≡ Listed (initials_list list.items) comma
+pub initial-List : (list : Vec RawInitial Global) (comma : Bool)
+    → initial (first_value.TheVariants.List list comma) ≡ Listed (initials_list list.items) comma
 initial-List list comma =
     let row = items_of (first_value.TheVariants.List list comma) in
     ap (λ i. Listed i comma) (sym (initials-row row.0 row.1) ∙ ap initials_list (first_value.items_hidden-the_row-RawInitial-0 list))

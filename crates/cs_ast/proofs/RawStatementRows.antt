@@ -34,7 +34,8 @@ sentence-Block items =
     let row = block_of (kind.Block items) in
     ap Block (sym (items-row row.0 row.1) ∙ ap items_list (kinds.items_hidden-the_row-RawItem-0 items))
 
-pub sentence-Switch : (value : RawExpr) (items : Vec RawSwitchItem Global) → sentence (kind.Switch value items) ≡ Switch (written value) (switch_list items.items)
+pub sentence-Switch : (value : RawExpr) (items : Vec RawSwitchItem Global)
+    → sentence (kind.Switch value items) ≡ Switch (written value) (switch_list items.items)
 sentence-Switch value items =
     let row = switch_of (kind.Switch value items) in
     ap (Switch (written value)) (sym (switch-row row.0 row.1) ∙ ap switch_list (kinds.items_hidden-the_row-RawSwitchItem-1 items))

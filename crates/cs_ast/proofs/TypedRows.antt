@@ -16,7 +16,8 @@ use Rattle.cs_ast.specs.declared.typed.statement.StmtKind.{StmtKind}
 use Rattle.cs_ast.specs.declared.typed.statement.StmtKind.TheVariants as statement_kind
 use Rattle.cs_ast.specs.declared.typed.statement.Initial as initials
 use Rattle.cs_ast.specs.TypedTree.{Of, Call, Allocate, Further, Parts, Part, Block, For, Switch, Then}
-use Rattle.cs_ast.specs.TypedView.{form, typed, typed_row, typed_list, some_typed, initial, initial_row, initial_list, statement_at, statement, statements_row, statement_list}
+use Rattle.cs_ast.specs.TypedView.{form, typed, typed_row, typed_list, some_typed, initial, initial_row, initial_list, statement_at, statement, statements_row}
+use Rattle.cs_ast.specs.TypedView.{statement_list}
 
 pub typed-row : (n : _) (row : exprs.Row_of-Expr n) → typed_list (exprs.items-the_row-Expr n row) ≡ typed_row row
 typed-row n exprs.end_of-Expr = refl
@@ -53,7 +54,8 @@ form-Call function arguments =
     let row = arguments_of (kind.Call function arguments) in
     ap (Call function) (sym (typed-row row.0 row.1) ∙ ap typed_list (exprs.items_hidden-the_row-Expr-0 arguments))
 
-pub form-Allocate : (allocator : Allocator) (arguments : Vec Expr Global) (element : CType) → form (kind.Allocate allocator arguments element) ≡ Allocate allocator (typed_list arguments.items) (shape_of element)
+pub form-Allocate : (allocator : Allocator) (arguments : Vec Expr Global) (element : CType)
+    → form (kind.Allocate allocator arguments element) ≡ Allocate allocator (typed_list arguments.items) (shape_of element)
 form-Allocate allocator arguments element =
     let row = arguments_of (kind.Allocate allocator arguments element) in
     ap (λ all. Allocate allocator all (shape_of element)) (sym (typed-row row.0 row.1) ∙ ap typed_list (exprs.items_hidden-the_row-Expr-0 arguments))
@@ -68,12 +70,15 @@ statement_at-Block at body =
     let row = statements_of (statement_kind.Block body) in
     ap (Block at) (sym (statements-row row.0 row.1) ∙ ap statement_list (stmts.items_hidden-the_row-Stmt-0 body))
 
-pub statement_at-For : (at : Place) (first : Vec Stmt Global) (test last : Option Expr) (body : Stmt) → statement_at at (statement_kind.For first test last body) ≡ For at (statement_list first.items) (some_typed test) (some_typed last) (statement body)
+pub statement_at-For : (at : Place) (first : Vec Stmt Global) (test last : Option Expr) (body : Stmt)
+    → statement_at at (statement_kind.For first test last body) ≡ For at (statement_list first.items) (some_typed test) (some_typed last) (statement body)
 statement_at-For at first test last body =
     let row = statements_of (statement_kind.For first test last body) in
-    ap (λ all. For at all (some_typed test) (some_typed last) (statement body)) (sym (statements-row row.0 row.1) ∙ ap statement_list (stmts.items_hidden-the_row-Stmt-0 first))
+    ap (λ all. For at all (some_typed test) (some_typed last) (statement body)) (sym (statements-row row.0 row.1)
+    ∙ ap statement_list (stmts.items_hidden-the_row-Stmt-0 first))
 
-pub statement_at-Switch : (at : Place) (value : Expr) (cases : Vec Case Global) (body : Vec Stmt Global) → statement_at at (statement_kind.Switch value cases body) ≡ Switch at (typed value) cases.items (statement_list body.items)
+pub statement_at-Switch : (at : Place) (value : Expr) (cases : Vec Case Global) (body : Vec Stmt Global)
+    → statement_at at (statement_kind.Switch value cases body) ≡ Switch at (typed value) cases.items (statement_list body.items)
 statement_at-Switch at value cases body =
     let row = statements_of (statement_kind.Switch value cases body) in
     ap (Switch at (typed value) cases.items) (sym (statements-row row.0 row.1) ∙ ap statement_list (stmts.items_hidden-the_row-Stmt-0 body))

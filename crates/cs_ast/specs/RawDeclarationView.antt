@@ -19,7 +19,9 @@ use Rattle.cs_ast.specs.declared.raw.declaration.RawParameters.TheVariants as pa
 use Rattle.cs_ast.specs.declared.raw.declaration.RawFunction.{RawFunction}
 use Rattle.cs_ast.specs.RawTree.{Written}
 use Rattle.cs_ast.specs.RawView.{written}
-use Rattle.cs_ast.specs.RawDeclarations.{Declarator, Constant, Spec, Static, Plain, StructBody, EnumBody, Specs, NoSpec, MoreSpecs, Members, NoMember, MoreMembers, Initial, Single, Listed, Initials, NoItem, MoreItems, Declared, Parameter, Parameters, NoParameter, VoidAlone, ParameterList, Head}
+use Rattle.cs_ast.specs.RawDeclarations.{Declarator, Constant, Spec, Static, Plain, StructBody, EnumBody, Specs, NoSpec, MoreSpecs, Members, NoMember}
+use Rattle.cs_ast.specs.RawDeclarations.{MoreMembers, Initial, Single, Listed, Initials, NoItem, MoreItems, Declared, Parameter, Parameters, NoParameter}
+use Rattle.cs_ast.specs.RawDeclarations.{VoidAlone, ParameterList, Head}
 
 abbrev pub bounds_of : List (Option RawExpr) → List (Option Written)
 bounds_of bounds = map (option_map written) bounds

@@ -1,7 +1,8 @@
 -- The height of a written expression: a leaf has height 1, any other node one more than its highest part. An argument list is
 -- a node of its own; a type between parentheses is none, and its words are a part of height 1.
 use Rattle.std.specs.Prelude.{ℕ, ◌+◌, max}
-use Rattle.cs_ast.specs.RawTree.{Written, WrittenList, Named, Numeral, Character, Literal, Enclosed, Index, Call, Member, Arrow, StepAfter, StepBefore, Prefix, SizeOf, SizeOfType, Cast, Infix, Choice, Assign, Comma, End, More}
+use Rattle.cs_ast.specs.RawTree.{Written, WrittenList, Named, Numeral, Character, Literal, Enclosed, Index, Call, Member, Arrow, StepAfter, StepBefore, Prefix}
+use Rattle.cs_ast.specs.RawTree.{SizeOf, SizeOfType, Cast, Infix, Choice, Assign, Comma, End, More}
 
 abbrev mutual
   -- the height of a written expression

@@ -10,7 +10,10 @@ use Rattle.cs_ast.specs.declared.typed.statement.Stmt.{Stmt}
 use Rattle.cs_ast.specs.declared.typed.statement.StmtKind.{StmtKind, Row_of-Stmt, end_of-Stmt, more_of-Stmt}
 use Rattle.cs_ast.specs.declared.typed.statement.StmtKind.TheVariants as statement_kind
 use Rattle.cs_ast.specs.declared.typed.statement.Initial as initials
-use Rattle.cs_ast.specs.TypedTree.{Typed, Of, Form, Number, Null, Text, Local, Global, Through, Index, Member, Arrow, Load, Address, Decay, Convert, Unary, Not, Binary, Compare, Sum, Difference, And, Or, Choice, Comma, Assign, Update, Move, Call, Allocate, Free, TypedList, NoMore, Further, Initial, Value, Parts, Bytes, Initials, NoPart, Part, Statement, Block, Declare, Run, If, IfElse, While, Do, For, Switch, Goto, Label, Break, Continue, Return, Statements, Empty, Then}
+use Rattle.cs_ast.specs.TypedTree.{Typed, Of, Form, Number, Null, Text, Local, Global, Through, Index, Member, Arrow, Load, Address, Decay, Convert, Unary, Not}
+use Rattle.cs_ast.specs.TypedTree.{Binary, Compare, Sum, Difference, And, Or, Choice, Comma, Assign, Update, Move, Call, Allocate, Free, TypedList, NoMore}
+use Rattle.cs_ast.specs.TypedTree.{Further, Initial, Value, Parts, Bytes, Initials, NoPart, Part, Statement, Block, Declare, Run, If, IfElse, While, Do, For}
+use Rattle.cs_ast.specs.TypedTree.{Switch, Goto, Label, Break, Continue, Return, Statements, Empty, Then}
 
 abbrev mutual
   -- what an expression of a kind is
@@ -36,7 +39,8 @@ abbrev mutual
   form (kind.Difference' at ty p a at' ty' q b) = Difference (Of at (shape_of ty) (form a)) (Of at' (shape_of ty') (form b))
   form (kind.And' at ty p a at' ty' q b) = And (Of at (shape_of ty) (form a)) (Of at' (shape_of ty') (form b))
   form (kind.Or' at ty p a at' ty' q b) = Or (Of at (shape_of ty) (form a)) (Of at' (shape_of ty') (form b))
-  form (kind.Choice' at ty p a at' ty' q b at'' ty'' r c) = Choice (Of at (shape_of ty) (form a)) (Of at' (shape_of ty') (form b)) (Of at'' (shape_of ty'') (form c))
+  form (kind.Choice' at ty p a at' ty' q b at'' ty'' r c) =
+      Choice (Of at (shape_of ty) (form a)) (Of at' (shape_of ty') (form b)) (Of at'' (shape_of ty'') (form c))
   form (kind.Comma' at ty p a at' ty' q b) = Comma (Of at (shape_of ty) (form a)) (Of at' (shape_of ty') (form b))
   form (kind.Assign' at ty p a at' ty' q b) = Assign (Of at (shape_of ty) (form a)) (Of at' (shape_of ty') (form b))
   form (kind.Update' op at ty p a at' ty' q b works_in gives) = Update op (Of at (shape_of ty) (form a)) (Of at' (shape_of ty') (form b)) works_in gives
@@ -78,7 +82,8 @@ abbrev mutual
   statement_at at (statement_kind.IfElse' test place p body place' q other) = IfElse at (typed test) (statement_at place body) (statement_at place' other)
   statement_at at (statement_kind.While' test place p body) = While at (typed test) (statement_at place body)
   statement_at at (statement_kind.Do' place p body test) = Do at (statement_at place body) (typed test)
-  statement_at at (statement_kind.For' shape row test last place p body) = For at (statements_row row) (some_typed test) (some_typed last) (statement_at place body)
+  statement_at at (statement_kind.For' shape row test last place p body) =
+      For at (statements_row row) (some_typed test) (some_typed last) (statement_at place body)
   statement_at at (statement_kind.Switch' value cases shape row) = Switch at (typed value) cases.items (statements_row row)
   statement_at at (statement_kind.Goto label) = Goto at label
   statement_at at (statement_kind.Label' label place p body) = Label at label (statement_at place body)

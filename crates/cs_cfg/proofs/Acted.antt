@@ -12,7 +12,8 @@ use Rattle.cs_meaning.specs.Types.{type_of}
 use Rattle.cs_meaning.specs.Initials.{number_in, truth_cell}
 use Rattle.cs_meaning.specs.Access.{access_of}
 use Rattle.cs_meaning.specs.Calls.{call}
-use Rattle.cs_meaning.specs.Machine.{Operand, Scalar, Whole, Nothing, Item, Act, Fetch, Judge, Use, Drop, CallFrame, State, to_do, push, push_cell, with_memory, operand_at, cell_of, cell_at}
+use Rattle.cs_meaning.specs.Machine.{Operand, Scalar, Whole, Nothing, Item, Act, Fetch, Judge, Use, Drop, CallFrame, State, to_do, push, push_cell, with_memory}
+use Rattle.cs_meaning.specs.Machine.{operand_at, cell_of, cell_at}
 use Rattle.cs_meaning.specs.Expressions.{count_all, use_result}
 use Rattle.cs_cfg.specs.Graph as graph
 use Rattle.cs_cfg.specs.Graph.{Work, Point, Code}
@@ -26,7 +27,8 @@ use Rattle.cs_cfg.proofs.Moving.{Home, onward, with_depth, leaves, Answer, Answe
 module _ (code : Code) (program : TypedProgram) (budgets : RunBudgets) where
   -- one more operand is there
   pub leaves_one : (items : List Item) (m : State) (home : Home code program m.frame.function) (number : ℕ) (q : Point) (callers : List (CallFrame Point)) →
-      onward code program home items (1 + number) q → CallersStand code program m.callers callers → Leaves (Related code program budgets) code program budgets (to_do items m) q callers (suc number)
+      onward code program home items (1 + number) q → CallersStand code program m.callers callers
+      → Leaves (Related code program budgets) code program budgets (to_do items m) q callers (suc number)
   leaves_one items m home number q callers on waiting =
       let one_more : 1 + number ≡ suc number = omega arith in
       leaves code program budgets (to_do items m) home q callers (suc number) (with_depth code program home items q one_more on) waiting
@@ -41,7 +43,8 @@ module _ (code : Code) (program : TypedProgram) (budgets : RunBudgets) where
 
   -- the result of a call is used
   uses_tell : (at : Place) (operand : Operand) (items : List Item) (m : State) (q : Point) (callers : List (CallFrame Point)) →
-      Related code program budgets (to_do items m) (as_code q callers m) → Yields (Related code program budgets) (use_result at operand (to_do items m)) (use_result at operand (as_code q callers m))
+      Related code program budgets (to_do items m) (as_code q callers m)
+      → Yields (Related code program budgets) (use_result at operand (to_do items m)) (use_result at operand (as_code q callers m))
   uses_tell at (Scalar cell) items m q callers h = yields_set (Related code program budgets) at cell (both_go h)
   uses_tell at (Whole cells) items m q callers h = both_go h
   uses_tell at Nothing items m q callers h = both_go h
@@ -50,7 +53,8 @@ module _ (code : Code) (program : TypedProgram) (budgets : RunBudgets) where
   use_answers at items m home here callers s waiting =
       worked_answers code program budgets (Use at) items m home at graph.Use 1 here callers s (λ number q e on.
       let h = leaves code program budgets (to_do items m) home q callers (1 + number) on waiting in
-      uses_tell at (operand_at m 0) items m q callers (h (to_do items m) (record { function = refl; number = refl; todo = refl; visits = refl; callers = refl; deep = e })))
+      uses_tell at (operand_at m 0) items m q callers
+      (h (to_do items m) (record { function = refl; number = refl; todo = refl; visits = refl; callers = refl; deep = e })))
 
   -- the right part of `&&` or `||` is made a truth
   pub judge_answers : (at : Place) → Answered code program budgets (Judge at)
@@ -58,34 +62,42 @@ module _ (code : Code) (program : TypedProgram) (budgets : RunBudgets) where
       let R = Related code program budgets in
       worked_answers code program budgets (Judge at) items m home at graph.Judge 1 here callers s (λ number q e on.
       let h = leaves_one items m home number q callers on waiting in
-      yields_truth R at (cell_at m 0) (λ holds. yields_shows R at _ (both_go (put R code program budgets (to_do items m) _ q callers 1 number (Scalar (truth_cell holds)) e h refl refl refl refl refl refl))))
+      yields_truth R at (cell_at m 0) (λ holds.
+      yields_shows R at _
+      (both_go (put R code program budgets (to_do items m) _ q callers 1 number (Scalar (truth_cell holds)) e h refl refl refl refl refl refl))))
 
   -- the load of an update
   fetches_answer : (at : Place) (ty : Shape) (form : Form) → Answered code program budgets (Fetch (Of at ty form))
   fetches_answer at ty (Update op a b works_in gives) items m home here callers s waiting =
       let R = Related code program budgets in
-      worked_answers code program budgets (Fetch (Of at ty (Update op a b works_in gives))) items m home at (graph.FetchNumber (access_of a) works_in) 3 here callers s (λ number q e on.
+      worked_answers code program budgets (Fetch (Of at ty (Update op a b works_in gives))) items m home at (graph.FetchNumber (access_of a) works_in) 3 here
+      callers s (λ number q e on.
       let h = leaves code program budgets (to_do items m) home q callers (3 + number) on waiting in
       let more : suc (suc (length m.frame.stack)) ≡ 3 + number = omega (arith, e) in
       yields_load R program m.memory m.frame.number (access_of a) (cell_at m 0) (λ memory operand.
       yields_convert_number R program.model at (type_of a) works_in (number_in (cell_of operand)) (λ n.
-      both_go (h (push_cell (NumberCell n) (push operand (with_memory memory (to_do items m)))) (record { function = refl; number = refl; todo = refl; visits = refl; callers = refl; deep = more })))))
+      both_go (h (push_cell (NumberCell n) (push operand (with_memory memory (to_do items m))))
+      (record { function = refl; number = refl; todo = refl; visits = refl; callers = refl; deep = more })))))
   fetches_answer at ty (Move a n direction gives) items m home here callers s waiting =
       let R = Related code program budgets in
-      worked_answers code program budgets (Fetch (Of at ty (Move a n direction gives))) items m home at (graph.FetchPointer (access_of a)) 2 here callers s (λ number q e on.
+      worked_answers code program budgets (Fetch (Of at ty (Move a n direction gives))) items m home at (graph.FetchPointer (access_of a)) 2 here callers s
+      (λ number q e on.
       let h = leaves code program budgets (to_do items m) home q callers (2 + number) on waiting in
       let more : suc (length m.frame.stack) ≡ 2 + number = omega (arith, e) in
       yields_load R program m.memory m.frame.number (access_of a) (cell_at m 0) (λ memory operand.
-      both_go (h (push operand (with_memory memory (to_do items m))) (record { function = refl; number = refl; todo = refl; visits = refl; callers = refl; deep = more }))))
+      both_go (h (push operand (with_memory memory (to_do items m)))
+      (record { function = refl; number = refl; todo = refl; visits = refl; callers = refl; deep = more }))))
   fetches_answer at ty form items m home here callers s waiting = absurd s
 
   pub fetch_answers : (e : Typed) → Answered code program budgets (Fetch e)
   fetch_answers (Of at ty form) = fetches_answer at ty form
 
   -- what an expression does with its parts, by the operation that does it
-  acts_answer : (at : Place) (ty : Shape) (form : Form) (work : Option Work) (items : List Item) (m : State) (home : Home code program m.frame.function) (here : Point) (callers : List (CallFrame Point)) →
+  acts_answer : (at : Place) (ty : Shape) (form : Form) (work : Option Work) (items : List Item) (m : State) (home : Home code program m.frame.function)
+      (here : Point) (callers : List (CallFrame Point)) →
       acts_by at work (onward code program home items) (length m.frame.stack) here → CallersStand code program m.callers callers →
-      ((number : ℕ) (q : Point) → onward code program home items (1 + number) q → YieldsBy (Related code program budgets) code program budgets at ty form work (to_do items m) q callers number) →
+      ((number : ℕ) (q : Point) → onward code program home items (1 + number) q
+      → YieldsBy (Related code program budgets) code program budgets at ty form work (to_do items m) q callers number) →
       Answer code program budgets (to_do (Act (Of at ty form) ∷ items) m) (as_code here callers m)
   acts_answer at ty form None items m home here callers s waiting yields = absurd s
   acts_answer at ty form (Some work) items m home here callers s waiting yields =
@@ -94,9 +106,11 @@ module _ (code : Code) (program : TypedProgram) (budgets : RunBudgets) where
 
   -- what a call does with its arguments, which is told elsewhere
   abbrev pub CallsTell : Type 0
-  CallsTell = (at : Place) (callee count : ℕ) (items : List Item) (m : State) (home : Home code program m.frame.function) (q : Point) (callers : List (CallFrame Point)) (number : ℕ) →
+  CallsTell = (at : Place) (callee count : ℕ) (items : List Item) (m : State) (home : Home code program m.frame.function) (q : Point)
+      (callers : List (CallFrame Point)) (number : ℕ) →
       length m.frame.stack ≡ count + number → onward code program home items (suc number) q → CallersStand code program m.callers callers →
-      Yields (Related code program budgets) (call program budgets at callee count (to_do items m)) (do_work code program budgets at (graph.Call callee count) (as_code q callers m))
+      Yields (Related code program budgets) (call program budgets at callee count (to_do items m))
+      (do_work code program budgets at (graph.Call callee count) (as_code q callers m))
 
   pub act_answers : CallsTell → (e : Typed) → Answered code program budgets (Act e)
   act_answers calls (Of at ty form) items m home here callers s waiting =

@@ -1,10 +1,12 @@
 -- What an expression does with its parts, the operation of the code does with its operands.
-use Rattle.std.proofs.Common.{◌≡◌, ℕ, zero, suc, ◌+◌, List, [], ◌∷◌, drop, length, Bool, true, false, Option, Some, None, arith, refl, ap, ◌∙◌}
+use Rattle.std.proofs.Common.{◌≡◌, ℕ, zero, suc, ◌+◌, List, [], ◌∷◌, drop, length, Bool, true, false, Option, Some, None, arith, refl, ap}
+use Rattle.std.proofs.Common.{◌∙◌}
 use Rattle.cs_types.specs.Shape.{Shape, integer}
 use Rattle.cs_ast.specs.declared.place.Place.{Place}
 use Rattle.cs_ast.specs.declared.typed.operator.Allocator.{Allocator}
 use Rattle.cs_ast.specs.declared.typed.operator.Allocator.TheVariants.{Malloc, Calloc}
-use Rattle.cs_ast.specs.TypedTree.{Form, Number, Null, Text, Local, Global, Through, Index, Member, Arrow, Load, Address, Decay, Convert, Unary, Not, Binary, Compare, Sum, Difference, And, Or, Choice, Comma, Assign, Update, Move, Call, Allocate, Free, TypedList}
+use Rattle.cs_ast.specs.TypedTree.{Form, Number, Null, Text, Local, Global, Through, Index, Member, Arrow, Load, Address, Decay, Convert, Unary, Not, Binary}
+use Rattle.cs_ast.specs.TypedTree.{Compare, Sum, Difference, And, Or, Choice, Comma, Assign, Update, Move, Call, Allocate, Free, TypedList}
 use Rattle.cs_ast.specs.TypedProgram.{TypedProgram}
 use Rattle.cs_model.specs.declared.standing.Standing.{Standing}
 use Rattle.cs_model.specs.declared.standing.Standing.TheVariants.{Live, Freed, Ended}
@@ -27,7 +29,8 @@ use Rattle.cs_meaning.specs.Expressions.{pointer_age, amount_age, given, number_
 use Rattle.cs_cfg.specs.Graph.{Work, Point, Code}
 use Rattle.cs_cfg.specs.Working.{CodeState, allocator_takes, takes, do_work}
 use Rattle.cs_cfg.specs.Standing.{work_of}
-use Rattle.cs_cfg.proofs.Alike.{yields_if, yields_shows, yields_load, yields_store, yields_truth, yields_operate, yields_convert_number, yields_convert, yields_sum, yields_compare, yields_difference, yields_arrow}
+use Rattle.cs_cfg.proofs.Alike.{yields_if, yields_shows, yields_load, yields_store, yields_truth, yields_operate, yields_convert_number, yields_convert}
+use Rattle.cs_cfg.proofs.Alike.{yields_sum, yields_compare, yields_difference, yields_arrow}
 
 -- the state of the code's run at a point, with these callers, and with all else as in a state of the machine
 abbrev pub as_code : Point → List (CallFrame Point) → State → CodeState
@@ -70,26 +73,40 @@ module _ (R : State → CodeState → Type 0) (code : Code) (program : TypedProg
   abbrev pub YieldsBy : Place → Shape → Form → Option Work → State → Point → List (CallFrame Point) → ℕ → Type 0
   YieldsBy at ty form None m p callers number = ⊤
   YieldsBy at ty form (Some work) m p callers number =
-      length m.frame.stack ≡ takes work + number → Leaves m p callers (suc number) → Yields R (act_form program budgets at ty form m) (do_work code program budgets at work (as_code p callers m))
+      length m.frame.stack ≡ takes work + number → Leaves m p callers (suc number)
+      → Yields R (act_form program budgets at ty form m) (do_work code program budgets at work (as_code p callers m))
 
   -- an operand more in place of some others
-  pub put : (m next : State) (p : Point) (callers : List (CallFrame Point)) (count number : ℕ) (operand : Operand) → length m.frame.stack ≡ count + number → Leaves m p callers (suc number) →
-      next.frame.function ≡ m.frame.function → next.frame.number ≡ m.frame.number → next.frame.todo ≡ m.frame.todo → next.frame.visits ≡ m.frame.visits → next.callers ≡ m.callers
+  pub put : (m next : State) (p : Point) (callers : List (CallFrame Point)) (count number : ℕ) (operand : Operand) → length m.frame.stack ≡ count + number
+      → Leaves m p callers (suc number) →
+      next.frame.function ≡ m.frame.function → next.frame.number ≡ m.frame.number → next.frame.todo ≡ m.frame.todo
+      → next.frame.visits ≡ m.frame.visits → next.callers ≡ m.callers
       → next.frame.stack ≡ operand ∷ drop count m.frame.stack → R next (as_code p callers next)
   put m next p callers count number operand e h function frame todo visits called stack =
-      h next (record { function = function; number = frame; todo = todo; visits = visits; callers = called; deep = ap length stack ∙ ap suc (dropped count number m.frame.stack e) })
+      h next (record {
+        function = function;
+        number = frame;
+        todo = todo;
+        visits = visits;
+        callers = called;
+        deep = ap length stack ∙ ap suc (dropped count number m.frame.stack e);
+      })
 
-  release_yields : (at : Place) (cell : Cell) (m : State) (p : Point) (callers : List (CallFrame Point)) (number : ℕ) → length m.frame.stack ≡ 1 + number → Leaves m p callers (suc number) →
+  release_yields : (at : Place) (cell : Cell) (m : State) (p : Point) (callers : List (CallFrame Point)) (number : ℕ) → length m.frame.stack ≡ 1 + number
+      → Leaves m p callers (suc number) →
       Yields R (release at cell (pop m)) (release at cell (pop (as_code p callers m)))
   release_yields at NullCell m p callers number e h = yields_shows R at _ (both_go (put m _ p callers 1 number NoOperand e h refl refl refl refl refl refl))
   release_yields at (PointerCell object offset) m p callers number e h = yields_shows R at _ (object_yields object)
     where
-      block_yields : (standing : Standing) (object : Object) → Yields R (release_block at standing object offset (pop m)) (release_block at standing object offset (pop (as_code p callers m)))
-      block_yields Live object = yields_if R (int_eq offset (pos 0)) (both_go (put m _ p callers 1 number NoOperand e h refl refl refl refl refl refl)) both_stop
+      block_yields : (standing : Standing) (object : Object)
+          → Yields R (release_block at standing object offset (pop m)) (release_block at standing object offset (pop (as_code p callers m)))
+      block_yields Live object = yields_if R (int_eq offset (pos 0)) (both_go (put m _ p callers 1 number NoOperand e h refl refl refl refl refl refl))
+          both_stop
       block_yields Freed object = both_stop
       block_yields Ended object = both_stop
 
-      known_yields : (block : Option Block) (object : Object) → Yields R (release_known at block object offset (pop m)) (release_known at block object offset (pop (as_code p callers m)))
+      known_yields : (block : Option Block) (object : Object)
+          → Yields R (release_known at block object offset (pop m)) (release_known at block object offset (pop (as_code p callers m)))
       known_yields None object = both_stop
       known_yields (Some block) object = block_yields block.standing object
 
@@ -102,29 +119,36 @@ module _ (R : State → CodeState → Type 0) (code : Code) (program : TypedProg
   release_yields at (NumberCell n) m p callers number e h = both_go (put m _ p callers 1 number NoOperand e h refl refl refl refl refl refl)
   release_yields at UnsetCell m p callers number e h = both_go (put m _ p callers 1 number NoOperand e h refl refl refl refl refl refl)
 
-  given_put : (m : State) (p : Point) (callers : List (CallFrame Point)) (count number : ℕ) (element : Shape) (bytes : ℤ) (fill : Fill) (given : Bool) → length m.frame.stack ≡ count + number → Leaves m p callers (suc number) →
+  given_put : (m : State) (p : Point) (callers : List (CallFrame Point)) (count number : ℕ) (element : Shape) (bytes : ℤ) (fill : Fill) (given : Bool)
+      → length m.frame.stack ≡ count + number → Leaves m p callers (suc number) →
       R (allocated element bytes fill given (pop_many count m)) (allocated element bytes fill given (pop_many count (as_code p callers m)))
   given_put m p callers count number element bytes fill true e h = put m _ p callers count number _ e h refl refl refl refl refl refl
   given_put m p callers count number element bytes fill false e h = put m _ p callers count number _ e h refl refl refl refl refl refl
 
   allocate_yields : (at : Place) (allocator : Allocator) (element : Shape) (m : State) (p : Point) (callers : List (CallFrame Point)) (number : ℕ) →
-      length m.frame.stack ≡ allocator_takes allocator + number → Leaves m p callers (suc number) → Yields R (allocate program at allocator element m) (allocate program at allocator element (as_code p callers m))
-  allocate_yields at Malloc element m p callers number e h = both_allocate (λ given. both_go (given_put m p callers 1 number element (number_in (cell_at m 0)) UnsetFill given e h))
+      length m.frame.stack ≡ allocator_takes allocator + number → Leaves m p callers (suc number)
+      → Yields R (allocate program at allocator element m) (allocate program at allocator element (as_code p callers m))
+  allocate_yields at Malloc element m p callers number e h =
+      both_allocate (λ given. both_go (given_put m p callers 1 number element (number_in (cell_at m 0)) UnsetFill given e h))
   allocate_yields at Calloc element m p callers number e h =
       both_ask (λ holds. yields_if R (is_true holds)
-      (yields_operate R program.model at Mul (size_type_of program.model) (number_in (cell_at m 1)) (number_in (cell_at m 0)) (λ bytes. both_allocate (λ given. both_go (given_put m p callers 2 number element bytes ZeroFill given e h))))
+      (yields_operate R program.model at Mul (size_type_of program.model) (number_in (cell_at m 1)) (number_in (cell_at m 0))
+      (λ bytes. both_allocate (λ given. both_go (given_put m p callers 2 number element bytes ZeroFill given e h))))
       (both_go (given_put m p callers 2 number element (pos 0) ZeroFill false e h)))
 
-  stores_tell : (at : Place) (access : Access) (age : ℕ) (operand : Operand) (count : ℕ) (left : Operand) (m : State) (p : Point) (callers : List (CallFrame Point)) (number : ℕ) → length m.frame.stack ≡ count + number → Leaves m p callers (suc number) →
+  stores_tell : (at : Place) (access : Access) (age : ℕ) (operand : Operand) (count : ℕ) (left : Operand) (m : State) (p : Point)
+      (callers : List (CallFrame Point)) (number : ℕ) → length m.frame.stack ≡ count + number → Leaves m p callers (suc number) →
       Yields R (stores_to program at access age operand count left m) (stores_to program at access age operand count left (as_code p callers m))
   stores_tell at access age operand count left m p callers number e h =
       yields_store R program m.memory m.frame.number at access (cell_at m age) operand
-      {f = λ memory. Goes (push left (with_memory memory (pop_many count m)))} {g = λ memory. Goes (push left (with_memory memory (pop_many count (as_code p callers m))))}
+      {f = λ memory. Goes (push left (with_memory memory (pop_many count m)))} {g = λ memory.
+      Goes (push left (with_memory memory (pop_many count (as_code p callers m))))}
       (λ memory. both_go (put m (push left (with_memory memory (pop_many count m))) p callers count number left e h refl refl refl refl refl refl))
 
   pub acts_tell : (at : Place) (ty : Shape) (form : Form) (m : State) (p : Point) (callers : List (CallFrame Point)) (number : ℕ) →
       -- a call is told elsewhere
-      ((function : ℕ) (arguments : TypedList) → YieldsBy at ty (Call function arguments) (work_of program ty (Call function arguments)) m p callers number) →
+      ((function : ℕ) (arguments : TypedList) → YieldsBy at ty (Call function arguments) (work_of program ty (Call function arguments)) m p callers number)
+      →
       YieldsBy at ty form (work_of program ty form) m p callers number
   acts_tell at ty (Number n) m p callers number calls = λ e h. both_go (put m _ p callers 0 number _ e h refl refl refl refl refl refl)
   acts_tell at ty Null m p callers number calls = λ e h. both_go (put m _ p callers 0 number _ e h refl refl refl refl refl refl)
@@ -132,21 +156,31 @@ module _ (R : State → CodeState → Type 0) (code : Code) (program : TypedProg
   acts_tell at ty (Local declaration) m p callers number calls = λ e h. both_go (put m _ p callers 0 number _ e h refl refl refl refl refl refl)
   acts_tell at ty (Global global) m p callers number calls = λ e h. both_go (put m _ p callers 0 number _ e h refl refl refl refl refl refl)
   acts_tell at ty (Member a offset) m p callers number calls = λ e h. both_go (put m _ p callers 1 number _ e h refl refl refl refl refl refl)
-  acts_tell at ty (Arrow a offset) m p callers number calls = λ e h. yields_arrow R at (cell_at m 0) offset (λ cell. both_go (put m _ p callers 1 number _ e h refl refl refl refl refl refl))
+  acts_tell at ty (Arrow a offset) m p callers number calls = λ e h.
+      yields_arrow R at (cell_at m 0) offset (λ cell. both_go (put m _ p callers 1 number _ e h refl refl refl refl refl refl))
   acts_tell at ty (Load a) m p callers number calls = λ e h.
-      yields_load R program m.memory m.frame.number (access_of a) (cell_at m 0) (λ memory operand. both_go (put m _ p callers 1 number operand e h refl refl refl refl refl refl))
-  acts_tell at ty (Convert a) m p callers number calls = λ e h. yields_convert R program.model at (type_of a) ty (operand_at m 0) (λ operand. both_go (put m _ p callers 1 number operand e h refl refl refl refl refl refl))
+      yields_load R program m.memory m.frame.number (access_of a) (cell_at m 0)
+      (λ memory operand. both_go (put m _ p callers 1 number operand e h refl refl refl refl refl refl))
+  acts_tell at ty (Convert a) m p callers number calls = λ e h.
+      yields_convert R program.model at (type_of a) ty (operand_at m 0)
+      (λ operand. both_go (put m _ p callers 1 number operand e h refl refl refl refl refl refl))
   acts_tell at ty (Unary op a) m p callers number calls = λ e h. both_ask (λ n. both_go (put m _ p callers 1 number _ e h refl refl refl refl refl refl))
-  acts_tell at ty (Not a) m p callers number calls = λ e h. yields_truth R at (cell_at m 0) (λ holds. yields_shows R at _ (both_go (put m _ p callers 1 number _ e h refl refl refl refl refl refl)))
+  acts_tell at ty (Not a) m p callers number calls = λ e h.
+      yields_truth R at (cell_at m 0) (λ holds. yields_shows R at _ (both_go (put m _ p callers 1 number _ e h refl refl refl refl refl refl)))
   acts_tell at ty (Binary op a b) m p callers number calls = λ e h.
-      yields_operate R program.model at op (integer_of ty) (number_at m 1) (number_at m 0) (λ n. both_go (put m _ p callers 2 number _ e h refl refl refl refl refl refl))
-  acts_tell at ty (Compare op a b) m p callers number calls = λ e h. yields_compare R at op (cell_at m 1) (cell_at m 0) (λ n. both_go (put m _ p callers 2 number _ e h refl refl refl refl refl refl))
+      yields_operate R program.model at op (integer_of ty) (number_at m 1) (number_at m 0)
+      (λ n. both_go (put m _ p callers 2 number _ e h refl refl refl refl refl refl))
+  acts_tell at ty (Compare op a b) m p callers number calls = λ e h.
+      yields_compare R at op (cell_at m 1) (cell_at m 0) (λ n. both_go (put m _ p callers 2 number _ e h refl refl refl refl refl refl))
   acts_tell at ty (Difference a b) m p callers number calls = λ e h.
-      yields_difference R at (cell_at m 1) (cell_at m 0) (size_of program (target_of (type_of a))) (λ n. both_go (put m _ p callers 2 number _ e h refl refl refl refl refl refl))
+      yields_difference R at (cell_at m 1) (cell_at m 0) (size_of program (target_of (type_of a)))
+      (λ n. both_go (put m _ p callers 2 number _ e h refl refl refl refl refl refl))
   acts_tell at ty (Index a i order) m p callers number calls = λ e h.
-      yields_sum R program.model at (cell_at m (pointer_age order)) (number_at m (amount_age order)) (size_of program ty) (λ cell. both_go (put m _ p callers 2 number _ e h refl refl refl refl refl refl))
+      yields_sum R program.model at (cell_at m (pointer_age order)) (number_at m (amount_age order)) (size_of program ty)
+      (λ cell. both_go (put m _ p callers 2 number _ e h refl refl refl refl refl refl))
   acts_tell at ty (Sum a n direction order) m p callers number calls = λ e h.
-      yields_sum R program.model at (cell_at m (pointer_age order)) (directed direction (number_at m (amount_age order))) (size_of program (target_of ty)) (λ cell. both_go (put m _ p callers 2 number _ e h refl refl refl refl refl refl))
+      yields_sum R program.model at (cell_at m (pointer_age order)) (directed direction (number_at m (amount_age order))) (size_of program (target_of ty))
+      (λ cell. both_go (put m _ p callers 2 number _ e h refl refl refl refl refl refl))
   acts_tell at ty (Assign a b) m p callers number calls = λ e h. stores_tell at (access_of a) 1 (operand_at m 0) 2 (operand_at m 0) m p callers number e h
   acts_tell at ty (Update op a b works_in gives) m p callers number calls = λ e h.
       yields_operate R program.model at op works_in (number_at m 1) (number_at m 0) (λ n.

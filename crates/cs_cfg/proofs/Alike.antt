@@ -1,5 +1,6 @@
 -- Each operation tells the same of two states where what comes after it does.
-use Rattle.std.proofs.Common.{ℕ, ◌+◌, ◌*◌, ℤ, pos, int_le, int_lt, int_eq, ◌&&◌, ◌||◌, Bool, true, false, List, [], ◌∷◌, Option, Some, None, if◌then◌else◌}
+use Rattle.std.proofs.Common.{ℕ, ◌+◌, ◌*◌, ℤ, pos, int_le, int_lt, int_eq, ◌&&◌, ◌||◌, Bool, true, false, List, [], ◌∷◌, Option, Some}
+use Rattle.std.proofs.Common.{None, if◌then◌else◌}
 use Rattle.cs_types.specs.Shape.{Shape, void, integer, pointer, array, struct}
 use Rattle.cs_types.specs.IntType.{bytes_of}
 use Rattle.cs_types.specs.declared.int_type.IntType.{IntType}
@@ -19,8 +20,10 @@ use Rattle.cs_events.specs.Acts.{Act}
 use Rattle.cs_events.specs.Simulation.{Yields, both_stop, both_read, both_ask, both_reach, both_touch}
 use Rattle.cs_meaning.specs.Types.{scalar_offsets}
 use Rattle.cs_meaning.specs.Memory.{Block, Memory, Found, Holds, Unknown, found_in, is_constant}
-use Rattle.cs_meaning.specs.Access.{Access, shows_then, touches_then, ordered, stands, fits, reach_in, reach, direct, locate_object, receive, read, read_all, set_then, value_at, load_object, store_object}
-use Rattle.cs_meaning.specs.Operators.{takes_all, is_pointer, in_one_object, related, both_null, asks_order, look, truth, branch, operate, convert_number, convert, move_null, sum, equality, in_relation, compare, difference, arrow}
+use Rattle.cs_meaning.specs.Access.{Access, shows_then, touches_then, ordered, stands, fits, reach_in, reach, direct, locate_object, receive, read, read_all}
+use Rattle.cs_meaning.specs.Access.{set_then, value_at, load_object, store_object}
+use Rattle.cs_meaning.specs.Operators.{takes_all, is_pointer, in_one_object, related, both_null, asks_order, look, truth, branch, operate, convert_number}
+use Rattle.cs_meaning.specs.Operators.{convert, move_null, sum, equality, in_relation, compare, difference, arrow}
 use Rattle.cs_meaning.specs.Machine.{Operand, Scalar, Whole, Nothing}
 
 module _ {S T : Type 0} (R : S → T → Type 0) where
@@ -31,18 +34,21 @@ module _ {S T : Type 0} (R : S → T → Type 0) where
   abbrev pub ReportedOfTwo : {A B : Type 0} → (A → B → Act S) → (A → B → Act T) → Type 0
   ReportedOfTwo {A = A} {B = B} f g = (a : A) (b : B) → Yields R (f a b) (g a b)
 
-  pub yields_if : (b : Bool) {one other : Act S} {one' other' : Act T} → Yields R one one' → Yields R other other' → Yields R (if b then one else other) (if b then one' else other')
+  pub yields_if : (b : Bool) {one other : Act S} {one' other' : Act T} → Yields R one one' → Yields R other other'
+      → Yields R (if b then one else other) (if b then one' else other')
   yields_if true h k = h
   yields_if false h k = k
 
   pub yields_shows : (at : Place) (what : Label) {a : Act S} {b : Act T} → Yields R a b → Yields R (shows_then at what a) (shows_then at what b)
   yields_shows at what h = both_ask (λ number. h)
 
-  pub yields_touches : (touch : ℕ → Touch) (local : Option ℕ) {a : Act S} {b : Act T} → Yields R a b → Yields R (touches_then touch local a) (touches_then touch local b)
+  pub yields_touches : (touch : ℕ → Touch) (local : Option ℕ) {a : Act S} {b : Act T} → Yields R a b
+      → Yields R (touches_then touch local a) (touches_then touch local b)
   yields_touches touch None h = h
   yields_touches touch (Some declaration) h = both_touch h
 
-  pub yields_ordered : (at : Place) (first second : ℤ) {a : Act S} {b : Act T} → Yields R a b → Yields R (ordered at first second a) (ordered at first second b)
+  pub yields_ordered : (at : Place) (first second : ℤ) {a : Act S} {b : Act T} → Yields R a b
+      → Yields R (ordered at first second a) (ordered at first second b)
   yields_ordered at first second h = both_ask (λ number. yields_if (is_true number) h both_stop)
 
   yields_stands : (at : Place) (standing : Standing) {a : Act S} {b : Act T} → Yields R a b → Yields R (stands at standing a) (stands at standing b)
@@ -54,37 +60,47 @@ module _ {S T : Type 0} (R : S → T → Type 0) where
   yields_fits at true h = h
   yields_fits at false h = both_stop
 
-  yields_reach_in : (program : TypedProgram) (at : Place) (ty : Shape) (object : Object) (offset : ℤ) (block : Option Block) {f : ℕ → Act S} {g : ℕ → Act T} → Reported f g → Yields R (reach_in program at ty object offset block f) (reach_in program at ty object offset block g)
+  yields_reach_in : (program : TypedProgram) (at : Place) (ty : Shape) (object : Object) (offset : ℤ) (block : Option Block) {f : ℕ → Act S} {g : ℕ
+      → Act T} → Reported f g → Yields R (reach_in program at ty object offset block f) (reach_in program at ty object offset block g)
   yields_reach_in program at ty object offset None h = both_stop
   yields_reach_in program at ty object offset (Some block) h =
       yields_stands at block.standing (yields_ordered at _ _ (yields_ordered at _ _ (both_reach (yields_fits at _ (h _)))))
 
-  yields_reach : (program : TypedProgram) (memory : Memory) (at : Place) (ty : Shape) (cell : Cell) {f : Object → ℕ → Act S} {g : Object → ℕ → Act T} → ReportedOfTwo f g → Yields R (reach program memory at ty cell f) (reach program memory at ty cell g)
+  yields_reach : (program : TypedProgram) (memory : Memory) (at : Place) (ty : Shape) (cell : Cell) {f : Object → ℕ → Act S} {g : Object → ℕ
+      → Act T} → ReportedOfTwo f g → Yields R (reach program memory at ty cell f) (reach program memory at ty cell g)
   yields_reach program memory at ty NullCell h = yields_shows at _ both_stop
-  yields_reach program memory at ty (PointerCell object offset) h = yields_shows at _ (yields_reach_in program at ty object offset (memory object) (λ n. h object n))
+  yields_reach program memory at ty (PointerCell object offset) h =
+      yields_shows at _ (yields_reach_in program at ty object offset (memory object) (λ n. h object n))
   yields_reach program memory at ty (NumberCell n) h = both_stop
   yields_reach program memory at ty UnsetCell h = both_stop
 
-  yields_direct : (at : Place) (cell : Cell) {f : Object → ℕ → Act S} {g : Object → ℕ → Act T} → ReportedOfTwo f g → Yields R (direct at cell f) (direct at cell g)
+  yields_direct : (at : Place) (cell : Cell) {f : Object → ℕ → Act S} {g : Object → ℕ → Act T} → ReportedOfTwo f g
+      → Yields R (direct at cell f) (direct at cell g)
   yields_direct at (PointerCell object offset) h = h object _
   yields_direct at NullCell h = both_stop
   yields_direct at (NumberCell n) h = both_stop
   yields_direct at UnsetCell h = both_stop
 
-  yields_locate : (program : TypedProgram) (memory : Memory) (access : Access) (cell : Cell) {f : Object → ℕ → Act S} {g : Object → ℕ → Act T} → ReportedOfTwo f g → Yields R (locate_object program memory access cell f) (locate_object program memory access cell g)
+  yields_locate : (program : TypedProgram) (memory : Memory) (access : Access) (cell : Cell) {f : Object → ℕ → Act S} {g : Object → ℕ → Act T}
+      → ReportedOfTwo f g → Yields R (locate_object program memory access cell f) (locate_object program memory access cell g)
   yields_locate program memory access cell h = yields_if access.direct (yields_direct access.at cell h) (yields_reach program memory access.at access.ty cell h)
 
-  pub yields_receive : (program : TypedProgram) (memory : Memory) (found : Found) {f : Memory → Cell → Act S} {g : Memory → Cell → Act T} → ReportedOfTwo f g → Yields R (receive program memory found f) (receive program memory found g)
+  pub yields_receive : (program : TypedProgram) (memory : Memory) (found : Found) {f : Memory → Cell → Act S} {g : Memory → Cell → Act T}
+      → ReportedOfTwo f g → Yields R (receive program memory found f) (receive program memory found g)
   yields_receive program memory (Holds cell) h = h memory cell
   yields_receive program memory (Unknown path scalar) h = both_read (λ number. h _ _)
 
-  yields_read : (program : TypedProgram) (memory : Memory) (object : Object) (offset : ℕ) {f : Memory → Cell → Act S} {g : Memory → Cell → Act T} → ReportedOfTwo f g → Yields R (read program memory object offset f) (read program memory object offset g)
+  yields_read : (program : TypedProgram) (memory : Memory) (object : Object) (offset : ℕ) {f : Memory → Cell → Act S} {g : Memory → Cell → Act T}
+      → ReportedOfTwo f g → Yields R (read program memory object offset f) (read program memory object offset g)
   yields_read program memory object offset h = yields_receive program memory (found_in program object (memory object) offset) h
 
-  yields_read_all : (program : TypedProgram) (memory : Memory) (object : Object) (from : ℕ) (offsets : List ℕ) {f : Memory → List Cell → Act S} {g : Memory → List Cell → Act T} → ReportedOfTwo f g → Yields R (read_all program memory object from offsets f) (read_all program memory object from offsets g)
+  yields_read_all : (program : TypedProgram) (memory : Memory) (object : Object) (from : ℕ) (offsets : List ℕ) {f : Memory → List Cell
+      → Act S} {g : Memory → List Cell → Act T} → ReportedOfTwo f g
+      → Yields R (read_all program memory object from offsets f) (read_all program memory object from offsets g)
   yields_read_all program memory object from [] h = h memory []
   yields_read_all program memory object from (offset ∷ offsets) h =
-      yields_read program memory object (from + offset) (λ after cell. yields_read_all program after object from offsets (λ end cells. h end (cell ∷ cells)))
+      yields_read program memory object (from + offset) (λ after cell.
+      yields_read_all program after object from offsets (λ end cells. h end (cell ∷ cells)))
 
   pub yields_set : (at : Place) (cell : Cell) {a : Act S} {b : Act T} → Yields R a b → Yields R (set_then at cell a) (set_then at cell b)
   yields_set at (NumberCell n) h = h
@@ -92,18 +108,29 @@ module _ {S T : Type 0} (R : S → T → Type 0) where
   yields_set at (PointerCell object offset) h = h
   yields_set at UnsetCell h = both_stop
 
-  yields_value : (program : TypedProgram) (memory : Memory) (at : Place) (ty : Shape) (object : Object) (offset : ℕ) {f : Memory → Operand → Act S} {g : Memory → Operand → Act T} → ReportedOfTwo f g → Yields R (value_at program memory at ty object offset f) (value_at program memory at ty object offset g)
+  yields_value : (program : TypedProgram) (memory : Memory) (at : Place) (ty : Shape) (object : Object) (offset : ℕ) {f : Memory → Operand
+      → Act S} {g : Memory → Operand → Act T} → ReportedOfTwo f g
+      → Yields R (value_at program memory at ty object offset f) (value_at program memory at ty object offset g)
   yields_value program memory at void object offset h = yields_read program memory object offset (λ after cell. yields_set at cell (h after (Scalar cell)))
-  yields_value program memory at (integer ty) object offset h = yields_read program memory object offset (λ after cell. yields_set at cell (h after (Scalar cell)))
-  yields_value program memory at (pointer target) object offset h = yields_read program memory object offset (λ after cell. yields_set at cell (h after (Scalar cell)))
-  yields_value program memory at (array element count) object offset h = yields_read program memory object offset (λ after cell. yields_set at cell (h after (Scalar cell)))
-  yields_value program memory at (struct number) object offset h = yields_read_all program memory object offset (scalar_offsets program (struct number)) (λ after cells. h after (Whole cells))
+  yields_value program memory at (integer ty) object offset h =
+      yields_read program memory object offset (λ after cell. yields_set at cell (h after (Scalar cell)))
+  yields_value program memory at (pointer target) object offset h =
+      yields_read program memory object offset (λ after cell. yields_set at cell (h after (Scalar cell)))
+  yields_value program memory at (array element count) object offset h =
+      yields_read program memory object offset (λ after cell. yields_set at cell (h after (Scalar cell)))
+  yields_value program memory at (struct number) object offset h =
+      yields_read_all program memory object offset (scalar_offsets program (struct number)) (λ after cells. h after (Whole cells))
 
-  pub yields_load : (program : TypedProgram) (memory : Memory) (frame : ℕ) (access : Access) (cell : Cell) {f : Memory → Operand → Act S} {g : Memory → Operand → Act T} → ReportedOfTwo f g → Yields R (load_object program memory frame access cell f) (load_object program memory frame access cell g)
+  pub yields_load : (program : TypedProgram) (memory : Memory) (frame : ℕ) (access : Access) (cell : Cell) {f : Memory → Operand → Act S} {g : Memory
+      → Operand → Act T} → ReportedOfTwo f g
+      → Yields R (load_object program memory frame access cell f) (load_object program memory frame access cell g)
   yields_load program memory frame access cell h =
-      yields_locate program memory access cell (λ object offset. yields_touches _ access.local (yields_value program memory access.at access.ty object offset h))
+      yields_locate program memory access cell (λ object offset.
+      yields_touches _ access.local (yields_value program memory access.at access.ty object offset h))
 
-  pub yields_store : (program : TypedProgram) (memory : Memory) (frame : ℕ) (at : Place) (access : Access) (cell : Cell) (operand : Operand) {f : Memory → Act S} {g : Memory → Act T} → Reported f g → Yields R (store_object program memory frame at access cell operand f) (store_object program memory frame at access cell operand g)
+  pub yields_store : (program : TypedProgram) (memory : Memory) (frame : ℕ) (at : Place) (access : Access) (cell : Cell) (operand : Operand) {f : Memory
+      → Act S} {g : Memory → Act T} → Reported f g
+      → Yields R (store_object program memory frame at access cell operand f) (store_object program memory frame at access cell operand g)
   yields_store program memory frame at access cell operand h =
       yields_locate program memory access cell (λ object offset. yields_if (is_constant program object) both_stop (yields_touches _ access.local (h _)))
 
@@ -122,7 +149,8 @@ module _ {S T : Type 0} (R : S → T → Type 0) where
   pub yields_branch : (at : Place) (cell : Cell) {f : Bool → Act S} {g : Bool → Act T} → Reported f g → Yields R (branch at cell f) (branch at cell g)
   yields_branch at cell h = yields_truth at cell (λ holds. both_touch (yields_shows at _ (h holds)))
 
-  pub yields_operate : (model : DataModel) (at : Place) (op : BinOp) (ty : IntType) (left right : ℤ) {f : ℤ → Act S} {g : ℤ → Act T} → Reported f g → Yields R (operate model at op ty left right f) (operate model at op ty left right g)
+  pub yields_operate : (model : DataModel) (at : Place) (op : BinOp) (ty : IntType) (left right : ℤ) {f : ℤ → Act S} {g : ℤ → Act T} → Reported f g
+      → Yields R (operate model at op ty left right f) (operate model at op ty left right g)
   yields_operate model at Add ty left right h = both_ask h
   yields_operate model at Sub ty left right h = both_ask h
   yields_operate model at Mul ty left right h = both_ask h
@@ -134,10 +162,12 @@ module _ {S T : Type 0} (R : S → T → Type 0) where
   yields_operate model at Xor ty left right h = both_ask h
   yields_operate model at Or ty left right h = both_ask h
 
-  pub yields_convert_number : (model : DataModel) (at : Place) (from : Shape) (to : IntType) (number : ℤ) {f : ℤ → Act S} {g : ℤ → Act T} → Reported f g → Yields R (convert_number model at from to number f) (convert_number model at from to number g)
+  pub yields_convert_number : (model : DataModel) (at : Place) (from : Shape) (to : IntType) (number : ℤ) {f : ℤ → Act S} {g : ℤ → Act T}
+      → Reported f g → Yields R (convert_number model at from to number f) (convert_number model at from to number g)
   yields_convert_number model at from to number h = yields_if (takes_all model from to) (h number) (both_ask h)
 
-  pub yields_convert : (model : DataModel) (at : Place) (from to : Shape) (operand : Operand) {f : Operand → Act S} {g : Operand → Act T} → Reported f g → Yields R (convert model at from to operand f) (convert model at from to operand g)
+  pub yields_convert : (model : DataModel) (at : Place) (from to : Shape) (operand : Operand) {f : Operand → Act S} {g : Operand → Act T} → Reported f g
+      → Yields R (convert model at from to operand f) (convert model at from to operand g)
   yields_convert model at from void operand h = h Nothing
   yields_convert model at from (integer ty) (Scalar (NumberCell n)) h = yields_convert_number model at from ty n (λ number. h (Scalar (NumberCell number)))
   yields_convert model at from (integer ty) (Scalar NullCell) h = h (Scalar NullCell)
@@ -149,33 +179,43 @@ module _ {S T : Type 0} (R : S → T → Type 0) where
   yields_convert model at from (array element count) operand h = h operand
   yields_convert model at from (struct number) operand h = h operand
 
-  yields_move_null : (at : Place) (amount : ℤ) {f : Cell → Act S} {g : Cell → Act T} → Reported f g → Yields R (move_null at amount f) (move_null at amount g)
+  yields_move_null : (at : Place) (amount : ℤ) {f : Cell → Act S} {g : Cell → Act T} → Reported f g
+      → Yields R (move_null at amount f) (move_null at amount g)
   yields_move_null at amount h = yields_if (int_eq amount (pos 0)) (h NullCell) both_stop
 
-  pub yields_sum : (model : DataModel) (at : Place) (cell : Cell) (amount : ℤ) (size : ℕ) {f : Cell → Act S} {g : Cell → Act T} → Reported f g → Yields R (sum model at cell amount size f) (sum model at cell amount size g)
+  pub yields_sum : (model : DataModel) (at : Place) (cell : Cell) (amount : ℤ) (size : ℕ) {f : Cell → Act S} {g : Cell → Act T} → Reported f g
+      → Yields R (sum model at cell amount size f) (sum model at cell amount size g)
   yields_sum model at NullCell amount size h = yields_shows at _ (yields_move_null at amount h)
-  yields_sum model at (PointerCell object offset) amount size h = yields_shows at _ (yields_ordered at _ _ (yields_ordered at _ _ (both_ask (λ moved. h (PointerCell object moved)))))
+  yields_sum model at (PointerCell object offset) amount size h =
+      yields_shows at _ (yields_ordered at _ _ (yields_ordered at _ _ (both_ask (λ moved. h (PointerCell object moved)))))
   yields_sum model at (NumberCell n) amount size h = h UnsetCell
   yields_sum model at UnsetCell amount size h = h UnsetCell
 
-  yields_equality : (at : Place) (op : CmpOp) (same : Bool) (offsets : Option (ℤ × ℤ)) {f : ℤ → Act S} {g : ℤ → Act T} → Reported f g → Yields R (equality at op same offsets f) (equality at op same offsets g)
+  yields_equality : (at : Place) (op : CmpOp) (same : Bool) (offsets : Option (ℤ × ℤ)) {f : ℤ → Act S} {g : ℤ → Act T} → Reported f g
+      → Yields R (equality at op same offsets f) (equality at op same offsets g)
   yields_equality at op same None h = yields_shows at _ (h _)
   yields_equality at op same (Some offsets) h = both_ask h
 
-  yields_in_relation : (at : Place) (offsets : Option (ℤ × ℤ)) {f : ℤ → ℤ → Act S} {g : ℤ → ℤ → Act T} → ReportedOfTwo f g → Yields R (in_relation at offsets f) (in_relation at offsets g)
+  yields_in_relation : (at : Place) (offsets : Option (ℤ × ℤ)) {f : ℤ → ℤ → Act S} {g : ℤ → ℤ → Act T} → ReportedOfTwo f g
+      → Yields R (in_relation at offsets f) (in_relation at offsets g)
   yields_in_relation at None h = both_stop
   yields_in_relation at (Some offsets) h = h offsets.0 offsets.1
 
-  pub yields_compare : (at : Place) (op : CmpOp) (left right : Cell) {f : ℤ → Act S} {g : ℤ → Act T} → Reported f g → Yields R (compare at op left right f) (compare at op left right g)
+  pub yields_compare : (at : Place) (op : CmpOp) (left right : Cell) {f : ℤ → Act S} {g : ℤ → Act T} → Reported f g
+      → Yields R (compare at op left right f) (compare at op left right g)
   yields_compare at op left right h =
       yields_if (is_pointer left || is_pointer right)
-      (yields_look at left (yields_look at right (yields_if (asks_order op) (yields_in_relation at (related left right) (λ one other. both_ask h)) (yields_equality at op (both_null left right) (in_one_object left right) h))))
+      (yields_look at left
+      (yields_look at right (yields_if (asks_order op) (yields_in_relation at (related left right) (λ one other. both_ask h))
+      (yields_equality at op (both_null left right) (in_one_object left right) h))))
       (both_ask h)
 
-  pub yields_difference : (at : Place) (left right : Cell) (size : ℕ) {f : ℤ → Act S} {g : ℤ → Act T} → Reported f g → Yields R (difference at left right size f) (difference at left right size g)
+  pub yields_difference : (at : Place) (left right : Cell) (size : ℕ) {f : ℤ → Act S} {g : ℤ → Act T} → Reported f g
+      → Yields R (difference at left right size f) (difference at left right size g)
   yields_difference at left right size h = yields_look at left (yields_look at right (yields_in_relation at (related left right) (λ one other. both_ask h)))
 
-  pub yields_arrow : (at : Place) (cell : Cell) (offset : ℕ) {f : Cell → Act S} {g : Cell → Act T} → Reported f g → Yields R (arrow at cell offset f) (arrow at cell offset g)
+  pub yields_arrow : (at : Place) (cell : Cell) (offset : ℕ) {f : Cell → Act S} {g : Cell → Act T} → Reported f g
+      → Yields R (arrow at cell offset f) (arrow at cell offset g)
   yields_arrow at NullCell offset h = yields_shows at _ both_stop
   yields_arrow at (PointerCell object from) offset h = yields_shows at _ (h _)
   yields_arrow at (NumberCell n) offset h = h UnsetCell

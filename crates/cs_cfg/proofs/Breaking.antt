@@ -3,7 +3,8 @@ use Rattle.std.proofs.Common.{◌≡◌, ℕ, List, [], ◌∷◌, Option, Some,
 use Rattle.cs_ast.specs.declared.place.Place.{Place}
 use Rattle.cs_ast.specs.TypedTree.{Of, Form, And, Or, Choice, Update, Move, Statement, If, IfElse, While, Do, For, Switch}
 use Rattle.cs_ast.specs.TypedProgram.{TypedProgram, Routine}
-use Rattle.cs_meaning.specs.Machine.{Item, Evaluate, EvaluateUnused, Act, Fetch, Choose, Judge, Use, Drop, Store, Spell, Execute, Decide, Turn, Again, Out, Begin, End, Give, Leave}
+use Rattle.cs_meaning.specs.Machine.{Item, Evaluate, EvaluateUnused, Act, Fetch, Choose, Judge, Use, Drop, Store, Spell, Execute, Decide, Turn, Again, Out}
+use Rattle.cs_meaning.specs.Machine.{Begin, End, Give, Leave}
 use Rattle.cs_meaning.specs.Jumps.{broken_out, continued}
 use Rattle.cs_cfg.specs.Graph.{Work, Point, Flow}
 use Rattle.cs_cfg.specs.Placing.{there}
@@ -16,7 +17,8 @@ abbrev Somewhere : Following → Type 0
 Somewhere following = (depth : ℕ) × ((p : Point) × following depth p)
 
 -- after an operation
-after_work : (at : Place) (work : Work) (leaves : ℕ) (following : Following) (depth : ℕ) (p : Point) → worked at work leaves following depth p → Somewhere following
+after_work : (at : Place) (work : Work) (leaves : ℕ) (following : Following) (depth : ℕ) (p : Point) → worked at work leaves following depth p
+    → Somewhere following
 after_work at work leaves following depth p it = (_, (it.1, it.4))
 
 after_act : (at : Place) (work : Option Work) (following : Following) (depth : ℕ) (p : Point) → acts_by at work following depth p → Somewhere following
@@ -25,13 +27,15 @@ after_act at (Some work) following depth p it = after_work at work 1 following d
 
 module _ (program : TypedProgram) (flow : Flow) where
   -- after the load of an update
-  after_fetch : (at : Place) (form : Form) (following : Following) (depth : ℕ) (p : Point) → fetches_form program flow at form following depth p → Somewhere following
+  after_fetch : (at : Place) (form : Form) (following : Following) (depth : ℕ) (p : Point) → fetches_form program flow at form following depth p
+      → Somewhere following
   after_fetch at (Update op a b works_in gives) following depth p it = after_work _ _ _ following depth p it
   after_fetch at (Move a n direction gives) following depth p it = after_work _ _ _ following depth p it
   after_fetch at other following depth p it = absurd it
 
   -- after both ways of `&&`, `||` and `?:`
-  after_choice : (at : Place) (form : Form) (following : Following) (depth : ℕ) (p : Point) → chooses_form program flow at form following depth p → Somewhere following
+  after_choice : (at : Place) (form : Form) (following : Following) (depth : ℕ) (p : Point) → chooses_form program flow at form following depth p
+      → Somewhere following
   after_choice at (And a b) following depth p it = (_, (it.5.0, it.5.3))
   after_choice at (Or a b) following depth p it = (_, (it.5.0, it.5.3))
   after_choice at (Choice a b c) following depth p it = (_, (it.5.0, it.5.3))
@@ -39,7 +43,8 @@ module _ (program : TypedProgram) (flow : Flow) where
 
   module _ (routine : Routine) (labels : ℕ → Point) where
     -- the way of a test, or of a `switch`
-    after_decision : (s : Statement) (counted_point : ℕ) (out again : Point) (following : Following) (p : Point) → decides_at program flow routine labels s counted_point out again following p → Somewhere following
+    after_decision : (s : Statement) (counted_point : ℕ) (out again : Point) (following : Following) (p : Point)
+        → decides_at program flow routine labels s counted_point out again following p → Somewhere following
     after_decision (If at test body) counted_point out again following p it = (_, (it.5.0, it.5.3))
     after_decision (IfElse at test body other) counted_point out again following p it = (_, (it.5.0, it.5.3))
     after_decision (While at test body) counted_point out again following p it = (_, (out, it.2))
@@ -49,7 +54,8 @@ module _ (program : TypedProgram) (flow : Flow) where
     after_decision other counted_point out again following p it = absurd it
 
     -- after the first thing to do
-    after_item : (item : Item) (out again : Point) (following : Following) (depth : ℕ) (p : Point) → item_at program flow routine labels item out again following depth p → Somewhere following
+    after_item : (item : Item) (out again : Point) (following : Following) (depth : ℕ) (p : Point)
+        → item_at program flow routine labels item out again following depth p → Somewhere following
     after_item (Evaluate e) out again following depth p it = (_, (it.0, it.2))
     after_item (EvaluateUnused e) out again following depth p it = (_, (it.0, it.2))
     after_item (Act (Of at ty form)) out again following depth p it = after_act at (work_of program ty form) following depth p it
@@ -81,7 +87,8 @@ module _ (program : TypedProgram) (flow : Flow) where
       pub continues : Arrives program flow routine labels (continued items) continued_out continued_again 0 again
 
     -- the same where something is to be done before, which is neither
-    passes : (item : Item) (items : List Item) (out again : Point) → broken_out (item ∷ items) ≡ broken_out items → continued (item ∷ items) ≡ continued items → Escapes items out again → Escapes (item ∷ items) out again
+    passes : (item : Item) (items : List Item) (out again : Point) → broken_out (item ∷ items) ≡ broken_out items
+        → continued (item ∷ items) ≡ continued items → Escapes items out again → Escapes (item ∷ items) out again
     passes item items out again e f it = record {
       broken_outer = it.broken_outer;
       broken_again = it.broken_again;
@@ -92,7 +99,8 @@ module _ (program : TypedProgram) (flow : Flow) where
     }
 
     -- from where something stands on
-    pub escapes : (items : List Item) (out again : Point) (depth : ℕ) (p : Point) → stands_at program flow routine labels items out again depth p → Escapes items out again
+    pub escapes : (items : List Item) (out again : Point) (depth : ℕ) (p : Point) → stands_at program flow routine labels items out again depth p
+        → Escapes items out again
     escapes [] out again depth p it = record {
       broken_outer = out;
       broken_again = again;
@@ -119,7 +127,8 @@ module _ (program : TypedProgram) (flow : Flow) where
           broken = rest.broken;
           continued_out = out;
           continued_again = again;
-          continues = (again, there, (refl, refl, (it.2.0, subst (λ x. loops_at program flow routine labels s counted_point it.2.0 x out) (sym it.1) it.2.1, it.2.2)));
+          continues =
+              (again, there, (refl, refl, (it.2.0, subst (λ x. loops_at program flow routine labels s counted_point it.2.0 x out) (sym it.1) it.2.1, it.2.2)));
         }
     escapes ((Evaluate e) ∷ items) out again depth p it =
         let rest = after_item (Evaluate e) out again (Arrives program flow routine labels items out again) depth p it in

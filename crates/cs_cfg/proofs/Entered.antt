@@ -19,12 +19,15 @@ executed routine body e = ap (λ some. unwrap_or some (Block routine.at Empty)) 
 
 module _ (code : Code) (program : TypedProgram) where
   -- the first point of a graph does what is to be done in a new frame
-  pub frame_begins : (function number : ℕ) (body : Statement) (flow : Flow) → (routine_of program function).body ≡ Some body → flow_of code function ≡ Some flow →
-      LowersBody program (routine_of program function) body flow → FrameStands code program 0 (new_frame function number (routine_of program function)) (code_frame function flow number)
+  pub frame_begins : (function number : ℕ) (body : Statement) (flow : Flow) → (routine_of program function).body ≡ Some body
+      → flow_of code function ≡ Some flow →
+      LowersBody program (routine_of program function) body flow
+      → FrameStands code program 0 (new_frame function number (routine_of program function)) (code_frame function flow number)
   frame_begins function number body flow has_body has_flow lowers =
       let routine = routine_of program function in
       let same = executed routine body has_body in
-      let executes = subst (λ b. executes_at program flow routine lowers.labels b 0 finishing finishing lowers.inside lowers.following) (sym same) lowers.executes in
+      let executes = subst (λ b. executes_at program flow routine lowers.labels b 0 finishing finishing lowers.inside lowers.following) (sym same)
+      lowers.executes in
       record {
         function = refl;
         number = refl;
@@ -54,7 +57,11 @@ module _ (code : Code) (program : TypedProgram) where
                 (
                   lowers.following,
                   executes,
-                  (does routine.closes 0 (graph.Close lowers.nothing) leaving, lowers.ends, (refl, (lowers.nothing, sym lowers.gives, refl), (finishing, there, (refl, there, there)))),
+                  (
+                    does routine.closes 0 (graph.Close lowers.nothing) leaving,
+                    lowers.ends,
+                    (refl, (lowers.nothing, sym lowers.gives, refl), (finishing, there, (refl, there, there))),
+                  ),
                 ),
               ),
             ),

@@ -10,7 +10,8 @@ use Rattle.cs_events.specs.declared.point.PointKind.{PointKind}
 use Rattle.cs_events.specs.declared.point.PointKind.TheVariants as point
 use Rattle.cs_events.specs.Acts.{Goes}
 use Rattle.cs_events.specs.Simulation.{Yields, alone, both_go, both_stop, both_touch}
-use Rattle.cs_meaning.specs.Machine.{Nothing, Item, Evaluate, EvaluateUnused, Drop, Execute, Decide, Turn, Out, Give, CallFrame, State, to_do, push, routine_of, body_of}
+use Rattle.cs_meaning.specs.Machine.{Nothing, Item, Evaluate, EvaluateUnused, Drop, Execute, Decide, Turn, Out, Give, CallFrame, State, to_do, push, routine_of}
+use Rattle.cs_meaning.specs.Machine.{body_of}
 use Rattle.cs_meaning.specs.CountedPoints.{with_visits, reached_again, reach_counted_point}
 use Rattle.cs_meaning.specs.Jumps.{executes, broken_out, continued, Landing, landing}
 use Rattle.cs_meaning.specs.Statements.{lands}
@@ -30,19 +31,25 @@ use Rattle.cs_cfg.proofs.Breaking.{escapes}
 
 module _ (code : Code) (program : TypedProgram) (budgets : RunBudgets) where
   -- the machine goes on silently to other things to do, which stand at the same point; no temporary is in use
-  pub silently : (item : Item) (items rest : List Item) (m : State) (home : Home code program m.frame.function) (p : Point) (callers : List (CallFrame Point)) → length m.frame.stack ≡ 0 →
-      do_item program budgets item (to_do items m) ≡ Goes (to_do rest m) → onward code program home rest 0 p → CallersStand code program m.callers callers →
+  pub silently : (item : Item) (items rest : List Item) (m : State) (home : Home code program m.frame.function) (p : Point) (callers : List (CallFrame Point))
+      → length m.frame.stack ≡ 0 →
+      do_item program budgets item (to_do items m) ≡ Goes (to_do rest m) → onward code program home rest 0 p → CallersStand code program m.callers callers
+      →
       Answer code program budgets (to_do (item ∷ items) m) (as_code p callers m)
-  silently item items rest m home p callers empty e s waiting = alone e (now (aligned code program (to_do rest m) home p callers (with_depth code program home rest p (sym empty) s) waiting))
+  silently item items rest m home p callers empty e s waiting =
+      alone e (now (aligned code program (to_do rest m) home p callers (with_depth code program home rest p (sym empty) s) waiting))
 
   -- `break` and `continue` lead to these points
   abbrev pub home_with : {function : ℕ} → Home code program function → Point → Point → Home code program function
   home_with home out again = record home { out = out; again = again }
 
-  module _ (m : State) (home : Home code program m.frame.function) (callers : List (CallFrame Point)) (waiting : CallersStand code program m.callers callers) (empty : length m.frame.stack ≡ 0) where
+  module _ (m : State) (home : Home code program m.frame.function) (callers : List (CallFrame Point)) (waiting : CallersStand code program m.callers callers)
+      (empty : length m.frame.stack ≡ 0) where
     -- a counted point is reached alike
-    again_reached : (at : Place) (kind : PointKind) (counted_point : ℕ) (rest : List Item) (q : Point) → onward code program home rest 0 q → (count : Option ℕ) →
-        Yields (Related code program budgets) (reached_again budgets at kind counted_point count (to_do rest m)) (reached_again budgets at kind counted_point count (as_code q callers m))
+    again_reached : (at : Place) (kind : PointKind) (counted_point : ℕ) (rest : List Item) (q : Point) → onward code program home rest 0 q
+        → (count : Option ℕ) →
+        Yields (Related code program budgets) (reached_again budgets at kind counted_point count (to_do rest m))
+        (reached_again budgets at kind counted_point count (as_code q callers m))
     again_reached at kind counted_point rest q s None = both_stop
     again_reached at kind counted_point rest q s (Some count) =
         let next = with_visits counted_point (count + 1) (to_do rest m) in
@@ -50,32 +57,43 @@ module _ (code : Code) (program : TypedProgram) (budgets : RunBudgets) where
         (both_touch (both_go (now (aligned code program next home q callers (with_depth code program home rest q (sym empty) s) waiting)))) both_stop
 
     pub counted_point_reached : (at : Place) (kind : PointKind) (counted_point : ℕ) (rest : List Item) (q : Point) → onward code program home rest 0 q →
-        Yields (Related code program budgets) (reach_counted_point budgets at kind counted_point (to_do rest m)) (reach_counted_point budgets at kind counted_point (as_code q callers m))
+        Yields (Related code program budgets) (reach_counted_point budgets at kind counted_point (to_do rest m))
+        (reach_counted_point budgets at kind counted_point (as_code q callers m))
     counted_point_reached at kind counted_point rest q s = again_reached at kind counted_point rest q s (slice_get m.frame.visits counted_point)
 
   -- the end of the body stands after it
-  end_arrives : {function : ℕ} (home : Home code program function) → onward code program (home_with home finishing finishing) (at_end (routine_of program function)) 0 home.lowers.following
+  end_arrives : {function : ℕ} (home : Home code program function)
+      → onward code program (home_with home finishing finishing) (at_end (routine_of program function)) 0 home.lowers.following
   end_arrives {function = function} home =
-      let routine = routine_of program function in
-      (does routine.closes 0 (graph.Close home.lowers.nothing) leaving, home.lowers.ends, (refl, (home.lowers.nothing, sym home.lowers.gives, refl), (finishing, there, (refl, there, there))))
+      let routine = routine_of program function in (
+        does routine.closes 0 (graph.Close home.lowers.nothing) leaving,
+        home.lowers.ends,
+        (refl, (home.lowers.nothing, sym home.lowers.gives, refl), (finishing, there, (refl, there, there))),
+      )
 
   -- a `goto` in the body lands
-  landed : {function : ℕ} (home : Home code program function) (wanted : ℕ) (l : Landing) → landing wanted (body_of (routine_of program function)) 0 (at_end (routine_of program function)) ≡ Some l →
+  landed : {function : ℕ} (home : Home code program function) (wanted : ℕ) (l : Landing)
+      → landing wanted (body_of (routine_of program function)) 0 (at_end (routine_of program function)) ≡ Some l →
       Landed program home.flow (routine_of program function) home.lowers.labels wanted l
   landed {function = function} home wanted l e =
       let routine = routine_of program function in
       let is_body : home.body ≡ body_of routine = sym (executed routine home.body home.has_body) in
       goto_lands program home.flow routine home.lowers.labels wanted (at_end routine) l finishing finishing home.lowers.inside home.lowers.following
-      (subst (λ body. executes_at program home.flow routine home.lowers.labels body 0 finishing finishing home.lowers.inside home.lowers.following) is_body home.lowers.executes) (end_arrives home) e
+      (subst (λ body. executes_at program home.flow routine home.lowers.labels body 0 finishing finishing home.lowers.inside home.lowers.following) is_body
+      home.lowers.executes) (end_arrives home) e
 
-  module _ (m : State) (home : Home code program m.frame.function) (callers : List (CallFrame Point)) (waiting : CallersStand code program m.callers callers) (empty : length m.frame.stack ≡ 0)
+  module _ (m : State) (home : Home code program m.frame.function) (callers : List (CallFrame Point)) (waiting : CallersStand code program m.callers callers)
+      (empty : length m.frame.stack ≡ 0)
       (counted_point : ℕ) (items : List Item) (p q : Point) (rest : onward code program home items 0 q) where
     -- the machine and the code's run answer one another where a statement is to be executed
     abbrev Executes : Statement → Type 0
-    Executes s = executes_at program home.flow (routine_of program m.frame.function) home.lowers.labels s counted_point home.out home.again p q → Answer code program budgets (to_do (Execute s counted_point ∷ items) m) (as_code p callers m)
+    Executes s = executes_at program home.flow (routine_of program m.frame.function) home.lowers.labels s counted_point home.out home.again p q
+        → Answer code program budgets (to_do (Execute s counted_point ∷ items) m) (as_code p callers m)
 
     -- the machine goes on to these things to do, and `break` and `continue` lead so
-    goes_to_parts : (s : Statement) (parts : List Item) (out again : Point) → do_item program budgets (Execute s counted_point) (to_do items m) ≡ Goes (to_do parts m) → onward code program (home_with home out again) parts 0 p →
+    goes_to_parts : (s : Statement) (parts : List Item) (out again : Point)
+        → do_item program budgets (Execute s counted_point) (to_do items m) ≡ Goes (to_do parts m)
+        → onward code program (home_with home out again) parts 0 p →
         Answer code program budgets (to_do (Execute s counted_point ∷ items) m) (as_code p callers m)
     goes_to_parts s parts out again e s' = silently (Execute s counted_point) items parts m (home_with home out again) p callers empty e s' waiting
 
@@ -96,7 +114,8 @@ module _ (code : Code) (program : TypedProgram) (budgets : RunBudgets) where
         (p, there, (split at 0 it.0 it.1, it.2, (split at 0 it.0 it.1, there, (refl, (0, it.0, it.1, refl, refl, (q, it.3.0, it.3.1, rest))))))
 
     pub if_else_answers : (at : Place) (test : Typed) (body other : Statement) → Executes (IfElse at test body other)
-    if_else_answers at test body other it = goes_to_parts (IfElse at test body other) (Evaluate test ∷ Decide (IfElse at test body other) counted_point ∷ items) home.out home.again refl
+    if_else_answers at test body other it =
+        goes_to_parts (IfElse at test body other) (Evaluate test ∷ Decide (IfElse at test body other) counted_point ∷ items) home.out home.again refl
         (p, there, (split at 0 it.0 it.1, it.2, (split at 0 it.0 it.1, there, (refl, (0, it.0, it.1, refl, refl, (q, it.3.0, it.3.1, rest))))))
 
     pub while_answers : (at : Place) (test : Typed) (body : Statement) → Executes (While at test body)
@@ -111,34 +130,47 @@ module _ (code : Code) (program : TypedProgram) (budgets : RunBudgets) where
     for_answers at first test last body it =
         let loop = Turn (For at first test last body) counted_point ∷ Out ∷ items in
         goes_to_parts (For at first test last body) (executes first (counted_point + 1) loop) q home.again refl
-        (row_arrives program home.flow (routine_of program m.frame.function) home.lowers.labels first (counted_point + 1) loop q home.again p it.0 it.2 (it.0, there, (refl, (it.1, it.3, outside))))
+        (row_arrives program home.flow (routine_of program m.frame.function) home.lowers.labels first (counted_point + 1) loop q home.again p it.0 it.2
+        (it.0, there, (refl, (it.1, it.3, outside))))
 
     pub switch_answers : (at : Place) (value : Typed) (cases : List Case) (statements : Statements) → Executes (Switch at value cases statements)
     switch_answers at value cases statements it =
         let ways : Point = record { operations = []; end = graph.Switch at 0 it.0 it.1 } in
-        goes_to_parts (Switch at value cases statements) (Evaluate value ∷ Decide (Switch at value cases statements) counted_point ∷ Out ∷ items) q home.again refl
+        goes_to_parts (Switch at value cases statements) (Evaluate value ∷ Decide (Switch at value cases statements) counted_point ∷ Out ∷ items) q
+        home.again refl
         (p, there, (ways, it.3, (ways, there, (refl, (it.0, it.1, it.2, refl, it.4, it.5, it.6, outside)))))
 
     -- a `goto` lands, or goes on
-    pub goto_answers : (at : Place) (wanted : ℕ) (found : Option Landing) → landing wanted (body_of (routine_of program m.frame.function)) 0 (at_end (routine_of program m.frame.function)) ≡ found → Executes (Goto at wanted)
+    pub goto_answers : (at : Place) (wanted : ℕ) (found : Option Landing)
+        → landing wanted (body_of (routine_of program m.frame.function)) 0 (at_end (routine_of program m.frame.function)) ≡ found
+        → Executes (Goto at wanted)
     goto_answers at wanted None e it = goes_to_parts (Goto at wanted) items home.out home.again (ap (λ found. lands budgets found (to_do items m)) e)
-        (jumps_to code program home items 0 (goto_goes_on program home.flow (routine_of program m.frame.function) home.lowers.labels wanted (at_end (routine_of program m.frame.function)) p q e it) rest)
+        (jumps_to code program home items 0
+        (goto_goes_on program home.flow (routine_of program m.frame.function) home.lowers.labels wanted (at_end (routine_of program m.frame.function)) p q e
+        it) rest)
     goto_answers at wanted (Some l) e it =
         let routine = routine_of program m.frame.function in
         let label = home.lowers.labels wanted in
         let land = landed home wanted l e in
         let stays = goto_stays program home.flow routine home.lowers.labels wanted (at_end routine) l p q e it in
         let way = goto_jumps program home.flow routine home.lowers.labels wanted (at_end routine) l p q e it in
-        let reported = counted_point_reached m (home_with home land.out land.again) callers waiting empty l.at point.Label l.counted_point l.todo land.inside land.stands in
+        let reported = counted_point_reached m (home_with home land.out land.again) callers waiting empty l.at point.Label l.counted_point l.todo land.inside
+        land.stands in
         arrives code program budgets (to_do (Execute (Goto at wanted) counted_point ∷ items) m) home p label callers way (empty, (q, stays, rest)) waiting
-        (work_answers code program budgets (Execute (Goto at wanted) counted_point) items m l.at (graph.Reach point.Label l.counted_point) 0 label land.inside callers empty land.reaches
-        (subst (λ found. Yields (Related code program budgets) (lands budgets found (to_do items m)) (reach_counted_point budgets l.at point.Label l.counted_point (as_code land.inside callers m))) (sym e) reported))
+        (work_answers code program budgets (Execute (Goto at wanted) counted_point) items m l.at (graph.Reach point.Label l.counted_point) 0 label land.inside
+        callers empty land.reaches
+        (subst (λ found.
+        Yields (Related code program budgets) (lands budgets found (to_do items m))
+        (reach_counted_point budgets l.at point.Label l.counted_point (as_code land.inside callers m))) (sym e) reported))
 
     pub label_answers : (at : Place) (label : ℕ) (body : Statement) → Executes (Label at label body)
     label_answers at label body it =
-        let reported = counted_point_reached m home callers waiting empty at point.Label counted_point (Execute body (counted_point + 1) ∷ items) it.1 (it.1, there, (refl, (q, it.5, rest))) in
-        arrives code program budgets (to_do (Execute (Label at label body) counted_point ∷ items) m) home p it.0 callers it.2 (empty, (q, (it.0, it.1, there, it.3, it.4, it.5), rest)) waiting
-        (work_answers code program budgets (Execute (Label at label body) counted_point) items m at (graph.Reach point.Label counted_point) 0 it.0 it.1 callers empty it.3 reported)
+        let reported = counted_point_reached m home callers waiting empty at point.Label counted_point (Execute body (counted_point + 1) ∷ items) it.1
+        (it.1, there, (refl, (q, it.5, rest))) in
+        arrives code program budgets (to_do (Execute (Label at label body) counted_point ∷ items) m) home p it.0 callers it.2
+        (empty, (q, (it.0, it.1, there, it.3, it.4, it.5), rest)) waiting
+        (work_answers code program budgets (Execute (Label at label body) counted_point) items m at (graph.Reach point.Label counted_point) 0 it.0 it.1 callers
+        empty it.3 reported)
 
     pub break_answers : (at : Place) → Executes (Break at)
     break_answers at it =

@@ -2,8 +2,10 @@
 -- builder of a graph.
 use Rattle.std.specs.Prelude.{◌⊎◌, Contains, slice_get}
 use Rattle.std.specs.List.{All}
-use Rattle.std.proofs.Common.{◌≡◌, ℕ, true, false, List, [], ◌∷◌, ◌++◌, length, Some, None, if◌then◌else◌, arith, refl, sym, ap, ◌∙◌, subst, inl, inr}
-use Rattle.std.proofs.lemmas.List.Elements.{All-nil, All-cons, All-head, All-tail, All-append, All-weaker, All-contains, All-contains_itself, Contains-append_left, Contains-append_right}
+use Rattle.std.proofs.Common.{◌≡◌, ℕ, true, false, List, [], ◌∷◌, ◌++◌, length, Some, None, if◌then◌else◌, arith, refl, sym, ap}
+use Rattle.std.proofs.Common.{◌∙◌, subst, inl, inr}
+use Rattle.std.proofs.lemmas.List.Elements.{All-nil, All-cons, All-head, All-tail, All-append, All-weaker, All-contains, All-contains_itself}
+use Rattle.std.proofs.lemmas.List.Elements.{Contains-append_left, Contains-append_right}
 use Rattle.cs_ast.specs.declared.place.Place.{Place}
 use Rattle.cs_events.specs.declared.point.PointKind.{PointKind}
 use Rattle.cs_events.specs.declared.point.PointKind.TheVariants as point
@@ -19,7 +21,8 @@ abbrev pub LeadsBy : Flow → Met → List Operation → BlockEnd → Exit → P
 LeadsBy flow m (operation ∷ operations) end Onward q = (goes_on m.kind ≡ true) × (q ≡ record { operations = operations; end = end })
 LeadsBy flow m [] (Branch at temporary one other) (TruthOf holds) q = q ≡ block_of flow (if holds then one else other)
 LeadsBy flow m [] (Switch at temporary cases otherwise) (CaseOf number) q =
-    ((taken : SwitchCase) × (slice_get cases number ≡ Some taken) × (q ≡ block_of flow taken.block)) ⊎ ((number ≡ length cases) × (q ≡ block_of flow otherwise))
+    ((taken : SwitchCase) × (slice_get cases number ≡ Some taken) × (q ≡ block_of flow taken.block))
+    ⊎ ((number ≡ length cases) × (q ≡ block_of flow otherwise))
 LeadsBy flow m operations end exit q = ⊥
 
 pub leads_by : {flow : Flow} {p q : Point} {m : Met} {exit : Exit} → Leads flow p m exit q → LeadsBy flow m p.operations p.end exit q
@@ -30,26 +33,30 @@ leads_by on_no_case = inr (refl, refl)
 
 module _ {flow : Flow} where
   -- the head of a loop, a label or the beginning of a body
-  pub fits_passed : {kind : PointKind} {at : Place} {next : Next} (number : ℕ) (work : Work) (q : Point) → met_in at work ≡ Some (the_point kind at) → MeetsNext flow q next →
+  pub fits_passed : {kind : PointKind} {at : Place} {next : Next} (number : ℕ) (work : Work) (q : Point) → met_in at work ≡ Some (the_point kind at)
+      → MeetsNext flow q next →
       Fits flow (passed kind at next) (does at number work q)
   fits_passed {kind = kind} {at = at} {next = next} number work q is m = record {
     meets = by_operation {operation = record { at = at; temporary = number; work = work }} {p = q} is;
     leads = λ exit r l. here exit r (leads_by l);
   }
     where
-      here : (exit : Exit) (r : Point) → LeadsBy flow (the_point kind at) (does at number work q).operations q.end exit r → (after : Next) × Contains (way Onward next ∷ []) (way exit after) × MeetsNext flow r after
+      here : (exit : Exit) (r : Point) → LeadsBy flow (the_point kind at) (does at number work q).operations q.end exit r
+          → (after : Next) × Contains (way Onward next ∷ []) (way exit after) × MeetsNext flow r after
       here Onward r it = (next, (0, omega arith, refl), subst (λ x. MeetsNext flow x next) (sym it.1) m)
       here (TruthOf holds) r it = absurd it
       here (CaseOf case) r it = absurd it
 
   -- a `return` or the end of a body
-  pub fits_last : {kind : PointKind} {at : Place} (number : ℕ) (work : Work) (q : Point) → met_in at work ≡ Some (the_point kind at) → goes_on kind ≡ false → Fits flow (last_point kind at) (does at number work q)
+  pub fits_last : {kind : PointKind} {at : Place} (number : ℕ) (work : Work) (q : Point) → met_in at work ≡ Some (the_point kind at)
+      → goes_on kind ≡ false → Fits flow (last_point kind at) (does at number work q)
   fits_last {kind = kind} {at = at} number work q is last = record {
     meets = by_operation {operation = record { at = at; temporary = number; work = work }} {p = q} is;
     leads = λ exit r l. here exit r (leads_by l);
   }
     where
-      here : (exit : Exit) (r : Point) → LeadsBy flow (the_point kind at) (does at number work q).operations q.end exit r → (after : Next) × Contains [] (way exit after) × MeetsNext flow r after
+      here : (exit : Exit) (r : Point) → LeadsBy flow (the_point kind at) (does at number work q).operations q.end exit r
+          → (after : Next) × Contains [] (way exit after) × MeetsNext flow r after
       here Onward r it =
           let both : false ≡ true = sym last ∙ it.0 in
           cc
@@ -57,7 +64,8 @@ module _ {flow : Flow} where
       here (CaseOf case) r it = absurd it
 
   -- a test
-  pub fits_tested : {one_next other_next : Next} (at : Place) (number one other : ℕ) → MeetsNext flow (block_of flow one) one_next → MeetsNext flow (block_of flow other) other_next →
+  pub fits_tested : {one_next other_next : Next} (at : Place) (number one other : ℕ) → MeetsNext flow (block_of flow one) one_next
+      → MeetsNext flow (block_of flow other) other_next →
       Fits flow (tested at one_next other_next) (split at number one other)
   fits_tested {one_next = a} {other_next = b} at number one other m m' = record { meets = by_branch; leads = λ exit r l. here exit r (leads_by l) }
     where
@@ -77,7 +85,8 @@ tail_of : List Operation → List Operation
 tail_of [] = []
 tail_of (operation ∷ operations) = operations
 
-rest_is : (operations : List Operation) (end : BlockEnd) (p : Point) (done : List Operation) → operations ≡ done ++ p.operations → end ≡ p.end → (record { operations = operations; end = end } ≡ p) ⊎ RestAfter operations end p
+rest_is : (operations : List Operation) (end : BlockEnd) (p : Point) (done : List Operation) → operations ≡ done ++ p.operations → end ≡ p.end
+    → (record { operations = operations; end = end } ≡ p) ⊎ RestAfter operations end p
 unfolding tail_of
 rest_is operations end p [] e f = inl (λ i. record { operations = e i; end = f i })
 rest_is [] end p (first ∷ done) e f = cc
@@ -85,8 +94,10 @@ rest_is (operation ∷ operations) end p (first ∷ done) e f = inr (record { do
 
 module _ {flow : Flow} {points : List ControlPoint} where
   -- an operation that is no control point
-  pub block_silent : (at : Place) (number : ℕ) (work : Work) (q : Point) → met_in at work ≡ None → BlockFits flow points q → BlockFits flow points (does at number work q)
-  block_silent at number work q silent fits = record { each = λ p m rest is. cases p m is (rest_is (does at number work q).operations q.end p rest.done rest.left rest.ends) }
+  pub block_silent : (at : Place) (number : ℕ) (work : Work) (q : Point) → met_in at work ≡ None → BlockFits flow points q
+      → BlockFits flow points (does at number work q)
+  block_silent at number work q silent fits =
+      record { each = λ p m rest is. cases p m is (rest_is (does at number work q).operations q.end p rest.done rest.left rest.ends) }
     where
       cases : (p : Point) (m : Met) → IsMet p m → (does at number work q ≡ p) ⊎ IsRest q p → FitsSome flow points p m
       cases p m is (inl here) =
@@ -95,8 +106,10 @@ module _ {flow : Flow} {points : List ControlPoint} where
       cases p m is (inr following) = fits.each p m following is
 
   -- one that is a control point which fits
-  pub block_point : {one : ControlPoint} (at : Place) (number : ℕ) (work : Work) (q : Point) → Contains points one → Fits flow one (does at number work q) → BlockFits flow points q → BlockFits flow points (does at number work q)
-  block_point {one = one} at number work q among fit fits = record { each = λ p m rest is. cases p m is (rest_is (does at number work q).operations q.end p rest.done rest.left rest.ends) }
+  pub block_point : {one : ControlPoint} (at : Place) (number : ℕ) (work : Work) (q : Point) → Contains points one → Fits flow one (does at number work q)
+      → BlockFits flow points q → BlockFits flow points (does at number work q)
+  block_point {one = one} at number work q among fit fits =
+      record { each = λ p m rest is. cases p m is (rest_is (does at number work q).operations q.end p rest.done rest.left rest.ends) }
     where
       cases : (p : Point) (m : Met) → IsMet p m → (does at number work q ≡ p) ⊎ IsRest q p → FitsSome flow points p m
       cases p m is (inl here) =
@@ -116,7 +129,8 @@ module _ {flow : Flow} {points : List ControlPoint} where
       cases p m is (inr following) = absurd following
 
   -- one that is a control point which fits
-  pub block_choice : {one : ControlPoint} (end : BlockEnd) → Contains points one → Fits flow one (record { operations = []; end = end }) → BlockFits flow points (record { operations = []; end = end })
+  pub block_choice : {one : ControlPoint} (end : BlockEnd) → Contains points one → Fits flow one (record { operations = []; end = end })
+      → BlockFits flow points (record { operations = []; end = end })
   block_choice {one = one} end among fit = record { each = λ p m rest is. cases p m is (rest_is [] end p rest.done rest.left rest.ends) }
     where
       cases : (p : Point) (m : Met) → IsMet p m → (record { operations = []; end = end } ≡ p) ⊎ ⊥ → FitsSome flow points p m
@@ -141,13 +155,19 @@ module _ {flow : Flow} {points : List ControlPoint} where
 
   -- blocks that are among others, in whatever order
   pub fit_among : (some blocks : List Point) → All (Contains blocks) some → AllFit flow points blocks → AllFit flow points some
-  fit_among some blocks among fit = record { all = All-weaker (Contains blocks) (BlockFits flow points) (λ block contains. All-contains (BlockFits flow points) blocks block fit.all contains) some among }
+  fit_among some blocks among fit =
+      record {
+        all = All-weaker (Contains blocks) (BlockFits flow points) (λ block contains. All-contains (BlockFits flow points) blocks block fit.all contains) some
+            among;
+      }
 
   -- an operation before the first of them
-  pub fit_silent : {blocks : List Point} (at : Place) (number : ℕ) (work : Work) (q : Point) → met_in at work ≡ None → AllFit flow points (q ∷ blocks) → AllFit flow points (does at number work q ∷ blocks)
+  pub fit_silent : {blocks : List Point} (at : Place) (number : ℕ) (work : Work) (q : Point) → met_in at work ≡ None → AllFit flow points (q ∷ blocks)
+      → AllFit flow points (does at number work q ∷ blocks)
   fit_silent at number work q silent fit = fit_more (block_silent at number work q silent (fit_first fit)) (fit_others fit)
 
-  pub fit_point : {one : ControlPoint} {blocks : List Point} (at : Place) (number : ℕ) (work : Work) (q : Point) → Contains points one → Fits flow one (does at number work q) →
+  pub fit_point : {one : ControlPoint} {blocks : List Point} (at : Place) (number : ℕ) (work : Work) (q : Point) → Contains points one
+      → Fits flow one (does at number work q) →
       AllFit flow points (q ∷ blocks) → AllFit flow points (does at number work q ∷ blocks)
   fit_point at number work q among fits fit = fit_more (block_point at number work q among fits (fit_first fit)) (fit_others fit)
 
@@ -161,10 +181,12 @@ module _ {points : List ControlPoint} where
       record { all = All-weaker (Contains all) (Contains points) (λ one among. All-contains (Contains points) all one whole.all among) some part }
 
   pub includes_first : (xs ys : List ControlPoint) → Includes points (xs ++ ys) → Includes points xs
-  includes_first xs ys whole = includes_part whole (All-weaker (Contains xs) (Contains (xs ++ ys)) (λ one among. Contains-append_left xs ys one among) xs (All-contains_itself xs))
+  includes_first xs ys whole =
+      includes_part whole (All-weaker (Contains xs) (Contains (xs ++ ys)) (λ one among. Contains-append_left xs ys one among) xs (All-contains_itself xs))
 
   pub includes_second : (xs ys : List ControlPoint) → Includes points (xs ++ ys) → Includes points ys
-  includes_second xs ys whole = includes_part whole (All-weaker (Contains ys) (Contains (xs ++ ys)) (λ one among. Contains-append_right xs ys one among) ys (All-contains_itself ys))
+  includes_second xs ys whole =
+      includes_part whole (All-weaker (Contains ys) (Contains (xs ++ ys)) (λ one among. Contains-append_right xs ys one among) ys (All-contains_itself ys))
 
   pub includes_both : (xs ys : List ControlPoint) → Includes points xs → Includes points ys → Includes points (xs ++ ys)
   includes_both xs ys first rest = record { all = All-append (Contains points) xs ys first.all rest.all }
@@ -181,12 +203,15 @@ jump_to block = record { operations = []; end = Jump block }
 
 module _ {flow : Flow} where
   -- a jump before blocks that fit
-  pub fit_jump : {points : List ControlPoint} {blocks : List Point} (block : ℕ) → AllFit flow points blocks → AllFit flow points (jump_to block ∷ blocks)
+  pub fit_jump : {points : List ControlPoint} {blocks : List Point} (block : ℕ) → AllFit flow points blocks
+      → AllFit flow points (jump_to block ∷ blocks)
   fit_jump block fit = fit_more (block_end (Jump block) refl) fit
 
   -- a test before them
-  pub fit_split : {points : List ControlPoint} {blocks : List Point} {one_next other_next : Next} (at : Place) (number one other : ℕ) → Contains points (tested at one_next other_next) →
-      MeetsNext flow (block_of flow one) one_next → MeetsNext flow (block_of flow other) other_next → AllFit flow points blocks → AllFit flow points (split at number one other ∷ blocks)
+  pub fit_split : {points : List ControlPoint} {blocks : List Point} {one_next other_next : Next} (at : Place) (number one other : ℕ)
+      → Contains points (tested at one_next other_next) →
+      MeetsNext flow (block_of flow one) one_next → MeetsNext flow (block_of flow other) other_next → AllFit flow points blocks
+      → AllFit flow points (split at number one other ∷ blocks)
   fit_split at number one other among m m' fit = fit_more (block_choice (Branch at number one other) among (fits_tested at number one other m m')) fit
 
   -- the same blocks, some of them, or the same in another order
@@ -198,18 +223,23 @@ module _ {flow : Flow} where
   adds_jump block = record { keeps = λ points includes fit. fit_jump block fit }
 
   -- an operation before the first of the blocks
-  pub adds_silent : {blocks : List Point} (at : Place) (number : ℕ) (work : Work) (q : Point) → met_in at work ≡ None → AddsPoints flow [] (q ∷ blocks) (does at number work q ∷ blocks)
+  pub adds_silent : {blocks : List Point} (at : Place) (number : ℕ) (work : Work) (q : Point) → met_in at work ≡ None
+      → AddsPoints flow [] (q ∷ blocks) (does at number work q ∷ blocks)
   adds_silent at number work q silent = record { keeps = λ points includes fit. fit_silent at number work q silent fit }
 
   -- one after another: what is done first is met last, since code is put together from its end
-  pub adds_both : {xs ys : List ControlPoint} {old between new : List Point} → AddsPoints flow ys old between → AddsPoints flow xs between new → AddsPoints flow (xs ++ ys) old new
-  adds_both {xs = xs} {ys = ys} later sooner = record { keeps = λ points includes fit. sooner.keeps points (includes_first xs ys includes) (later.keeps points (includes_second xs ys includes) fit) }
+  pub adds_both : {xs ys : List ControlPoint} {old between new : List Point} → AddsPoints flow ys old between → AddsPoints flow xs between new
+      → AddsPoints flow (xs ++ ys) old new
+  adds_both {xs = xs} {ys = ys} later sooner =
+      record { keeps = λ points includes fit. sooner.keeps points (includes_first xs ys includes) (later.keeps points (includes_second xs ys includes) fit) }
 
   -- the same where one of them brings in nothing
-  pub nothing_then : {some : List ControlPoint} {old between new : List Point} → AddsPoints flow [] old between → AddsPoints flow some between new → AddsPoints flow some old new
+  pub nothing_then : {some : List ControlPoint} {old between new : List Point} → AddsPoints flow [] old between → AddsPoints flow some between new
+      → AddsPoints flow some old new
   nothing_then first rest = record { keeps = λ points includes fit. rest.keeps points includes (first.keeps points includes_none fit) }
 
-  pub then_nothing : {some : List ControlPoint} {old between new : List Point} → AddsPoints flow some old between → AddsPoints flow [] between new → AddsPoints flow some old new
+  pub then_nothing : {some : List ControlPoint} {old between new : List Point} → AddsPoints flow some old between → AddsPoints flow [] between new
+      → AddsPoints flow some old new
   then_nothing first rest = record { keeps = λ points includes fit. rest.keeps points includes_none (first.keeps points includes fit) }
 
   -- an operation that is no control point, before further code

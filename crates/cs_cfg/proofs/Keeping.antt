@@ -1,7 +1,8 @@
 -- Points that are in a graph: where a point is what is left of a block, so is each point to which it goes on. For the control points of
 -- placed code.
 use Rattle.std.specs.Prelude.{◌⊎◌, Contains, slice_get}
-use Rattle.std.proofs.Common.{◌≡◌, ℕ, zero, suc, List, [], ◌∷◌, ◌++◌, Option, Some, None, unwrap_or, refl, sym, ap, ◌∙◌, subst, inl, inr, append_assoc, arith}
+use Rattle.std.proofs.Common.{◌≡◌, ℕ, zero, suc, List, [], ◌∷◌, ◌++◌, Option, Some, None, unwrap_or, refl, sym, ap, ◌∙◌, subst, inl}
+use Rattle.std.proofs.Common.{inr, append_assoc, arith}
 use Rattle.std.proofs.lemmas.List.Elements.{Contains-append_right}
 use Rattle.cs_ast.specs.declared.place.Place.{Place}
 use Rattle.cs_ast.specs.TypedProgram.{TypedProgram}
@@ -33,10 +34,15 @@ whole block = record { done = []; left = refl; ends = refl }
 
 -- what is left after an operation
 pub rest_past : (block : Point) (operation : Operation) (p : Point) → IsRest block (before operation p) → IsRest block p
-rest_past block operation p rest = record { done = rest.done ++ operation ∷ []; left = rest.left ∙ sym (append_assoc rest.done (operation ∷ []) p.operations); ends = rest.ends }
+rest_past block operation p rest = record {
+  done = rest.done ++ operation ∷ [];
+  left = rest.left ∙ sym (append_assoc rest.done (operation ∷ []) p.operations);
+  ends = rest.ends;
+}
 
 -- a number that is no block's has the point that leaves the frame
-contains_at : (blocks : List Point) (number : ℕ) → Contains blocks (unwrap_or (slice_get blocks number) no_point) ⊎ (unwrap_or (slice_get blocks number) no_point ≡ no_point)
+contains_at : (blocks : List Point) (number : ℕ) → Contains blocks (unwrap_or (slice_get blocks number) no_point)
+    ⊎ (unwrap_or (slice_get blocks number) no_point ≡ no_point)
 contains_at [] number = inr refl
 contains_at (first ∷ others) zero = inl (0, omega arith, refl)
 contains_at (first ∷ others) (suc number) = following (contains_at others number)
@@ -46,7 +52,8 @@ contains_at (first ∷ others) (suc number) = following (contains_at others numb
     following (inr none) = inr none
 
 -- and there no control point is met
-nothing_met : (done operations : List Operation) (end : BlockEnd) (m : Met) → [] ≡ done ++ operations → Finish ≡ end → met_at operations end ≡ Some m → ⊥
+nothing_met : (done operations : List Operation) (end : BlockEnd) (m : Met) → [] ≡ done ++ operations → Finish ≡ end
+    → met_at operations end ≡ Some m → ⊥
 nothing_met [] [] end m e f is =
     let none : None ≡ Some m = ap (met_at []) f ∙ is in
     cc
@@ -77,7 +84,8 @@ module _ {program : TypedProgram} {flow : Flow} where
   kept_joins (jumps {block = block} way) kept = kept_joins way (kept_block block)
 
   -- jumps lead on from nothing else
-  stays_at : {p q : Point} (operation : Operation) (operations : List Operation) → Joins program flow p q → p.operations ≡ operation ∷ operations → p ≡ q
+  stays_at : {p q : Point} (operation : Operation) (operations : List Operation) → Joins program flow p q → p.operations ≡ operation ∷ operations
+      → p ≡ q
   stays_at operation operations there e = refl
   stays_at operation operations (jumps way) e = cc
 
@@ -90,7 +98,12 @@ module _ {program : TypedProgram} {flow : Flow} where
   kept_past at number work q kept =
       let operation : Operation = record { at = at; temporary = number; work = work } in
       let here = stays_at operation q.operations kept.way refl in
-      record { here = q; way = there; block = kept.block; rest = rest_past (block_of flow kept.block) operation q (subst (IsRest (block_of flow kept.block)) (sym here) kept.rest) }
+      record {
+        here = q;
+        way = there;
+        block = kept.block;
+        rest = rest_past (block_of flow kept.block) operation q (subst (IsRest (block_of flow kept.block)) (sym here) kept.rest);
+      }
 
   -- a control point occurs
   pub occurs : {p : Point} {m : Met} → Kept program flow p → IsMet p m → Occurs flow p
@@ -98,7 +111,8 @@ module _ {program : TypedProgram} {flow : Flow} where
       let here = stays_met kept.way (is_met is) in
       found (contains_at flow.blocks kept.block) (subst (IsRest (block_of flow kept.block)) (sym here) kept.rest)
     where
-      found : Contains flow.blocks (block_of flow kept.block) ⊎ (block_of flow kept.block ≡ no_point) → IsRest (block_of flow kept.block) p → Occurs flow p
+      found : Contains flow.blocks (block_of flow kept.block) ⊎ (block_of flow kept.block ≡ no_point) → IsRest (block_of flow kept.block) p
+          → Occurs flow p
       found (inl among) rest = record { block = block_of flow kept.block; among = among; rest = rest }
       found (inr none) rest =
           let left = subst (λ b. IsRest b p) none rest in

@@ -24,7 +24,8 @@ use Rattle.cs_cfg.proofs.Executed.{silently, home_with}
 module _ (code : Code) (program : TypedProgram) (budgets : RunBudgets) where
   -- a frame that waited has its value
   given : (value : Operand) (frame : Frame) (other : CallFrame Point) → FrameStands code program (suc (length frame.stack)) frame other →
-      FrameStands code program (length (value ∷ frame.stack)) (record frame { stack = value ∷ frame.stack }) (record other { stack = value ∷ other.stack })
+      FrameStands code program (length (value ∷ frame.stack)) (record frame { stack = value ∷ frame.stack })
+      (record other { stack = value ∷ other.stack })
   given value frame other s = record {
     function = s.function;
     number = s.number;
@@ -43,7 +44,8 @@ module _ (code : Code) (program : TypedProgram) (budgets : RunBudgets) where
   }
 
   -- a frame is left alike
-  left_to : (value : Operand) (m : State) (p : Point) (callers : List (CallFrame Point)) (frames : List Frame) (others : List (CallFrame Point)) → CallersStand code program frames others →
+  left_to : (value : Operand) (m : State) (p : Point) (callers : List (CallFrame Point)) (frames : List Frame) (others : List (CallFrame Point))
+      → CallersStand code program frames others →
       Yields (Related code program budgets) (leave_to frames value m) (leave_to others value (as_code p callers m))
   left_to value m p callers [] [] nobody = both_stop
   left_to value m p callers [] (other ∷ others) waiting = elim waiting [ ]
@@ -51,45 +53,68 @@ module _ (code : Code) (program : TypedProgram) (budgets : RunBudgets) where
   left_to value m p callers (frame ∷ frames) (other ∷ others) (waits s rest) =
       both_go (now (record { frame = given value frame other s; callers = rest; memory = refl; frames = refl; allocations = refl; calls = refl }))
 
-  module _ (m : State) (home : Home code program m.frame.function) (callers : List (CallFrame Point)) (waiting : CallersStand code program m.callers callers) where
-    -- with nothing left to be done the frame is left
-    pub nothing_answers : (p : Point) → stands code program home [] (length m.frame.stack) p → Answer code program budgets (to_do [] m) (as_code p callers m)
-    nothing_answers p it = subst (λ x. Answer code program budgets (to_do [] m) (as_code x callers m)) (sym it.0) (together (left_to (Scalar UnsetCell) (to_do [] m) finishing callers m.callers callers waiting))
+  module _ (m : State) (home : Home code program m.frame.function) (callers : List (CallFrame Point)) (waiting : CallersStand code program m.callers callers)
+    where
+      -- with nothing left to be done the frame is left
+      pub nothing_answers : (p : Point) → stands code program home [] (length m.frame.stack) p
+          → Answer code program budgets (to_do [] m) (as_code p callers m)
+      nothing_answers p it = subst (λ x. Answer code program budgets (to_do [] m) (as_code x callers m)) (sym it.0)
+          (together (left_to (Scalar UnsetCell) (to_do [] m) finishing callers m.callers callers waiting))
 
-    -- where `break` leads
-    pub out_answers : (items : List Item) (p : Point) → stands code program home (Out ∷ items) (length m.frame.stack) p → Answer code program budgets (to_do (Out ∷ items) m) (as_code p callers m)
-    out_answers items p it = silently code program budgets Out items items m (home_with code program budgets home it.2.0 home.again) p callers it.0 refl it.2.1 waiting
+      -- where `break` leads
+      pub out_answers : (items : List Item) (p : Point) → stands code program home (Out ∷ items) (length m.frame.stack) p
+          → Answer code program budgets (to_do (Out ∷ items) m) (as_code p callers m)
+      out_answers items p it = silently code program budgets Out items items m (home_with code program budgets home it.2.0 home.again) p callers it.0 refl
+          it.2.1
+          waiting
 
-    -- the beginning of a function's body
-    pub begin_answers : (at : Place) (items : List Item) (p : Point) → stands code program home (Begin at ∷ items) (length m.frame.stack) p → Answer code program budgets (to_do (Begin at ∷ items) m) (as_code p callers m)
-    begin_answers at items p it =
-        let deep : length m.frame.stack ≡ 0 + it.1.0 = omega arith in
-        work_answers code program budgets (Begin at) items m at (graph.Meet point.Enter) it.1.0 p it.1.1 callers deep it.1.3
-        (both_touch (both_go (now (aligned code program (to_do items m) home it.1.1 callers (with_depth code program home items it.1.1 (sym deep) it.1.4) waiting))))
+      -- the beginning of a function's body
+      pub begin_answers : (at : Place) (items : List Item) (p : Point) → stands code program home (Begin at ∷ items) (length m.frame.stack) p
+          → Answer code program budgets (to_do (Begin at ∷ items) m) (as_code p callers m)
+      begin_answers at items p it =
+          let deep : length m.frame.stack ≡ 0 + it.1.0 = omega arith in
+          work_answers code program budgets (Begin at) items m at (graph.Meet point.Enter) it.1.0 p it.1.1 callers deep it.1.3
+          (both_touch
+          (both_go (now (aligned code program (to_do items m) home it.1.1 callers (with_depth code program home items it.1.1 (sym deep) it.1.4) waiting))))
 
-    -- the frame is to be left with the newest value
-    leaves_next : (depth : ℕ) → depth ≡ 1 → onward code program (home_with code program budgets home finishing finishing) (Leave ∷ []) depth leaving
-    leaves_next depth e = (leaving, there, (e, refl, (finishing, (finishing, there, (refl, there, there)))))
+      -- the frame is to be left with the newest value
+      leaves_next : (depth : ℕ) → depth ≡ 1 → onward code program (home_with code program budgets home finishing finishing) (Leave ∷ []) depth leaving
+      leaves_next depth e = (leaving, there, (e, refl, (finishing, (finishing, there, (refl, there, there)))))
 
-    -- the end of a function's body
-    pub end_answers : (at : Place) (value : Operand) (items : List Item) (p : Point) → stands code program home (End at value ∷ items) (length m.frame.stack) p → Answer code program budgets (to_do (End at value ∷ items) m) (as_code p callers m)
-    end_answers at value items p it =
-        let next = to_do (Leave ∷ []) (push value m) in
-        let reported : Yields (Related code program budgets) (do_item program budgets (End at value) (to_do items m)) (Touches (Meets point.End at) (Goes (push value (as_code leaving callers m))))
-        = both_touch (both_go (now (aligned code program next (home_with code program budgets home finishing finishing) leaving callers (leaves_next (suc (length m.frame.stack)) (omega arith)) waiting))) in
-        work_answers code program budgets (End at value) items m at (graph.Close it.1.0) 0 p leaving callers it.0 it.1.2
-        (subst (λ x. Yields (Related code program budgets) (do_item program budgets (End at value) (to_do items m)) (Touches (Meets point.End at) (Goes (push x (as_code leaving callers m))))) it.1.1 reported)
+      -- the end of a function's body
+      pub end_answers : (at : Place) (value : Operand) (items : List Item) (p : Point)
+          → stands code program home (End at value ∷ items) (length m.frame.stack) p
+          → Answer code program budgets (to_do (End at value ∷ items) m) (as_code p callers m)
+      end_answers at value items p it =
+          let next = to_do (Leave ∷ []) (push value m) in
+          let reported : Yields (Related code program budgets) (do_item program budgets (End at value) (to_do items m))
+          (Touches (Meets point.End at) (Goes (push value (as_code leaving callers m))))
+          =
+          both_touch (both_go
+          (now (aligned code program next (home_with code program budgets home finishing finishing) leaving callers
+          (leaves_next (suc (length m.frame.stack)) (omega arith)) waiting))) in
+          work_answers code program budgets (End at value) items m at (graph.Close it.1.0) 0 p leaving callers it.0 it.1.2
+          (subst (λ x.
+          Yields (Related code program budgets) (do_item program budgets (End at value) (to_do items m))
+          (Touches (Meets point.End at) (Goes (push x (as_code leaving callers m))))) it.1.1 reported)
 
-    -- a `return`
-    pub give_answers : (at : Place) (items : List Item) (p : Point) → stands code program home (Give at ∷ items) (length m.frame.stack) p → Answer code program budgets (to_do (Give at ∷ items) m) (as_code p callers m)
-    give_answers at items p it =
-        work_answers code program budgets (Give at) items m at (graph.Meet point.Return) 1 p leaving callers it.0 it.1
-        (both_touch (both_go (now (aligned code program (to_do (Leave ∷ []) m) (home_with code program budgets home finishing finishing) leaving callers (leaves_next (length m.frame.stack) it.0) waiting))))
+      -- a `return`
+      pub give_answers : (at : Place) (items : List Item) (p : Point) → stands code program home (Give at ∷ items) (length m.frame.stack) p
+          → Answer code program budgets (to_do (Give at ∷ items) m) (as_code p callers m)
+      give_answers at items p it =
+          work_answers code program budgets (Give at) items m at (graph.Meet point.Return) 1 p leaving callers it.0 it.1
+          (both_touch
+          (both_go
+          (now (aligned code program (to_do (Leave ∷ []) m) (home_with code program budgets home finishing finishing) leaving callers
+          (leaves_next (length m.frame.stack) it.0) waiting))))
 
-    -- the frame is left
-    pub leave_answers : (items : List Item) (p : Point) → stands code program home (Leave ∷ items) (length m.frame.stack) p → Answer code program budgets (to_do (Leave ∷ items) m) (as_code p callers m)
-    leave_answers items p it =
-        let value = operand_at m 0 in
-        let one : code_step code program budgets (as_code leaving callers m) ≡ leave value (as_code leaving callers m) = ap (λ t. leave (operand_at t 0) (as_code leaving callers m)) (uncut 1 leaving callers m it.0) in
-        subst (λ x. Answer code program budgets (to_do (Leave ∷ items) m) (as_code x callers m)) (sym it.1)
-        (together (subst (Yields (Related code program budgets) (leave value (to_do items m))) (sym one) (left_to value (to_do items m) leaving callers m.callers callers waiting)))
+      -- the frame is left
+      pub leave_answers : (items : List Item) (p : Point) → stands code program home (Leave ∷ items) (length m.frame.stack) p
+          → Answer code program budgets (to_do (Leave ∷ items) m) (as_code p callers m)
+      leave_answers items p it =
+          let value = operand_at m 0 in
+          let one : code_step code program budgets (as_code leaving callers m) ≡ leave value (as_code leaving callers m) =
+          ap (λ t. leave (operand_at t 0) (as_code leaving callers m)) (uncut 1 leaving callers m it.0) in
+          subst (λ x. Answer code program budgets (to_do (Leave ∷ items) m) (as_code x callers m)) (sym it.1)
+          (together (subst (Yields (Related code program budgets) (leave value (to_do items m))) (sym one)
+          (left_to value (to_do items m) leaving callers m.callers callers waiting)))

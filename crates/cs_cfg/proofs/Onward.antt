@@ -1,5 +1,6 @@
 -- What is so of acts, whatever is looked up, asked and reached on the way, is so of each operation where it is so of what comes after.
-use Rattle.std.proofs.Common.{ℕ, ◌+◌, ◌*◌, ℤ, pos, int_le, int_lt, int_eq, ◌&&◌, ◌||◌, Bool, true, false, List, [], ◌∷◌, Option, Some, None, if◌then◌else◌}
+use Rattle.std.proofs.Common.{ℕ, ◌+◌, ◌*◌, ℤ, pos, int_le, int_lt, int_eq, ◌&&◌, ◌||◌, Bool, true, false, List, [], ◌∷◌, Option, Some}
+use Rattle.std.proofs.Common.{None, if◌then◌else◌}
 use Rattle.std.specs.Prelude.{⊤}
 use Rattle.cs_types.specs.Shape.{Shape, void, integer, pointer, array, struct}
 use Rattle.cs_types.specs.IntType.{bytes_of}
@@ -22,8 +23,10 @@ use Rattle.cs_events.specs.Objects.{Object, Cell, NumberCell, NullCell, PointerC
 use Rattle.cs_events.specs.Acts.{Act, Stops, Reads, Asks, Allocates, Reaches}
 use Rattle.cs_meaning.specs.Types.{scalar_offsets}
 use Rattle.cs_meaning.specs.Memory.{Block, Memory, Found, Holds, Unknown, found_in}
-use Rattle.cs_meaning.specs.Access.{Access, shows_then, ordered, stands, fits, reach_in, reach, direct, locate_object, receive, read, read_all, set_then, value_at}
-use Rattle.cs_meaning.specs.Operators.{takes_all, is_pointer, in_one_object, related, both_null, asks_order, look, truth, operate, convert_number, convert, move_null, sum, equality, in_relation, compare, difference, arrow}
+use Rattle.cs_meaning.specs.Access.{Access, shows_then, ordered, stands, fits, reach_in, reach, direct, locate_object, receive, read, read_all, set_then}
+use Rattle.cs_meaning.specs.Access.{value_at}
+use Rattle.cs_meaning.specs.Operators.{takes_all, is_pointer, in_one_object, related, both_null, asks_order, look, truth, operate, convert_number, convert}
+use Rattle.cs_meaning.specs.Operators.{move_null, sum, equality, in_relation, compare, difference, arrow}
 use Rattle.cs_meaning.specs.Machine.{Operand, Scalar, Whole, Nothing}
 
 -- the run isn't done with this outcome
@@ -68,14 +71,17 @@ module _ {S : Type 0} {P : Act S → Type 0} (inherited : Inherited P) where
   keeps_fits at true h = h
   keeps_fits at false h = inherited.stops tt
 
-  keeps_reach_in : (program : TypedProgram) (at : Place) (ty : Shape) (object : Object) (offset : ℤ) (block : Option Block) {f : ℕ → Act S} → Each f → P (reach_in program at ty object offset block f)
+  keeps_reach_in : (program : TypedProgram) (at : Place) (ty : Shape) (object : Object) (offset : ℤ) (block : Option Block) {f : ℕ → Act S} → Each f
+      → P (reach_in program at ty object offset block f)
   keeps_reach_in program at ty object offset None h = inherited.stops tt
   keeps_reach_in program at ty object offset (Some block) h =
       keeps_stands at block.standing (keeps_ordered at _ _ (keeps_ordered at _ _ (inherited.reaches (keeps_fits at _ (h _)))))
 
-  keeps_reach : (program : TypedProgram) (memory : Memory) (at : Place) (ty : Shape) (cell : Cell) {f : Object → ℕ → Act S} → EachOfTwo f → P (reach program memory at ty cell f)
+  keeps_reach : (program : TypedProgram) (memory : Memory) (at : Place) (ty : Shape) (cell : Cell) {f : Object → ℕ → Act S} → EachOfTwo f
+      → P (reach program memory at ty cell f)
   keeps_reach program memory at ty NullCell h = keeps_shows at _ (inherited.stops tt)
-  keeps_reach program memory at ty (PointerCell object offset) h = keeps_shows at _ (keeps_reach_in program at ty object offset (memory object) (λ n. h object n))
+  keeps_reach program memory at ty (PointerCell object offset) h =
+      keeps_shows at _ (keeps_reach_in program at ty object offset (memory object) (λ n. h object n))
   keeps_reach program memory at ty (NumberCell n) h = inherited.stops tt
   keeps_reach program memory at ty UnsetCell h = inherited.stops tt
 
@@ -85,17 +91,21 @@ module _ {S : Type 0} {P : Act S → Type 0} (inherited : Inherited P) where
   keeps_direct at (NumberCell n) h = inherited.stops tt
   keeps_direct at UnsetCell h = inherited.stops tt
 
-  pub keeps_locate : (program : TypedProgram) (memory : Memory) (access : Access) (cell : Cell) {f : Object → ℕ → Act S} → EachOfTwo f → P (locate_object program memory access cell f)
+  pub keeps_locate : (program : TypedProgram) (memory : Memory) (access : Access) (cell : Cell) {f : Object → ℕ → Act S} → EachOfTwo f
+      → P (locate_object program memory access cell f)
   keeps_locate program memory access cell h = keeps_if access.direct (keeps_direct access.at cell h) (keeps_reach program memory access.at access.ty cell h)
 
-  pub keeps_receive : (program : TypedProgram) (memory : Memory) (found : Found) {f : Memory → Cell → Act S} → EachOfTwo f → P (receive program memory found f)
+  pub keeps_receive : (program : TypedProgram) (memory : Memory) (found : Found) {f : Memory → Cell → Act S} → EachOfTwo f
+      → P (receive program memory found f)
   keeps_receive program memory (Holds cell) h = h memory cell
   keeps_receive program memory (Unknown path scalar) h = inherited.reads (λ number. h _ _)
 
-  keeps_read : (program : TypedProgram) (memory : Memory) (object : Object) (offset : ℕ) {f : Memory → Cell → Act S} → EachOfTwo f → P (read program memory object offset f)
+  keeps_read : (program : TypedProgram) (memory : Memory) (object : Object) (offset : ℕ) {f : Memory → Cell → Act S} → EachOfTwo f
+      → P (read program memory object offset f)
   keeps_read program memory object offset h = keeps_receive program memory (found_in program object (memory object) offset) h
 
-  keeps_read_all : (program : TypedProgram) (memory : Memory) (object : Object) (from : ℕ) (offsets : List ℕ) {f : Memory → List Cell → Act S} → EachOfTwo f → P (read_all program memory object from offsets f)
+  keeps_read_all : (program : TypedProgram) (memory : Memory) (object : Object) (from : ℕ) (offsets : List ℕ) {f : Memory → List Cell → Act S}
+      → EachOfTwo f → P (read_all program memory object from offsets f)
   keeps_read_all program memory object from [] h = h memory []
   keeps_read_all program memory object from (offset ∷ offsets) h =
       keeps_read program memory object (from + offset) (λ after cell. keeps_read_all program after object from offsets (λ end cells. h end (cell ∷ cells)))
@@ -106,12 +116,17 @@ module _ {S : Type 0} {P : Act S → Type 0} (inherited : Inherited P) where
   keeps_set at (PointerCell object offset) h = h
   keeps_set at UnsetCell h = inherited.stops tt
 
-  pub keeps_value : (program : TypedProgram) (memory : Memory) (at : Place) (ty : Shape) (object : Object) (offset : ℕ) {f : Memory → Operand → Act S} → EachOfTwo f → P (value_at program memory at ty object offset f)
+  pub keeps_value : (program : TypedProgram) (memory : Memory) (at : Place) (ty : Shape) (object : Object) (offset : ℕ) {f : Memory → Operand → Act S}
+      → EachOfTwo f → P (value_at program memory at ty object offset f)
   keeps_value program memory at void object offset h = keeps_read program memory object offset (λ after cell. keeps_set at cell (h after (Scalar cell)))
-  keeps_value program memory at (integer ty) object offset h = keeps_read program memory object offset (λ after cell. keeps_set at cell (h after (Scalar cell)))
-  keeps_value program memory at (pointer target) object offset h = keeps_read program memory object offset (λ after cell. keeps_set at cell (h after (Scalar cell)))
-  keeps_value program memory at (array element count) object offset h = keeps_read program memory object offset (λ after cell. keeps_set at cell (h after (Scalar cell)))
-  keeps_value program memory at (struct number) object offset h = keeps_read_all program memory object offset (scalar_offsets program (struct number)) (λ after cells. h after (Whole cells))
+  keeps_value program memory at (integer ty) object offset h =
+      keeps_read program memory object offset (λ after cell. keeps_set at cell (h after (Scalar cell)))
+  keeps_value program memory at (pointer target) object offset h =
+      keeps_read program memory object offset (λ after cell. keeps_set at cell (h after (Scalar cell)))
+  keeps_value program memory at (array element count) object offset h =
+      keeps_read program memory object offset (λ after cell. keeps_set at cell (h after (Scalar cell)))
+  keeps_value program memory at (struct number) object offset h =
+      keeps_read_all program memory object offset (scalar_offsets program (struct number)) (λ after cells. h after (Whole cells))
 
   keeps_look : (at : Place) (cell : Cell) {a : Act S} → P a → P (look at cell a)
   keeps_look at NullCell h = keeps_shows at _ h
@@ -125,22 +140,27 @@ module _ {S : Type 0} {P : Act S → Type 0} (inherited : Inherited P) where
   keeps_truth at (PointerCell object offset) h = keeps_shows at _ (h true)
   keeps_truth at UnsetCell h = h false
 
-  pub keeps_operate : (model : DataModel) (at : Place) (op : BinOp) (ty : IntType) (left right : ℤ) {f : ℤ → Act S} → Each f → P (operate model at op ty left right f)
+  pub keeps_operate : (model : DataModel) (at : Place) (op : BinOp) (ty : IntType) (left right : ℤ) {f : ℤ → Act S} → Each f
+      → P (operate model at op ty left right f)
   keeps_operate model at Add ty left right h = inherited.asks h
   keeps_operate model at Sub ty left right h = inherited.asks h
   keeps_operate model at Mul ty left right h = inherited.asks h
   keeps_operate model at Div ty left right h = keeps_if (int_eq right (pos 0)) (inherited.stops tt) (inherited.asks h)
   keeps_operate model at Rem ty left right h = keeps_if (int_eq right (pos 0)) (inherited.stops tt) (inherited.asks h)
-  keeps_operate model at Shl ty left right h = keeps_if (int_le (pos 0) right && int_lt right (pos (8 * bytes_of model ty))) (inherited.asks h) (inherited.stops tt)
-  keeps_operate model at Shr ty left right h = keeps_if (int_le (pos 0) right && int_lt right (pos (8 * bytes_of model ty))) (inherited.asks h) (inherited.stops tt)
+  keeps_operate model at Shl ty left right h =
+      keeps_if (int_le (pos 0) right && int_lt right (pos (8 * bytes_of model ty))) (inherited.asks h) (inherited.stops tt)
+  keeps_operate model at Shr ty left right h =
+      keeps_if (int_le (pos 0) right && int_lt right (pos (8 * bytes_of model ty))) (inherited.asks h) (inherited.stops tt)
   keeps_operate model at And ty left right h = inherited.asks h
   keeps_operate model at Xor ty left right h = inherited.asks h
   keeps_operate model at Or ty left right h = inherited.asks h
 
-  pub keeps_convert_number : (model : DataModel) (at : Place) (from : Shape) (to : IntType) (number : ℤ) {f : ℤ → Act S} → Each f → P (convert_number model at from to number f)
+  pub keeps_convert_number : (model : DataModel) (at : Place) (from : Shape) (to : IntType) (number : ℤ) {f : ℤ → Act S} → Each f
+      → P (convert_number model at from to number f)
   keeps_convert_number model at from to number h = keeps_if (takes_all model from to) (h number) (inherited.asks h)
 
-  pub keeps_convert : (model : DataModel) (at : Place) (from to : Shape) (operand : Operand) {f : Operand → Act S} → Each f → P (convert model at from to operand f)
+  pub keeps_convert : (model : DataModel) (at : Place) (from to : Shape) (operand : Operand) {f : Operand → Act S} → Each f
+      → P (convert model at from to operand f)
   keeps_convert model at from void operand h = h Nothing
   keeps_convert model at from (integer ty) (Scalar (NumberCell n)) h = keeps_convert_number model at from ty n (λ number. h (Scalar (NumberCell number)))
   keeps_convert model at from (integer ty) (Scalar NullCell) h = h (Scalar NullCell)
@@ -155,9 +175,11 @@ module _ {S : Type 0} {P : Act S → Type 0} (inherited : Inherited P) where
   keeps_move_null : (at : Place) (amount : ℤ) {f : Cell → Act S} → Each f → P (move_null at amount f)
   keeps_move_null at amount h = keeps_if (int_eq amount (pos 0)) (h NullCell) (inherited.stops tt)
 
-  pub keeps_sum : (model : DataModel) (at : Place) (cell : Cell) (amount : ℤ) (size : ℕ) {f : Cell → Act S} → Each f → P (sum model at cell amount size f)
+  pub keeps_sum : (model : DataModel) (at : Place) (cell : Cell) (amount : ℤ) (size : ℕ) {f : Cell → Act S} → Each f
+      → P (sum model at cell amount size f)
   keeps_sum model at NullCell amount size h = keeps_shows at _ (keeps_move_null at amount h)
-  keeps_sum model at (PointerCell object offset) amount size h = keeps_shows at _ (keeps_ordered at _ _ (keeps_ordered at _ _ (inherited.asks (λ moved. h (PointerCell object moved)))))
+  keeps_sum model at (PointerCell object offset) amount size h =
+      keeps_shows at _ (keeps_ordered at _ _ (keeps_ordered at _ _ (inherited.asks (λ moved. h (PointerCell object moved)))))
   keeps_sum model at (NumberCell n) amount size h = h UnsetCell
   keeps_sum model at UnsetCell amount size h = h UnsetCell
 
@@ -172,7 +194,9 @@ module _ {S : Type 0} {P : Act S → Type 0} (inherited : Inherited P) where
   pub keeps_compare : (at : Place) (op : CmpOp) (left right : Cell) {f : ℤ → Act S} → Each f → P (compare at op left right f)
   keeps_compare at op left right h =
       keeps_if (is_pointer left || is_pointer right)
-      (keeps_look at left (keeps_look at right (keeps_if (asks_order op) (keeps_in_relation at (related left right) (λ one other. inherited.asks h)) (keeps_equality at op (both_null left right) (in_one_object left right) h))))
+      (keeps_look at left
+      (keeps_look at right (keeps_if (asks_order op) (keeps_in_relation at (related left right) (λ one other. inherited.asks h))
+      (keeps_equality at op (both_null left right) (in_one_object left right) h))))
       (inherited.asks h)
 
   pub keeps_difference : (at : Place) (left right : Cell) (size : ℕ) {f : ℤ → Act S} → Each f → P (difference at left right size f)

@@ -16,33 +16,43 @@ use Rattle.cs_events.specs.Objects.{Object, StartBlock, GlobalObject, LiteralObj
 use Rattle.cs_events.specs.Acts.{Act, Goes}
 use Rattle.cs_meaning.specs.Memory.{Block, Memory, Unknown}
 use Rattle.cs_meaning.specs.Machine.{Operand, Scalar, Whole, Nothing, CallFrame, Running, cell_of}
-use Rattle.cs_meaning.specs.Calls.{wrote_path, result_path, write_through, write_arguments, outside_result, call_outside, enter_as, allocate, release_block, release_known, release_object, release}
+use Rattle.cs_meaning.specs.Calls.{wrote_path, result_path, write_through, write_arguments, outside_result, call_outside, enter_as, allocate, release_block}
+use Rattle.cs_meaning.specs.Calls.{release_known, release_object, release}
 use Rattle.cs_meaning.specs.Expressions.{use_result}
 use Rattle.cs_cfg.proofs.Onward.{Inherited, Each, EachOfTwo, keeps_if, keeps_shows, keeps_receive, keeps_set, keeps_operate}
 
 module _ {S : Type 0} {P : Act S → Type 0} (inherited : Inherited P) where
   -- a call of a function without a body writes through its arguments, and gives a result
-  keeps_through : (program : TypedProgram) (at : Place) (path : Path) (cell : Cell) (memory : Memory) {f : Memory → Act S} → Each inherited f → P (write_through program at path cell memory f)
+  keeps_through : (program : TypedProgram) (at : Place) (path : Path) (cell : Cell) (memory : Memory) {f : Memory → Act S} → Each inherited f
+      → P (write_through program at path cell memory f)
   keeps_through program at path NullCell memory h = keeps_shows inherited at _ (h memory)
   keeps_through program at path (PointerCell object offset) memory h = keeps_shows inherited at _ (h _)
   keeps_through program at path (NumberCell n) memory h = h memory
   keeps_through program at path UnsetCell memory h = h memory
 
-  pub keeps_arguments : (program : TypedProgram) (at : Place) (call argument : ℕ) (written : List Bool) (operands : List Operand) (memory : Memory) {f : Memory → Act S} → Each inherited f →
+  pub keeps_arguments : (program : TypedProgram) (at : Place) (call argument : ℕ) (written : List Bool) (operands : List Operand)
+      (memory : Memory) {f : Memory → Act S} → Each inherited f →
       P (write_arguments program at call argument written operands memory f)
   keeps_arguments program at call argument (true ∷ written) (operand ∷ operands) memory h =
-      keeps_through program at (wrote_path call argument) (cell_of operand) memory (λ after. keeps_arguments program at call (argument + 1) written operands after h)
-  keeps_arguments program at call argument (false ∷ written) (operand ∷ operands) memory h = keeps_arguments program at call (argument + 1) written operands memory h
+      keeps_through program at (wrote_path call argument) (cell_of operand) memory
+      (λ after. keeps_arguments program at call (argument + 1) written operands after h)
+  keeps_arguments program at call argument (false ∷ written) (operand ∷ operands) memory h =
+      keeps_arguments program at call (argument + 1) written operands memory h
   keeps_arguments program at call argument [] operands memory h = h memory
   keeps_arguments program at call argument (true ∷ written) [] memory h = h memory
   keeps_arguments program at call argument (false ∷ written) [] memory h = h memory
 
-  pub keeps_result : (program : TypedProgram) (ty : Shape) (call : ℕ) (memory : Memory) {f : Memory → Operand → Act S} → EachOfTwo inherited f → P (outside_result program ty call memory f)
+  pub keeps_result : (program : TypedProgram) (ty : Shape) (call : ℕ) (memory : Memory) {f : Memory → Operand → Act S} → EachOfTwo inherited f
+      → P (outside_result program ty call memory f)
   keeps_result program void call memory h = h memory Nothing
-  keeps_result program (integer ty) call memory h = keeps_receive inherited program memory (Unknown (result_path call) (integer ty)) (λ after cell. h after (Scalar cell))
-  keeps_result program (pointer target) call memory h = keeps_receive inherited program memory (Unknown (result_path call) (pointer target)) (λ after cell. h after (Scalar cell))
-  keeps_result program (array element count) call memory h = keeps_receive inherited program memory (Unknown (result_path call) (array element count)) (λ after cell. h after (Scalar cell))
-  keeps_result program (struct tag) call memory h = keeps_receive inherited program memory (Unknown (result_path call) (struct tag)) (λ after cell. h after (Scalar cell))
+  keeps_result program (integer ty) call memory h =
+      keeps_receive inherited program memory (Unknown (result_path call) (integer ty)) (λ after cell. h after (Scalar cell))
+  keeps_result program (pointer target) call memory h =
+      keeps_receive inherited program memory (Unknown (result_path call) (pointer target)) (λ after cell. h after (Scalar cell))
+  keeps_result program (array element count) call memory h =
+      keeps_receive inherited program memory (Unknown (result_path call) (array element count)) (λ after cell. h after (Scalar cell))
+  keeps_result program (struct tag) call memory h =
+      keeps_receive inherited program memory (Unknown (result_path call) (struct tag)) (λ after cell. h after (Scalar cell))
 
 -- what is so of going on, too
 module _ {Rest : Type 0} {P : Act (Running Rest) → Type 0} (inherited : Inherited P) (goes : (m : Running Rest) → P (Goes m)) where
@@ -69,18 +79,26 @@ module _ {Rest : Type 0} {P : Act (Running Rest) → Type 0} (inherited : Inheri
   keeps_release at (NumberCell n) m = goes _
   keeps_release at UnsetCell m = goes _
 
-  pub keeps_allocate : (program : TypedProgram) (at : Place) (allocator : Allocator) (element : Shape) (m : Running Rest) → P (allocate program at allocator element m)
+  pub keeps_allocate : (program : TypedProgram) (at : Place) (allocator : Allocator) (element : Shape) (m : Running Rest)
+      → P (allocate program at allocator element m)
   keeps_allocate program at Malloc element m = inherited.allocates (λ given. goes _)
   keeps_allocate program at Calloc element m =
-      inherited.asks (λ holds. keeps_if inherited (is_true holds) (keeps_operate inherited program.model at Mul (size_type_of program.model) _ _ (λ bytes. inherited.allocates (λ given. goes _))) (goes _))
+      inherited.asks (λ holds.
+      keeps_if inherited (is_true holds)
+      (keeps_operate inherited program.model at Mul (size_type_of program.model) _ _ (λ bytes. inherited.allocates (λ given. goes _))) (goes _))
 
   -- a function is called that has a body, or none
-  pub keeps_enter : (program : TypedProgram) (budgets : RunBudgets) (begins : ℕ → CallFrame Rest) (at : Place) (function : ℕ) (routine : Routine) (operands : List Operand) (m : Running Rest) → P (enter_as program budgets begins at function routine operands m)
-  keeps_enter program budgets begins at function routine operands m = keeps_if inherited (nat_lt (length m.callers + 1) budgets.depth) (keeps_shows inherited at _ (goes _)) (inherited.stops tt)
+  pub keeps_enter : (program : TypedProgram) (budgets : RunBudgets) (begins : ℕ
+      → CallFrame Rest) (at : Place) (function : ℕ) (routine : Routine) (operands : List Operand) (m : Running Rest)
+      → P (enter_as program budgets begins at function routine operands m)
+  keeps_enter program budgets begins at function routine operands m =
+      keeps_if inherited (nat_lt (length m.callers + 1) budgets.depth) (keeps_shows inherited at _ (goes _)) (inherited.stops tt)
 
-  pub keeps_outside : (program : TypedProgram) (at : Place) (function : ℕ) (routine : Routine) (operands : List Operand) (m : Running Rest) → P (call_outside program at function routine operands m)
+  pub keeps_outside : (program : TypedProgram) (at : Place) (function : ℕ) (routine : Routine) (operands : List Operand) (m : Running Rest)
+      → P (call_outside program at function routine operands m)
   keeps_outside program at function routine operands m =
-      keeps_shows inherited at _ (keeps_result inherited program routine.returns (m.calls + 1) m.memory (λ memory result. keeps_arguments inherited program at (m.calls + 1) 0 routine.written operands memory (λ after. goes _)))
+      keeps_shows inherited at _ (keeps_result inherited program routine.returns (m.calls + 1) m.memory
+      (λ memory result. keeps_arguments inherited program at (m.calls + 1) 0 routine.written operands memory (λ after. goes _)))
 
   -- the result of a call is used
   pub keeps_use : (at : Place) (operand : Operand) (m : Running Rest) → P (use_result at operand m)

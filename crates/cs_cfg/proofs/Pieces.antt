@@ -15,7 +15,8 @@ first_append [] ys following = refl
 first_append (Evaluated offset e ∷ xs) ys following = ap (first e) (first_append xs ys following)
 first_append (Spelled offset bytes ∷ xs) ys following = first_append xs ys following
 
-points_append : (xs ys : List Piece) (following : Next) → points_pieces (xs ++ ys) following ≡ points_pieces xs (first_pieces ys following) ++ points_pieces ys following
+points_append : (xs ys : List Piece) (following : Next)
+    → points_pieces (xs ++ ys) following ≡ points_pieces xs (first_pieces ys following) ++ points_pieces ys following
 points_append [] ys following = refl
 points_append (Evaluated offset e ∷ xs) ys following =
     ap (λ next. points e next ++ points_pieces (xs ++ ys) following) (first_append xs ys following)
@@ -26,33 +27,40 @@ points_append (Spelled offset bytes ∷ xs) ys following = points_append xs ys f
 module _ (program : TypedProgram) where
   mutual
     -- what is met first
-    pub first_same : (initial : Initial) (shape : Shape) (from : ℕ) (following : Next) → first_pieces (pieces program shape from initial) following ≡ first_initial initial following
+    pub first_same : (initial : Initial) (shape : Shape) (from : ℕ) (following : Next)
+        → first_pieces (pieces program shape from initial) following ≡ first_initial initial following
     first_same (Value e) shape from following = refl
     first_same (Bytes bytes) shape from following = refl
     first_same (Parts parts) shape from following = first_parts_same parts shape from 0 following
 
-    first_parts_same : (parts : Initials) (shape : Shape) (from number : ℕ) (following : Next) → first_pieces (pieces_from program shape from number parts) following ≡ first_parts parts following
+    first_parts_same : (parts : Initials) (shape : Shape) (from number : ℕ) (following : Next)
+        → first_pieces (pieces_from program shape from number parts) following ≡ first_parts parts following
     first_parts_same NoPart shape from number following = refl
     first_parts_same (Part one others) shape from number following =
         let ty = part_type program shape number in
         let place = from + part_offset program shape number in
         first_append (pieces program ty place one) (pieces_from program shape from (number + 1) others) following
-        ∙ ap (first_pieces (pieces program ty place one)) (first_parts_same others shape from (number + 1) following) ∙ first_same one ty place (first_parts others following)
+        ∙ ap (first_pieces (pieces program ty place one)) (first_parts_same others shape from (number + 1) following)
+        ∙ first_same one ty place (first_parts others following)
 
   mutual
     -- the control points
-    pub points_same : (initial : Initial) (shape : Shape) (from : ℕ) (following : Next) → points_pieces (pieces program shape from initial) following ≡ points_initial initial following
+    pub points_same : (initial : Initial) (shape : Shape) (from : ℕ) (following : Next)
+        → points_pieces (pieces program shape from initial) following ≡ points_initial initial following
     points_same (Value e) shape from following = append-nil (points e following)
     points_same (Bytes bytes) shape from following = refl
     points_same (Parts parts) shape from following = points_parts_same parts shape from 0 following
 
-    points_parts_same : (parts : Initials) (shape : Shape) (from number : ℕ) (following : Next) → points_pieces (pieces_from program shape from number parts) following ≡ points_parts parts following
+    points_parts_same : (parts : Initials) (shape : Shape) (from number : ℕ) (following : Next)
+        → points_pieces (pieces_from program shape from number parts) following ≡ points_parts parts following
     points_parts_same NoPart shape from number following = refl
     points_parts_same (Part one others) shape from number following =
         let ty = part_type program shape number in
         let place = from + part_offset program shape number in
         let rest = pieces_from program shape from (number + 1) others in
         points_append (pieces program ty place one) rest following
-        ∙ ap (λ next. points_pieces (pieces program ty place one) next ++ points_pieces rest following) (first_parts_same others shape from (number + 1) following)
-        ∙ ap (λ them. points_pieces (pieces program ty place one) (first_parts others following) ++ them) (points_parts_same others shape from (number + 1) following)
+        ∙ ap (λ next. points_pieces (pieces program ty place one) next ++ points_pieces rest following)
+        (first_parts_same others shape from (number + 1) following)
+        ∙ ap (λ them. points_pieces (pieces program ty place one) (first_parts others following) ++ them)
+        (points_parts_same others shape from (number + 1) following)
         ∙ ap (λ them. them ++ points_parts others following) (points_same one ty place (first_parts others following))

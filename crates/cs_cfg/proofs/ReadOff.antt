@@ -12,7 +12,8 @@ use Rattle.cs_meaning.specs.Steps.{at_end}
 use Rattle.cs_cfg.specs.Graph as graph
 use Rattle.cs_cfg.specs.Graph.{Point, Flow, Code, block_of, flow_of}
 use Rattle.cs_cfg.specs.ControlPoints.{Met, Next, the_point, met, Exit, way, Way, ControlPoint, at_label, starts, end_of, landed, body_targets, control_points}
-use Rattle.cs_cfg.specs.GraphPoints.{IsMet, Leads, onward, on_truth, on_case, on_no_case, by_operation, by_branch, by_switch, MeetsNext, never, Occurs, HasPoints}
+use Rattle.cs_cfg.specs.GraphPoints.{IsMet, Leads, onward, on_truth, on_case, on_no_case, by_operation, by_branch, by_switch, MeetsNext, never, Occurs}
+use Rattle.cs_cfg.specs.GraphPoints.{HasPoints}
 use Rattle.cs_cfg.specs.Fitting.{FitsSome, BlockFits, AllFit, GraphFits, CodeFits}
 use Rattle.cs_cfg.specs.Placing.{does, there}
 use Rattle.cs_cfg.specs.Executing.{leaving, finishing, goes_to, executes_at}
@@ -34,28 +35,39 @@ met_there on_truth = by_branch
 met_there (on_case taken) = by_switch
 met_there on_no_case = by_switch
 
-module _ (program : TypedProgram) (flow : Flow) (routine : Routine) (body : Statement) (has_body : routine.body ≡ Some body) (lowers : LowersBody program routine body flow) where
+module _ (program : TypedProgram) (flow : Flow) (routine : Routine) (body : Statement) (has_body : routine.body ≡ Some body)
+    (lowers : LowersBody program routine body flow) where
   -- the body of the function, as it is found
   executes_body : executes_at program flow routine lowers.labels (body_of routine) 0 finishing finishing lowers.inside lowers.following
-  executes_body = subst (λ b. executes_at program flow routine lowers.labels b 0 finishing finishing lowers.inside lowers.following) (sym (executed routine body has_body)) lowers.executes
+  executes_body = subst (λ b. executes_at program flow routine lowers.labels b 0 finishing finishing lowers.inside lowers.following)
+      (sym (executed routine body has_body)) lowers.executes
 
   -- what is to be done at the end of the body stands after it
   ends_arrive : Arrives program flow routine lowers.labels (at_end routine) finishing finishing 0 lowers.following
-  ends_arrive = (does routine.closes 0 (graph.Close lowers.nothing) leaving, lowers.ends, (refl, (lowers.nothing, sym lowers.gives, refl), (finishing, there, (refl, there, there))))
+  ends_arrive = (
+    does routine.closes 0 (graph.Close lowers.nothing) leaving,
+    lowers.ends,
+    (refl, (lowers.nothing, sym lowers.gives, refl), (finishing, there, (refl, there, there))),
+  )
 
   -- a label that is there is met where its `goto`s lead
-  label_met : (label : ℕ) (l : Landing) (found : Option Landing) → landing label (body_of routine) 0 (at_end routine) ≡ found → place_of (Some l) ≡ place_of found → MeetsNext flow (lowers.labels label) (met point.Label l.at)
+  label_met : (label : ℕ) (l : Landing) (found : Option Landing) → landing label (body_of routine) 0 (at_end routine) ≡ found
+      → place_of (Some l) ≡ place_of found → MeetsNext flow (lowers.labels label) (met point.Label l.at)
   label_met label l None e same = cc
   label_met label l (Some l') e same =
-      let land = goto_lands program flow routine lowers.labels label (at_end routine) l' finishing finishing lowers.inside lowers.following executes_body ends_arrive e in
+      let land = goto_lands program flow routine lowers.labels label (at_end routine) l' finishing finishing lowers.inside lowers.following executes_body
+      ends_arrive e in
       let place : l'.at ≡ l.at = cc in
-      subst (λ at. MeetsNext flow (lowers.labels label) (met point.Label at)) place (same_meets land.reaches (point_meets l'.at 0 (graph.Reach point.Label l'.counted_point) land.inside refl))
+      subst (λ at. MeetsNext flow (lowers.labels label) (met point.Label at)) place
+      (same_meets land.reaches (point_meets l'.at 0 (graph.Reach point.Label l'.counted_point) land.inside refl))
 
-  goto_meets : (label : ℕ) (found : Option Landing) → landing label (body_of routine) 0 [] ≡ found → (p q : Point) (following : Next) → goes_to program flow routine lowers.labels found (lowers.labels label) p q →
+  goto_meets : (label : ℕ) (found : Option Landing) → landing label (body_of routine) 0 [] ≡ found
+      → (p q : Point) (following : Next) → goes_to program flow routine lowers.labels found (lowers.labels label) p q →
       MeetsNext flow q following → MeetsNext flow p (at_label (landed found) following)
   goto_meets label None e p q following it m = joins_meet it m
   goto_meets label (Some l) e p q following it m =
-      joins_meet it.0 (label_met label l (landing label (body_of routine) 0 (at_end routine)) refl (ap place_of (sym e) ∙ placed_alike label (body_of routine) 0 [] (at_end routine)))
+      joins_meet it.0 (label_met label l (landing label (body_of routine) 0 (at_end routine)) refl (ap place_of (sym e)
+      ∙ placed_alike label (body_of routine) 0 [] (at_end routine)))
 
   -- jumps lead where the targets of the body say
   pub aims : Aims program flow routine lowers.labels (body_targets routine) finishing finishing
@@ -78,9 +90,11 @@ module _ (program : TypedProgram) (flow : Flow) (routine : Routine) (body : Stat
       let enters = graph.Meet point.Enter in
       let closes = graph.Close lowers.nothing in
       let begins = kept_same lowers.begins (kept_block flow.entry) in
-      let inside = statements.executed program flow routine lowers.labels (body_of routine) 0 finishing finishing lowers.inside lowers.following aims executes_body end_met (kept_past routine.at 0 enters lowers.inside begins) in
+      let inside = statements.executed program flow routine lowers.labels (body_of routine) 0 finishing finishing lowers.inside lowers.following aims
+      executes_body end_met (kept_past routine.at 0 enters lowers.inside begins) in
       let ends = kept_joins lowers.ends inside.kept in
-      shown_more (shows_passed 0 enters lowers.inside begins refl refl body_meets) (shown_both inside.shown (shown_more (shows_last 0 closes leaving ends refl) shown_none))
+      shown_more (shows_passed 0 enters lowers.inside begins refl refl body_meets)
+      (shown_both inside.shown (shown_more (shows_last 0 closes leaving ends refl) shown_none))
 
   module _ (fit : AllFit flow (control_points routine) flow.blocks) where
     -- each control point of the graph fits one of them
@@ -103,7 +117,8 @@ module _ (program : TypedProgram) (flow : Flow) (routine : Routine) (body : Stat
             (shows.there, goes.0, shows.occurs, goes.1, goes.2)
 
         only_leads : (p q : Point) (m : Met) (exit : Exit) → Occurs flow p → Leads flow p m exit q →
-            (one : ControlPoint) × (w : Way) × Contains (control_points routine) one × Contains one.ways w × (the_point one.kind one.at ≡ m) × (w.exit ≡ exit) × MeetsNext flow q w.next
+            (one : ControlPoint) × (w : Way) × Contains (control_points routine) one × Contains one.ways w × (the_point one.kind one.at ≡ m)
+            × (w.exit ≡ exit) × MeetsNext flow q w.next
         only_leads p q m exit occurs leads =
             let some = fits_some p m occurs (met_there leads) in
             let goes = some.3.leads exit q (subst (λ x. Leads flow p x exit q) (sym some.2) leads) in
@@ -111,7 +126,8 @@ module _ (program : TypedProgram) (flow : Flow) (routine : Routine) (body : Stat
 
 module _ (code : Code) (program : TypedProgram) (placed : IsPlaced code program) (fit : CodeFits code program) where
   -- the same of a function, if it has a graph
-  reads : (function : ℕ) (body : Option Statement) (flow : Option Flow) → (routine_of program function).body ≡ body → flow_of code function ≡ flow → is_there flow ≡ is_there body →
+  reads : (function : ℕ) (body : Option Statement) (flow : Option Flow) → (routine_of program function).body ≡ body → flow_of code function ≡ flow
+      → is_there flow ≡ is_there body →
       GraphFits (routine_of program function) flow → ReadsOff (routine_of program function) flow
   reads function body None has_body has_flow same fits = tt
   reads function None (Some flow) has_body has_flow same fits = cc

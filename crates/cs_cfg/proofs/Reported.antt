@@ -46,7 +46,8 @@ module _ (operations : List o.Operation) (end : BlockEnd) (number : ℕ) where
   pub reported_after : number ≡ length operations → touch_of_end end ≡ touch_in (record { operations = map operation operations; end = end }) number
   reported_after e = sym (following (map operation operations) end number (e ∙ sym (length-map operations operation)))
 
-  pub reported_nowhere : IsItemAt operations number None → (number ≡ length operations → ⊥) → None ≡ touch_in (record { operations = map operation operations; end = end }) number
+  pub reported_nowhere : IsItemAt operations number None → (number ≡ length operations → ⊥)
+      → None ≡ touch_in (record { operations = map operation operations; end = end }) number
   reported_nowhere is differs =
       let past = is.3 in
       let same = length-map operations operation in
@@ -54,15 +55,18 @@ module _ (operations : List o.Operation) (end : BlockEnd) (number : ℕ) where
 
 -- a counted point is the first thing in a block
 reported_after_counted_point : (operations : List o.Operation) (end : BlockEnd) (counted_point : CountedPoint) (number : ℕ) → (number ≡ 0 → ⊥) →
-    touch_in (record { operations = map operation operations; end = end }) (number - 1) ≡ touch_in (record { operations = with_counted_point (Some counted_point) (map operation operations); end = end }) number
+    touch_in (record { operations = map operation operations; end = end }) (number - 1)
+    ≡ touch_in (record { operations = with_counted_point (Some counted_point) (map operation operations); end = end }) number
 reported_after_counted_point operations end counted_point zero above = absurd (above refl)
 reported_after_counted_point operations end counted_point (suc number) above =
     let less : suc number - 1 ≡ number = omega arith in
     ap (touch_in (record { operations = map operation operations; end = end })) less
 
-pub reported_with_counted_point : (one : Block) (counted_point : CountedPoint) (operations : List o.Operation) (number : ℕ) → one.counted_point ≡ Some counted_point → operations ≡ one.operations.items → (number ≡ 0 → ⊥) →
+pub reported_with_counted_point : (one : Block) (counted_point : CountedPoint) (operations : List o.Operation) (number : ℕ)
+    → one.counted_point ≡ Some counted_point → operations ≡ one.operations.items → (number ≡ 0 → ⊥) →
     touch_in (record { operations = map operation operations; end = block_end one.end }) (number - 1) ≡ touch_in (block one) number
 reported_with_counted_point one counted_point operations number counted_points same above =
     ap (λ all. touch_in (record { operations = map operation all; end = block_end one.end }) (number - 1)) same
     ∙ reported_after_counted_point one.operations.items (block_end one.end) counted_point number above
-    ∙ ap (λ m. touch_in (record { operations = with_counted_point m (map operation one.operations.items); end = block_end one.end }) number) (sym counted_points)
+    ∙ ap (λ m. touch_in (record { operations = with_counted_point m (map operation one.operations.items); end = block_end one.end }) number)
+    (sym counted_points)

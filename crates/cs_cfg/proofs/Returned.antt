@@ -26,41 +26,51 @@ use Rattle.cs_cfg.proofs.Runs.{both_end, code_ends, code_ends_only, code_pends, 
 
 module _ {State : Type 0} (step : State → Act State) (setting : Setting) where
   -- two ways of a run to its end come to the same last state
-  last_same : {m last last' : State} {log before before' end end' : Log} {outcome outcome' : Outcome} → Leads step setting m log last before → perform setting before (step last) ≡ Finishes outcome end →
+  last_same : {m last last' : State} {log before before' end end' : Log} {outcome outcome' : Outcome} → Leads step setting m log last before
+      → perform setting before (step last) ≡ Finishes outcome end →
       Leads step setting m log last' before' → perform setting before' (step last') ≡ Finishes outcome' end' → last ≡ last'
   last_same (stays e f) finish (stays e' f') finish' = sym e ∙ e'
   last_same {last = last} {before = before} (stays {m = m} {log = log} e f) finish (goes {next = next} {later = later} s way) finish' =
-      let here : perform setting log (step m) ≡ perform setting before (step last) = ap (λ l. perform setting l (step m)) f ∙ ap (λ x. perform setting before (step x)) e in
+      let here : perform setting log (step m) ≡ perform setting before (step last) = ap (λ l. perform setting l (step m)) f
+      ∙ ap (λ x. perform setting before (step x)) e in
       let both : Continues next later ≡ Finishes _ _ = sym s ∙ here ∙ finish in
       absurd cc
   last_same {last' = last'} {before' = before'} (goes {m = m} {next = next} {log = log} {later = later} s way) finish (stays e f) finish' =
-      let here : perform setting log (step m) ≡ perform setting before' (step last') = ap (λ l. perform setting l (step m)) f ∙ ap (λ x. perform setting before' (step x)) e in
+      let here : perform setting log (step m) ≡ perform setting before' (step last') = ap (λ l. perform setting l (step m)) f
+      ∙ ap (λ x. perform setting before' (step x)) e in
       let both : Continues next later ≡ Finishes _ _ = sym s ∙ here ∙ finish' in
       absurd cc
-  last_same {last = last} {last' = last'} {before = before} {before' = before'} (goes {next = next} {later = later} s way) finish (goes {next = next'} {later = later'} s' way') finish' =
+  last_same {last = last} {last' = last'} {before = before} {before' = before'} (goes {next = next} {later = later} s way) finish
+      (goes {next = next'} {later = later'} s' way') finish' =
       let both : Continues next' later' ≡ Continues next later = sym s' ∙ s in
       let same : next' ≡ next = cc in
       let same_log : later' ≡ later = cc in
-      last_same way finish (subst (λ l. Leads step setting next l last' before') same_log (subst (λ x. Leads step setting x later' last' before') same way')) finish'
+      last_same way finish (subst (λ l. Leads step setting next l last' before') same_log (subst (λ x. Leads step setting x later' last' before') same way'))
+      finish'
 
-  pub one_last : {m : State} {log end end' : Log} {outcome outcome' : Outcome} → (one : EndsFrom step setting m log outcome end) (other : EndsFrom step setting m log outcome' end') → one.last ≡ other.last
+  pub one_last : {m : State} {log end end' : Log} {outcome outcome' : Outcome}
+      → (one : EndsFrom step setting m log outcome end) (other : EndsFrom step setting m log outcome' end') → one.last ≡ other.last
   one_last one other = last_same one.leads one.finishes other.leads other.finishes
 
 module _ (code : Code) (program : TypedProgram) (budgets : RunBudgets) (setting : Setting) where
   -- a silent step isn't the last one
-  silent_goes : (t next : CodeState) (log end : Log) (outcome : Outcome) → code_step code program budgets t ≡ Goes next → perform setting log (code_step code program budgets t) ≡ Finishes outcome end → ⊥
+  silent_goes : (t next : CodeState) (log end : Log) (outcome : Outcome) → code_step code program budgets t ≡ Goes next
+      → perform setting log (code_step code program budgets t) ≡ Finishes outcome end → ⊥
   unfolding perform
   silent_goes t next log end outcome e finish =
       let both : Continues next log ≡ Finishes outcome end = sym (ap (perform setting log) e) ∙ finish in
       absurd cc
 
   -- in its last state the code's run has gone all jumps
-  arrived : {flow : Flow} {p q : Point} (t : CodeState) (log end : Log) (outcome : Outcome) → Joins program flow p q → t.frame.todo ≡ p → perform setting log (code_step code program budgets t) ≡ Finishes outcome end → t.frame.todo ≡ q
+  arrived : {flow : Flow} {p q : Point} (t : CodeState) (log end : Log) (outcome : Outcome) → Joins program flow p q → t.frame.todo ≡ p
+      → perform setting log (code_step code program budgets t) ≡ Finishes outcome end → t.frame.todo ≡ q
   arrived t log end outcome there e finish = e
-  arrived t log end outcome (jumps way) e finish = absurd (silent_goes t _ log end outcome (ap (λ (p : Point). step_at code program budgets p.operations p.end t) e) finish)
+  arrived t log end outcome (jumps way) e finish =
+      absurd (silent_goes t _ log end outcome (ap (λ (p : Point). step_at code program budgets p.operations p.end t) e) finish)
 
   -- what is done first in the machine's last state leaves the frame
-  leaves_last : (item : Item) (items : List Item) (m : State) (log end : Log) (what : Returned) → (IsLeave program item → ⊥) → perform setting log (do_item program budgets item (to_do items m)) ≡ Finishes (Done what) end → ⊥
+  leaves_last : (item : Item) (items : List Item) (m : State) (log end : Log) (what : Returned) → (IsLeave program item → ⊥)
+      → perform setting log (do_item program budgets item (to_do items m)) ≡ Finishes (Done what) end → ⊥
   leaves_last item items m log end what other finish = decided (stays_or_leaves program budgets item (to_do items m))
     where
       decided : IsLeave program item ⊎ NeverReturns (do_item program budgets item (to_do items m)) → ⊥
@@ -68,7 +78,8 @@ module _ (code : Code) (program : TypedProgram) (budgets : RunBudgets) (setting 
       decided (inr never) = never_done setting log end what never finish
 
   -- a point at which the machine's list is done, and where the run ends, returns the same
-  returns_same : (todo : List Item) (m : State) (t : CodeState) (home : Home code program m.frame.function) (log end : Log) (what : Returned) → Aligned code program m t → stands code program home todo (length m.frame.stack) t.frame.todo →
+  returns_same : (todo : List Item) (m : State) (t : CodeState) (home : Home code program m.frame.function) (log end : Log) (what : Returned)
+      → Aligned code program m t → stands code program home todo (length m.frame.stack) t.frame.todo →
       perform setting log (step_with program budgets todo m) ≡ Finishes (Done what) end → returned_with todo m ≡ code_returned t
   returns_same [] m t home log end what a it finish = ap (λ (p : Point). end_value p.end t) (sym it.0)
   returns_same (Leave ∷ items) m t home log end what a it finish =
@@ -77,17 +88,22 @@ module _ (code : Code) (program : TypedProgram) (budgets : RunBudgets) (setting 
   returns_same (item ∷ items) m t home log end what a it finish = absurd (leaves_last item items m log end what (λ leaves. leaves) finish)
 
   -- in related last states the same is returned, and memory is the same
-  related_return : (m : State) (t : CodeState) (log log' end end' : Log) (what : Returned) (outcome : Outcome) → Related code program budgets m t → perform setting log (step program budgets m) ≡ Finishes (Done what) end →
+  related_return : (m : State) (t : CodeState) (log log' end end' : Log) (what : Returned) (outcome : Outcome) → Related code program budgets m t
+      → perform setting log (step program budgets m) ≡ Finishes (Done what) end →
       perform setting log' (code_step code program budgets t) ≡ Finishes outcome end' → (returned_value m ≡ code_returned t) × (m.memory ≡ t.memory)
   related_return m t log log' end end' what outcome (soon e r) finish finish' = absurd (silent_goes t _ log' end' outcome e finish')
   related_return m t log log' end end' what outcome (now a) finish finish' =
       let home = home_of code program a.frame in
-      let here = arrived t log' end' outcome a.frame.joins refl finish' in
-      (returns_same m.frame.todo m t home log end what a (subst (λ p. stands code program home m.frame.todo (length m.frame.stack) p) (sym here) a.frame.stands) finish, sym a.memory)
+      let here = arrived t log' end' outcome a.frame.joins refl finish' in (
+        returns_same m.frame.todo m t home log end what a
+            (subst (λ p. stands code program home m.frame.todo (length m.frame.stack) p) (sym here) a.frame.stands) finish,
+        sym a.memory,
+      )
 
 module _ (code : Code) (program : TypedProgram) (placed : IsPlaced code program) where
   -- where both runs are done, they return the same
-  pub code_returns : (entry : ℕ) (body : Statement) (run : ProgramRun) (budgets : RunBudgets) (what : Returned) (log : Log) → (routine_of program entry).body ≡ Some body →
+  pub code_returns : (entry : ℕ) (body : Statement) (run : ProgramRun) (budgets : RunBudgets) (what : Returned) (log : Log)
+      → (routine_of program entry).body ≡ Some body →
       (one : RunGives program entry run budgets (Done what) log) (other : CodeGives code program entry run budgets (Done what) log) →
       (returned_value one.last ≡ code_returned other.last) × (one.last.memory ≡ other.last.memory)
   code_returns entry body run budgets what log e one other =

@@ -35,7 +35,8 @@ fills_routine = defined 5 int 1 (named 110 int ∷ (named 97 (array int 3) ∷ (
     (Some (Of (at 38) int (tree.Compare cmp.Less (value 37 int 2) (value 39 int 0))))
     (Some (Of (at 42) int (tree.Update op.Add (local 41 int 2) (literal 42 1) Int Old)))
     (tree.Run (at 45) (Of (at 49) int (tree.Assign (element 46 (value 47 int 2)) (literal 50 0)))) ∷ (
-    tree.Return (at 52) (Some (loaded (Of (at 60) int (tree.Index (Of (at 59) to_int (tree.Decay (local 59 (array int 3) 1))) (literal 61 0) PointerFirst)))) ∷ []))))
+    tree.Return (at 52) (Some (loaded (Of (at 60) int (tree.Index (Of (at 59) to_int (tree.Decay (local 59 (array int 3) 1))) (literal 61 0) PointerFirst))))
+    ∷ []))))
 
 abbrev fills : TypedProgram
 fills = functions (fills_routine ∷ [])
@@ -44,21 +45,45 @@ fills = functions (fills_routine ∷ [])
 fills_points : control_points fills_routine ≡
     record { kind = point.Enter; at = at 5; ways = way Onward (met point.Head (at 29)) ∷ [] }
     ∷ (record { kind = point.Head; at = at 29; ways = way Onward (met point.Branch (at 29)) ∷ [] }
-    ∷ (record { kind = point.Branch; at = at 29; ways = way (TruthOf true) (met point.Head (at 29)) ∷ (way (TruthOf false) (met point.Return (at 52)) ∷ []) }
+    ∷ (record {
+      kind = point.Branch;
+      at = at 29;
+      ways = way (TruthOf true) (met point.Head (at 29)) ∷ (way (TruthOf false) (met point.Return (at 52)) ∷ []);
+    }
     ∷ (record { kind = point.Return; at = at 52; ways = [] } ∷ (record { kind = point.End; at = at 64; ways = [] } ∷ []))))
 fills_points = refl
 
 abbrev fills_flow_graph : Flow
 fills_flow_graph = record {
   blocks =
-      record { operations = does 5 0 (Meet point.Enter) ∷ (does 18 0 (Clear 1 false) ∷ (does 27 0 (Clear 2 true) ∷ (does 33 0 (Local 2) ∷ (does 35 1 (Number (pos 0)) ∷ (does 34 0 (Store (direct_local 33 int 2)) ∷ (does 33 0 Drop ∷ [])))))); end = Jump 1 }
-      ∷ (record { operations = does 29 0 (Reach point.Head 0) ∷ (does 37 0 (Local 2) ∷ (does 37 0 (Load (direct_local 37 int 2)) ∷ (does 39 1 (Local 0) ∷ (does 39 1 (Load (direct_local 39 int 0)) ∷ (does 38 0 (Compare cmp.Less) ∷ []))))); end = Branch (at 29) 0 2 3 }
-      ∷ (record {
-        operations = does 45 0 (Local 1) ∷ (does 47 1 (Local 2) ∷ (does 47 1 (Load (direct_local 47 int 2)) ∷ (does 46 0 (Sum 4 Forward PointerFirst) ∷ (does 50 1 (Number (pos 0)) ∷ (does 49 0 (Store (pointed 46 int)) ∷ (does 45 0 Drop
-            ∷ (does 41 0 (Local 2) ∷ (does 42 0 (FetchNumber (direct_local 41 int 2) Int) ∷ (does 42 3 (Number (pos 1)) ∷ (does 42 0 (Update op.Add (direct_local 41 int 2) Int Old) ∷ (does 42 0 Drop ∷ [])))))))))));
+      record {
+        operations = does 5 0 (Meet point.Enter)
+            ∷ (does 18 0 (Clear 1 false)
+            ∷ (does 27 0 (Clear 2 true)
+            ∷ (does 33 0 (Local 2) ∷ (does 35 1 (Number (pos 0)) ∷ (does 34 0 (Store (direct_local 33 int 2)) ∷ (does 33 0 Drop ∷ []))))));
         end = Jump 1;
       }
-      ∷ (record { operations = does 59 0 (Local 1) ∷ (does 61 1 (Number (pos 0)) ∷ (does 60 0 (Sum 4 Forward PointerFirst) ∷ (does 60 0 (Load (pointed 60 int)) ∷ (does 52 1 (Meet point.Return) ∷ [])))); end = Return 0 }
+      ∷ (record {
+        operations = does 29 0 (Reach point.Head 0)
+            ∷ (does 37 0 (Local 2) ∷ (does 37 0 (Load (direct_local 37 int 2))
+            ∷ (does 39 1 (Local 0) ∷ (does 39 1 (Load (direct_local 39 int 0)) ∷ (does 38 0 (Compare cmp.Less) ∷ [])))));
+        end = Branch (at 29) 0 2 3;
+      }
+      ∷ (record {
+        operations =
+            does 45 0 (Local 1)
+            ∷ (does 47 1 (Local 2) ∷ (does 47 1 (Load (direct_local 47 int 2))
+            ∷ (does 46 0 (Sum 4 Forward PointerFirst) ∷ (does 50 1 (Number (pos 0)) ∷ (does 49 0 (Store (pointed 46 int)) ∷ (does 45 0 Drop
+            ∷ (does 41 0 (Local 2) ∷ (does 42 0 (FetchNumber (direct_local 41 int 2) Int)
+            ∷ (does 42 3 (Number (pos 1)) ∷ (does 42 0 (Update op.Add (direct_local 41 int 2) Int Old) ∷ (does 42 0 Drop ∷ [])))))))))));
+        end = Jump 1;
+      }
+      ∷ (record {
+        operations =
+            does 59 0 (Local 1) ∷ (does 61 1 (Number (pos 0))
+            ∷ (does 60 0 (Sum 4 Forward PointerFirst) ∷ (does 60 0 (Load (pointed 60 int)) ∷ (does 52 1 (Meet point.Return) ∷ []))));
+        end = Return 0;
+      }
       ∷ (record { operations = does 64 0 (Close false) ∷ []; end = Return 0 } ∷ []))));
   entry = 0;
   counted_points = 1;
@@ -69,7 +94,9 @@ fills_code = record { flows = Some fills_flow_graph ∷ [] }
 
 -- what the block at the head of its loop touches, spot by spot: the operations, the end, and a spot that isn't there
 fills_touches : map (λ number. touch_at fills_code (record { function = 0; block = 1; operation = number })) (range_with_len 0 8) ≡
-    Some (touch.Point point.Head (at 29)) ∷ (None ∷ (Some (touch.Load 2 (at 37)) ∷ (None ∷ (Some (touch.Load 0 (at 39)) ∷ (None ∷ (Some (touch.Point point.Branch (at 29)) ∷ (None ∷ [])))))))
+    Some (touch.Point point.Head (at 29))
+    ∷ (None ∷ (Some (touch.Load 2 (at 37))
+    ∷ (None ∷ (Some (touch.Load 0 (at 39)) ∷ (None ∷ (Some (touch.Point point.Branch (at 29)) ∷ (None ∷ [])))))))
 fills_touches = refl
 
 -- three elements are there
@@ -77,7 +104,8 @@ fills_too_many : outcome_of (code_run fills_code fills 0 (plain (given 110 (pos 
 unfolding runs.perform
 fills_too_many = refl
 
-fills_too_many_alike : code_run fills_code fills 0 (plain (given 110 (pos 4) ∷ [])) USUAL 120 ≡ machine_run fills 0 (plain (given 110 (pos 4) ∷ [])) USUAL 240
+fills_too_many_alike : code_run fills_code fills 0 (plain (given 110 (pos 4) ∷ [])) USUAL 120
+    ≡ machine_run fills 0 (plain (given 110 (pos 4) ∷ [])) USUAL 240
 unfolding runs.perform
 fills_too_many_alike = refl
 

@@ -51,11 +51,13 @@ module _ {program : TypedProgram} {flow : Flow} where
   walked_none kept = record { kept = kept; shown = shown_none }
 
   -- after an operation
-  pub walked_past : (at : Place) (number : ℕ) (work : Work) (q : Point) {points : List ControlPoint} → Walked program flow (does at number work q) points → Walked program flow q points
+  pub walked_past : (at : Place) (number : ℕ) (work : Work) (q : Point) {points : List ControlPoint} → Walked program flow (does at number work q) points
+      → Walked program flow q points
   walked_past at number work q walked = record { kept = kept_past at number work q walked.kept; shown = walked.shown }
 
   -- after the use of a value
-  pub walked_use : (e : Typed) (number : ℕ) (q : Point) {points : List ControlPoint} → Walked program flow (used_then e number q) points → Walked program flow q points
+  pub walked_use : (e : Typed) (number : ℕ) (q : Point) {points : List ControlPoint} → Walked program flow (used_then e number q) points
+      → Walked program flow q points
   walked_use (Of at ty (Call function arguments)) number q walked = walked_past at number graph.Use q walked
   walked_use (Of at ty other) number q walked = walked
 
@@ -64,7 +66,8 @@ module _ {program : TypedProgram} {flow : Flow} where
   walked_joins way walked = record { kept = kept_joins way walked.kept; shown = walked.shown }
 
   -- one part and then another
-  pub walked_then : {r q : Point} {xs ys : List ControlPoint} → Walked program flow r xs → (Kept program flow r → Walked program flow q ys) → Walked program flow q (xs ++ ys)
+  pub walked_then : {r q : Point} {xs ys : List ControlPoint} → Walked program flow r xs → (Kept program flow r → Walked program flow q ys)
+      → Walked program flow q (xs ++ ys)
   walked_then first rest = record { kept = (rest first.kept).kept; shown = shown_both first.shown (rest first.kept).shown }
 
   -- the head of a loop, a label or the beginning of a body
@@ -85,8 +88,14 @@ module _ {program : TypedProgram} {flow : Flow} where
   pub shows_last : {kind : PointKind} {at : Place} (number : ℕ) (work : Work) (q : Point) → Kept program flow (does at number work q) →
       met_in at work ≡ Some (the_point kind at) → Shows flow (last_point kind at)
   shows_last {kind = kind} {at = at} number work q kept is =
-      let here : IsMet (does at number work q) (the_point kind at) = by_operation {operation = record { at = at; temporary = number; work = work }} {p = q} is in
-      record { there = does at number work q; occurs = occurs kept here; meets = here; ways = All-nil (GoesOn flow (does at number work q) (last_point kind at)) }
+      let here : IsMet (does at number work q) (the_point kind at) =
+      by_operation {operation = record { at = at; temporary = number; work = work }} {p = q} is in
+      record {
+        there = does at number work q;
+        occurs = occurs kept here;
+        meets = here;
+        ways = All-nil (GoesOn flow (does at number work q) (last_point kind at));
+      }
 
   -- a test
   pub shows_tested : {one_next other_next : Next} (at : Place) (number one other : ℕ) → Kept program flow (split at number one other) →

@@ -1,5 +1,6 @@
 -- Each step of the code's run touches what is told of the point from which it comes: for the law `steps_touch_as_reported`.
-use Rattle.std.proofs.Common.{◌≡◌, ℕ, nat_lt, ℤ, Bool, true, false, List, [], ◌∷◌, ◌++◌, inl, inr, Option, Some, None, slice_get, if◌then◌else◌, refl, sym, ap, ◌∙◌, subst}
+use Rattle.std.proofs.Common.{◌≡◌, ℕ, nat_lt, ℤ, Bool, true, false, List, [], ◌∷◌, ◌++◌, inl, inr, Option, Some, None, slice_get}
+use Rattle.std.proofs.Common.{if◌then◌else◌, refl, sym, ap, ◌∙◌, subst}
 use Rattle.std.specs.Prelude.{option_map}
 use Rattle.std.specs.Option.{option_and_then}
 use Rattle.std.proofs.lemmas.List.{append-nil}
@@ -17,23 +18,28 @@ use Rattle.cs_events.specs.Operations.{is_true}
 use Rattle.cs_events.specs.Objects.{Object, Cell, NumberCell}
 use Rattle.cs_events.specs.Touches.{Touch}
 use Rattle.cs_events.specs.Acts.{Act, Goes, Stops, Reads, Asks, Allocates, Reaches, Touches}
-use Rattle.cs_events.specs.Runs.{Setting, Log, Performed, Continues, Finishes, perform, with_event, with_read, with_touch, has_room, operation_event, number_of, allocation_event, access_event}
+use Rattle.cs_events.specs.Runs.{Setting, Log, Performed, Continues, Finishes, perform, with_event, with_read, with_touch, has_room, operation_event, number_of}
+use Rattle.cs_events.specs.Runs.{allocation_event, access_event}
 use Rattle.cs_meaning.specs.Initials.{number_in, directed}
 use Rattle.cs_meaning.specs.Types.{integer_of}
 use Rattle.cs_meaning.specs.Memory.{Memory, is_constant}
 use Rattle.cs_meaning.specs.Access.{Access, touches_then, load_object, store_object}
-use Rattle.cs_meaning.specs.Machine.{Operand, Scalar, CallFrame, to_do, push, push_cell, pop_many, with_memory, operand_at, cell_of, cell_at, newest, routine_of}
+use Rattle.cs_meaning.specs.Machine.{Operand, Scalar, CallFrame, to_do, push, push_cell, pop_many, with_memory, operand_at, cell_of, cell_at, newest}
+use Rattle.cs_meaning.specs.Machine.{routine_of}
 use Rattle.cs_meaning.specs.CountedPoints.{reached_again}
 use Rattle.cs_meaning.specs.Calls.{leave_to}
 use Rattle.cs_meaning.specs.Expressions.{pointer_age, amount_age, given, number_at, stores_to}
 use Rattle.cs_cfg.specs.declared.code.Spot.{Spot}
 use Rattle.cs_cfg.specs.declared.touch.Touch as reported
 use Rattle.cs_cfg.specs.declared.touch.Touch.TheVariants as touch
-use Rattle.cs_cfg.specs.Graph.{Work, Number, Null, Text, Local, Global, Nothing, Sum, Member, Arrow, Load, Convert, Unary, Not, Binary, Compare, Difference, Judge, Store, FetchNumber, Update, FetchPointer, Move, Call, Allocate, Free, Use, Drop, Clear, Zero, StoreLocal, Spell, Reach, Meet, Close, Operation, BlockEnd, Jump, Branch, Switch, Return, Finish, Point, Flow, Code, flow_of}
+use Rattle.cs_cfg.specs.Graph.{Work, Number, Null, Text, Local, Global, Nothing, Sum, Member, Arrow, Load, Convert, Unary, Not, Binary, Compare, Difference}
+use Rattle.cs_cfg.specs.Graph.{Judge, Store, FetchNumber, Update, FetchPointer, Move, Call, Allocate, Free, Use, Drop, Clear, Zero, StoreLocal, Spell, Reach}
+use Rattle.cs_cfg.specs.Graph.{Meet, Close, Operation, BlockEnd, Jump, Branch, Switch, Return, Finish, Point, Flow, Code, flow_of}
 use Rattle.cs_cfg.specs.Working.{CodeState, cut, code_frame, call_flow, do_work}
 use Rattle.cs_cfg.specs.CodeSteps.{do_end, step_at, code_step}
 use Rattle.cs_cfg.specs.Touching.{touch_of_load, touch_of_store, touch_of_work, touch_of_end, touch_first, touch_from, point_at, touch_at, in_frame, HasTouched}
-use Rattle.cs_cfg.proofs.Onward.{Inherited, Each, EachOfTwo, keeps_if, keeps_shows, keeps_locate, keeps_value, keeps_truth, keeps_operate, keeps_convert_number, keeps_convert, keeps_sum, keeps_compare, keeps_difference, keeps_arrow}
+use Rattle.cs_cfg.proofs.Onward.{Inherited, Each, EachOfTwo, keeps_if, keeps_shows, keeps_locate, keeps_value, keeps_truth, keeps_operate, keeps_convert_number}
+use Rattle.cs_cfg.proofs.Onward.{keeps_convert, keeps_sum, keeps_compare, keeps_difference, keeps_arrow}
 use Rattle.cs_cfg.proofs.OnwardCalls.{keeps_release, keeps_allocate, keeps_enter, keeps_outside, keeps_use}
 
 module _ {S : Type 0} where
@@ -42,9 +48,12 @@ module _ {S : Type 0} where
     goes : {s : S} → TouchesJust None (Goes s)
     stops : {what : Option Touch} {outcome : Outcome} → TouchesJust what (Stops outcome)
     reads : {what : Option Touch} {path : Path} {f : ℤ → Act S} → ((number : ℤ) → TouchesJust what (f number)) → TouchesJust what (Reads path f)
-    asks : {what : Option Touch} {at : Place} {operation : Asked} {f : ℤ → Act S} → ((number : ℤ) → TouchesJust what (f number)) → TouchesJust what (Asks at operation f)
-    allocates : {what : Option Touch} {at : Place} {path : Path} {f : Bool → Act S} → ((given : Bool) → TouchesJust what (f given)) → TouchesJust what (Allocates at path f)
-    reaches : {what : Option Touch} {at : Place} {object : Object} {offset : ℤ} {a : Act S} → TouchesJust what a → TouchesJust what (Reaches at object offset a)
+    asks : {what : Option Touch} {at : Place} {operation : Asked} {f : ℤ → Act S} → ((number : ℤ) → TouchesJust what (f number))
+        → TouchesJust what (Asks at operation f)
+    allocates : {what : Option Touch} {at : Place} {path : Path} {f : Bool → Act S} → ((given : Bool) → TouchesJust what (f given))
+        → TouchesJust what (Allocates at path f)
+    reaches : {what : Option Touch} {at : Place} {object : Object} {offset : ℤ} {a : Act S} → TouchesJust what a
+        → TouchesJust what (Reaches at object offset a)
     touches : {one : Touch} {a : Act S} → TouchesJust None a → TouchesJust (Some one) (Touches one a)
 
   inherited : (what : Option Touch) → Inherited (TouchesJust what)
@@ -54,7 +63,8 @@ module _ {S : Type 0} where
   silent = inherited None
 
   -- the event that didn't fit into the budget ends the run, and nothing was touched
-  in_room : (room : Bool) (at : Place) (log : Log) (what : Option Touch) (done : Performed S) → HasTouched log.touches what done → HasTouched log.touches what (if room then done else Finishes (Over Events at) log)
+  in_room : (room : Bool) (at : Place) (log : Log) (what : Option Touch) (done : Performed S) → HasTouched log.touches what done
+      → HasTouched log.touches what (if room then done else Finishes (Over Events at) log)
   in_room true at log what done h = h
   in_room false at log what done h = inl refl
 
@@ -65,16 +75,20 @@ module _ {S : Type 0} where
   one_touch before one (Finishes outcome log) (inr e) = inr (e ∙ append-nil (before ++ one ∷ []))
 
   -- such an act has touched this once it was performed
-  touched : (setting : Setting) (log : Log) {what : Option Touch} {act : Act S} → TouchesJust what act → HasTouched log.touches what (perform setting log act)
+  touched : (setting : Setting) (log : Log) {what : Option Touch} {act : Act S} → TouchesJust what act
+      → HasTouched log.touches what (perform setting log act)
   unfolding perform
   touched setting log goes = sym (append-nil log.touches)
   touched setting log stops = inl refl
   touched setting log (reads {path = path} h) = touched setting (with_read log path) (h (setting.inputs path))
   touched setting log (asks {what = what} {at = at} {operation = operation} h) =
-      in_room (has_room setting log) at log what _ (touched setting (with_event log (operation_event setting log at operation)) (h (number_of setting log operation)))
+      in_room (has_room setting log) at log what _
+      (touched setting (with_event log (operation_event setting log at operation)) (h (number_of setting log operation)))
   touched setting log (allocates {what = what} {at = at} {path = path} h) =
-      in_room (has_room setting log) at log what _ (touched setting (with_event (with_read log path) (allocation_event setting at path)) (h (is_true (setting.inputs path))))
-  touched setting log (reaches {what = what} {at = at} {offset = offset} h) = in_room (has_room setting log) at log what _ (touched setting (with_event log (access_event at offset)) h)
+      in_room (has_room setting log) at log what _
+      (touched setting (with_event (with_read log path) (allocation_event setting at path)) (h (is_true (setting.inputs path))))
+  touched setting log (reaches {what = what} {at = at} {offset = offset} h) =
+      in_room (has_room setting log) at log what _ (touched setting (with_event log (access_event at offset)) h)
   touched setting log (touches {one = one} h) = one_touch log.touches one _ (touched setting (with_touch log one) h)
 
   -- what is told of a local of a frame
@@ -83,15 +97,20 @@ module _ {S : Type 0} where
   touches_local frame yields None h = h
   touches_local frame yields (Some declaration) h = touches h
 
-  touches_load : (program : TypedProgram) (memory : Memory) (frame : ℕ) (access : Access) (cell : Cell) {f : Memory → Operand → Act S} → EachOfTwo silent f →
+  touches_load : (program : TypedProgram) (memory : Memory) (frame : ℕ) (access : Access) (cell : Cell) {f : Memory → Operand → Act S}
+      → EachOfTwo silent f →
       TouchesJust (option_map (in_frame frame) (touch_of_load access)) (load_object program memory frame access cell f)
   touches_load program memory frame access cell h =
-      keeps_locate (inherited _) program memory access cell (λ object offset. touches_local frame (λ declaration. touch.Load declaration access.at) access.local (keeps_value silent program memory access.at access.ty object offset h))
+      keeps_locate (inherited _) program memory access cell (λ object offset.
+      touches_local frame (λ declaration. touch.Load declaration access.at) access.local
+      (keeps_value silent program memory access.at access.ty object offset h))
 
-  touches_store : (program : TypedProgram) (memory : Memory) (frame : ℕ) (at : Place) (access : Access) (cell : Cell) (operand : Operand) {f : Memory → Act S} → Each silent f →
+  touches_store : (program : TypedProgram) (memory : Memory) (frame : ℕ) (at : Place) (access : Access) (cell : Cell) (operand : Operand) {f : Memory
+      → Act S} → Each silent f →
       TouchesJust (option_map (in_frame frame) (touch_of_store at access)) (store_object program memory frame at access cell operand f)
   touches_store program memory frame at access cell operand h =
-      keeps_locate (inherited _) program memory access cell (λ object offset. keeps_if (inherited _) (is_constant program object) stops (touches_local frame (λ declaration. touch.Store declaration at) access.local (h _)))
+      keeps_locate (inherited _) program memory access cell (λ object offset.
+      keeps_if (inherited _) (is_constant program object) stops (touches_local frame (λ declaration. touch.Store declaration at) access.local (h _)))
 
 -- a counted point is reached
 touches_counted_point : (budgets : RunBudgets) (at : Place) (kind : PointKind) (counted_point : ℕ) (count : Option ℕ) (m : CodeState) →
@@ -105,10 +124,12 @@ touches_leave [] value m = stops
 touches_leave (caller ∷ callers) value m = goes
 
 -- a call of a function
-touches_call : (program : TypedProgram) (budgets : RunBudgets) (at : Place) (function : ℕ) (routine : Routine) (flow : Option Flow) (arguments : List Operand) (m : CodeState) →
+touches_call : (program : TypedProgram) (budgets : RunBudgets) (at : Place) (function : ℕ) (routine : Routine) (flow : Option Flow) (arguments : List Operand)
+    (m : CodeState) →
     TouchesJust None (call_flow program budgets at function routine flow arguments m)
 touches_call program budgets at function routine None arguments m = keeps_outside silent (λ m. goes) program at function routine arguments m
-touches_call program budgets at function routine (Some flow) arguments m = keeps_enter silent (λ m. goes) program budgets (code_frame function flow) at function routine arguments m
+touches_call program budgets at function routine (Some flow) arguments m =
+    keeps_enter silent (λ m. goes) program budgets (code_frame function flow) at function routine arguments m
 
 module _ (code : Code) (program : TypedProgram) (budgets : RunBudgets) where
   -- what an operation does touches what is told of it, as a touch of the frame that runs
@@ -142,15 +163,18 @@ module _ (code : Code) (program : TypedProgram) (budgets : RunBudgets) where
   work_touches at (Store access) m = touches_stores at access 1 (operand_at m 0) 2 (operand_at m 0) m
   work_touches at (FetchNumber access works_in) m =
       touches_load program m.memory m.frame.number access (cell_at m 0) (λ memory operand.
-      keeps_convert_number silent program.model at access.ty works_in (number_in (cell_of operand)) (λ number. goes {s = push_cell (NumberCell number) (push operand (with_memory memory m))}))
+      keeps_convert_number silent program.model at access.ty works_in (number_in (cell_of operand))
+      (λ number. goes {s = push_cell (NumberCell number) (push operand (with_memory memory m))}))
   work_touches at (Update operator access works_in gives) m =
       keeps_operate (inherited _) program.model at operator works_in (number_at m 1) (number_at m 0) (λ number.
       keeps_convert_number (inherited _) program.model at (integer works_in) (integer_of access.ty) number (λ stored.
       touches_stores at access 3 (Scalar (NumberCell stored)) 4 (given gives (operand_at m 2) (Scalar (NumberCell stored))) m))
   work_touches at (FetchPointer access) m = touches_load program m.memory m.frame.number access (cell_at m 0) (λ memory operand. goes)
   work_touches at (Move access bytes direction gives) m =
-      keeps_sum (inherited _) program.model at (cell_at m 1) (directed direction (number_at m 0)) bytes (λ cell. touches_stores at access 2 (Scalar cell) 3 (given gives (operand_at m 1) (Scalar cell)) m)
-  work_touches at (Call function count) m = touches_call program budgets at function (routine_of program function) (flow_of code function) (newest count m) (pop_many count m)
+      keeps_sum (inherited _) program.model at (cell_at m 1) (directed direction (number_at m 0)) bytes
+      (λ cell. touches_stores at access 2 (Scalar cell) 3 (given gives (operand_at m 1) (Scalar cell)) m)
+  work_touches at (Call function count) m =
+      touches_call program budgets at function (routine_of program function) (flow_of code function) (newest count m) (pop_many count m)
   work_touches at (Allocate allocator element) m = keeps_allocate silent (λ m. goes) program at allocator element m
   work_touches at Free m = keeps_release silent (λ m. goes) at (cell_at m 0) _
   work_touches at Use m = keeps_use silent (λ m. goes) at (operand_at m 0) m
@@ -174,7 +198,8 @@ module _ (code : Code) (program : TypedProgram) (budgets : RunBudgets) where
   end_touches Finish m = touches_leave m.callers _ m
 
   -- and so the step from a point
-  first_touches : (operations : List Operation) (end : BlockEnd) (m : CodeState) → TouchesJust (option_map (in_frame m.frame.number) (touch_first operations end)) (step_at code program budgets operations end m)
+  first_touches : (operations : List Operation) (end : BlockEnd) (m : CodeState)
+      → TouchesJust (option_map (in_frame m.frame.number) (touch_first operations end)) (step_at code program budgets operations end m)
   first_touches [] end m = end_touches end m
   first_touches (operation ∷ operations) end m =
       work_touches operation.at operation.work (cut _ (to_do (record { operations = operations; end = end }) m))
@@ -183,4 +208,5 @@ module _ (code : Code) (program : TypedProgram) (budgets : RunBudgets) where
       HasTouched log.touches (option_map (in_frame m.frame.number) (touch_at code spot)) (perform setting log (code_step code program budgets m))
   steps_as_reported spot setting m log e =
       let stepped = touched setting log (first_touches m.frame.todo.operations m.frame.todo.end m) in
-      subst (λ what. HasTouched log.touches (option_map (in_frame m.frame.number) what) (perform setting log (code_step code program budgets m))) (sym (ap (option_and_then touch_from) e)) stepped
+      subst (λ what. HasTouched log.touches (option_map (in_frame m.frame.number) what) (perform setting log (code_step code program budgets m)))
+      (sym (ap (option_and_then touch_from) e)) stepped

@@ -32,7 +32,8 @@ program = functions (routine ∷ [])
 
 -- its control points: nothing leads to the label
 points : control_points routine ≡
-    passed point.Enter (at 6) (met point.Return (at 14)) ∷ (last_point point.Return (at 14) ∷ (passed point.Label (at 21) (met point.End (at 24)) ∷ (last_point point.End (at 24) ∷ [])))
+    passed point.Enter (at 6) (met point.Return (at 14))
+    ∷ (last_point point.Return (at 14) ∷ (passed point.Label (at 21) (met point.End (at 24)) ∷ (last_point point.End (at 24) ∷ [])))
 points = refl
 
 -- after the label, at the label, at the `return`, and where the function begins
@@ -73,7 +74,8 @@ lowers = record {
 placed : IsPlaced code program
 placed = record { graphs = elim [ zero ↦ refl | suc n ↦ refl ]; bodies = bodies }
   where
-    bodies : (function : ℕ) (found : Statement) (its : Flow) → (routine_of program function).body ≡ Some found → flow_of code function ≡ Some its → LowersBody program (routine_of program function) found its
+    bodies : (function : ℕ) (found : Statement) (its : Flow) → (routine_of program function).body ≡ Some found → flow_of code function ≡ Some its
+        → LowersBody program (routine_of program function) found its
     bodies zero found its e f =
         let same : body ≡ found = cc in
         let same_flow : flow ≡ its = cc in
@@ -84,12 +86,14 @@ placed = record { graphs = elim [ zero ↦ refl | suc n ↦ refl ]; bodies = bod
 fits : CodeFits code program
 fits zero =
     let end_met : MeetsNext flow closes (met point.End (at 24)) = point_meets (at 24) 0 (graph.Close true) leaving refl in
-    let return_met : MeetsNext flow returns (met point.Return (at 14)) = does_meets (at 14) 0 graph.Nothing gives refl (point_meets (at 14) 1 (graph.Meet point.Return) leaving refl) in
+    let return_met : MeetsNext flow returns (met point.Return (at 14)) =
+    does_meets (at 14) 0 graph.Nothing gives refl (point_meets (at 14) 1 (graph.Meet point.Return) leaving refl) in
     let left : BlockFits flow (control_points routine) leaving = block_end (graph.Return 0) refl in
     let first = block_point (at 21) 0 (graph.Reach point.Label 0) closes (2, omega arith, refl) (fits_passed 0 (graph.Reach point.Label 0) closes refl end_met)
     (block_point (at 24) 0 (graph.Close true) leaving (3, omega arith, refl) (fits_last 0 (graph.Close true) leaving refl refl) left) in
     let second = block_point (at 6) 0 (graph.Meet point.Enter) returns (0, omega arith, refl) (fits_passed 0 (graph.Meet point.Enter) returns refl return_met)
-    (block_silent (at 14) 0 graph.Nothing gives refl (block_point (at 14) 1 (graph.Meet point.Return) leaving (1, omega arith, refl) (fits_last 1 (graph.Meet point.Return) leaving refl refl) left)) in
+    (block_silent (at 14) 0 graph.Nothing gives refl
+    (block_point (at 14) 1 (graph.Meet point.Return) leaving (1, omega arith, refl) (fits_last 1 (graph.Meet point.Return) leaving refl refl) left)) in
     fit_more first (fit_more second fit_none)
 fits (suc n) = tt
 

@@ -72,7 +72,8 @@ abbrev pub code_started : Code → TypedProgram → (Path → ℤ) → ℕ → R
 code_started code program inputs entry routine = record {
   frame = code_frame entry (unwrap_or (flow_of code entry) no_flow) 0;
   callers = [];
-  memory = with_locals program 0 routine.variables (map (received program inputs) (parameters_of routine)) (with_received program inputs (parameters_of routine) (static_memory program));
+  memory = with_locals program 0 routine.variables (map (received program inputs) (parameters_of routine))
+      (with_received program inputs (parameters_of routine) (static_memory program));
   frames = 1;
   allocations = 0;
   calls = 0;
@@ -84,7 +85,8 @@ code_start code program entry run = code_started code program (input_at run.inpu
 
 -- the run of the code ends so, with this log: its events, the paths that it has read, and its touches
 abbrev pub CodeGives : Code → TypedProgram → ℕ → ProgramRun → RunBudgets → Outcome → Log → Type 0
-CodeGives code program entry run budgets outcome log = Ends (code_step code program budgets) (setting_of program run budgets) (code_start code program entry run) outcome log
+CodeGives code program entry run budgets outcome log =
+    Ends (code_step code program budgets) (setting_of program run budgets) (code_start code program entry run) outcome log
 
 -- this is pending in the run of the code at the event with this number
 abbrev pub CodeIsPending : Code → TypedProgram → ℕ → ProgramRun → RunBudgets → ℕ → Pending → Type 0

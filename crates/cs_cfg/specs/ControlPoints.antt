@@ -4,7 +4,10 @@ use Rattle.std.specs.Prelude.{ℕ, zero, suc, ◌+◌, ℤ, Bool, true, false, L
 use Rattle.cs_ast.specs.declared.place.Place.{Place}
 use Rattle.cs_ast.specs.declared.typed.operator.Order.TheVariants.{PointerFirst, AmountFirst}
 use Rattle.cs_ast.specs.declared.typed.statement.Case.{Case}
-use Rattle.cs_ast.specs.TypedTree.{Typed, Of, Form, Number, Null, Text, Local, Global, Through, Index, Member, Arrow, Load, Address, Decay, Convert, Unary, Not, Binary, Compare, Sum, Difference, And, Or, Choice, Comma, Assign, Update, Move, Call, Allocate, Free, TypedList, NoMore, Further, Initial, Value, Parts, Bytes, Initials, NoPart, Part, Statement, Block, Declare, Run, If, IfElse, While, Do, For, Switch, Goto, Label, Break, Continue, Return, Statements, Empty, Then, count_of}
+use Rattle.cs_ast.specs.TypedTree.{Typed, Of, Form, Number, Null, Text, Local, Global, Through, Index, Member, Arrow, Load, Address, Decay, Convert, Unary, Not}
+use Rattle.cs_ast.specs.TypedTree.{Binary, Compare, Sum, Difference, And, Or, Choice, Comma, Assign, Update, Move, Call, Allocate, Free, TypedList, NoMore}
+use Rattle.cs_ast.specs.TypedTree.{Further, Initial, Value, Parts, Bytes, Initials, NoPart, Part, Statement, Block, Declare, Run, If, IfElse, While, Do, For}
+use Rattle.cs_ast.specs.TypedTree.{Switch, Goto, Label, Break, Continue, Return, Statements, Empty, Then, count_of}
 use Rattle.cs_ast.specs.TypedProgram.{Routine}
 use Rattle.cs_events.specs.declared.point.PointKind.{PointKind}
 use Rattle.cs_events.specs.declared.point.PointKind.TheVariants as point
@@ -130,7 +133,8 @@ abbrev mutual
   points_of at (Difference a b) following = points a (first b following) ++ points b following
   points_of at (And a b) following = points a (met point.Branch at) ++ tested at (first b following) following ∷ points b following
   points_of at (Or a b) following = points a (met point.Branch at) ++ tested at following (first b following) ∷ points b following
-  points_of at (Choice a b c) following = points a (met point.Branch at) ++ tested at (first b following) (first c following) ∷ (points b following ++ points c following)
+  points_of at (Choice a b c) following = points a (met point.Branch at) ++ tested at (first b following) (first c following)
+      ∷ (points b following ++ points c following)
   points_of at (Comma a b) following = points a (first b following) ++ points b following
   points_of at (Assign a b) following = points a (first b following) ++ points b following
   points_of at (Update op a b works_in gives) following = points a (first b following) ++ points b following
@@ -257,7 +261,8 @@ abbrev mutual
   flows to (Run at e) following = points e following
   flows to (If at test body) following = tested at (starts to body following) following ∷ (points test (met point.Branch at) ++ flows to body following)
   flows to (IfElse at test body other) following =
-      tested at (starts to body following) (starts to other following) ∷ (points test (met point.Branch at) ++ flows to body following ++ flows to other following)
+      tested at (starts to body following) (starts to other following)
+      ∷ (points test (met point.Branch at) ++ flows to body following ++ flows to other following)
   flows to (While at test body) following =
       passed point.Head at (first test (met point.Branch at))
       ∷ (tested at (starts (in_loop to following (met point.Head at)) body (met point.Head at)) following
@@ -274,7 +279,8 @@ abbrev mutual
       ++ points_some last (met point.Head at)
       ++ flows (in_loop to following (first_some last (met point.Head at))) body (first_some last (met point.Head at)))
   flows to (Switch at value cases statements) following =
-      switched at (case_ways (in_switch to following) cases 0 statements following (starts_from (in_switch to following) (default_item cases (count_of statements)) statements following))
+      switched at (case_ways (in_switch to following) cases 0 statements following
+      (starts_from (in_switch to following) (default_item cases (count_of statements)) statements following))
       ∷ (points value (met point.Switch at) ++ flows_in (in_switch to following) statements following)
   flows to (Goto at label) following = []
   flows to (Label at label body) following = passed point.Label at (starts to body following) ∷ flows to body following

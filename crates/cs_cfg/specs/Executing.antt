@@ -3,7 +3,8 @@ use Rattle.std.specs.Prelude.{◌≡◌, ℤ, ℕ, zero, suc, ◌+◌, ⊤, List
 use Rattle.cs_types.specs.Shape.{Shape, void}
 use Rattle.cs_ast.specs.declared.place.Place.{Place}
 use Rattle.cs_ast.specs.declared.typed.statement.Case.{Case}
-use Rattle.cs_ast.specs.TypedTree.{Typed, Initial, Value, Parts, Bytes, Statement, Block, Declare, Run, If, IfElse, While, Do, For, Switch, Goto, Label, Break, Continue, Return, Statements, Empty, Then, count_of}
+use Rattle.cs_ast.specs.TypedTree.{Typed, Initial, Value, Parts, Bytes, Statement, Block, Declare, Run, If, IfElse, While, Do, For, Switch, Goto, Label, Break}
+use Rattle.cs_ast.specs.TypedTree.{Continue, Return, Statements, Empty, Then, count_of}
 use Rattle.cs_ast.specs.TypedProgram.{TypedProgram, Routine, Variable}
 use Rattle.cs_events.specs.declared.point.PointKind.TheVariants as point
 use Rattle.cs_meaning.specs.Types.{type_of, is_scalar}
@@ -82,17 +83,22 @@ module _ (program : TypedProgram) (flow : Flow) where
     abbrev pub stores_at : Place → ℕ → List Piece → Point → Point → Type 0
     stores_at at declaration [] p q = p ≡ q
     stores_at at declaration (Evaluated offset e ∷ others) p q =
-        (r : Point) × used program flow e 0 p (does at 0 (graph.StoreLocal declaration offset (type_of e) (is_scalar (type_in routine declaration))) r) × stores_at at declaration others r q
-    stores_at at declaration (Spelled offset bytes ∷ others) p q = (r : Point) × (p ≡ does at 0 (graph.Spell declaration offset bytes) r) × stores_at at declaration others r q
+        (r : Point) × used program flow e 0 p (does at 0 (graph.StoreLocal declaration offset (type_of e) (is_scalar (type_in routine declaration))) r)
+        × stores_at at declaration others r q
+    stores_at at declaration (Spelled offset bytes ∷ others) p q =
+        (r : Point) × (p ≡ does at 0 (graph.Spell declaration offset bytes) r) × stores_at at declaration others r q
 
     -- a declaration (C11 6.7.9)
     abbrev pub declares_at : Place → ℕ → Option Initial → Point → Point → Type 0
     declares_at at declaration None p q = p ≡ does at 0 (graph.Clear declaration (is_scalar (type_in routine declaration))) q
-    declares_at at declaration (Some (Value e)) p q = used program flow e 0 p (does at 0 (graph.StoreLocal declaration 0 (type_of e) (is_scalar (type_in routine declaration))) q)
+    declares_at at declaration (Some (Value e)) p q =
+        used program flow e 0 p (does at 0 (graph.StoreLocal declaration 0 (type_of e) (is_scalar (type_in routine declaration))) q)
     declares_at at declaration (Some (Parts parts)) p q =
-        (r : Point) × (p ≡ does at 0 (graph.Zero declaration) r) × stores_at at declaration (pieces program (type_in routine declaration) 0 (Parts parts)) r q
+        (r : Point) × (p ≡ does at 0 (graph.Zero declaration) r)
+        × stores_at at declaration (pieces program (type_in routine declaration) 0 (Parts parts)) r q
     declares_at at declaration (Some (Bytes bytes)) p q =
-        (r : Point) × (p ≡ does at 0 (graph.Zero declaration) r) × stores_at at declaration (pieces program (type_in routine declaration) 0 (Bytes bytes)) r q
+        (r : Point) × (p ≡ does at 0 (graph.Zero declaration) r)
+        × stores_at at declaration (pieces program (type_in routine declaration) 0 (Bytes bytes)) r q
 
     -- a `return` (C11 6.8.6.4)
     abbrev pub returns_at : Place → Option Typed → Point → Type 0
@@ -129,11 +135,14 @@ module _ (program : TypedProgram) (flow : Flow) where
       executes_at (If at test body) counted_point out again p q =
           tests_at at test p (λ one other. part_to (λ o a x y. executes_at body counted_point o a x y) out again one q × Joins program flow other q)
       executes_at (IfElse at test body following) counted_point out again p q =
-          tests_at at test p (λ one other. part_to (λ o a x y. executes_at body counted_point o a x y) out again one q × part_to (λ o a x y. executes_at following (counted_point + counted_points body) o a x y) out again other q)
+          tests_at at test p (λ one other.
+          part_to (λ o a x y. executes_at body counted_point o a x y) out again one q
+          × part_to (λ o a x y. executes_at following (counted_point + counted_points body) o a x y) out again other q)
       executes_at (While at test body) counted_point out again p q =
           (head : Point) × Joins program flow p head × while_loop at test counted_point (λ o a x y. executes_at body (counted_point + 1) o a x y) head q
       executes_at (Do at body test) counted_point out again p q =
-          (head test_at : Point) × Joins program flow p head × do_loop at test counted_point (λ o a x y. executes_at body (counted_point + 1) o a x y) head test_at q
+          (head test_at : Point) × Joins program flow p head
+          × do_loop at test counted_point (λ o a x y. executes_at body (counted_point + 1) o a x y) head test_at q
       executes_at (For at first test last body) counted_point out again p q =
           (head last_part : Point) × all_at first (counted_point + 1) q again p head
           × for_loop at test last counted_point (λ o a x y. executes_at body (counted_point + 1 + counted_points_in first) o a x y) head last_part q
@@ -155,11 +164,13 @@ module _ (program : TypedProgram) (flow : Flow) where
       pub all_at : Statements → ℕ → Point → Point → Point → Point → Type 0
       all_at Empty counted_point out again p q = Joins program flow p q
       all_at (Then first others) counted_point out again p q =
-          (r : Point) × part_to (λ o a x y. executes_at first counted_point o a x y) out again p r × all_at others (counted_point + counted_points first) out again r q
+          (r : Point) × part_to (λ o a x y. executes_at first counted_point o a x y) out again p r
+          × all_at others (counted_point + counted_points first) out again r q
 
       -- the same from the statement with a number on
       pub from_at : ℕ → Statements → ℕ → Point → Point → Point → Point → Type 0
       from_at number Empty counted_point out again p q = Joins program flow p q
       from_at zero (Then first others) counted_point out again p q =
-          (r : Point) × part_to (λ o a x y. executes_at first counted_point o a x y) out again p r × all_at others (counted_point + counted_points first) out again r q
+          (r : Point) × part_to (λ o a x y. executes_at first counted_point o a x y) out again p r
+          × all_at others (counted_point + counted_points first) out again r q
       from_at (suc number) (Then first others) counted_point out again p q = from_at number others (counted_point + counted_points first) out again p q

@@ -11,7 +11,8 @@ use Rattle.cs_cfg.specs.GraphPoints.{IsMet, Leads, MeetsNext, IsRest}
 -- a point of a graph is this control point, and each way out of it is one of its ways and meets next what that says
 pub record Fits (flow : Flow) (one : ControlPoint) (p : Point) : Type 0 where
   pub meets : IsMet p (the_point one.kind one.at)
-  pub leads : (exit : Exit) (q : Point) → Leads flow p (the_point one.kind one.at) exit q → (next : Next) × Contains one.ways (way exit next) × MeetsNext flow q next
+  pub leads : (exit : Exit) (q : Point) → Leads flow p (the_point one.kind one.at) exit q
+      → (next : Next) × Contains one.ways (way exit next) × MeetsNext flow q next
 
 -- a control point that a point of a graph is fits one of a list
 abbrev pub FitsSome : Flow → List ControlPoint → Point → Met → Type 0

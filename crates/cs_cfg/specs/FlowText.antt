@@ -33,7 +33,8 @@ point_text files kind at = kind_text kind ++ codes " " ++ place_text files at
 -- `  KIND PLACE WAY -> KIND PLACE`: a way out of a point, if something is met on it
 abbrev pub next_line : List (List ℕ) → ControlPoint → Exit → Next → List ℕ
 next_line files one exit None = []
-next_line files one exit (Some next) = codes "  " ++ point_text files one.kind one.at ++ exit_text exit ++ codes " -> " ++ point_text files next.kind next.at ++ codes "\n"
+next_line files one exit (Some next) = codes "  " ++ point_text files one.kind one.at ++ exit_text exit ++ codes " -> " ++ point_text files next.kind next.at
+    ++ codes "\n"
 
 abbrev pub way_line : List (List ℕ) → ControlPoint → Way → List ℕ
 way_line files one way = next_line files one way.exit way.next

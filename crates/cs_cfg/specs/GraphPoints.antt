@@ -26,17 +26,21 @@ goes_on other = true
 pub data IsMet : Point → Met → Type 0 where
   by_operation : {operation : Operation} {p : Point} {m : Met} → met_by operation ≡ Some m → IsMet (before operation p) m
   by_branch : {at : Place} {temporary one other : ℕ} → IsMet (record { operations = []; end = Branch at temporary one other }) (the_point point.Branch at)
-  by_switch : {at : Place} {temporary otherwise : ℕ} {cases : List SwitchCase} → IsMet (record { operations = []; end = Switch at temporary cases otherwise }) (the_point point.Switch at)
+  by_switch : {at : Place} {temporary otherwise : ℕ} {cases : List SwitchCase}
+      → IsMet (record { operations = []; end = Switch at temporary cases otherwise }) (the_point point.Switch at)
 
 -- a way out of a control point, and the point at which the graph goes on
 pub data Leads (flow : Flow) : Point → Met → Exit → Point → Type 0 where
-  onward : {operation : Operation} {p : Point} {m : Met} → met_by operation ≡ Some m → goes_on m.kind ≡ true → Leads flow (before operation p) m Onward p
+  onward : {operation : Operation} {p : Point} {m : Met} → met_by operation ≡ Some m → goes_on m.kind ≡ true
+      → Leads flow (before operation p) m Onward p
   on_truth : {at : Place} {temporary one other : ℕ} {holds : Bool} →
-      Leads flow (record { operations = []; end = Branch at temporary one other }) (the_point point.Branch at) (TruthOf holds) (block_of flow (if holds then one else other))
+      Leads flow (record { operations = []; end = Branch at temporary one other }) (the_point point.Branch at) (TruthOf holds)
+      (block_of flow (if holds then one else other))
   on_case : {at : Place} {temporary otherwise number : ℕ} {cases : List SwitchCase} {taken : SwitchCase} → slice_get cases number ≡ Some taken →
       Leads flow (record { operations = []; end = Switch at temporary cases otherwise }) (the_point point.Switch at) (CaseOf number) (block_of flow taken.block)
   on_no_case : {at : Place} {temporary otherwise : ℕ} {cases : List SwitchCase} →
-      Leads flow (record { operations = []; end = Switch at temporary cases otherwise }) (the_point point.Switch at) (CaseOf (length cases)) (block_of flow otherwise)
+      Leads flow (record { operations = []; end = Switch at temporary cases otherwise }) (the_point point.Switch at) (CaseOf (length cases))
+      (block_of flow otherwise)
 
 -- the control point that is met next from a point on; none is where the frame is left at once
 pub data MeetsNext (flow : Flow) : Point → Next → Type 0 where
@@ -68,4 +72,5 @@ pub record HasPoints (flow : Flow) (points : List ControlPoint) : Type 0 where
       (p q : Point) × Occurs flow p × Leads flow p (the_point one.kind one.at) way.exit q × MeetsNext flow q way.next
   -- no other is, and each leads on to what they say
   pub leads_only : (p q : Point) (m : Met) (exit : Exit) → Occurs flow p → Leads flow p m exit q →
-      (one : ControlPoint) × (way : Way) × Contains points one × Contains one.ways way × (the_point one.kind one.at ≡ m) × (way.exit ≡ exit) × MeetsNext flow q way.next
+      (one : ControlPoint) × (way : Way) × Contains points one × Contains one.ways way × (the_point one.kind one.at ≡ m) × (way.exit ≡ exit)
+      × MeetsNext flow q way.next

@@ -13,7 +13,9 @@ use Rattle.cs_cfg.specs.declared.code.BlockEnd as e
 use Rattle.cs_cfg.specs.declared.code.BlockEnd.TheVariants as ends
 use Rattle.cs_cfg.specs.declared.code.SwitchCase as s
 use Rattle.cs_meaning.specs.Access.{Access}
-use Rattle.cs_cfg.specs.Graph.{Work, Number, Null, Text, Local, Global, Nothing, Sum, Member, Arrow, Load, Convert, Unary, Not, Binary, Compare, Difference, Judge, Store, FetchNumber, Update, FetchPointer, Move, Call, Allocate, Free, Use, Drop, Clear, Zero, StoreLocal, Spell, Reach, Meet, Close, Operation, SwitchCase, BlockEnd, Jump, Branch, Switch, Return, Finish, Point, Flow, Code}
+use Rattle.cs_cfg.specs.Graph.{Work, Number, Null, Text, Local, Global, Nothing, Sum, Member, Arrow, Load, Convert, Unary, Not, Binary, Compare, Difference}
+use Rattle.cs_cfg.specs.Graph.{Judge, Store, FetchNumber, Update, FetchPointer, Move, Call, Allocate, Free, Use, Drop, Clear, Zero, StoreLocal, Spell, Reach}
+use Rattle.cs_cfg.specs.Graph.{Meet, Close, Operation, SwitchCase, BlockEnd, Jump, Branch, Switch, Return, Finish, Point, Flow, Code}
 
 abbrev pub access : a.Access → Access
 access object = record { at = object.place; ty = shape_of object.ty; direct = object.direct; local = object.local }
@@ -69,7 +71,11 @@ block_end ends.Finish = Finish
 -- the counted point of a block is the first thing that the block does
 abbrev pub with_counted_point : Option CountedPoint → List Operation → List Operation
 with_counted_point None operations = operations
-with_counted_point (Some counted_point) operations = record { at = counted_point.place; temporary = 0; work = Reach counted_point.kind counted_point.number } ∷ operations
+with_counted_point (Some counted_point) operations = record {
+  at = counted_point.place;
+  temporary = 0;
+  work = Reach counted_point.kind counted_point.number;
+} ∷ operations
 
 abbrev pub block : b.Block → Point
 block one = record { operations = with_counted_point one.counted_point (map operation one.operations.items); end = block_end one.end }

@@ -56,11 +56,14 @@ pub record RunsAlike (code : Code) (program : TypedProgram) : Type 0 where
       (routine_of program entry).body ≡ Some body → CodeGives code program entry run budgets outcome log → RunGives program entry run budgets outcome log
   -- the same is pending at each event, an access with the same object and offset
   pub pends : (entry : ℕ) (body : Statement) (run : ProgramRun) (budgets : RunBudgets) (event : ℕ) (pending : Pending) →
-      (routine_of program entry).body ≡ Some body → RunIsPending program entry run budgets event pending → CodeIsPending code program entry run budgets event pending
+      (routine_of program entry).body ≡ Some body → RunIsPending program entry run budgets event pending
+      → CodeIsPending code program entry run budgets event pending
   pub pends_only : (entry : ℕ) (body : Statement) (run : ProgramRun) (budgets : RunBudgets) (event : ℕ) (pending : Pending) →
-      (routine_of program entry).body ≡ Some body → CodeIsPending code program entry run budgets event pending → RunIsPending program entry run budgets event pending
+      (routine_of program entry).body ≡ Some body → CodeIsPending code program entry run budgets event pending
+      → RunIsPending program entry run budgets event pending
   -- where the run is done, the value that it returns and its memory are those of the machine's run
-  pub returns : (entry : ℕ) (body : Statement) (run : ProgramRun) (budgets : RunBudgets) (what : Returned) (log : Log) → (routine_of program entry).body ≡ Some body →
+  pub returns : (entry : ℕ) (body : Statement) (run : ProgramRun) (budgets : RunBudgets) (what : Returned) (log : Log)
+      → (routine_of program entry).body ≡ Some body →
       (one : RunGives program entry run budgets (Done what) log) (other : CodeGives code program entry run budgets (Done what) log) →
       (returned_value one.last ≡ code_returned other.last) × (one.last.memory ≡ other.last.memory)
 

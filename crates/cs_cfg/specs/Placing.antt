@@ -5,7 +5,9 @@ use Rattle.cs_types.specs.Shape.{Shape, void}
 use Rattle.cs_ast.specs.declared.place.Place.{Place}
 use Rattle.cs_ast.specs.declared.typed.operator.Order.TheVariants.{PointerFirst, AmountFirst}
 use Rattle.cs_ast.specs.declared.typed.operator.Direction.TheVariants.{Forward}
-use Rattle.cs_ast.specs.TypedTree.{Typed, Of, Form, Number, Null, Text, Local, Global, Through, Index, Member, Arrow, Load, Address, Decay, Convert, Unary, Not, Binary, Compare, Sum, Difference, And, Or, Choice, Comma, Assign, Update, Move, Call, Allocate, Free, TypedList, NoMore, Further}
+use Rattle.cs_ast.specs.TypedTree.{Typed, Of, Form, Number, Null, Text, Local, Global, Through, Index, Member, Arrow, Load, Address, Decay, Convert, Unary, Not}
+use Rattle.cs_ast.specs.TypedTree.{Binary, Compare, Sum, Difference, And, Or, Choice, Comma, Assign, Update, Move, Call, Allocate, Free, TypedList, NoMore}
+use Rattle.cs_ast.specs.TypedTree.{Further}
 use Rattle.cs_ast.specs.TypedProgram.{TypedProgram}
 use Rattle.cs_meaning.specs.Types.{size_of, type_of, target_of, integer_of}
 use Rattle.cs_meaning.specs.Access.{access_of}
@@ -57,8 +59,10 @@ module _ (program : TypedProgram) (flow : Flow) where
     evaluates_form at ty (Local declaration) number p q = p ≡ does at number (graph.Local declaration) q
     evaluates_form at ty (Global global) number p q = p ≡ does at number (graph.Global global) q
     evaluates_form at ty (Through a) number p q = used a number p q
-    evaluates_form at ty (Index a i PointerFirst) number p q = (r : Point) × used a number p r × used i (suc number) r (does at number (graph.Sum (size_of program ty) Forward PointerFirst) q)
-    evaluates_form at ty (Index a i AmountFirst) number p q = (r : Point) × used i number p r × used a (suc number) r (does at number (graph.Sum (size_of program ty) Forward AmountFirst) q)
+    evaluates_form at ty (Index a i PointerFirst) number p q =
+        (r : Point) × used a number p r × used i (suc number) r (does at number (graph.Sum (size_of program ty) Forward PointerFirst) q)
+    evaluates_form at ty (Index a i AmountFirst) number p q =
+        (r : Point) × used i number p r × used a (suc number) r (does at number (graph.Sum (size_of program ty) Forward AmountFirst) q)
     evaluates_form at ty (Member a offset) number p q = used a number p (does at number (graph.Member offset) q)
     evaluates_form at ty (Arrow a offset) number p q = used a number p (does at number (graph.Arrow offset) q)
     evaluates_form at ty (Load a) number p q = used a number p (does at number (graph.Load (access_of a)) q)
@@ -68,22 +72,32 @@ module _ (program : TypedProgram) (flow : Flow) where
     evaluates_form at ty (Convert a) number p q = used a number p (does at number (graph.Convert (type_of a) ty) q)
     evaluates_form at ty (Unary op a) number p q = used a number p (does at number (graph.Unary op (integer_of ty)) q)
     evaluates_form at ty (Not a) number p q = used a number p (does at number graph.Not q)
-    evaluates_form at ty (Binary op a b) number p q = (r : Point) × used a number p r × used b (suc number) r (does at number (graph.Binary op (integer_of ty)) q)
+    evaluates_form at ty (Binary op a b) number p q = (r : Point) × used a number p r
+        × used b (suc number) r (does at number (graph.Binary op (integer_of ty)) q)
     evaluates_form at ty (Compare op a b) number p q = (r : Point) × used a number p r × used b (suc number) r (does at number (graph.Compare op) q)
-    evaluates_form at ty (Sum a n direction PointerFirst) number p q = (r : Point) × used a number p r × used n (suc number) r (does at number (graph.Sum (step_of program ty) direction PointerFirst) q)
-    evaluates_form at ty (Sum a n direction AmountFirst) number p q = (r : Point) × used n number p r × used a (suc number) r (does at number (graph.Sum (step_of program ty) direction AmountFirst) q)
-    evaluates_form at ty (Difference a b) number p q = (r : Point) × used a number p r × used b (suc number) r (does at number (graph.Difference (step_of program (type_of a))) q)
-    evaluates_form at ty (And a b) number p q = (one other : ℕ) × used a number p (split at number one other) × judged at b number (block_of flow one) q × known at (pos 0) number (block_of flow other) q
-    evaluates_form at ty (Or a b) number p q = (one other : ℕ) × used a number p (split at number one other) × known at (pos 1) number (block_of flow one) q × judged at b number (block_of flow other) q
-    evaluates_form at ty (Choice a b c) number p q = (one other : ℕ) × used a number p (split at number one other) × joined b number (block_of flow one) q × joined c number (block_of flow other) q
+    evaluates_form at ty (Sum a n direction PointerFirst) number p q =
+        (r : Point) × used a number p r × used n (suc number) r (does at number (graph.Sum (step_of program ty) direction PointerFirst) q)
+    evaluates_form at ty (Sum a n direction AmountFirst) number p q =
+        (r : Point) × used n number p r × used a (suc number) r (does at number (graph.Sum (step_of program ty) direction AmountFirst) q)
+    evaluates_form at ty (Difference a b) number p q = (r : Point) × used a number p r
+        × used b (suc number) r (does at number (graph.Difference (step_of program (type_of a))) q)
+    evaluates_form at ty (And a b) number p q = (one other : ℕ) × used a number p (split at number one other) × judged at b number (block_of flow one) q
+        × known at (pos 0) number (block_of flow other) q
+    evaluates_form at ty (Or a b) number p q = (one other : ℕ) × used a number p (split at number one other) × known at (pos 1) number (block_of flow one) q
+        × judged at b number (block_of flow other) q
+    evaluates_form at ty (Choice a b c) number p q = (one other : ℕ) × used a number p (split at number one other) × joined b number (block_of flow one) q
+        × joined c number (block_of flow other) q
     evaluates_form at ty (Comma a b) number p q = (r : Point) × evaluates a number p (does at number graph.Drop r) × used b number r q
     evaluates_form at ty (Assign a b) number p q = (r : Point) × used a number p r × used b (suc number) r (does at number (graph.Store (access_of a)) q)
     evaluates_form at ty (Update op a b works_in gives) number p q =
-        (r : Point) × used a number p (does at number (graph.FetchNumber (access_of a) works_in) r) × used b (3 + number) r (does at number (graph.Update op (access_of a) works_in gives) q)
+        (r : Point) × used a number p (does at number (graph.FetchNumber (access_of a) works_in) r)
+        × used b (3 + number) r (does at number (graph.Update op (access_of a) works_in gives) q)
     evaluates_form at ty (Move a n direction gives) number p q =
-        (r : Point) × used a number p (does at number (graph.FetchPointer (access_of a)) r) × used n (2 + number) r (does at number (graph.Move (access_of a) (step_of program (type_of a)) direction gives) q)
+        (r : Point) × used a number p (does at number (graph.FetchPointer (access_of a)) r)
+        × used n (2 + number) r (does at number (graph.Move (access_of a) (step_of program (type_of a)) direction gives) q)
     evaluates_form at ty (Call function arguments) number p q = used_all arguments number p (does at number (graph.Call function (count_all arguments)) q)
-    evaluates_form at ty (Allocate allocator arguments element) number p q = (count_all arguments ≡ allocator_takes allocator) × used_all arguments number p (does at number (graph.Allocate allocator element) q)
+    evaluates_form at ty (Allocate allocator arguments element) number p q =
+        (count_all arguments ≡ allocator_takes allocator) × used_all arguments number p (does at number (graph.Allocate allocator element) q)
     evaluates_form at ty (Free a) number p q = used a number p (does at number graph.Free q)
 
     -- expressions in a row
@@ -97,4 +111,5 @@ module _ (program : TypedProgram) (flow : Flow) where
 
     -- the same of the right part of `&&` or `||`, which is made a truth
     pub judged : Place → Typed → ℕ → Point → Point → Type 0
-    judged place (Of at ty form) number p q = (r : Point) × evaluates_form at ty form number p (used_then (Of at ty form) number (does place number graph.Judge r)) × Joins r q
+    judged place (Of at ty form) number p q = (r : Point)
+        × evaluates_form at ty form number p (used_then (Of at ty form) number (does place number graph.Judge r)) × Joins r q

@@ -4,12 +4,15 @@ use Rattle.std.specs.Prelude.{◌≡◌, ℕ, suc, ◌+◌, pos, Bool, List, Opt
 use Rattle.cs_types.specs.Shape.{Shape}
 use Rattle.cs_ast.specs.declared.place.Place.{Place}
 use Rattle.cs_ast.specs.declared.typed.operator.Direction.TheVariants.{Forward}
-use Rattle.cs_ast.specs.TypedTree.{Typed, Of, Form, Number, Null, Text, Local, Global, Index, Member, Arrow, Load, Convert, Unary, Not, Binary, Compare, Sum, Difference, And, Or, Choice, Assign, Update, Move, Call, Allocate, Free, Statement, If, IfElse, While, Do, For, Switch, count_of}
+use Rattle.cs_ast.specs.TypedTree.{Typed, Of, Form, Number, Null, Text, Local, Global, Index, Member, Arrow, Load, Convert, Unary, Not, Binary, Compare, Sum}
+use Rattle.cs_ast.specs.TypedTree.{Difference, And, Or, Choice, Assign, Update, Move, Call, Allocate, Free, Statement, If, IfElse, While, Do, For, Switch}
+use Rattle.cs_ast.specs.TypedTree.{count_of}
 use Rattle.cs_ast.specs.TypedProgram.{TypedProgram, Routine}
 use Rattle.cs_events.specs.declared.point.PointKind.TheVariants as point
 use Rattle.cs_meaning.specs.Types.{size_of, type_of, integer_of, is_scalar}
 use Rattle.cs_meaning.specs.Access.{access_of}
-use Rattle.cs_meaning.specs.Machine.{Item, Evaluate, EvaluateUnused, Act, Fetch, Choose, Judge, Use, Drop, Store, Spell, Execute, Decide, Turn, Again, Out, Begin, End, Give, Leave}
+use Rattle.cs_meaning.specs.Machine.{Item, Evaluate, EvaluateUnused, Act, Fetch, Choose, Judge, Use, Drop, Store, Spell, Execute, Decide, Turn, Again, Out}
+use Rattle.cs_meaning.specs.Machine.{Begin, End, Give, Leave}
 use Rattle.cs_meaning.specs.CountedPoints.{counted_points, counted_points_in}
 use Rattle.cs_meaning.specs.Expressions.{count_all}
 use Rattle.cs_meaning.specs.Statements.{default_item}
@@ -29,7 +32,8 @@ nowhere depth p = ⊥
 
 -- an operation, which leaves so many temporaries in place of its operands
 abbrev pub worked : Place → Work → ℕ → Following → Following
-worked at work leaves following depth p = (number : ℕ) × (q : Point) × (depth ≡ takes work + number) × (p ≡ does at number work q) × following (leaves + number) q
+worked at work leaves following depth p = (number : ℕ) × (q : Point) × (depth ≡ takes work + number) × (p ≡ does at number work q)
+    × following (leaves + number) q
 
 -- the operation that does what an expression does with its parts, if it does something with them
 abbrev pub work_of : TypedProgram → Shape → Form → Option Work
@@ -77,13 +81,19 @@ module _ (program : TypedProgram) (flow : Flow) where
 
   -- a test of the newest temporary, and what stands at the beginning of its two ways, over so many temporaries
   abbrev pub splits : Place → (ℕ → Point → Point → Type 0) → Following
-  splits at Ways depth p = (number one other : ℕ) × (depth ≡ suc number) × (p ≡ split at number one other) × Ways number (block_of flow one) (block_of flow other)
+  splits at Ways depth p = (number one other : ℕ) × (depth ≡ suc number) × (p ≡ split at number one other)
+      × Ways number (block_of flow one) (block_of flow other)
 
   -- the way that the first part of `&&`, `||` or `?:` says
   abbrev pub chooses_form : Place → Form → Following → Following
-  chooses_form at (And a b) following = splits at (λ number one other. (q : Point) × judged program flow at b number one q × known program flow at (pos 0) number other q × following (suc number) q)
-  chooses_form at (Or a b) following = splits at (λ number one other. (q : Point) × known program flow at (pos 1) number one q × judged program flow at b number other q × following (suc number) q)
-  chooses_form at (Choice a b c) following = splits at (λ number one other. (q : Point) × joined program flow b number one q × joined program flow c number other q × following (suc number) q)
+  chooses_form at (And a b) following =
+      splits at (λ number one other.
+      (q : Point) × judged program flow at b number one q × known program flow at (pos 0) number other q × following (suc number) q)
+  chooses_form at (Or a b) following =
+      splits at (λ number one other.
+      (q : Point) × known program flow at (pos 1) number one q × judged program flow at b number other q × following (suc number) q)
+  chooses_form at (Choice a b c) following =
+      splits at (λ number one other. (q : Point) × joined program flow b number one q × joined program flow c number other q × following (suc number) q)
   chooses_form at other following = nowhere
 
   abbrev pub chooses_at : Typed → Following → Following
@@ -96,17 +106,22 @@ module _ (program : TypedProgram) (flow : Flow) where
 
     -- a loop with a head, with a point after its body, and with a point after the loop
     abbrev pub loops_at : Statement → ℕ → Point → Point → Point → Type 0
-    loops_at (While at test body) counted_point head again q = (again ≡ head) × while_loop program flow at test counted_point (part_of body (counted_point + 1)) head q
+    loops_at (While at test body) counted_point head again q =
+        (again ≡ head) × while_loop program flow at test counted_point (part_of body (counted_point + 1)) head q
     loops_at (Do at body test) counted_point head again q = do_loop program flow at test counted_point (part_of body (counted_point + 1)) head again q
-    loops_at (For at first test last body) counted_point head again q = for_loop program flow at test last counted_point (part_of body (counted_point + 1 + counted_points_in first)) head again q
+    loops_at (For at first test last body) counted_point head again q =
+        for_loop program flow at test last counted_point (part_of body (counted_point + 1 + counted_points_in first)) head again q
     loops_at other counted_point head again q = ⊥
 
     -- the way that the test of a statement, or the value of a `switch`, says; `out` is where `break` leads in it, which is after a loop
     abbrev pub decides_at : Statement → ℕ → Point → Point → Following → Point → Type 0
     decides_at (If at test body) counted_point out again following p =
-        splits at (λ number one other. (q : Point) × part_to program flow (part_of body counted_point) out again one q × Joins program flow other q × following 0 q) 1 p
+        splits at (λ number one other.
+        (q : Point) × part_to program flow (part_of body counted_point) out again one q × Joins program flow other q × following 0 q) 1 p
     decides_at (IfElse at test body else_body) counted_point out again following p =
-        splits at (λ number one other. (q : Point) × part_to program flow (part_of body counted_point) out again one q × part_to program flow (part_of else_body (counted_point + counted_points body)) out again other q × following 0 q) 1 p
+        splits at (λ number one other.
+        (q : Point) × part_to program flow (part_of body counted_point) out again one q
+        × part_to program flow (part_of else_body (counted_point + counted_points body)) out again other q × following 0 q) 1 p
     decides_at (While at test body) counted_point out again following p =
         (head : Point) × while_loop program flow at test counted_point (part_of body (counted_point + 1)) head out × following 0 out
         × splits at (λ number one other. part_to program flow (part_of body (counted_point + 1)) out head one head × Joins program flow other out) 1 p
@@ -114,13 +129,16 @@ module _ (program : TypedProgram) (flow : Flow) where
         (head test_at : Point) × do_loop program flow at test counted_point (part_of body (counted_point + 1)) head test_at out × following 0 out
         × splits at (λ number one other. Joins program flow one head × Joins program flow other out) 1 p
     decides_at (For at first test last body) counted_point out again following p =
-        (head last_part : Point) × for_loop program flow at test last counted_point (part_of body (counted_point + 1 + counted_points_in first)) head last_part out × following 0 out
-        × splits at (λ number one other. part_to program flow (part_of body (counted_point + 1 + counted_points_in first)) out last_part one last_part × Joins program flow other out) 1 p
+        (head last_part : Point) × for_loop program flow at test last counted_point (part_of body (counted_point + 1 + counted_points_in first)) head last_part
+        out × following 0 out
+        × splits at (λ number one other.
+        part_to program flow (part_of body (counted_point + 1 + counted_points_in first)) out last_part one last_part × Joins program flow other out) 1 p
     decides_at (Switch at value cases statements) counted_point out again following p =
         (ways : List SwitchCase) × (otherwise : ℕ) × (entries : ℕ → Point)
         × (p ≡ record { operations = []; end = graph.Switch at 0 ways otherwise })
         × ((item : ℕ) → from_at program flow routine labels item statements counted_point out again (entries item) out)
-        × cases_lead program flow routine labels entries cases ways × (block_of flow otherwise ≡ entries (default_item cases (count_of statements))) × following 0 out
+        × cases_lead program flow routine labels entries cases ways × (block_of flow otherwise ≡ entries (default_item cases (count_of statements)))
+        × following 0 out
     decides_at other counted_point out again following p = ⊥
 
     -- the point does the first thing to do, with as many temporaries in use as the depth says, and what is after stands after it
@@ -135,11 +153,14 @@ module _ (program : TypedProgram) (flow : Flow) where
     item_at Drop out again following depth p = (at : Place) × worked at graph.Drop 0 following depth p
     item_at (Store at declaration offset ty) out again following depth p =
         (depth ≡ 1) × worked at (graph.StoreLocal declaration offset ty (is_scalar (type_in routine declaration))) 0 following 1 p
-    item_at (Spell declaration offset bytes) out again following depth p = (depth ≡ 0) × ((at : Place) × worked at (graph.Spell declaration offset bytes) 0 following 0 p)
+    item_at (Spell declaration offset bytes) out again following depth p =
+        (depth ≡ 0) × ((at : Place) × worked at (graph.Spell declaration offset bytes) 0 following 0 p)
     item_at (Execute s counted_point) out again following depth p = (depth ≡ 0) × ((q : Point) × part_of s counted_point out again p q × following 0 q)
     item_at (Decide s counted_point) out again following depth p = (depth ≡ 1) × decides_at s counted_point out again following p
-    item_at (Turn s counted_point) out again following depth p = (depth ≡ 0) × ((after_body : Point) × loops_at s counted_point p after_body out × following 0 out)
-    item_at (Again s counted_point) out again following depth p = (depth ≡ 0) × (again ≡ p) × ((head : Point) × loops_at s counted_point head p out × following 0 out)
+    item_at (Turn s counted_point) out again following depth p =
+        (depth ≡ 0) × ((after_body : Point) × loops_at s counted_point p after_body out × following 0 out)
+    item_at (Again s counted_point) out again following depth p =
+        (depth ≡ 0) × (again ≡ p) × ((head : Point) × loops_at s counted_point head p out × following 0 out)
     item_at Out out again following depth p = (depth ≡ 0) × (p ≡ out) × following 0 p
     item_at (Begin at) out again following depth p = (depth ≡ 0) × worked at (graph.Meet point.Enter) 0 following 0 p
     item_at (End at value) out again following depth p =
@@ -150,6 +171,9 @@ module _ (program : TypedProgram) (flow : Flow) where
     -- the point does all that is to be done; `break` and `continue` lead to the two others
     abbrev pub stands_at : List Item → Point → Point → Following
     stands_at [] out again depth p = (p ≡ finishing) × Joins program flow out finishing × Joins program flow again finishing
-    stands_at (Out ∷ items) out again depth p = item_at Out out again (λ d q. (outer : Point) × ((r : Point) × Joins program flow q r × stands_at items outer again d r)) depth p
-    stands_at (Again s counted_point ∷ items) out again depth p = item_at (Again s counted_point) out again (λ d q. (outer : Point) × ((r : Point) × Joins program flow q r × stands_at items out outer d r)) depth p
-    stands_at (item ∷ items) out again depth p = item_at item out again (λ d q. (r : Point) × Joins program flow q r × stands_at items out again d r) depth p
+    stands_at (Out ∷ items) out again depth p =
+        item_at Out out again (λ d q. (outer : Point) × ((r : Point) × Joins program flow q r × stands_at items outer again d r)) depth p
+    stands_at (Again s counted_point ∷ items) out again depth p =
+        item_at (Again s counted_point) out again (λ d q. (outer : Point) × ((r : Point) × Joins program flow q r × stands_at items out outer d r)) depth p
+    stands_at (item ∷ items) out again depth p =
+        item_at item out again (λ d q. (r : Point) × Joins program flow q r × stands_at items out again d r) depth p

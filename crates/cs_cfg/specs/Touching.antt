@@ -9,7 +9,8 @@ use Rattle.cs_meaning.specs.Access.{Access}
 use Rattle.cs_cfg.specs.declared.code.Spot.{Spot}
 use Rattle.cs_cfg.specs.declared.touch.Touch.{Touch}
 use Rattle.cs_cfg.specs.declared.touch.Touch.TheVariants as touch
-use Rattle.cs_cfg.specs.Graph.{Work, Load, Store, FetchNumber, Update, FetchPointer, Move, Clear, StoreLocal, Reach, Meet, Close, Operation, BlockEnd, Branch, Switch, Point, Code, flow_of}
+use Rattle.cs_cfg.specs.Graph.{Work, Load, Store, FetchNumber, Update, FetchPointer, Move, Clear, StoreLocal, Reach, Meet, Close, Operation, BlockEnd, Branch}
+use Rattle.cs_cfg.specs.Graph.{Switch, Point, Code, flow_of}
 
 -- a load of an object, which is a touch where the object is a scalar local. Its place is that of the expression that names the object
 abbrev pub touch_of_load : Access → Option Touch
@@ -55,7 +56,8 @@ point_in block number = option_map (λ operations. record { operations = operati
 
 -- the point of the code that a spot is
 abbrev pub point_at : Code → Spot → Option Point
-point_at code spot = option_and_then (λ flow. option_and_then (λ block. point_in block spot.operation) (slice_get flow.blocks spot.block)) (flow_of code spot.function)
+point_at code spot = option_and_then (λ flow. option_and_then (λ block. point_in block spot.operation) (slice_get flow.blocks spot.block))
+    (flow_of code spot.function)
 
 -- what stands first at a point touches
 abbrev pub touch_first : List Operation → BlockEnd → Option Touch

@@ -17,12 +17,15 @@ use Rattle.cs_meaning.specs.Types.{integer_of}
 use Rattle.cs_meaning.specs.Memory.{UnsetFill, ZeroFill, changed}
 use Rattle.cs_meaning.specs.Access.{shows_then, touches_then, load_object, write_operand}
 use Rattle.cs_meaning.specs.Operators.{truth, operate, convert_number, convert, sum, compare, difference, arrow}
-use Rattle.cs_meaning.specs.Machine.{Operand, Scalar, Nothing as NoOperand, CallFrame, Running, push, push_cell, pop, pop_many, with_stack, with_memory, operand_at, cell_of, cell_at, newest, routine_of}
+use Rattle.cs_meaning.specs.Machine.{Operand, Scalar, Nothing as NoOperand, CallFrame, Running, push, push_cell, pop, pop_many, with_stack, with_memory}
+use Rattle.cs_meaning.specs.Machine.{operand_at, cell_of, cell_at, newest, routine_of}
 use Rattle.cs_meaning.specs.CountedPoints.{reach_counted_point}
 use Rattle.cs_meaning.specs.Calls.{enter_as, call_outside, allocate, release}
 use Rattle.cs_meaning.specs.Expressions.{pointer_age, amount_age, given, number_at, stores_to, judge, use_result}
 use Rattle.cs_meaning.specs.Statements.{refilled, spell_local}
-use Rattle.cs_cfg.specs.Graph.{Work, Number, Null, Text, Local, Global, Nothing, Sum, Member, Arrow, Load, Convert, Unary, Not, Binary, Compare, Difference, Judge, Store, FetchNumber, Update, FetchPointer, Move, Call, Allocate, Free, Use, Drop, Clear, Zero, StoreLocal, Spell, Reach, Meet, Close, Point, Flow, Code, block_of, flow_of}
+use Rattle.cs_cfg.specs.Graph.{Work, Number, Null, Text, Local, Global, Nothing, Sum, Member, Arrow, Load, Convert, Unary, Not, Binary, Compare, Difference}
+use Rattle.cs_cfg.specs.Graph.{Judge, Store, FetchNumber, Update, FetchPointer, Move, Call, Allocate, Free, Use, Drop, Clear, Zero, StoreLocal, Spell, Reach}
+use Rattle.cs_cfg.specs.Graph.{Meet, Close, Point, Flow, Code, block_of, flow_of}
 
 -- the states of a run of the code: what is left to be done in a frame is the point that it has come to
 abbrev pub CodeState : Type 0
@@ -110,18 +113,23 @@ do_work code program budgets at (Local declaration) m = Goes (push_cell (Pointer
 do_work code program budgets at (Global global) m = Goes (push_cell (PointerCell (GlobalObject global) (pos 0)) m)
 do_work code program budgets at Nothing m = Goes (push NoOperand m)
 do_work code program budgets at (Sum bytes direction order) m =
-    sum program.model at (cell_at m (pointer_age order)) (directed direction (number_at m (amount_age order))) bytes (λ cell. Goes (push_cell cell (pop_many 2 m)))
+    sum program.model at (cell_at m (pointer_age order)) (directed direction (number_at m (amount_age order))) bytes
+    (λ cell. Goes (push_cell cell (pop_many 2 m)))
 do_work code program budgets at (Member offset) m = Goes (push_cell (further (cell_at m 0) offset) (pop m))
 do_work code program budgets at (Arrow offset) m = arrow at (cell_at m 0) offset (λ cell. Goes (push_cell cell (pop m)))
-do_work code program budgets at (Load access) m = load_object program m.memory m.frame.number access (cell_at m 0) (λ memory operand. Goes (push operand (with_memory memory (pop m))))
+do_work code program budgets at (Load access) m =
+    load_object program m.memory m.frame.number access (cell_at m 0) (λ memory operand. Goes (push operand (with_memory memory (pop m))))
 do_work code program budgets at (Convert from to) m = convert program.model at from to (operand_at m 0) (λ operand. Goes (push operand (pop m)))
-do_work code program budgets at (Unary operator ty) m = Asks at (operation.Unary operator ty (number_at m 0)) (λ number. Goes (push_cell (NumberCell number) (pop m)))
+do_work code program budgets at (Unary operator ty) m =
+    Asks at (operation.Unary operator ty (number_at m 0)) (λ number. Goes (push_cell (NumberCell number) (pop m)))
 do_work code program budgets at Not m =
     truth at (cell_at m 0) (λ holds. shows_then at (label.Truth (not holds)) (Goes (push_cell (truth_cell (not holds)) (pop m))))
 do_work code program budgets at (Binary operator ty) m =
     operate program.model at operator ty (number_at m 1) (number_at m 0) (λ number. Goes (push_cell (NumberCell number) (pop_many 2 m)))
-do_work code program budgets at (Compare operator) m = compare at operator (cell_at m 1) (cell_at m 0) (λ number. Goes (push_cell (NumberCell number) (pop_many 2 m)))
-do_work code program budgets at (Difference bytes) m = difference at (cell_at m 1) (cell_at m 0) bytes (λ number. Goes (push_cell (NumberCell number) (pop_many 2 m)))
+do_work code program budgets at (Compare operator) m =
+    compare at operator (cell_at m 1) (cell_at m 0) (λ number. Goes (push_cell (NumberCell number) (pop_many 2 m)))
+do_work code program budgets at (Difference bytes) m =
+    difference at (cell_at m 1) (cell_at m 0) bytes (λ number. Goes (push_cell (NumberCell number) (pop_many 2 m)))
 do_work code program budgets at Judge m = judge at m
 do_work code program budgets at (Store access) m = stores_to program at access 1 (operand_at m 0) 2 (operand_at m 0) m
 do_work code program budgets at (FetchNumber access works_in) m =

@@ -46,7 +46,8 @@ impl Block {
 
 // The same in a block without a counted point.
 fn touch_of_operations(operations: &[Operation], end: &BlockEnd, number: usize) -> Option<Touch>
-    ensures reported { result ≡ touch_in (record { operations = map operation operations.now; end = block_end end.now }) number }
+    ensures reported { result ≡ touch_in
+        (record { operations = map operation operations.now; end = block_end end.now }) number }
 {
     match operations.get(number) {
         Some(operation) => operation.touch(),

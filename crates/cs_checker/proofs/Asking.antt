@@ -1,5 +1,6 @@
 -- Checkers that are asked one by one: for the contract of `ask_each`.
-use Rattle.std.proofs.Common.{◌≡◌, ℕ, ◌+◌, ◌<◌, ◌≤◌, List, [], ◌∷◌, ◌++◌, length, take, drop, get_or, set, map, refl, sym, ap, ◌∙◌, subst, arith}
+use Rattle.std.proofs.Common.{◌≡◌, ℕ, ◌+◌, ◌<◌, ◌≤◌, List, [], ◌∷◌, ◌++◌, length, take, drop, get_or, set, map, refl, sym, ap}
+use Rattle.std.proofs.Common.{◌∙◌, subst, arith}
 use Rattle.std.proofs.lemmas.List.{take_more, take_more_set, drop_more, drop-set-lt, drop_all, take_all}
 use Rattle.cs_model.specs.declared.kind.Kind.{Kind}
 use Rattle.cs_checker.specs.declared.subject.Subject.{Subject}
@@ -22,7 +23,8 @@ pub rest_step : {C : Type 0} (olds news : List C) (i : ℕ) (old new : C) → dr
 rest_step olds news i old new rest more same_length =
     let more_old : i < length olds = omega arith in
     drop-set-lt (i + 1) news i new (omega arith)
-    ∙ rest_of_same (get_or news i old) (get_or olds i old) (drop (i + 1) news) (drop (i + 1) olds) (sym (drop_more news i old more) ∙ rest ∙ drop_more olds i old more_old)
+    ∙ rest_of_same (get_or news i old) (get_or olds i old) (drop (i + 1) news) (drop (i + 1) olds) (sym (drop_more news i old more) ∙ rest
+    ∙ drop_more olds i old more_old)
 
 module _ {C : Type 0} (kind : C → Kind) (count : C → ℕ) (subject : Subject) where
   pub asked_after : (olds news : List C) (answers : List Answer) (old new : C) (answer : Answer)
@@ -45,13 +47,17 @@ module _ {C : Type 0} (kind : C → Kind) (count : C → ℕ) (subject : Subject
 
   -- one more checker was asked
   pub asked_step : (olds news : List C) (i : ℕ) (answers after : List Answer) (d new : C) (answer : Answer)
-      → IsAsked kind count subject (take i olds) (take i news) answers → drop i news ≡ drop i olds → i < length news → length news ≡ length olds → after ≡ answers ++ answer ∷ []
+      → IsAsked kind count subject (take i olds) (take i news) answers → drop i news ≡ drop i olds → i < length news → length news ≡ length olds
+      → after ≡ answers ++ answer ∷ []
       → IsAnsweredBy (kind (get_or news i d)) (kind new) (count (get_or news i d)) (count new) subject answer
       → IsAsked kind count subject (take (i + 1) olds) (take (i + 1) (set news i new)) after
   asked_step olds news i answers after d new answer asked rest more same_length grown by =
       let more_old : i < length olds = omega arith in
-      let first : get_or news i d ≡ get_or olds i d = first_of_same (get_or news i d) (get_or olds i d) (drop (i + 1) news) (drop (i + 1) olds) (sym (drop_more news i d more) ∙ rest ∙ drop_more olds i d more_old) in
-      let olds_split : take (i + 1) olds ≡ take i olds ++ get_or news i d ∷ [] = take_more olds i d more_old ∙ ap (λ x. take i olds ++ x ∷ []) (sym first) in
+      let first : get_or news i d ≡ get_or olds i d =
+      first_of_same (get_or news i d) (get_or olds i d) (drop (i + 1) news) (drop (i + 1) olds) (sym (drop_more news i d more) ∙ rest
+      ∙ drop_more olds i d more_old) in
+      let olds_split : take (i + 1) olds ≡ take i olds ++ get_or news i d ∷ [] = take_more olds i d more_old
+      ∙ ap (λ x. take i olds ++ x ∷ []) (sym first) in
       rw (olds_split, take_more_set news i new more, grown) (asked_after (take i olds) (take i news) answers (get_or news i d) new answer asked by)
 
   -- all were asked
@@ -61,4 +67,6 @@ module _ {C : Type 0} (kind : C → Kind) (count : C → ℕ) (subject : Subject
       let whole : take n (news ++ drop (length news) olds) ≡ news =
       ap (λ rest. take n (news ++ rest)) (drop_all (length news) olds (omega arith)) ∙ ap (take n) (append_nil news) ∙ take_all n news (omega arith) in
       ap (map kind) whole
-      ∙ kinds_kept olds news answers (subst (λ (os : List C). IsAsked kind count subject os news answers) (take_all i olds (omega arith)) (subst (λ (ns : List C). IsAsked kind count subject (take i olds) ns answers) (take_all i news done) asked))
+      ∙ kinds_kept olds news answers
+      (subst (λ (os : List C). IsAsked kind count subject os news answers) (take_all i olds (omega arith))
+      (subst (λ (ns : List C). IsAsked kind count subject (take i olds) ns answers) (take_all i news done) asked))

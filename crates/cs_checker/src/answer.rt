@@ -55,8 +55,10 @@ impl Answer {
 
     /// The fault occurs where the term has a value in one of the intervals.
     pub fn of_term(term: Lin, bad: [Interval; 2]) -> Answer
-        ensures faults { (numbers : Valuation) → some_holds result.conds numbers ≡ contains bad (value_of numbers term) }
-        ensures terms { (subject : Subject) → own_term subject ≡ Some (with_zero term) → HasTermsFor subject result.conds }
+        ensures faults { (numbers : Valuation)
+            → some_holds result.conds numbers ≡ contains bad (value_of numbers term) }
+        ensures terms { (subject : Subject) → own_term subject ≡ Some (with_zero term)
+            → HasTermsFor subject result.conds }
     {
         let term = Lin2 {
             first: term,
@@ -68,8 +70,10 @@ impl Answer {
     /// The fault occurs where the sum has a value in one of the intervals.
     #[tactic(auto, unfolding(crate::specs::Answers::some_holds, crate::specs::Answers::HasTermsFor))]
     pub fn of_sum(term: Lin2, bad: [Interval; 2]) -> Answer
-        ensures faults { (numbers : Valuation) → some_holds result.conds numbers ≡ contains bad (value_of_sum numbers term) }
-        ensures terms { (subject : Subject) → IsTermFor subject term → HasTermsFor subject result.conds }
+        ensures faults { (numbers : Valuation)
+            → some_holds result.conds numbers ≡ contains bad (value_of_sum numbers term) }
+        ensures terms { (subject : Subject) → IsTermFor subject term
+            → HasTermsFor subject result.conds }
     {
         Answer {
             conds: [Some(Cond { term, bad }), None],

@@ -39,7 +39,8 @@ pub fn add(
     checkers: &mut Vec<Box<dyn Checker>>,
     checker: Box<dyn Checker>,
 ) -> Result<(), AllocError>
-    ensures kinds { OnOk result (map (λ b. kind_of b) checkers.new.items ≡ map (λ b. kind_of b) checkers.old.items ++ kind_of checker ∷ []) }
+    ensures kinds { OnOk result (map (λ b. kind_of b) checkers.new.items
+        ≡ map (λ b. kind_of b) checkers.old.items ++ kind_of checker ∷ []) }
     ensures err { OnErr result (checkers.new.items ≡ checkers.old.items) }
 {
     checkers.push(checker)?;
@@ -52,8 +53,11 @@ pub fn ask_each(
     checkers: &mut Vec<Box<dyn Checker>>,
     subject: &Subject,
 ) -> Result<Vec<Answer>, AllocError>
-    ensures asked { IfOk result (λ answers. IsAsked (λ b. kind_of b) (λ b. count_of b) subject.now checkers.old.items checkers.new.items answers.items) }
-    ensures kinds { map (λ b. kind_of b) checkers.new.items ≡ map (λ b. kind_of b) checkers.old.items }
+    ensures asked { IfOk result (λ answers.
+        IsAsked (λ b. kind_of b) (λ b. count_of b) subject.now checkers.old.items
+        checkers.new.items answers.items) }
+    ensures kinds { map (λ b. kind_of b) checkers.new.items
+        ≡ map (λ b. kind_of b) checkers.old.items }
     ensures err { OnErr result (checkers.new.items ≡ checkers.old.items) }
 {
     let mut answers = Vec::with_capacity(alloc, checkers.len())?;
@@ -67,7 +71,8 @@ pub fn ask_each(
 }
 
 fn ask(checker: &mut Box<dyn Checker>, subject: &Subject) -> Answer
-    ensures { IsAnsweredBy (kind_of checker.old) (kind_of checker.new) (count_of checker.old) (count_of checker.new) subject.now result }
+    ensures { IsAnsweredBy (kind_of checker.old) (kind_of checker.new) (count_of checker.old)
+        (count_of checker.new) subject.now result }
 {
     checker.examine(subject)
 }

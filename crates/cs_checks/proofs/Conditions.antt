@@ -1,5 +1,6 @@
 -- The numbers that pairs of intervals have: for the contracts of the checkers.
-use Rattle.std.proofs.Common.{◌≡◌, ◌⊎◌, ◌^◌, ℕ, Bool, true, false, not, ◌||◌, ℤ, pos, negsuc, neg_ℤ, [], ◌∷◌, refl, sym, ap, ◌∙◌, inl, inr, arith}
+use Rattle.std.proofs.Common.{◌≡◌, ◌⊎◌, ◌^◌, ℕ, Bool, true, false, not, ◌||◌, ℤ, pos, negsuc, neg_ℤ, [], ◌∷◌, refl, sym, ap}
+use Rattle.std.proofs.Common.{◌∙◌, inl, inr, arith}
 use Rattle.std.specs.Prelude.{int_lt, int_le}
 use Rattle.std.specs.Ordering.{int_eq}
 use Rattle.std.proofs.lemmas.Int.{ints}
@@ -25,14 +26,17 @@ module _ (i j : Interval) (x : ℤ) where
   only_zero low high from upto = pair i j x ∙ grind (arith, ints, in_interval_yields i x, in_interval_yields j x, eq_yields x (pos 0))
 
   -- all but 0
-  pub not_zero : i.low ≡ neg_ℤ (pos (2 ^ 126)) → i.high ≡ negsuc 0 → j.low ≡ pos 1 → j.high ≡ pos (2 ^ 126) → IsInside x → contains (i ∷ j ∷ []) x ≡ not (int_eq x (pos 0))
+  pub not_zero : i.low ≡ neg_ℤ (pos (2 ^ 126)) → i.high ≡ negsuc 0 → j.low ≡ pos 1 → j.high ≡ pos (2 ^ 126) → IsInside x
+      → contains (i ∷ j ∷ []) x ≡ not (int_eq x (pos 0))
   not_zero low high from upto inside = pair i j x ∙ grind (arith, ints, in_interval_yields i x, in_interval_yields j x, eq_yields x (pos 0))
 
   -- what is below 0
-  pub below_zero : i.low ≡ neg_ℤ (pos (2 ^ 126)) → i.high ≡ negsuc 0 → j.low ≡ pos 1 → j.high ≡ pos 0 → IsInside x → contains (i ∷ j ∷ []) x ≡ int_lt x (pos 0)
+  pub below_zero : i.low ≡ neg_ℤ (pos (2 ^ 126)) → i.high ≡ negsuc 0 → j.low ≡ pos 1 → j.high ≡ pos 0 → IsInside x
+      → contains (i ∷ j ∷ []) x ≡ int_lt x (pos 0)
   below_zero low high from upto inside = pair i j x ∙ grind (arith, ints, in_interval_yields i x, in_interval_yields j x)
 
   -- what no operand of this width can be shifted by
-  pub outside_width : (width : ℕ) → i.low ≡ neg_ℤ (pos (2 ^ 126)) → i.high ≡ negsuc 0 → j.low ≡ pos width → j.high ≡ pos (2 ^ 126) → IsInside x
+  pub outside_width : (width : ℕ) → i.low ≡ neg_ℤ (pos (2 ^ 126)) → i.high ≡ negsuc 0 → j.low ≡ pos width → j.high ≡ pos (2 ^ 126)
+      → IsInside x
       → contains (i ∷ j ∷ []) x ≡ (int_lt x (pos 0) || int_le (pos width) x)
   outside_width width low high from upto inside = pair i j x ∙ grind (arith, ints, in_interval_yields i x, in_interval_yields j x)

@@ -1,5 +1,6 @@
 -- What an assumption does to the valuations that fit: for the contract of `assume`.
-use Rattle.std.proofs.Common.{◌≡◌, ◌≢◌, ◌⊎◌, ℕ, zero, suc, Bool, true, false, ◌&&◌, ℤ, pos, List, Option, Some, None, refl, sym, ap, subst, ◌∙◌, inl, inr, arith}
+use Rattle.std.proofs.Common.{◌≡◌, ◌≢◌, ◌⊎◌, ℕ, zero, suc, Bool, true, false, ◌&&◌, ℤ, pos, List, Option, Some, None, refl, sym, ap}
+use Rattle.std.proofs.Common.{subst, ◌∙◌, inl, inr, arith}
 use Rattle.std.specs.Prelude.{MatchOption, is_some}
 use Rattle.std.proofs.lemmas.Option.{same_Some}
 use Rattle.cs_ranges.specs.declared.range_set.Interval.{Interval}
@@ -23,7 +24,8 @@ abbrev pick : (o : Option (List Interval)) → ((set : List Interval) → o ≡ 
 pick None h = pos 0
 pick (Some set) h = (h set refl).0
 
-pick-in : (o : Option (List Interval)) (h : (set : List Interval) → o ≡ Some set → IsInhabited set) (set : List Interval) → o ≡ Some set → contains set (pick o h) ≡ true
+pick-in : (o : Option (List Interval)) (h : (set : List Interval) → o ≡ Some set → IsInhabited set) (set : List Interval) → o ≡ Some set
+    → contains set (pick o h) ≡ true
 pick-in None h set e = absurd (cc)
 pick-in (Some s) h set e = subst (λ (z : List Interval). contains z (pick (Some s) h) ≡ true) (same_Some s set e) (h s refl).1
 
@@ -40,7 +42,9 @@ and-true true b h = (refl, h)
 and-true false b h = absurd (cc)
 
 -- a condition without symbols
-pub constant_answer : (sets : Sets) (term : Lin) (set : List Interval) (holds : Bool) (answer : Option Sets) → term.sym ≡ None → holds ≡ contains set term.value → MatchOption answer (holds ≡ false) (λ copy. (holds ≡ true) × (copy ≡ sets) × AreInhabited copy) → MatchOption answer (RulesOut sets term set) (Keeps sets term set)
+pub constant_answer : (sets : Sets) (term : Lin) (set : List Interval) (holds : Bool) (answer : Option Sets) → term.sym ≡ None
+    → holds ≡ contains set term.value → MatchOption answer (holds ≡ false) (λ copy. (holds ≡ true) × (copy ≡ sets) × AreInhabited copy)
+    → MatchOption answer (RulesOut sets term set) (Keeps sets term set)
 constant_answer sets term set holds None e h m = λ v fits. rw e (sym h ∙ m)
 constant_answer sets term set holds (Some copy) e h m =
     record {
@@ -50,15 +54,18 @@ constant_answer sets term set holds (Some copy) e h m =
       );
       some = fitting copy m.2;
       same_symbols = λ s. ap (λ (z : Sets). is_some (set_of z s)) m.1;
-      within = λ s found range f r x. subst (λ (z : List Interval). contains z x ≡ true) (same_Some found range (sym f ∙ ap (λ (z : Sets). set_of z s) m.1 ∙ r));
+      within = λ s found range f r x. subst (λ (z : List Interval). contains z x ≡ true)
+          (same_Some found range (sym f ∙ ap (λ (z : Sets). set_of z s) m.1 ∙ r));
       others = λ other apart. ap (λ (z : Sets). set_of z other.0) m.1;
     }
 
 -- the numbers of a symbol that an assumption keeps
 abbrev pub KeptNumbers : Sets → Sym → Lin → List Interval → List Interval → Type 0
-KeptNumbers sets s term set kept = (range : List Interval) → set_of sets s.0 ≡ Some range → (x : ℤ) → contains kept x ≡ (contains range x && contains set (value_at term x))
+KeptNumbers sets s term set kept = (range : List Interval) → set_of sets s.0 ≡ Some range
+    → (x : ℤ) → contains kept x ≡ (contains range x && contains set (value_at term x))
 
-module _ (sets : Sets) (term : Lin) (set range kept : List Interval) (s : Sym) (over : term.sym ≡ Some s) (declared : set_of sets s.0 ≡ Some range) (numbers : (x : ℤ) → contains kept x ≡ (contains range x && contains set (value_at term x))) where
+module _ (sets : Sets) (term : Lin) (set range kept : List Interval) (s : Sym) (over : term.sym ≡ Some s) (declared : set_of sets s.0 ≡ Some range)
+    (numbers : (x : ℤ) → contains kept x ≡ (contains range x && contains set (value_at term x))) where
   ruled_out : IsEmpty kept → RulesOut sets term set
   ruled_out empty v fits =
       let here = fits s.0 range declared in
@@ -86,7 +93,9 @@ module _ (sets : Sets) (term : Lin) (set range kept : List Interval) (s : Sym) (
     keeps_valuation v fits t other found e = elim (decide other s.0) [
       | inl same ↦
           let own : kept ≡ found = same_Some kept found (sym narrowed.here ∙ ap (set_of after) (sym same) ∙ e) in
-          rw (same, ← own) (numbers (v s.0) ∙ both (contains range (v s.0)) (contains set (value_at term (v s.0))) (fits s.0 range declared) (sym (ap (contains set) (value_of-symbol v term s over)) ∙ t))
+          rw (same, ← own) (numbers (v s.0)
+          ∙ both (contains range (v s.0)) (contains set (value_at term (v s.0))) (fits s.0 range declared)
+          (sym (ap (contains set) (value_of-symbol v term s over)) ∙ t))
       | inr differ ↦ fits other found (sym (narrowed.elsewhere other differ) ∙ e)
     ]
       where
@@ -99,12 +108,14 @@ module _ (sets : Sets) (term : Lin) (set range kept : List Interval) (s : Sym) (
       | inr differ ↦ ap is_some (narrowed.elsewhere other differ)
     ]
 
-    within : (other : ℕ) (found before : List Interval) → set_of after other ≡ Some found → set_of sets other ≡ Some before → (x : ℤ) → contains found x ≡ true → contains before x ≡ true
+    within : (other : ℕ) (found before : List Interval) → set_of after other ≡ Some found → set_of sets other ≡ Some before
+        → (x : ℤ) → contains found x ≡ true → contains before x ≡ true
     within other found before f r x t = elim (decide other s.0) [
       | inl same ↦
           let own : kept ≡ found = same_Some kept found (sym narrowed.here ∙ ap (set_of after) (sym same) ∙ f) in
           let had : range ≡ before = same_Some range before (sym declared ∙ ap (set_of sets) (sym same) ∙ r) in
-          ap (λ z. contains z x) (sym had) ∙ (and-true (contains range x) (contains set (value_at term x)) (sym (numbers x) ∙ ap (λ z. contains z x) own ∙ t)).0
+          ap (λ z. contains z x) (sym had)
+          ∙ (and-true (contains range x) (contains set (value_at term x)) (sym (numbers x) ∙ ap (λ z. contains z x) own ∙ t)).0
       | inr differ ↦
           let stays : found ≡ before = same_Some found before (sym f ∙ narrowed.elsewhere other differ ∙ r) in
           ap (λ z. contains z x) (sym stays) ∙ t
@@ -125,16 +136,22 @@ module _ (sets : Sets) (term : Lin) (set range kept : List Interval) (s : Sym) (
     }
 
 -- a condition on a symbol
-pub narrowed_answer : (sets : Sets) (term : Lin) (set kept : List Interval) (s : Sym) (answer : Option Sets) → term.sym ≡ Some s → set_of sets s.0 ≢ None → KeptNumbers sets s term set kept → MatchOption answer (IsEmpty kept) (λ after. IsNarrowed sets s.0 kept after × AreInhabited after) → MatchOption answer (RulesOut sets term set) (Keeps sets term set)
+pub narrowed_answer : (sets : Sets) (term : Lin) (set kept : List Interval) (s : Sym) (answer : Option Sets) → term.sym ≡ Some s
+    → set_of sets s.0 ≢ None → KeptNumbers sets s term set kept
+    → MatchOption answer (IsEmpty kept) (λ after. IsNarrowed sets s.0 kept after × AreInhabited after)
+    → MatchOption answer (RulesOut sets term set) (Keeps sets term set)
 narrowed_answer sets term set kept s answer over declared numbers m = by answer (set_of sets s.0) refl m
   where
-    by : (answer : Option Sets) (o : Option (List Interval)) → set_of sets s.0 ≡ o → MatchOption answer (IsEmpty kept) (λ after. IsNarrowed sets s.0 kept after × AreInhabited after) → MatchOption answer (RulesOut sets term set) (Keeps sets term set)
+    by : (answer : Option Sets) (o : Option (List Interval)) → set_of sets s.0 ≡ o
+        → MatchOption answer (IsEmpty kept) (λ after. IsNarrowed sets s.0 kept after × AreInhabited after)
+        → MatchOption answer (RulesOut sets term set) (Keeps sets term set)
     by answer None e m = absurd (declared e)
     by None (Some range) e m = ruled_out sets term set range kept s over e (numbers range e) m
     by (Some after) (Some range) e m = keeps sets term set range kept s over e (numbers range e) after m.0 m.1
 
 -- each symbol has a number after one was narrowed to a set with one
-pub narrowed_inhabited : (sets after : Sets) (s : ℕ) (set : List Interval) → AreInhabited sets → IsInhabited set → IsNarrowed sets s set after → AreInhabited after
+pub narrowed_inhabited : (sets after : Sets) (s : ℕ) (set : List Interval) → AreInhabited sets → IsInhabited set → IsNarrowed sets s set after
+    → AreInhabited after
 narrowed_inhabited sets after s set h i narrowed other found e = elim (decide other s) [
   | inl same ↦ subst (λ (z : List Interval). IsInhabited z) (same_Some set found (sym narrowed.here ∙ ap (set_of after) (sym same) ∙ e)) i
   | inr differ ↦ h other found (sym (narrowed.elsewhere other differ) ∙ e)

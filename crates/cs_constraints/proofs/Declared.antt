@@ -34,7 +34,8 @@ set_of-here sets s set =
 pub set_of-elsewhere : (sets : Sets) (s other : ℕ) (set : List Interval) → other ≢ s → set_of (map.insert sets (s, 0) set) other ≡ set_of sets other
 set_of-elsewhere sets s other set differ =
     let apart : eq_by_cmp key_cmp (other, 0) (s, 0) ≡ false =
-    false-from_not (eq_by_cmp key_cmp (other, 0) (s, 0)) (λ t. differ (ap (λ (k : ℕ × ℕ). k.0) (key_cmp_exact (other, 0) (s, 0) (is_eq-Equal (key_cmp (other, 0) (s, 0)) t)))) in
+    false-from_not (eq_by_cmp key_cmp (other, 0) (s, 0)) (λ t.
+    differ (ap (λ (k : ℕ × ℕ). k.0) (key_cmp_exact (other, 0) (s, 0) (is_eq-Equal (key_cmp (other, 0) (s, 0)) t)))) in
     get-insert key_cmp_total sets (s, 0) set (other, 0) ∙ ap (λ b. cond b (Some set) (set_of sets other)) apart
 
 -- each symbol still has a number where the set that was declared has one
@@ -46,6 +47,7 @@ inhabited-insert sets s set h i other found e =
     by true f = subst (λ (z : List Interval). IsInhabited z) (same_Some set found f) i
     by false f = h other found f
 
-pub inhabited-after : {T E : Type 0} (r : Result T E) (old new : Sets) (s : ℕ) (set : List Interval) → AreInhabited old → IsInhabited set → OnOk r (new ≡ map.insert old (s, 0) set) → OnErr r (new ≡ old) → AreInhabited new
+pub inhabited-after : {T E : Type 0} (r : Result T E) (old new : Sets) (s : ℕ) (set : List Interval) → AreInhabited old → IsInhabited set
+    → OnOk r (new ≡ map.insert old (s, 0) set) → OnErr r (new ≡ old) → AreInhabited new
 inhabited-after (Ok x) old new s set h i ok err = subst (λ (z : Sets). AreInhabited z) (sym ok) (inhabited-insert old s set h i)
 inhabited-after (Err x) old new s set h i ok err = subst (λ (z : Sets). AreInhabited z) (sym err) h

@@ -18,7 +18,8 @@ IsDeclared sets symbol = (sym : Sym) → symbol ≡ Some sym → set_of sets sym
 
 -- where the term's symbol is declared, the term's values over its numbers lie from -2^126 to 2^126
 abbrev pub HasValuesInside : Sets → Lin → Type 0
-HasValuesInside sets term = (sym : Sym) (set : List Interval) → term.sym ≡ Some sym → set_of sets sym.0 ≡ Some set → (x : ℤ) → IsTrue (contains set x) → IsInside (value_at term x)
+HasValuesInside sets term = (sym : Sym) (set : List Interval) → term.sym ≡ Some sym → set_of sets sym.0 ≡ Some set
+    → (x : ℤ) → IsTrue (contains set x) → IsInside (value_at term x)
 
 -- there is a symbol, and it can stand for this number only
 pub record HasOneNumber (sets : Sets) (symbol : Option Sym) (number : ℤ) : Type 0 where
@@ -37,10 +38,12 @@ pub record IsNarrowed (before : Sets) (sym : ℕ) (set : List Interval) (after :
 abbrev pub RulesOut : Sets → Lin → List Interval → Type 0
 RulesOut sets term set = (v : Valuation) → Fits v sets → IsFalse (contains set (value_of v term))
 
--- exactly the valuations that give the term a number of the set are kept, and some valuation is; no symbol comes or goes, none gains a number, and none but the term's loses one
+-- exactly the valuations that give the term a number of the set are kept, and some valuation is; no symbol comes or goes, none gains a number, and none but the
+-- term's loses one
 pub record Keeps (before : Sets) (term : Lin) (set : List Interval) (after : Sets) : Type 0 where
   pub exactly : (v : Valuation) → Fits v after ↔ (Fits v before × IsTrue (contains set (value_of v term)))
   pub some : (v : Valuation) × Fits v after
   pub same_symbols : (sym : ℕ) → is_some (set_of after sym) ≡ is_some (set_of before sym)
-  pub within : (sym : ℕ) (found range : List Interval) → set_of after sym ≡ Some found → set_of before sym ≡ Some range → (x : ℤ) → IsTrue (contains found x) → IsTrue (contains range x)
+  pub within : (sym : ℕ) (found range : List Interval) → set_of after sym ≡ Some found → set_of before sym ≡ Some range
+      → (x : ℤ) → IsTrue (contains found x) → IsTrue (contains range x)
   pub others : (other : Sym) → term.sym ≢ Some other → set_of after other.0 ≡ set_of before other.0

@@ -57,7 +57,8 @@ impl Constraints {
     pub fn declare(&mut self, sym: Sym, set: RangeSet) -> Result<(), AllocError>
         requires { IsInhabited set }
         ensures here { OnOk result (set_of self.new sym.0 ≡ Some set) }
-        ensures elsewhere { OnOk result ((other : ℕ) → other ≢ sym.0 → set_of self.new other ≡ set_of self.old other) }
+        ensures elsewhere { OnOk result ((other : ℕ) → other ≢ sym.0
+            → set_of self.new other ≡ set_of self.old other) }
         ensures err { OnErr result (self.new ≡ self.old) }
     {
         self.sets.insert((sym.0, 0), set)
@@ -73,7 +74,9 @@ impl Constraints {
 
     /// The least absolute number that the symbol may stand for, the positive one of two.
     pub fn solution(&self, sym: Sym) -> Option<i128>
-        ensures { MatchOption result (set_of self.now sym.0 ≡ None) (λ number. (set : List Interval) × (set_of self.now sym.0 ≡ Some set) × IsLeastAbs set number) }
+        ensures { MatchOption result (set_of self.now sym.0 ≡ None)
+            (λ number. (set : List Interval) × (set_of self.now sym.0 ≡ Some set)
+            × IsLeastAbs set number) }
     {
         self.range_of(sym)?.least_abs()
     }
@@ -93,9 +96,12 @@ impl Constraints {
     pub fn collapse(&self, term: Lin) -> Lin
         requires term { IsTerm term }
         requires values { HasValuesInside self.now term }
-        ensures value { (v : Valuation) → Fits v self.now → value_of v result ≡ value_of v term }
-        ensures constant { (number : ℤ) → HasOneNumber self.now term.sym number → result.sym ≡ None }
-        ensures kept { ¬ ((number : ℤ) × HasOneNumber self.now term.sym number) → result ≡ term }
+        ensures value { (v : Valuation) → Fits v self.now
+            → value_of v result ≡ value_of v term }
+        ensures constant { (number : ℤ) → HasOneNumber self.now term.sym number
+            → result.sym ≡ None }
+        ensures kept { ¬ ((number : ℤ) × HasOneNumber self.now term.sym number)
+            → result ≡ term }
         ensures term { IsTerm result }
     {
         match self.only_number(term.sym) {
@@ -111,7 +117,8 @@ impl Constraints {
 
     // The number of a symbol that can stand for one number only.
     fn only_number(&self, sym: Option<Sym>) -> Option<i128>
-        ensures { MatchOption result (¬ ((number : ℤ) × HasOneNumber self.now sym number)) (HasOneNumber self.now sym) }
+        ensures { MatchOption result (¬ ((number : ℤ) × HasOneNumber self.now sym number))
+            (HasOneNumber self.now sym) }
     {
         self.range_of(sym?)?.is_single()
     }
@@ -121,7 +128,8 @@ impl Constraints {
         requires term { IsTerm term }
         requires declared { IsDeclared self.now term.sym }
         requires values { HasValuesInside self.now term }
-        ensures { IfOk result (λ answer. MatchOption answer (RulesOut self.now term set.now) (Keeps self.now term set.now)) }
+        ensures { IfOk result (λ answer.
+            MatchOption answer (RulesOut self.now term set.now) (Keeps self.now term set.now)) }
     {
         let Some(sym) = term.sym else {
             return self.copy_if(set.contains(term.value));
@@ -132,7 +140,9 @@ impl Constraints {
 
     // The constraints as they are if a condition without symbols holds.
     fn copy_if(&self, holds: bool) -> Result<Option<Constraints>, AllocError>
-        ensures { IfOk result (λ answer. MatchOption answer (holds ≡ false) (λ copy. (holds ≡ true) × (copy ≡ self.now) × AreInhabited copy)) }
+        ensures { IfOk result (λ answer.
+            MatchOption answer (holds ≡ false)
+            (λ copy. (holds ≡ true) × (copy ≡ self.now) × AreInhabited copy)) }
     {
         if holds {
             Ok(Some(self.copy()?))
@@ -145,7 +155,10 @@ impl Constraints {
     fn numbers_with(&self, sym: Sym, term: Lin, set: &RangeSet) -> Result<RangeSet, AllocError>
         requires symbol { term.sym ≡ Some sym }
         requires values { HasValuesInside self.now term }
-        ensures { IfOk result (λ kept. (range : List Interval) → set_of self.now sym.0 ≡ Some range → (x : ℤ) → contains kept x ≡ (contains range x && contains set.now (value_at term x))) }
+        ensures { IfOk result (λ kept.
+            (range : List Interval) → set_of self.now sym.0 ≡ Some range
+            → (x : ℤ) → contains kept x
+            ≡ (contains range x && contains set.now (value_at term x))) }
     {
         match self.range_of(sym) {
             Some(range) => affine_preimage(self.alloc, term.slope, term.at, term.value, set, range),
@@ -155,7 +168,9 @@ impl Constraints {
 
     // The constraints with other numbers for one symbol, none where these are no numbers.
     fn narrowed(&self, sym: Sym, set: RangeSet) -> Result<Option<Constraints>, AllocError>
-        ensures { IfOk result (λ answer. MatchOption answer (IsEmpty set) (λ after. IsNarrowed self.now sym.0 set after × AreInhabited after)) }
+        ensures { IfOk result (λ answer.
+            MatchOption answer (IsEmpty set) (λ after.
+            IsNarrowed self.now sym.0 set after × AreInhabited after)) }
     {
         if set.is_empty() {
             return Ok(None);

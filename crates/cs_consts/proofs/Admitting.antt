@@ -9,8 +9,12 @@ use Rattle.cs_scopes.specs.Verdicts.{Verdict, Fine, Fault}
 use Rattle.cs_expressions.specs.Calls.{admitted}
 
 counted : (n count : ℕ) (at : Place) (v : Verdict Signature) (g : Signature) → cond (eqb n count) v (Fault code.ArgumentCount at) ≡ Fine g → n ≡ count
-counted n count at v g h = elim (eqb n count) as (λ t. eqb n count ≡ t → cond t v (Fault code.ArgumentCount at) ≡ Fine g → n ≡ count) [ true ↦ λ e _. grind (arith, nat_tests) | false ↦ λ _ p. absurd cc ] refl h
+counted n count at v g h = elim (eqb n count) as (λ t. eqb n count ≡ t → cond t v (Fault code.ArgumentCount at) ≡ Fine g → n ≡ count) [
+  | true ↦ λ e _. grind (arith, nat_tests)
+  | false ↦ λ _ p. absurd cc
+] refl h
 
-pub admitted_counts : (at : Place) (target : Option Shape) (count : ℕ) (f g : Signature) → admitted at target count f ≡ Fine g → length f.parameters ≡ count
+pub admitted_counts : (at : Place) (target : Option Shape) (count : ℕ) (f g : Signature) → admitted at target count f ≡ Fine g
+    → length f.parameters ≡ count
 unfolding admitted
 admitted_counts at target count f g h = counted (length f.parameters) count at _ g h

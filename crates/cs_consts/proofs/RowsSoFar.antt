@@ -1,5 +1,6 @@
 -- What the loops over arguments and bounds have made so far, before what is left: for the cycle of typing.
-use Rattle.std.proofs.Common.{◌≡◌, ℕ, ◌+◌, ◌<◌, suc, length, get_or, drop, drop-cons, add-one, ℤ, List, [], ◌∷◌, ◌++◌, append_assoc, refl, sym, ap, subst, ◌∙◌, Some, None}
+use Rattle.std.proofs.Common.{◌≡◌, ℕ, ◌+◌, ◌<◌, suc, length, get_or, drop, drop-cons, add-one, ℤ, List, [], ◌∷◌, ◌++◌, append_assoc}
+use Rattle.std.proofs.Common.{refl, sym, ap, subst, ◌∙◌, Some, None}
 use Rattle.std.proofs.lemmas.List.{append-nil}
 use Rattle.cs_types.specs.Shape.{Shape}
 use Rattle.cs_ast.specs.declared.raw.expression.RawExpr.{RawExpr}
@@ -26,15 +27,21 @@ put_before-all [] = refl
 put_before-all (x ∷ made) = ap (Further (typed x)) (put_before-all made)
 
 -- one more argument
-argument_more : (made : List Expr) (e : Expr) (rest : Verdict TypedList) → lift (expressions_before made) (lift2 further (Fine (typed e)) rest) ≡ lift (expressions_before (made ++ e ∷ [])) rest
+argument_more : (made : List Expr) (e : Expr) (rest : Verdict TypedList)
+    → lift (expressions_before made) (lift2 further (Fine (typed e)) rest) ≡ lift (expressions_before (made ++ e ∷ [])) rest
 argument_more made e (Fine rest) =
     ap (lift (expressions_before made)) (lift2-fine further (typed e) rest) ∙ lift-fine (expressions_before made) (Further (typed e) rest)
     ∙ ap Fine (sym (put_before-push made e rest)) ∙ sym (lift-fine (expressions_before (made ++ e ∷ [])) rest)
 argument_more made e (Fault code place) =
-    ap (lift (expressions_before made)) (lift2-second further (typed e) code place) ∙ lift-fault (expressions_before made) code place ∙ sym (lift-fault (expressions_before (made ++ e ∷ [])) code place)
+    ap (lift (expressions_before made)) (lift2-second further (typed e) code place) ∙ lift-fault (expressions_before made) code place
+    ∙ sym (lift-fault (expressions_before (made ++ e ∷ [])) code place)
 
 module _ (c : Context) (p : Purpose) where
-  pub arguments_turn : (made : List Expr) (e : Expr) (whole : Verdict TypedList) (ty : Shape) (types following : List Shape) (a : RawExpr) (arguments rest : List RawExpr) (ls ms : Literals) → types ≡ ty ∷ following → arguments ≡ a ∷ rest → operand_in c p (formed c p ls (Some ty) a.place a.kind.value) ≡ Fine (typed e) → ms ≡ literals_after ls a.kind.value → lift (expressions_before made) (arguments_listed c p ls types arguments) ≡ whole → lift (expressions_before (made ++ e ∷ [])) (arguments_listed c p ms following rest) ≡ whole
+  pub arguments_turn : (made : List Expr) (e : Expr) (whole : Verdict TypedList) (ty : Shape) (types following : List Shape) (a : RawExpr)
+      (arguments rest : List RawExpr) (ls ms : Literals) → types ≡ ty ∷ following → arguments ≡ a ∷ rest
+      → operand_in c p (formed c p ls (Some ty) a.place a.kind.value) ≡ Fine (typed e) → ms ≡ literals_after ls a.kind.value
+      → lift (expressions_before made) (arguments_listed c p ls types arguments) ≡ whole
+      → lift (expressions_before (made ++ e ∷ [])) (arguments_listed c p ms following rest) ≡ whole
   arguments_turn made e whole ty types following a arguments rest ls ms is_types is_arguments is_value is_literals so_far =
       ap (λ l. lift (expressions_before (made ++ e ∷ [])) (arguments_listed c p l following rest)) is_literals
       ∙ sym (argument_more made e (arguments_listed c p (literals_after ls a.kind.value) following rest))
@@ -43,25 +50,37 @@ module _ (c : Context) (p : Purpose) where
       ∙ ap (λ l. lift (expressions_before made) (arguments_listed c p ls types l)) (sym is_arguments)
       ∙ so_far
 
-  pub arguments_stop : (made : List Expr) (whole : Verdict TypedList) (ty : Shape) (types following : List Shape) (a : RawExpr) (arguments rest : List RawExpr) (ls : Literals) (r : TypeRefusal) → types ≡ ty ∷ following → arguments ≡ a ∷ rest → IsRefused (operand_in c p (formed c p ls (Some ty) a.place a.kind.value)) r → lift (expressions_before made) (arguments_listed c p ls types arguments) ≡ whole → IsRefused whole r
+  pub arguments_stop : (made : List Expr) (whole : Verdict TypedList) (ty : Shape) (types following : List Shape) (a : RawExpr) (arguments rest : List RawExpr)
+      (ls : Literals) (r : TypeRefusal) → types ≡ ty ∷ following → arguments ≡ a ∷ rest
+      → IsRefused (operand_in c p (formed c p ls (Some ty) a.place a.kind.value)) r
+      → lift (expressions_before made) (arguments_listed c p ls types arguments) ≡ whole → IsRefused whole r
   arguments_stop made whole ty types following a arguments rest ls r is_types is_arguments h so_far =
-      refused_as r (sym so_far ∙ ap (λ t. lift (expressions_before made) (arguments_listed c p ls t arguments)) is_types ∙ ap (λ l. lift (expressions_before made) (arguments_listed c p ls (ty ∷ following) l)) is_arguments)
+      refused_as r (sym so_far ∙ ap (λ t. lift (expressions_before made) (arguments_listed c p ls t arguments)) is_types
+      ∙ ap (λ l. lift (expressions_before made) (arguments_listed c p ls (ty ∷ following) l)) is_arguments)
       (lift-refused (expressions_before made) _ r (lift2-refused-first further _ _ r h))
 
-  pub arguments_end : (made : List Expr) (whole : Verdict TypedList) (types : List Shape) (arguments : List RawExpr) (ls : Literals) → arguments ≡ [] → lift (expressions_before made) (arguments_listed c p ls types arguments) ≡ whole → whole ≡ Fine (typed_list made)
+  pub arguments_end : (made : List Expr) (whole : Verdict TypedList) (types : List Shape) (arguments : List RawExpr) (ls : Literals) → arguments ≡ []
+      → lift (expressions_before made) (arguments_listed c p ls types arguments) ≡ whole → whole ≡ Fine (typed_list made)
   arguments_end made whole types arguments ls none so_far =
-      sym so_far ∙ ap (λ l. lift (expressions_before made) (arguments_listed c p ls types l)) none ∙ lift-fine (expressions_before made) NoMore ∙ ap Fine (put_before-all made)
+      sym so_far ∙ ap (λ l. lift (expressions_before made) (arguments_listed c p ls types l)) none ∙ lift-fine (expressions_before made) NoMore
+      ∙ ap Fine (put_before-all made)
 
 -- one more number
-number_more : (made : List ℤ) (e : Typed) (n : ℤ) (rest : Verdict (List ℤ)) → number_at (form_of e) ≡ Fine n → lift (numbers_before made) (lift2 number_before (Fine e) rest) ≡ lift (numbers_before (made ++ n ∷ [])) rest
+number_more : (made : List ℤ) (e : Typed) (n : ℤ) (rest : Verdict (List ℤ)) → number_at (form_of e) ≡ Fine n
+    → lift (numbers_before made) (lift2 number_before (Fine e) rest) ≡ lift (numbers_before (made ++ n ∷ [])) rest
 number_more made e n (Fine rest) h =
-    ap (lift (numbers_before made)) (lift2-fine number_before e rest ∙ ap (lift (λ m. Fine (m ∷ rest))) h ∙ lift-fine (λ m. Fine (m ∷ rest)) n) ∙ lift-fine (numbers_before made) (n ∷ rest)
+    ap (lift (numbers_before made)) (lift2-fine number_before e rest ∙ ap (lift (λ m. Fine (m ∷ rest))) h ∙ lift-fine (λ m. Fine (m ∷ rest)) n)
+    ∙ lift-fine (numbers_before made) (n ∷ rest)
     ∙ ap Fine (sym (append_assoc made (n ∷ []) rest)) ∙ sym (lift-fine (numbers_before (made ++ n ∷ [])) rest)
 number_more made e n (Fault code place) h =
-    ap (lift (numbers_before made)) (lift2-second number_before e code place) ∙ lift-fault (numbers_before made) code place ∙ sym (lift-fault (numbers_before (made ++ n ∷ [])) code place)
+    ap (lift (numbers_before made)) (lift2-second number_before e code place) ∙ lift-fault (numbers_before made) code place
+    ∙ sym (lift-fault (numbers_before (made ++ n ∷ [])) code place)
 
 module _ (c : Context) where
-  pub numbers_turn : (made : List ℤ) (e : Typed) (n : ℤ) (whole : Verdict (List ℤ)) (a : RawExpr) (bounds rest : List RawExpr) (ls ms : Literals) → bounds ≡ a ∷ rest → done c Constant (formed c Constant ls None a.place a.kind.value) ≡ Fine e → number_at (form_of e) ≡ Fine n → ms ≡ literals_after ls a.kind.value → lift (numbers_before made) (numbers_listed c ls bounds) ≡ whole → lift (numbers_before (made ++ n ∷ [])) (numbers_listed c ms rest) ≡ whole
+  pub numbers_turn : (made : List ℤ) (e : Typed) (n : ℤ) (whole : Verdict (List ℤ)) (a : RawExpr) (bounds rest : List RawExpr) (ls ms : Literals)
+      → bounds ≡ a ∷ rest → done c Constant (formed c Constant ls None a.place a.kind.value) ≡ Fine e → number_at (form_of e) ≡ Fine n
+      → ms ≡ literals_after ls a.kind.value → lift (numbers_before made) (numbers_listed c ls bounds) ≡ whole
+      → lift (numbers_before (made ++ n ∷ [])) (numbers_listed c ms rest) ≡ whole
   numbers_turn made e n whole a bounds rest ls ms is_bounds is_value is_number is_literals so_far =
       ap (λ l. lift (numbers_before (made ++ n ∷ [])) (numbers_listed c l rest)) is_literals
       ∙ sym (number_more made e n (numbers_listed c (literals_after ls a.kind.value) rest) is_number)
@@ -69,12 +88,15 @@ module _ (c : Context) where
       ∙ ap (λ l. lift (numbers_before made) (numbers_listed c ls l)) (sym is_bounds)
       ∙ so_far
 
-  pub numbers_stop : (made : List ℤ) (whole : Verdict (List ℤ)) (a : RawExpr) (bounds rest : List RawExpr) (ls : Literals) (r : TypeRefusal) → bounds ≡ a ∷ rest → IsRefused (done c Constant (formed c Constant ls None a.place a.kind.value)) r → lift (numbers_before made) (numbers_listed c ls bounds) ≡ whole → IsRefused whole r
+  pub numbers_stop : (made : List ℤ) (whole : Verdict (List ℤ)) (a : RawExpr) (bounds rest : List RawExpr) (ls : Literals) (r : TypeRefusal)
+      → bounds ≡ a ∷ rest → IsRefused (done c Constant (formed c Constant ls None a.place a.kind.value)) r
+      → lift (numbers_before made) (numbers_listed c ls bounds) ≡ whole → IsRefused whole r
   numbers_stop made whole a bounds rest ls r is_bounds h so_far =
       refused_as r (sym so_far ∙ ap (λ l. lift (numbers_before made) (numbers_listed c ls l)) is_bounds)
       (lift-refused (numbers_before made) _ r (lift2-refused-first number_before _ _ r h))
 
-  pub numbers_end : (made : List ℤ) (whole : Verdict (List ℤ)) (bounds : List RawExpr) (ls : Literals) → bounds ≡ [] → lift (numbers_before made) (numbers_listed c ls bounds) ≡ whole → whole ≡ Fine made
+  pub numbers_end : (made : List ℤ) (whole : Verdict (List ℤ)) (bounds : List RawExpr) (ls : Literals) → bounds ≡ []
+      → lift (numbers_before made) (numbers_listed c ls bounds) ≡ whole → whole ≡ Fine made
   numbers_end made whole bounds ls none so_far =
       sym so_far ∙ ap (λ l. lift (numbers_before made) (numbers_listed c ls l)) none ∙ lift-fine (numbers_before made) [] ∙ ap Fine (append-nil made)
 

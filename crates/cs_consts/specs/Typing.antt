@@ -1,5 +1,6 @@
 -- The typing of expressions (C11 6.5): one rule for each production, told at the first failing place.
-use Rattle.std.specs.Prelude.{◌≡◌, ℕ, zero, suc, ◌+◌, ℤ, pos, int_le, nat_le, length, Bool, true, false, not, ◌&&◌, if◌then◌else◌, List, [], ◌∷◌, ◌++◌, Option, Some, None, Result, Ok, Err}
+use Rattle.std.specs.Prelude.{◌≡◌, ℕ, zero, suc, ◌+◌, ℤ, pos, int_le, nat_le, length, Bool, true, false, not, ◌&&◌, if◌then◌else◌, List}
+use Rattle.std.specs.Prelude.{[], ◌∷◌, ◌++◌, Option, Some, None, Result, Ok, Err}
 use Rattle.std.specs.Ordering.{int_eq}
 use Rattle.cs_types.specs.declared.int_type.IntType.TheVariants as int_type
 use Rattle.cs_types.specs.Shape.{Shape, void, integer, pointer, array, struct}
@@ -340,7 +341,8 @@ choice_formed c purpose literals at test one other =
     let following = literals_after literals test.kind.value in
     lift3 (chosen_values c at) yields
     (value_in c (purpose_if true purpose yields) (formed c (purpose_if true purpose yields) following None one.place one.kind.value))
-    (value_in c (purpose_if false purpose yields) (formed c (purpose_if false purpose yields) (literals_after following one.kind.value) None other.place other.kind.value))
+    (value_in c (purpose_if false purpose yields)
+    (formed c (purpose_if false purpose yields) (literals_after following one.kind.value) None other.place other.kind.value))
 
 abbrev pub store_formed : Context → Purpose → Literals → Place → AssignOp → RawExpr → RawExpr → Verdict Typed
 store_formed c purpose literals at operator object value =

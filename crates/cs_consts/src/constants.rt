@@ -33,7 +33,8 @@ pub fn finished(
 
 // The constant that an expression is.
 fn constant(alloc: Global, model: DataModel, needed: bool, value: Expr) -> Result<Expr, TypeRefusal>
-    ensures { Yields (constant_at value.place (shape_of value.ty) (number_in model needed (typed value))) result }
+    ensures { Yields (constant_at value.place (shape_of value.ty)
+        (number_in model needed (typed value))) result }
 {
     let place = value.place;
     let Some(ty) = integer_type(&value.ty) else {

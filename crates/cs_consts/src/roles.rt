@@ -51,8 +51,10 @@ pub fn operand(
     target: Option<&CType>,
     tree: &RawExpr,
 ) -> Result<Expr, TypeRefusal>
-    ensures reported { Yields (operand_of context.now literals.old.items (shape_in target.entry) tree.now) result }
-    ensures texts { OnOk result (literals.new.items ≡ literals_after literals.old.items tree.now.kind.value) }
+    ensures reported { Yields
+        (operand_of context.now literals.old.items (shape_in target.entry) tree.now) result }
+    ensures texts { OnOk result (literals.new.items
+        ≡ literals_after literals.old.items tree.now.kind.value) }
 {
     operand_in(alloc, context, Purpose::Run, literals, target, tree)
 }
@@ -68,8 +70,11 @@ pub fn assigned_value(
     target: &CType,
     tree: &RawExpr,
 ) -> Result<Expr, TypeRefusal>
-    ensures reported { Yields (assigned_value context.now literals.old.items place (shape_of target.now) tree.now) result }
-    ensures texts { OnOk result (literals.new.items ≡ literals_after literals.old.items tree.now.kind.value) }
+    ensures reported { Yields
+        (assigned_value context.now literals.old.items place (shape_of target.now) tree.now)
+        result }
+    ensures texts { OnOk result (literals.new.items
+        ≡ literals_after literals.old.items tree.now.kind.value) }
 {
     let value = operand_in(alloc, context, Purpose::Run, literals, Some(target), tree)?;
     converted(alloc, context.model, place, value, target)
@@ -85,7 +90,8 @@ pub fn test(
     tree: &RawExpr,
 ) -> Result<Expr, TypeRefusal>
     ensures reported { Yields (test_of context.now literals.old.items place tree.now) result }
-    ensures texts { OnOk result (literals.new.items ≡ literals_after literals.old.items tree.now.kind.value) }
+    ensures texts { OnOk result (literals.new.items
+        ≡ literals_after literals.old.items tree.now.kind.value) }
 {
     let value = operand_in(alloc, context, Purpose::Run, literals, None, tree)?;
     tested(place, value)
@@ -101,7 +107,8 @@ pub fn selector(
     tree: &RawExpr,
 ) -> Result<Expr, TypeRefusal>
     ensures reported { Yields (selector_of context.now literals.old.items place tree.now) result }
-    ensures texts { OnOk result (literals.new.items ≡ literals_after literals.old.items tree.now.kind.value) }
+    ensures texts { OnOk result (literals.new.items
+        ≡ literals_after literals.old.items tree.now.kind.value) }
 {
     let value = operand_in(alloc, context, Purpose::Run, literals, None, tree)?;
     raised(alloc, context.model, place, value)
@@ -116,7 +123,8 @@ pub fn discarded(
     tree: &RawExpr,
 ) -> Result<Expr, TypeRefusal>
     ensures reported { Yields (discarded_value context.now literals.old.items tree.now) result }
-    ensures texts { OnOk result (literals.new.items ≡ literals_after literals.old.items tree.now.kind.value) }
+    ensures texts { OnOk result (literals.new.items
+        ≡ literals_after literals.old.items tree.now.kind.value) }
 {
     value_in(alloc, context, Purpose::Run, literals, tree)
 }

@@ -39,8 +39,10 @@ pub fn judged(
     target: Option<&CType>,
     tree: &RawExpr,
 ) -> Result<Expr, TypeRefusal>
-    ensures reported { Yields (judged context.now purpose literals.old.items (shape_in target.entry) tree.now) result }
-    ensures texts { OnOk result (literals.new.items ≡ literals_after literals.old.items tree.now.kind.value) }
+    ensures reported { Yields
+        (judged context.now purpose literals.old.items (shape_in target.entry) tree.now) result }
+    ensures texts { OnOk result (literals.new.items
+        ≡ literals_after literals.old.items tree.now.kind.value) }
 {
     let value = formed(alloc, context, purpose, literals, target, tree)?;
     finished(alloc, context.model, purpose, value)
@@ -55,8 +57,12 @@ pub fn value_in(
     literals: &mut Vec<Bytes>,
     tree: &RawExpr,
 ) -> Result<Expr, TypeRefusal>
-    ensures reported { Yields (value_in context.now purpose (formed context.now purpose literals.old.items None tree.now.place tree.now.kind.value)) result }
-    ensures texts { OnOk result (literals.new.items ≡ literals_after literals.old.items tree.now.kind.value) }
+    ensures reported { Yields
+        (value_in context.now purpose
+        (formed context.now purpose literals.old.items None tree.now.place tree.now.kind.value))
+        result }
+    ensures texts { OnOk result (literals.new.items
+        ≡ literals_after literals.old.items tree.now.kind.value) }
 {
     let value = judged(alloc, context, purpose, literals, None, tree)?;
     valued(alloc, &context.table, value)
@@ -72,8 +78,12 @@ pub fn operand_in(
     target: Option<&CType>,
     tree: &RawExpr,
 ) -> Result<Expr, TypeRefusal>
-    ensures reported { Yields (operand_in context.now purpose (formed context.now purpose literals.old.items (shape_in target.entry) tree.now.place tree.now.kind.value)) result }
-    ensures texts { OnOk result (literals.new.items ≡ literals_after literals.old.items tree.now.kind.value) }
+    ensures reported { Yields
+        (operand_in context.now purpose
+        (formed context.now purpose literals.old.items (shape_in target.entry) tree.now.place
+        tree.now.kind.value)) result }
+    ensures texts { OnOk result (literals.new.items
+        ≡ literals_after literals.old.items tree.now.kind.value) }
 {
     let value = judged(alloc, context, purpose, literals, target, tree)?;
     operand(alloc, &context.table, value)
@@ -89,8 +99,11 @@ fn formed(
     target: Option<&CType>,
     tree: &RawExpr,
 ) -> Result<Expr, TypeRefusal>
-    ensures reported { Yields (formed context.now purpose literals.old.items (shape_in target.entry) tree.now.place tree.now.kind.value) result }
-    ensures texts { OnOk result (literals.new.items ≡ literals_after literals.old.items tree.now.kind.value) }
+    ensures reported { Yields
+        (formed context.now purpose literals.old.items (shape_in target.entry) tree.now.place
+        tree.now.kind.value) result }
+    ensures texts { OnOk result (literals.new.items
+        ≡ literals_after literals.old.items tree.now.kind.value) }
 {
     let place = tree.place;
     match &*tree.kind {
@@ -176,8 +189,14 @@ fn step(
     gives: Gives,
     object: &RawExpr,
 ) -> Result<Expr, TypeRefusal>
-    ensures reported { Yields (lift (stepped_object context.now (step_operator step) gives place) (lift (updatable context.now.table.list (step_operator step) place) (done context.now purpose (formed context.now purpose literals.old.items None object.now.place object.now.kind.value)))) result }
-    ensures texts { OnOk result (literals.new.items ≡ literals_after literals.old.items object.now.kind.value) }
+    ensures reported { Yields
+        (lift (stepped_object context.now (step_operator step) gives place)
+        (lift (updatable context.now.table.list (step_operator step) place)
+        (done context.now purpose
+        (formed context.now purpose literals.old.items None object.now.place
+        object.now.kind.value)))) result }
+    ensures texts { OnOk result (literals.new.items
+        ≡ literals_after literals.old.items object.now.kind.value) }
 {
     let operator = step_operator(step);
     let object = judged(alloc, context, purpose, literals, None, object)?;
@@ -247,8 +266,12 @@ fn infix(
     left: &RawExpr,
     right: &RawExpr,
 ) -> Result<Expr, TypeRefusal>
-    ensures reported { Yields (infix_formed context.now purpose literals.old.items place operator left.now right.now) result }
-    ensures texts { OnOk result (literals.new.items ≡ literals_after (literals_after literals.old.items left.now.kind.value) right.now.kind.value) }
+    ensures reported { Yields
+        (infix_formed context.now purpose literals.old.items place operator left.now right.now)
+        result }
+    ensures texts { OnOk result (literals.new.items
+        ≡ literals_after (literals_after literals.old.items left.now.kind.value)
+        right.now.kind.value) }
 {
     let left = operand_in(alloc, context, purpose, literals, None, left)?;
     let following = purpose_after(operator, purpose, &left);
@@ -307,8 +330,12 @@ fn select(
     one: &RawExpr,
     other: &RawExpr,
 ) -> Result<Expr, TypeRefusal>
-    ensures reported { Yields (choice_formed context.now purpose literals.old.items place test.now one.now other.now) result }
-    ensures texts { OnOk result (literals.new.items ≡ literals_after (literals_after (literals_after literals.old.items test.now.kind.value) one.now.kind.value) other.now.kind.value) }
+    ensures reported { Yields
+        (choice_formed context.now purpose literals.old.items place test.now one.now other.now)
+        result }
+    ensures texts { OnOk result (literals.new.items
+        ≡ literals_after (literals_after (literals_after literals.old.items test.now.kind.value)
+        one.now.kind.value) other.now.kind.value) }
 {
     let test = operand_in(alloc, context, purpose, literals, None, test)?;
     let test = tested(place, test)?;
@@ -331,8 +358,12 @@ fn store(
     object: &RawExpr,
     value: &RawExpr,
 ) -> Result<Expr, TypeRefusal>
-    ensures reported { Yields (store_formed context.now purpose literals.old.items place operator object.now value.now) result }
-    ensures texts { OnOk result (literals.new.items ≡ literals_after (literals_after literals.old.items object.now.kind.value) value.now.kind.value) }
+    ensures reported { Yields
+        (store_formed context.now purpose literals.old.items place operator object.now value.now)
+        result }
+    ensures texts { OnOk result (literals.new.items
+        ≡ literals_after (literals_after literals.old.items object.now.kind.value)
+        value.now.kind.value) }
 {
     let object = judged(alloc, context, purpose, literals, None, object)?;
     let object = left_side(context, operator, place, object)?;
@@ -426,8 +457,11 @@ fn call(
     function: &RawExpr,
     arguments: &[RawExpr],
 ) -> Result<Expr, TypeRefusal>
-    ensures reported { Yields (call_formed context.now purpose literals.old.items (shape_in target.entry) place function.now arguments.now) result }
-    ensures texts { OnOk result (literals.new.items ≡ literals_after_list literals.old.items arguments.now) }
+    ensures reported { Yields
+        (call_formed context.now purpose literals.old.items (shape_in target.entry) place
+        function.now arguments.now) result }
+    ensures texts { OnOk result (literals.new.items
+        ≡ literals_after_list literals.old.items arguments.now) }
 {
     let Some(called) = called(&context.scope, function) else {
         operand_in(alloc, context, purpose, literals, None, function)?;
@@ -449,7 +483,8 @@ fn call_with(
     values: Vec<Expr>,
 ) -> Result<Expr, TypeRefusal>
     requires { vec_len values ≡ vec_len function.now.parameters }
-    ensures { Yields (call_with context.now place (shape_in target.entry) (signature_of function.now) (typed_list values.items)) result }
+    ensures { Yields (call_with context.now place (shape_in target.entry)
+        (signature_of function.now) (typed_list values.items)) result }
 {
     let list = converted_list(alloc, context.model, place, &function.parameters, values)?;
     call_of(alloc, place, target, function, list)
@@ -466,8 +501,11 @@ fn arguments_of(
     arguments: &[RawExpr],
 ) -> Result<Vec<Expr>, TypeRefusal>
     requires { length arguments.now ≡ vec_len function.now.parameters }
-    ensures reported { Answers (λ list. typed_list list.items) (arguments_listed context.now purpose literals.old.items (signature_of function.now).parameters arguments.now) result }
-    ensures texts { OnOk result (literals.new.items ≡ literals_after_list literals.old.items arguments.now) }
+    ensures reported { Answers (λ list. typed_list list.items)
+        (arguments_listed context.now purpose literals.old.items
+        (signature_of function.now).parameters arguments.now) result }
+    ensures texts { OnOk result (literals.new.items
+        ≡ literals_after_list literals.old.items arguments.now) }
     ensures count { IfOk result (λ list. vec_len list ≡ length arguments.now) }
 {
     let types = function.parameters.as_slice();
@@ -490,8 +528,12 @@ fn size_of_type(
     ty: &WrittenType,
     bounds: &[RawExpr],
 ) -> Result<Expr, TypeRefusal>
-    ensures reported { Yields (lift2 (measured_arrays context.now place) (lift (complete_at context.now.table.list place) (base_in context.now place ty.now)) (numbers_listed context.now literals.old.items bounds.now)) result }
-    ensures texts { OnOk result (literals.new.items ≡ literals_after_list literals.old.items bounds.now) }
+    ensures reported { Yields
+        (lift2 (measured_arrays context.now place)
+        (lift (complete_at context.now.table.list place) (base_in context.now place ty.now))
+        (numbers_listed context.now literals.old.items bounds.now)) result }
+    ensures texts { OnOk result (literals.new.items
+        ≡ literals_after_list literals.old.items bounds.now) }
 {
     let base = type_named(alloc, &context.scope, place, ty)?;
     let base = complete_at(&context.table, place, base)?;
@@ -522,8 +564,10 @@ fn numbers_of(
     literals: &mut Vec<Bytes>,
     bounds: &[RawExpr],
 ) -> Result<Vec<i128>, TypeRefusal>
-    ensures reported { Answers (λ numbers. numbers.items) (numbers_listed context.now literals.old.items bounds.now) result }
-    ensures texts { OnOk result (literals.new.items ≡ literals_after_list literals.old.items bounds.now) }
+    ensures reported { Answers (λ numbers. numbers.items)
+        (numbers_listed context.now literals.old.items bounds.now) result }
+    ensures texts { OnOk result (literals.new.items
+        ≡ literals_after_list literals.old.items bounds.now) }
 {
     let mut numbers = Vec::new(alloc);
     for bound in bounds {
@@ -555,8 +599,11 @@ fn cast(
     bounds: usize,
     operand: &RawExpr,
 ) -> Result<Expr, TypeRefusal>
-    ensures reported { Yields (cast_formed context.now purpose literals.old.items place ty.now bounds operand.now) result }
-    ensures texts { OnOk result (literals.new.items ≡ literals_after literals.old.items operand.now.kind.value) }
+    ensures reported { Yields
+        (cast_formed context.now purpose literals.old.items place ty.now bounds operand.now)
+        result }
+    ensures texts { OnOk result (literals.new.items
+        ≡ literals_after literals.old.items operand.now.kind.value) }
 {
     let target = cast_type(alloc, context, place, ty, bounds)?;
     let value = judged(alloc, context, purpose, literals, Some(&target), operand)?;

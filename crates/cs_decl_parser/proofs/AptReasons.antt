@@ -1,5 +1,6 @@
 -- Reasons that tokens may have: for the contracts of the parts that refuse tokens.
-use Rattle.std.proofs.Common.{◌≡◌, ℕ, if◌then◌else◌, Bool, true, false, List, Option, Some, None, Result, Ok, Err, slice_get, refl, sym, ap, ◌∙◌, subst}
+use Rattle.std.proofs.Common.{◌≡◌, ℕ, if◌then◌else◌, Bool, true, false, List, Option, Some, None, Result, Ok, Err, slice_get, refl, sym, ap}
+use Rattle.std.proofs.Common.{◌∙◌, subst}
 use Rattle.std.specs.Option.{option_map}
 use Rattle.std.proofs.lemmas.Bool.{false≢true}
 use Rattle.cs_ast.specs.declared.token.Token.{Token}
@@ -83,8 +84,14 @@ designator_apt scope _ e = absurd (false≢true e)
 
 -- a brace may have each reason
 pub brace_apt : (scope : Scope) (next : TokenKind) (reason : Reason) → next ≡ token.Punctuator punctuator.OpenBrace → IsApt scope next reason
-brace_apt File next reason e = record { out = λ o l. false≢true (sym (ap (is_unsupported File) e) ∙ o); kept = λ k l. false≢true (sym k ∙ ap may_be_out e) }
-brace_apt Block next reason e = record { out = λ o l. false≢true (sym (ap (is_unsupported Block) e) ∙ o); kept = λ k l. false≢true (sym k ∙ ap may_be_out e) }
+brace_apt File next reason e = record {
+  out = λ o l. false≢true (sym (ap (is_unsupported File) e) ∙ o);
+  kept = λ k l. false≢true (sym k ∙ ap may_be_out e);
+}
+brace_apt Block next reason e = record {
+  out = λ o l. false≢true (sym (ap (is_unsupported Block) e) ∙ o);
+  kept = λ k l. false≢true (sym k ∙ ap may_be_out e);
+}
 
 -- a reason that a token may have in blocks is one that it may have outside
 file_out : (next : TokenKind) → is_unsupported File next ≡ true → is_unsupported Block next ≡ true
@@ -117,7 +124,8 @@ left_may names front (token.Punctuator _) o = absurd o
 left_may names front (token.Keyword _) o = absurd o
 left_may names front _ o = absurd o
 
-reason_apt : (names : Names) (level : ℕ) (front : Kinds) (next : TokenKind) (reason : Reason) → IsReason names level front (Some next) reason → IsApt Block next reason
+reason_apt : (names : Names) (level : ℕ) (front : Kinds) (next : TokenKind) (reason : Reason) → IsReason names level front (Some next) reason
+    → IsApt Block next reason
 reason_apt names level front next TooDeep r = deep_apt Block next
 reason_apt names level front next Unsupported r = left_apt Block next (left_may names front next r.1)
 reason_apt names level front next Syntax r = record { out = λ o l. r.1 (out_left names front next o); kept = λ k l. cc }
@@ -127,13 +135,16 @@ end_apt names level front Syntax r = syntax_apt Block token.Attribute refl
 end_apt names level front Unsupported r = absurd r
 end_apt names level front TooDeep r = absurd r
 
-apt_found : (names : Names) (level : ℕ) (front : Kinds) (tokens : List Token) (at : ℕ) (reason : Reason) (found : Option Token) → slice_get tokens at ≡ found → IsReason names level front (option_map (λ (t : Token). t.kind) found) reason → IsApt Block (kind_or_end tokens at) reason
+apt_found : (names : Names) (level : ℕ) (front : Kinds) (tokens : List Token) (at : ℕ) (reason : Reason) (found : Option Token)
+    → slice_get tokens at ≡ found → IsReason names level front (option_map (λ (t : Token). t.kind) found) reason
+    → IsApt Block (kind_or_end tokens at) reason
 apt_found names level front tokens at reason (Some t) e r =
     subst (λ (x : TokenKind). IsApt Block x reason) (sym (kind_of_some tokens at t e)) (reason_apt names level front t.kind reason r)
 apt_found names level front tokens at reason None e r =
     subst (λ (x : TokenKind). IsApt Block x reason) (sym (kind_of_none tokens at e)) (end_apt names level front reason r)
 
-pub expression_apt : (names : Names) (level : ℕ) (front : Kinds) (tokens : List Token) (at : ℕ) (reason : Reason) → IsReason names level front (kind_at tokens at) reason → IsApt Block (kind_or_end tokens at) reason
+pub expression_apt : (names : Names) (level : ℕ) (front : Kinds) (tokens : List Token) (at : ℕ) (reason : Reason)
+    → IsReason names level front (kind_at tokens at) reason → IsApt Block (kind_or_end tokens at) reason
 expression_apt names level front tokens at reason r = apt_found names level front tokens at reason (slice_get tokens at) refl r
 
 left_following : (next : TokenKind) → is_unsupported Block next ≡ true → left_anywhere next ≡ true
@@ -146,7 +157,8 @@ left_following (token.Keyword _) e = absurd (false≢true e)
 left_following _ e = absurd (false≢true e)
 
 -- the same inside an expression
-pub reported_apt : (names : Names) (tokens : List Token) (from at : ℕ) (reason : Reason) → IsReportedAt names tokens from at reason → IsApt Block (kind_or_end tokens at) reason
+pub reported_apt : (names : Names) (tokens : List Token) (from at : ℕ) (reason : Reason) → IsReportedAt names tokens from at reason
+    → IsApt Block (kind_or_end tokens at) reason
 reported_apt names tokens from at TooDeep t = deep_apt Block (kind_or_end tokens at)
 reported_apt names tokens from at Unsupported t = left_apt Block (kind_or_end tokens at) (left_may names t.front (kind_or_end tokens at) t.yields)
 reported_apt names tokens from at Syntax t =
@@ -158,6 +170,7 @@ pub stop_apt : (scope : Scope) (tokens : List Token) (s : Stop) → IsStopApt Bl
 stop_apt scope tokens (stop.Refused at reason) a = apt_in scope (kind_or_end tokens at) reason a
 stop_apt scope tokens stop.Memory a = tt
 
-pub answer_apt : {A : Type 0} (scope : Scope) (tokens : List Token) (answer : Result A Stop) → IsAnswerApt Block tokens answer → IsAnswerApt scope tokens answer
+pub answer_apt : {A : Type 0} (scope : Scope) (tokens : List Token) (answer : Result A Stop) → IsAnswerApt Block tokens answer
+    → IsAnswerApt scope tokens answer
 answer_apt scope tokens (Ok taken) a = tt
 answer_apt scope tokens (Err s) a = stop_apt scope tokens s a

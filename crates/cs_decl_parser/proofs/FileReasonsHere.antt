@@ -18,7 +18,8 @@ use Rattle.cs_decl_parser.specs.Aptness.{IsApt}
 use Rattle.cs_decl_parser.specs.FileStops.{is_unsupported_after}
 
 -- a token that isn't unsupported by its place, and for which the reason is apt
-punctuator_left : (front : Kinds) (m : Punctuator) → is_unsupported_after (token.Punctuator m) ≡ false → IsApt File (token.Punctuator m) Unsupported → IsUnsupportedOfFile front (token.Punctuator m)
+punctuator_left : (front : Kinds) (m : Punctuator) → is_unsupported_after (token.Punctuator m) ≡ false → IsApt File (token.Punctuator m) Unsupported
+    → IsUnsupportedOfFile front (token.Punctuator m)
 punctuator_left front punctuator.Ellipsis e a = tt
 punctuator_left front punctuator.OpenBrace e a = absurd (false≢true (sym e))
 punctuator_left front punctuator.OpenParenthesis e a = absurd (false≢true (sym e))
@@ -27,7 +28,8 @@ punctuator_left front punctuator.Dot e a = absurd (false≢true (sym e))
 punctuator_left front punctuator.OpenBracket e a = absurd (false≢true (sym e))
 punctuator_left front _ e a = absurd (a.kept refl refl)
 
-word_left : (front : Kinds) (k : Keyword) → is_unsupported_after (token.Keyword k) ≡ false → IsApt File (token.Keyword k) Unsupported → IsUnsupportedOfFile front (token.Keyword k)
+word_left : (front : Kinds) (k : Keyword) → is_unsupported_after (token.Keyword k) ≡ false → IsApt File (token.Keyword k) Unsupported
+    → IsUnsupportedOfFile front (token.Keyword k)
 word_left front keyword.Static e a = absurd (false≢true (sym e))
 word_left front keyword.Typedef e a = absurd (false≢true (sym e))
 word_left front _ e a = absurd (a.kept refl refl)
@@ -38,7 +40,8 @@ kind_left front (token.Punctuator m) e a = punctuator_left front m e a
 kind_left front (token.Keyword k) e a = word_left front k e a
 kind_left front _ e a = absurd (a.kept refl refl)
 
-punctuator_kept : (front : Kinds) (m : Punctuator) → is_unsupported_after (token.Punctuator m) ≡ false → IsApt File (token.Punctuator m) Syntax → IsUnsupportedOfFile front (token.Punctuator m) → ⊥
+punctuator_kept : (front : Kinds) (m : Punctuator) → is_unsupported_after (token.Punctuator m) ≡ false → IsApt File (token.Punctuator m) Syntax
+    → IsUnsupportedOfFile front (token.Punctuator m) → ⊥
 punctuator_kept front punctuator.Ellipsis e a o = a.out refl refl
 punctuator_kept front punctuator.OpenBrace e a o = false≢true (sym e)
 punctuator_kept front punctuator.OpenParenthesis e a o = false≢true (sym e)
@@ -58,7 +61,9 @@ kind_kept front (token.Punctuator m) e a o = punctuator_kept front m e a o
 kind_kept front (token.Keyword k) e a o = word_kept front k e o
 kind_kept front _ e a o = o
 
-pub reason_of_kind : (front : Kinds) (next : TokenKind) (reason : Reason) → (is_deep reason ≡ true → BeginsFile (front ++ next ∷ [])) → (is_deep reason ≡ false → BeginsFile (front ++ next ∷ []) → ⊥) → IsApt File next reason → is_unsupported_after next ≡ false → IsFileReason front (Some next) reason
+pub reason_of_kind : (front : Kinds) (next : TokenKind) (reason : Reason) → (is_deep reason ≡ true → BeginsFile (front ++ next ∷ []))
+    → (is_deep reason ≡ false → BeginsFile (front ++ next ∷ []) → ⊥) → IsApt File next reason → is_unsupported_after next ≡ false
+    → IsFileReason front (Some next) reason
 reason_of_kind front next TooDeep deep flat a e = deep refl
 reason_of_kind front next Unsupported deep flat a e = (flat refl, kind_left front next e a)
 reason_of_kind front next Syntax deep flat a e = (flat refl, kind_kept front next e a)

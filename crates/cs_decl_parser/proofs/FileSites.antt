@@ -1,6 +1,8 @@
 -- Each return of the parser of files, over tokens by their numbers.
 use Rattle.std.specs.Option.{option_map}
-use Rattle.std.proofs.Common.{◌≡◌, ℕ, suc, get_or, Option, ◌<◌, ◌≤◌, inl, inr, Bool, false, List, [], ◌∷◌, ◌++◌, map, length, drop, take, refl, sym, ap, ◌∙◌, subst, arith, append_assoc, append-nil, length-append, length-drop, drop_at, Some, None, slice_get}
+use Rattle.std.proofs.Common.{◌≡◌, ℕ, suc, get_or, Option, ◌<◌, ◌≤◌, inl, inr, Bool, false, List, [], ◌∷◌, ◌++◌, map, length, drop}
+use Rattle.std.proofs.Common.{take, refl, sym, ap, ◌∙◌, subst, arith, append_assoc, append-nil, length-append, length-drop, drop_at, Some, None}
+use Rattle.std.proofs.Common.{slice_get}
 use Rattle.std.proofs.lemmas.Bool.{false≢true}
 use Rattle.std.proofs.lemmas.List.{append_cancel_right, take-append-drop, map-append, length-map}
 use Rattle.std.proofs.Math.Seq.{drop-cons}
@@ -61,24 +63,31 @@ parts_push [] e = refl
 parts_push (d ∷ ds) e = ap (λ (x : List External). external d ∷ x) (parts_push ds e)
 
 -- one more was taken
-pub parts_more : (names later : Names) (tokens : List Token) (done all : List RawExternal) (next : ℕ) (taken : Taken RawExternal) → PartsSoFar names tokens (parts_of done) next → IsExactly (Externals names) external 200 tokens next taken → later ≡ names_after names (external taken.tree) → all ≡ done ++ taken.tree ∷ [] → PartsSoFar later tokens (parts_of all) taken.next
+pub parts_more : (names later : Names) (tokens : List Token) (done all : List RawExternal) (next : ℕ) (taken : Taken RawExternal)
+    → PartsSoFar names tokens (parts_of done) next → IsExactly (Externals names) external 200 tokens next taken
+    → later ≡ names_after names (external taken.tree) → all ≡ done ++ taken.tree ∷ [] → PartsSoFar later tokens (parts_of all) taken.next
 parts_more names later tokens done all next taken s t n e =
     let list : parts_of all ≡ parts_of done ++ external taken.tree ∷ [] = ap parts_of e ∙ parts_push done taken.tree in
     let more : PartsSoFar (names_after names (external taken.tree)) tokens (parts_of done ++ external taken.tree ∷ []) taken.next = record {
       spelled =
-          spells_as tokens 0 taken.next (λ rest. externals_text (parts_of done) (external_text (external taken.tree) rest)) (externals_text (parts_of done ++ external taken.tree ∷ []))
+          spells_as tokens 0 taken.next (λ rest. externals_text (parts_of done) (external_text (external taken.tree) rest))
+          (externals_text (parts_of done ++ external taken.tree ∷ []))
           (spells_more tokens 0 next taken.next (externals_text (parts_of done)) (external_text (external taken.tree)) s.spelled t.spelled)
           (λ rest. sym (text_more (parts_of done) (external taken.tree ∷ []) rest));
       so_far = file_more names 200 (parts_of done) (external taken.tree) s.so_far t.exactly;
     } in
-    subst (λ (m : Names). PartsSoFar m tokens (parts_of all) taken.next) (sym n) (subst (λ (x : List External). PartsSoFar (names_after names (external taken.tree)) tokens x taken.next) (sym list) more)
+    subst (λ (m : Names). PartsSoFar m tokens (parts_of all) taken.next) (sym n)
+    (subst (λ (x : List External). PartsSoFar (names_after names (external taken.tree)) tokens x taken.next) (sym list) more)
 
 -- a part of the file was refused
-part_refused : (names : Names) (tokens : List Token) (done : List External) (next at : ℕ) (reason : Reason) → next < length tokens → PartsSoFar names tokens done next → IsRefused (Externals names) 200 tokens next at reason → IsApt scope.File (kind_or_end tokens at) reason → IsPartRefusedAt tokens at reason
+part_refused : (names : Names) (tokens : List Token) (done : List External) (next at : ℕ) (reason : Reason) → next < length tokens
+    → PartsSoFar names tokens done next → IsRefused (Externals names) 200 tokens next at reason → IsApt scope.File (kind_or_end tokens at) reason
+    → IsPartRefusedAt tokens at reason
 part_refused names tokens done next at reason some s r apt =
     let f = file_refused names 200 done s.so_far r.front (kind_or_end tokens at) (is_deep reason) r.refused in
     let sp : Spells tokens 0 at (λ rest. (externals_text done [] ++ r.front) ++ rest) =
-    spells_as tokens 0 at (λ rest. externals_text done (r.front ++ rest)) (λ rest. (externals_text done [] ++ r.front) ++ rest) (spells_more tokens 0 next at (externals_text done) (λ rest. r.front ++ rest) s.spelled r.spelled)
+    spells_as tokens 0 at (λ rest. externals_text done (r.front ++ rest)) (λ rest. (externals_text done [] ++ r.front) ++ rest)
+    (spells_more tokens 0 next at (externals_text done) (λ rest. r.front ++ rest) s.spelled r.spelled)
     (λ rest. sym (externals_append done [] (r.front ++ rest)) ∙ sym (append_assoc (externals_text done []) r.front rest)) in
     record {
       stopped = record {
@@ -89,27 +98,33 @@ part_refused names tokens done next at reason some s r apt =
         deep = λ within. f.further;
         flat = λ within. f.nothing;
         unfinished = λ ends file is same.
-            file_unfinished names 200 done s.so_far r.front (kind_or_end tokens at) (is_deep reason) (λ none. let n = refused_number tokens next at r.front r.spelled in let l : length r.front ≡ 0 = ap length none in omega (arith, n, l, ends, some)) r.refused file is same;
+            file_unfinished names 200 done s.so_far r.front (kind_or_end tokens at) (is_deep reason)
+            (λ none. let n = refused_number tokens next at r.front r.spelled in let l : length r.front ≡ 0 = ap length none in
+            omega (arith, n, l, ends, some)) r.refused file is same;
       };
       why = λ within e. reason_of_kind (externals_text done [] ++ r.front) (kind_or_end tokens at) reason f.further f.nothing apt e;
     }
 
 -- the tokens of the part after those that were taken
-ends_in : (names : Names) (front more : Kinds) (next : TokenKind) (rest : List External) → IsFile names rest → externals_text rest [] ≡ front ++ more → Refused (Externals names) 200 front next false → 0 < length front → BeginsWith names front rest
+ends_in : (names : Names) (front more : Kinds) (next : TokenKind) (rest : List External) → IsFile names rest → externals_text rest [] ≡ front ++ more
+    → Refused (Externals names) 200 front next false → 0 < length front → BeginsWith names front rest
 ends_in names [] more next rest is e r some = absurd (omega (arith, some))
 ends_in names (k ∷ front) more next [] is e r some = absurd cc
 ends_in names (k ∷ front) more next (x ∷ xs) is e r some =
     elim (split (external_text x []) (externals_text xs []) (k ∷ front) more (external_append x [] (externals_text xs []) ∙ e)) [
-      | inl s ↦ absurd (false≢true (r.never x s.0 [] is.0 tt (inl refl) (sym (external_append x [] s.0) ∙ sym s.1 ∙ sym (append-nil (k ∷ front)))).reported)
+      | inl s ↦
+          absurd (false≢true (r.never x s.0 [] is.0 tt (inl refl) (sym (external_append x [] s.0) ∙ sym s.1 ∙ sym (append-nil (k ∷ front)))).reported)
       | inr s ↦ record { whole = x; others = xs; more = s.0 ∷ s.1; parts_are = refl; is = is.0; spelled = s.2 }
     ]
 
 -- in each file that begins with the tokens before the refused one
-amidst : (names : Names) (tokens : List Token) (done : List External) (next at : ℕ) (reason : Reason) → PartsSoFar names tokens done next → IsRefused (Externals names) 200 tokens next at reason → is_deep reason ≡ false → EndInPart names (kinds (take at tokens)) next
+amidst : (names : Names) (tokens : List Token) (done : List External) (next at : ℕ) (reason : Reason) → PartsSoFar names tokens done next
+    → IsRefused (Externals names) 200 tokens next at reason → is_deep reason ≡ false → EndInPart names (kinds (take at tokens)) next
 amidst names tokens done next at reason s r flat file more is same =
     let text : Kinds = externals_text done [] in
     let sp : Spells tokens 0 at (λ rest. (text ++ r.front) ++ rest) =
-    spells_as tokens 0 at (λ rest. externals_text done (r.front ++ rest)) (λ rest. (text ++ r.front) ++ rest) (spells_more tokens 0 next at (externals_text done) (λ rest. r.front ++ rest) s.spelled r.spelled)
+    spells_as tokens 0 at (λ rest. externals_text done (r.front ++ rest)) (λ rest. (text ++ r.front) ++ rest)
+    (spells_more tokens 0 next at (externals_text done) (λ rest. r.front ++ rest) s.spelled r.spelled)
     (λ rest. sym (externals_append done [] (r.front ++ rest)) ∙ sym (append_assoc text r.front rest)) in
     let front : kinds (take at tokens) ≡ text ++ r.front =
     append_cancel_right (kinds (take at tokens)) (text ++ r.front) (kinds (drop at tokens))
@@ -131,19 +146,23 @@ amidst names tokens done next at reason s r flat file more is same =
       ends = λ some.
           let n = ap length front ∙ length-append text r.front in
           subst (λ (x : Kinds). BeginsWith names x f.0) (sym part)
-          (ends_in names r.front more (kind_or_end tokens at) f.0 f.2 (sym f.3) (subst (λ (deep : Bool). Refused (Externals names) 200 r.front (kind_or_end tokens at) deep) flat r.refused) (omega (arith, some, n, begins)));
+          (ends_in names r.front more (kind_or_end tokens at) f.0 f.2 (sym f.3)
+          (subst (λ (deep : Bool). Refused (Externals names) 200 r.front (kind_or_end tokens at) deep) flat r.refused) (omega (arith, some, n, begins)));
     }
 
-pub stands_amidst : (parts : Parts) (tokens : List Token) (done : List External) → PartsSoFar parts.names tokens done parts.next → (s : Stop) → Stops (Externals parts.names) 200 tokens parts.next s → StandsAmidst tokens parts s
+pub stands_amidst : (parts : Parts) (tokens : List Token) (done : List External) → PartsSoFar parts.names tokens done parts.next
+    → (s : Stop) → Stops (Externals parts.names) 200 tokens parts.next s → StandsAmidst tokens parts s
 stands_amidst parts tokens done p stop.Memory r = tt
 stands_amidst parts tokens done p (stop.Refused at reason) r = (r.spelled.onward, λ flat. amidst parts.names tokens done parts.next at reason p r flat)
 
-pub file_stops : (names : Names) (tokens : List Token) (done : List External) (next : ℕ) → next < length tokens → PartsSoFar names tokens done next → (s : Stop) → Stops (Externals names) 200 tokens next s → IsStopApt scope.File tokens s → FileStops tokens s
+pub file_stops : (names : Names) (tokens : List Token) (done : List External) (next : ℕ) → next < length tokens → PartsSoFar names tokens done next
+    → (s : Stop) → Stops (Externals names) 200 tokens next s → IsStopApt scope.File tokens s → FileStops tokens s
 file_stops names tokens done next some s stop.Memory r apt = tt
 file_stops names tokens done next some s (stop.Refused at reason) r apt = part_refused names tokens done next at reason some s r apt
 
 -- all parts were taken
-pub file_taken : (names : Names) (tokens : List Token) (done : List External) (next : ℕ) → length tokens ≤ next → PartsSoFar names tokens done next → IsTheFile tokens done
+pub file_taken : (names : Names) (tokens : List Token) (done : List External) (next : ℕ) → length tokens ≤ next → PartsSoFar names tokens done next
+    → IsTheFile tokens done
 file_taken names tokens done next all s =
     let t = file_took names 200 done s.so_far in
     let sp = s.spelled in
@@ -155,7 +174,8 @@ file_taken names tokens done next all s =
     }
 
 -- the answer of the parser of expressions, as that of the file
-for_here : (tokens : List Token) (end : Place) (at : ℕ) (reason : Reason) (r : SyntaxRefusal) → IsRefusalFor tokens end at reason r → IsRefusalHere tokens end at reason r
+for_here : (tokens : List Token) (end : Place) (at : ℕ) (reason : Reason) (r : SyntaxRefusal) → IsRefusalFor tokens end at reason r
+    → IsRefusalHere tokens end at reason r
 for_here tokens end at Syntax (refusal.Syntax place) f = (f, λ within. refl)
 for_here tokens end at Unsupported (refusal.Unsupported place word) f = (f.0, refl, f.1)
 for_here tokens end at TooDeep (refusal.TooDeep place) f = (f, refl)
@@ -169,13 +189,15 @@ for_here tokens end at Unsupported (refusal.TooDeep place) f = absurd f
 for_here tokens end at TooDeep (refusal.Syntax place) f = absurd f
 for_here tokens end at TooDeep (refusal.Unsupported place word) f = absurd f
 
-with_stop : (tokens : List Token) (end : Place) (at : ℕ) (reason : Reason) (r : SyntaxRefusal) → IsRefusalHere tokens end at reason r → IsFileRefusedAt tokens at reason → IsFileRefusal tokens end r
+with_stop : (tokens : List Token) (end : Place) (at : ℕ) (reason : Reason) (r : SyntaxRefusal) → IsRefusalHere tokens end at reason r
+    → IsFileRefusedAt tokens at reason → IsFileRefusal tokens end r
 with_stop tokens end at reason refusal.Memory h s = tt
 with_stop tokens end at reason (refusal.Syntax place) h s = (at, reason, h, s)
 with_stop tokens end at reason (refusal.Unsupported place word) h s = (at, reason, h, s)
 with_stop tokens end at reason (refusal.TooDeep place) h s = (at, reason, h, s)
 
-there : (tokens : List Token) (end : Place) (at : ℕ) (reason : Reason) (r : SyntaxRefusal) (found : Option Token) → slice_get tokens at ≡ found → IsRefusalFor tokens end at (reason_there (option_map (λ (token : Token). token.kind) found) reason) r → IsRefusalHere tokens end at reason r
+there : (tokens : List Token) (end : Place) (at : ℕ) (reason : Reason) (r : SyntaxRefusal) (found : Option Token) → slice_get tokens at ≡ found
+    → IsRefusalFor tokens end at (reason_there (option_map (λ (token : Token). token.kind) found) reason) r → IsRefusalHere tokens end at reason r
 there tokens end at reason r (Some t) e f = for_here tokens end at reason r f
 there tokens end at reason (refusal.Syntax place) None e f = let all = past_end tokens at e in (f, λ within. absurd (omega (arith, all, within)))
 there tokens end at reason refusal.Memory None e f = tt
@@ -183,9 +205,11 @@ there tokens end at reason (refusal.Unsupported place word) None e f = absurd f
 there tokens end at reason (refusal.TooDeep place) None e f = absurd f
 
 -- the refusal of a token, or of the end of input
-pub token_refusal : (tokens : List Token) (end : Place) (at : ℕ) (reason : Reason) (r : SyntaxRefusal) → IsRefusalFor tokens end at (reason_there (kind_at tokens at) reason) r → IsFileRefusedAt tokens at reason → IsFileRefusal tokens end r
+pub token_refusal : (tokens : List Token) (end : Place) (at : ℕ) (reason : Reason) (r : SyntaxRefusal)
+    → IsRefusalFor tokens end at (reason_there (kind_at tokens at) reason) r → IsFileRefusedAt tokens at reason → IsFileRefusal tokens end r
 token_refusal tokens end at reason r f s = with_stop tokens end at reason r (there tokens end at reason r (slice_get tokens at) refl f) s
 
 -- the names of a typedef, one after another
-pub with_next : (names : Names) (list : List RawDeclarator) (at : ℕ) (d : RawDeclarator) → at < length list → with_names names (map declarator (drop at list)) ≡ with_names (with_name names (get_or list at d).name) (map declarator (drop (suc at) list))
+pub with_next : (names : Names) (list : List RawDeclarator) (at : ℕ) (d : RawDeclarator) → at < length list
+    → with_names names (map declarator (drop at list)) ≡ with_names (with_name names (get_or list at d).name) (map declarator (drop (suc at) list))
 with_next names list at d less = ap (λ (x : List RawDeclarator). with_names names (map declarator x)) (drop-cons list at d less)

@@ -1,5 +1,6 @@
 -- Members of structures: what each return gives. For the contracts of `member` and `members`.
-use Rattle.std.proofs.Common.{◌≡◌, ℕ, ◌+◌, ◌<◌, ◌≤◌, max, inl, inr, true, false, map, List, [], ◌∷◌, ◌++◌, length, refl, sym, ap, ◌∙◌, subst, arith}
+use Rattle.std.proofs.Common.{◌≡◌, ℕ, ◌+◌, ◌<◌, ◌≤◌, max, inl, inr, true, false, map, List, [], ◌∷◌, ◌++◌, length, refl, sym}
+use Rattle.std.proofs.Common.{ap, ◌∙◌, subst, arith}
 use Rattle.std.proofs.lemmas.Bool.{false≢true}
 use Rattle.cs_ast.specs.declared.token.Token.{Token}
 use Rattle.cs_ast.specs.declared.token.TokenKind.{TokenKind}
@@ -32,7 +33,8 @@ use Rattle.cs_grammar.proofs.Statements.{open_brace, close_brace, semicolon}
 use Rattle.cs_grammar.proofs.BlockItems.{Starts, with_star, with_name}
 use Rattle.cs_grammar.proofs.SpecRows.{first_of, spec_first}
 use Rattle.cs_grammar.proofs.FileRules.{specs_has}
-use Rattle.cs_grammar.proofs.Bodies.{member_pair, member_starts, member_list_law, file_specs_law, MemberGroup, more_members, member_listing, joined_members, members_more_text, member_growing, members_end}
+use Rattle.cs_grammar.proofs.Bodies.{member_pair, member_starts, member_list_law, file_specs_law, MemberGroup, more_members, member_listing, joined_members}
+use Rattle.cs_grammar.proofs.Bodies.{members_more_text, member_growing, members_end}
 use Rattle.cs_grammar.proofs.SmallRooms.{begins_file_spec, group_full}
 use Rattle.cs_expr_parser.specs.Positions.{kind_or_end}
 use Rattle.cs_expr_parser.specs.Parts.{Spells, IsRefused, is_deep}
@@ -50,7 +52,8 @@ typedef_among : (names : Names) (n : List ℕ) (rest : List TypeWord) → names_
 typedef_among names n [] e = e
 typedef_among names n (w ∷ ws) e = absurd (false≢true e)
 
-first_of_words : (names : Names) (s : Spec) (others : Specs) → is_type names (words_of (MoreSpecs s others)) ≡ true → begins_words File names (first_of s) ≡ true
+first_of_words : (names : Names) (s : Spec) (others : Specs) → is_type names (words_of (MoreSpecs s others)) ≡ true
+    → begins_words File names (first_of s) ≡ true
 first_of_words names Static others e = refl
 first_of_words names (Plain word.Const) others e = refl
 first_of_words names (Plain word.Void) others e = refl
@@ -67,7 +70,8 @@ first_of_words names (StructBody tag members) others e = refl
 first_of_words names (EnumBody tag constants comma) others e = refl
 
 -- what stands before declarators begins with a token that may begin it
-pub specs_begin : (names : Names) (s : Specs) (x : Kinds) (next : TokenKind) (more : Kinds) → AreSpecs names s → specs_text s x ≡ next ∷ more → begins_words File names next ≡ true
+pub specs_begin : (names : Names) (s : Specs) (x : Kinds) (next : TokenKind) (more : Kinds) → AreSpecs names s → specs_text s x ≡ next ∷ more
+    → begins_words File names next ≡ true
 specs_begin names NoSpec x next more is same = absurd (false≢true is.0)
 specs_begin names (MoreSpecs s others) x next more is same =
     ap (begins_words File names) (sym (spec_first s (specs_text others x) next more same)) ∙ first_of_words names s others is.0
@@ -79,18 +83,22 @@ group_absent names limit next none =
     (λ g after is same. specs_has names g.0 (with_commas declarator_text g.1 (semicolon ∷ after)) is.0 same)
     (λ g after more is same. false≢true (sym none ∙ specs_begin names g.0 (with_commas declarator_text g.1 (semicolon ∷ after)) next more is.0 same))
 
-pub member_absent : (names : Names) (limit : ℕ) (tokens : List Token) (from : ℕ) (s : Stop) → from ≤ length tokens → begins_words File names (kind_or_end tokens from) ≡ false → IsPlainStop File tokens from s → Stops (MemberGroups names) limit tokens from s
+pub member_absent : (names : Names) (limit : ℕ) (tokens : List Token) (from : ℕ) (s : Stop) → from ≤ length tokens
+    → begins_words File names (kind_or_end tokens from) ≡ false → IsPlainStop File tokens from s → Stops (MemberGroups names) limit tokens from s
 member_absent names limit tokens from s within none is =
-    stops_plain (MemberGroups names) limit tokens from from File [] s (spells_none tokens from within) is (group_absent names limit (kind_or_end tokens from) none)
+    stops_plain (MemberGroups names) limit tokens from from File [] s (spells_none tokens from within) is
+    (group_absent names limit (kind_or_end tokens from) none)
 
 begins_same : (names : Names) (next : TokenKind) → begins_file_spec names next ≡ begins_words File names next
 begins_same names (token.Keyword keyword.Static) = refl
 begins_same names _ = refl
 
 -- the limit doesn't allow a member
-pub member_full : (names : Names) (limit : ℕ) (tokens : List Token) (from : ℕ) (s : Stop) → from ≤ length tokens → limit < 2 → begins_words File names (kind_or_end tokens from) ≡ true → s ≡ stop.Refused from TooDeep → Stops (MemberGroups names) limit tokens from s
+pub member_full : (names : Names) (limit : ℕ) (tokens : List Token) (from : ℕ) (s : Stop) → from ≤ length tokens → limit < 2
+    → begins_words File names (kind_or_end tokens from) ≡ true → s ≡ stop.Refused from TooDeep → Stops (MemberGroups names) limit tokens from s
 member_full names limit tokens from s within little begins is =
-    stops_full (MemberGroups names) limit tokens from s within is (group_full names limit (kind_or_end tokens from) little (begins_same names (kind_or_end tokens from) ∙ begins))
+    stops_full (MemberGroups names) limit tokens from s within is
+    (group_full names limit (kind_or_end tokens from) little (begins_same names (kind_or_end tokens from) ∙ begins))
 
 starts_some : (tokens : Kinds) → Starts tokens → tokens ≡ [] → ⊥
 starts_some tokens (with_star more e) same = let z = sym e ∙ same in cc
@@ -105,7 +113,9 @@ has_limit : (names : Names) (limit inner : ℕ) → limit ≡ 1 + inner → 1 �
 has_limit names limit inner less some = (less, some, some)
 
 -- a brace was refused after the words before the declarators
-brace_refused : (names : Names) (limit inner : ℕ) → limit ≡ 1 + inner → 1 ≤ inner → (tokens : List Token) (from at : ℕ) (reason : Reason) → IsBraceRefused (FileSpecs names) inner tokens from at reason → IsRefused (MemberGroups names) limit tokens from at reason
+brace_refused : (names : Names) (limit inner : ℕ) → limit ≡ 1 + inner → 1 ≤ inner
+    → (tokens : List Token) (from at : ℕ) (reason : Reason) → IsBraceRefused (FileSpecs names) inner tokens from at reason
+    → IsRefused (MemberGroups names) limit tokens from at reason
 brace_refused names limit inner less some tokens from at reason b = record {
   front = specs_text b.phrase [];
   spelled = front_of (FileSpecs names) (file_specs_law names) tokens from at b.phrase b.spelled;
@@ -113,25 +123,32 @@ brace_refused names limit inner less some tokens from at reason b = record {
       subst (λ (x : TokenKind). Refused (MemberGroups names) limit (specs_text b.phrase []) x (is_deep reason)) (sym b.brace)
       (pair_wrong (member_pair names) limit inner (has_limit names limit inner less some) b.phrase open_brace (is_deep reason) b.took
       (λ d after are same. starts_some (with_commas declarator_text d (semicolon ∷ after)) (member_starts names d (semicolon ∷ after) are.0 are.1) same)
-      (λ d after more are same. starts_no_brace (with_commas declarator_text d (semicolon ∷ after)) more (member_starts names d (semicolon ∷ after) are.0 are.1) same));
+      (λ d after more are same.
+      starts_no_brace (with_commas declarator_text d (semicolon ∷ after)) more (member_starts names d (semicolon ∷ after) are.0 are.1) same));
 }
 
 -- the words before the declarators were refused
-pub member_specs_stop : (names : Names) (limit inner : ℕ) → limit ≡ 1 + inner → 1 ≤ inner → (tokens : List Token) (from : ℕ) → from ≤ length tokens → (s : Stop) → StopsOrBrace (FileSpecs names) inner tokens from s → Stops (MemberGroups names) limit tokens from s
+pub member_specs_stop : (names : Names) (limit inner : ℕ) → limit ≡ 1 + inner → 1 ≤ inner
+    → (tokens : List Token) (from : ℕ) → from ≤ length tokens → (s : Stop) → StopsOrBrace (FileSpecs names) inner tokens from s
+    → Stops (MemberGroups names) limit tokens from s
 member_specs_stop names limit inner less some tokens from within stop.Memory a = tt
 member_specs_stop names limit inner less some tokens from within (stop.Refused at reason) a =
     elim a [
-      | inl r ↦ pair_first_stops (member_pair names) limit inner (has_limit names limit inner less some) tokens from from (spells_none tokens from within) (stop.Refused at reason) r
+      | inl r ↦ pair_first_stops (member_pair names) limit inner (has_limit names limit inner less some) tokens from from (spells_none tokens from within)
+          (stop.Refused at reason) r
       | inr b ↦ brace_refused names limit inner less some tokens from at reason b
     ]
 
 -- the declarators after the words were refused
-pub member_list_stops : (names : Names) (limit inner : ℕ) → limit ≡ 1 + inner → 1 ≤ inner → (tokens : List Token) (from : ℕ) (words : Taken RawSpecs) → IsTaken (FileSpecs names) specs inner tokens from false words → (s : Stop) → Stops (Separated (MemberDeclarators names) semicolon) inner tokens words.next s → Stops (MemberGroups names) limit tokens from s
+pub member_list_stops : (names : Names) (limit inner : ℕ) → limit ≡ 1 + inner → 1 ≤ inner
+    → (tokens : List Token) (from : ℕ) (words : Taken RawSpecs) → IsTaken (FileSpecs names) specs inner tokens from false words
+    → (s : Stop) → Stops (Separated (MemberDeclarators names) semicolon) inner tokens words.next s → Stops (MemberGroups names) limit tokens from s
 member_list_stops names limit inner less some tokens from words w s r =
     stops_in (MemberGroups names) (Separated (MemberDeclarators names) semicolon) limit inner tokens from words.next (specs_text (specs words.tree) [])
     (front_of (FileSpecs names) (file_specs_law names) tokens from words.next (specs words.tree) w.spelled)
     (λ front at deep here x.
-    pair_then_refused (member_pair names) limit inner (has_limit names limit inner less some) (specs words.tree) (kind_or_end tokens words.next) false w.took (λ reported. absurd (false≢true reported)) front (kind_or_end tokens at) deep
+    pair_then_refused (member_pair names) limit inner (has_limit names limit inner less some) (specs words.tree) (kind_or_end tokens words.next) false w.took
+    (λ reported. absurd (false≢true reported)) front (kind_or_end tokens at) deep
     (first_front tokens words.next at front here) x) s r
 
 first_any : (front : Kinds) → (front ≡ [] → ⊥) → (a b : TokenKind) → first_or front a ≡ first_or front b
@@ -139,14 +156,21 @@ first_any [] some a b = absurd (some refl)
 first_any (t ∷ ts) some a b = refl
 
 -- the first token of declarators, whatever stands after them
-list_first : (names : Names) (tokens : List Token) (mid next : ℕ) (d : List Declarator) → (Separated (MemberDeclarators names) semicolon).Is d → Spells tokens mid next ((Separated (MemberDeclarators names) semicolon).spell d) → (following : TokenKind) → first_or ((Separated (MemberDeclarators names) semicolon).spell d []) following ≡ kind_or_end tokens mid
+list_first : (names : Names) (tokens : List Token) (mid next : ℕ) (d : List Declarator) → (Separated (MemberDeclarators names) semicolon).Is d
+    → Spells tokens mid next ((Separated (MemberDeclarators names) semicolon).spell d)
+    → (following : TokenKind) → first_or ((Separated (MemberDeclarators names) semicolon).spell d []) following ≡ kind_or_end tokens mid
 list_first names tokens mid next d is sp following =
     let front = with_commas declarator_text d (semicolon ∷ []) in
     first_any front (λ none. starts_some front (member_starts names d (semicolon ∷ []) is.0 is.1) none) following (kind_or_end tokens next)
     ∙ first_front tokens mid next front (front_of (Separated (MemberDeclarators names) semicolon) (member_list_law names) tokens mid next d sp)
 
 -- members of one type were taken
-pub member_taken : (names : Names) (limit inner : ℕ) → limit ≡ 1 + inner → 1 ≤ inner → (tokens : List Token) (from : ℕ) (words : Taken RawSpecs) → IsTaken (FileSpecs names) specs inner tokens from false words → {A : Type 0} (view : A → List Declarator) (list : Taken A) → IsExactly (Separated (MemberDeclarators names) semicolon) view inner tokens words.next list → (taken : Taken RawMember) → group taken.tree ≡ (specs words.tree, view list.tree) → taken.height ≡ max words.height list.height + 1 → taken.next ≡ list.next → IsExactly (MemberGroups names) group limit tokens from taken
+pub member_taken : (names : Names) (limit inner : ℕ) → limit ≡ 1 + inner → 1 ≤ inner
+    → (tokens : List Token) (from : ℕ) (words : Taken RawSpecs) → IsTaken (FileSpecs names) specs inner tokens from false words
+    → {A : Type 0} (view : A → List Declarator) (list : Taken A)
+    → IsExactly (Separated (MemberDeclarators names) semicolon) view inner tokens words.next list
+    → (taken : Taken RawMember) → group taken.tree ≡ (specs words.tree, view list.tree) → taken.height ≡ max words.height list.height + 1
+    → taken.next ≡ list.next → IsExactly (MemberGroups names) group limit tokens from taken
 member_taken names limit inner less some tokens from words w view list l taken is tall next =
     let both : MemberGroup = (specs words.tree, view list.tree) in
     record {
@@ -158,13 +182,16 @@ member_taken names limit inner less some tokens from words w view list l taken i
       spelled =
           subst (λ (n : ℕ). Spells tokens from n ((MemberGroups names).spell (group taken.tree))) (sym next)
           (subst (λ (x : MemberGroup). Spells tokens from list.next ((MemberGroups names).spell x)) (sym is)
-          (spells_more tokens from words.next list.next (specs_text (specs words.tree)) ((Separated (MemberDeclarators names) semicolon).spell (view list.tree)) w.spelled l.spelled));
+          (spells_more tokens from words.next list.next (specs_text (specs words.tree)) ((Separated (MemberDeclarators names) semicolon).spell (view list.tree))
+          w.spelled l.spelled));
       exactly =
           subst (λ (x : MemberGroup). Exactly (MemberGroups names) limit x) (sym is)
           (took_exact (MemberGroups names) limit both
           (λ following.
-          pair_then_took (member_pair names) limit inner (has_limit names limit inner less some) (specs words.tree) (kind_or_end tokens words.next) false w.took (λ reported. absurd (false≢true reported)) (view list.tree) following false
-          (list_first names tokens words.next list.next (view list.tree) l.exactly.is_phrase l.spelled following) (exact_took (Separated (MemberDeclarators names) semicolon) inner (view list.tree) l.exactly following))
+          pair_then_took (member_pair names) limit inner (has_limit names limit inner less some) (specs words.tree) (kind_or_end tokens words.next) false w.took
+          (λ reported. absurd (false≢true reported)) (view list.tree) following false
+          (list_first names tokens words.next list.next (view list.tree) l.exactly.is_phrase l.spelled following)
+          (exact_took (Separated (MemberDeclarators names) semicolon) inner (view list.tree) l.exactly following))
           (λ other after. tt) semicolon);
     }
 
@@ -174,25 +201,32 @@ pub record MembersSoFar (names : Names) (limit : ℕ) (tokens : List Token) (fro
   pub so_far : GrownSoFar (member_growing names) limit (members_list items) (Near (kind_or_end tokens next))
   pub height_is : tall ≡ members_height (members_list items)
 
-pub members_none : (names : Names) (limit : ℕ) (tokens : List Token) (from : ℕ) → from ≤ length tokens → MembersSoFar names limit tokens from from [] 0
+pub members_none : (names : Names) (limit : ℕ) (tokens : List Token) (from : ℕ) → from ≤ length tokens
+    → MembersSoFar names limit tokens from from [] 0
 members_none names limit tokens from within = record {
   spelled = spells_none tokens from within;
   so_far =
-      tail_as (MemberRows names) (MemberRows names) limit limit [] [] (joined_members NoMember) (joined_members NoMember) (λ rest. Unit {0}) (Near (kind_or_end tokens from)) (grown_none (member_growing names) limit) refl (λ part. refl)
+      tail_as (MemberRows names) (MemberRows names) limit limit [] [] (joined_members NoMember) (joined_members NoMember) (λ rest. Unit {0})
+      (Near (kind_or_end tokens from)) (grown_none (member_growing names) limit) refl (λ part. refl)
       (λ following fit. tt);
   height_is = refl;
 }
 
-list_more : (items : List RawMember) (m : RawMember) → members_list (items ++ m ∷ []) ≡ joined_members (members_list items) (more_members (group m) NoMember)
+list_more : (items : List RawMember) (m : RawMember)
+    → members_list (items ++ m ∷ []) ≡ joined_members (members_list items) (more_members (group m) NoMember)
 list_more [] m = refl
 list_more (i ∷ is) m = ap (MoreMembers (specs i.specs) (map declarator i.declarators.items)) (list_more is m)
 
-joined_height : (done : Members) (c : MemberGroup) → members_height (joined_members done (more_members c NoMember)) ≡ max (members_height done) (1 + max (specs_height c.0) (highest_by declarator_height c.1))
+joined_height : (done : Members) (c : MemberGroup)
+    → members_height (joined_members done (more_members c NoMember))
+    ≡ max (members_height done) (1 + max (specs_height c.0) (highest_by declarator_height c.1))
 joined_height NoMember c = omega arith
 joined_height (MoreMembers specs declarators others) c = let h = joined_height others c in omega (arith, h)
 
 -- one more was taken
-pub member_more : (names : Names) (limit : ℕ) (tokens : List Token) (from next : ℕ) (items more : List RawMember) (tall : ℕ) → MembersSoFar names limit tokens from next items tall → (taken : Taken RawMember) → IsExactly (MemberGroups names) group limit tokens next taken → more ≡ items ++ taken.tree ∷ [] → MembersSoFar names limit tokens from taken.next more (max tall taken.height)
+pub member_more : (names : Names) (limit : ℕ) (tokens : List Token) (from next : ℕ) (items more : List RawMember) (tall : ℕ)
+    → MembersSoFar names limit tokens from next items tall → (taken : Taken RawMember) → IsExactly (MemberGroups names) group limit tokens next taken
+    → more ≡ items ++ taken.tree ∷ [] → MembersSoFar names limit tokens from taken.next more (max tall taken.height)
 member_more names limit tokens from next items more tall m taken t is =
     let done = members_list items in
     let c = group taken.tree in
@@ -202,14 +236,17 @@ member_more names limit tokens from next items more tall m taken t is =
       spelled =
           subst (λ (x : Members). Spells tokens from taken.next (members_text x)) (sym all)
           (spells_as tokens from taken.next (λ rest. members_text done ((MemberGroups names).spell c rest)) (members_text (joined_members done one))
-          (spells_more tokens from next taken.next (members_text done) ((MemberGroups names).spell c) m.spelled t.spelled) (λ rest. sym (members_more_text done c rest)));
+          (spells_more tokens from next taken.next (members_text done) ((MemberGroups names).spell c) m.spelled t.spelled)
+          (λ rest. sym (members_more_text done c rest)));
       so_far =
           subst (λ (x : Members). GrownSoFar (member_growing names) limit x (Near (kind_or_end tokens taken.next))) (sym all)
-          (grown_more (member_growing names) limit done (Near (kind_or_end tokens next)) m.so_far c (kind_or_end tokens taken.next) false (exact_took (MemberGroups names) limit c t.exactly (kind_or_end tokens taken.next))
+          (grown_more (member_growing names) limit done (Near (kind_or_end tokens next)) m.so_far c (kind_or_end tokens taken.next) false
+          (exact_took (MemberGroups names) limit c t.exactly (kind_or_end tokens taken.next))
           (λ reported. absurd (false≢true reported))
           (λ following near.
           subst (Near (kind_or_end tokens next)) (sym (splits (MemberGroups names) (member_listing names).law c following))
-          (near_start tokens next taken.next ((MemberGroups names).spell c []) (front_of (MemberGroups names) (member_listing names).law tokens next taken.next c t.spelled) following near)));
+          (near_start tokens next taken.next ((MemberGroups names).spell c [])
+          (front_of (MemberGroups names) (member_listing names).law tokens next taken.next c t.spelled) following near)));
       height_is =
           let h = joined_height done c in
           let a = m.height_is in
@@ -219,17 +256,24 @@ member_more names limit tokens from next items more tall m taken t is =
     }
 
 -- a member was refused, where no brace closes the members
-pub member_stops : (names : Names) (limit : ℕ) (tokens : List Token) (from next : ℕ) (items : List RawMember) (tall : ℕ) → MembersSoFar names limit tokens from next items tall → (kind_or_end tokens next ≡ close_brace → ⊥) → (s : Stop) → Stops (MemberGroups names) limit tokens next s → Stops (MemberRows names) limit tokens from s
+pub member_stops : (names : Names) (limit : ℕ) (tokens : List Token) (from next : ℕ) (items : List RawMember) (tall : ℕ)
+    → MembersSoFar names limit tokens from next items tall → (kind_or_end tokens next ≡ close_brace → ⊥)
+    → (s : Stop) → Stops (MemberGroups names) limit tokens next s → Stops (MemberRows names) limit tokens from s
 member_stops names limit tokens from next items tall m other s r =
     let done = members_list items in
     stops_in (MemberRows names) (MemberGroups names) limit limit tokens from next (members_text done [])
     (spells_as tokens from next (members_text done) (λ rest. members_text done [] ++ rest) m.spelled (λ rest. sym (members_append done [] rest)))
     (λ front at deep here x.
-    grown_refused (member_growing names) limit done (Near (kind_or_end tokens next)) m.so_far front (kind_or_end tokens at) deep (near_start tokens next at front here)
-    (λ after following shut near same. near_other close_brace (kind_or_end tokens next) (front ++ following) after other (near_start tokens next at front here following near) same) x) s r
+    grown_refused (member_growing names) limit done (Near (kind_or_end tokens next)) m.so_far front (kind_or_end tokens at) deep
+    (near_start tokens next at front here)
+    (λ after following shut near same.
+    near_other close_brace (kind_or_end tokens next) (front ++ following) after other (near_start tokens next at front here following near) same) x) s r
 
 -- the closing brace stands after the members
-pub members_taken : (names : Names) (limit : ℕ) (tokens : List Token) (from next : ℕ) (items : List RawMember) (tall : ℕ) → MembersSoFar names limit tokens from next items tall → kind_or_end tokens next ≡ close_brace → {A : Type 0} (view : A → Members) (taken : Taken A) → view taken.tree ≡ members_list items → taken.height ≡ tall → taken.next ≡ next + 1 → IsExactly (MemberRows names) view limit tokens from taken
+pub members_taken : (names : Names) (limit : ℕ) (tokens : List Token) (from next : ℕ) (items : List RawMember) (tall : ℕ)
+    → MembersSoFar names limit tokens from next items tall → kind_or_end tokens next ≡ close_brace
+    → {A : Type 0} (view : A → Members) (taken : Taken A) → view taken.tree ≡ members_list items → taken.height ≡ tall → taken.next ≡ next + 1
+    → IsExactly (MemberRows names) view limit tokens from taken
 members_taken names limit tokens from next items tall m k view taken is tallness number =
     let done = members_list items in
     record {
@@ -237,8 +281,10 @@ members_taken names limit tokens from next items tall m k view taken is tallness
       spelled =
           subst (λ (n : ℕ). Spells tokens from n ((MemberRows names).spell (view taken.tree))) (sym number)
           (subst (λ (x : Members). Spells tokens from (next + 1) ((MemberRows names).spell x)) (sym is)
-          (spells_more tokens from next (next + 1) (members_text done) (λ rest. close_brace ∷ rest) m.spelled (spells_one tokens next close_brace k (λ x. cc))));
+          (spells_more tokens from next (next + 1) (members_text done) (λ rest. close_brace ∷ rest) m.spelled
+          (spells_one tokens next close_brace k (λ x. cc))));
       exactly =
           subst (λ (x : Members). Exactly (MemberRows names) limit x) (sym is)
-          (grown_exact (member_growing names) limit done (Near (kind_or_end tokens next)) m.so_far (λ following. inr (following, ap (λ (x : TokenKind). x ∷ following) (sym k))) (members_end names limit) (λ other after. tt) close_brace);
+          (grown_exact (member_growing names) limit done (Near (kind_or_end tokens next)) m.so_far
+          (λ following. inr (following, ap (λ (x : TokenKind). x ∷ following) (sym k))) (members_end names limit) (λ other after. tt) close_brace);
     }

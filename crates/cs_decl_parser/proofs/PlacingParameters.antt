@@ -21,7 +21,11 @@ parameter_framed p = parameter_append (parameter p)
 framed_both : (f g : Kinds → Kinds) → IsFramed f → IsFramed g → IsFramed (λ rest. f (g rest))
 framed_both f g first second = λ x y. first (g x) y ∙ ap f (second x y)
 
-pub parameter_placed : (p : RawParameter) (tokens : List Token) (from after_specs after_pointers after_name : ℕ) → StandsAt p.place (drop from tokens) → HasSpecPlaces p.specs (drop from tokens) → Spells tokens from after_specs (specs_text (specs p.specs)) → Spells tokens after_specs after_pointers (pointers_text p.pointers.items) → Spells tokens after_pointers after_name (name_text (option_map (λ (n : RawName). n.name) p.name)) → IsNamePlaced p.name (drop after_pointers tokens) → AreBracketsPlaced p.bounds.items (drop after_name tokens) → IsParameterPlaced p (drop from tokens)
+pub parameter_placed : (p : RawParameter) (tokens : List Token) (from after_specs after_pointers after_name : ℕ) → StandsAt p.place (drop from tokens)
+    → HasSpecPlaces p.specs (drop from tokens) → Spells tokens from after_specs (specs_text (specs p.specs))
+    → Spells tokens after_specs after_pointers (pointers_text p.pointers.items)
+    → Spells tokens after_pointers after_name (name_text (option_map (λ (n : RawName). n.name) p.name)) → IsNamePlaced p.name (drop after_pointers tokens)
+    → AreBracketsPlaced p.bounds.items (drop after_name tokens) → IsParameterPlaced p (drop from tokens)
 parameter_placed p tokens from after_specs after_pointers after_name at inside first second third named bounds =
     let before = specs_text (specs p.specs) in
     let stars = pointers_text p.pointers.items in

@@ -10,7 +10,8 @@ use Rattle.cs_expr_parser.proofs.Standing.{stands, kinds_first}
 use Rattle.cs_expr_parser.proofs.Stopping.{refused_number}
 
 -- the second of some tokens, the first of which is no end
-pub second_front : (tokens : List Token) (from at : ℕ) (f : TokenKind) (fs : Kinds) → Spells tokens from at (λ rest. (f ∷ fs) ++ rest) → (f ≡ token.Attribute → ⊥) → Spells tokens (from + 1) at (λ rest. fs ++ rest)
+pub second_front : (tokens : List Token) (from at : ℕ) (f : TokenKind) (fs : Kinds) → Spells tokens from at (λ rest. (f ∷ fs) ++ rest)
+    → (f ≡ token.Attribute → ⊥) → Spells tokens (from + 1) at (λ rest. fs ++ rest)
 second_front tokens from at f fs sp some =
     let k : kind_or_end tokens from ≡ f = kinds_first (drop from tokens) f (fs ++ kinds (drop at tokens)) sp.spelled in
     let s = stands tokens from f k some in

@@ -33,7 +33,8 @@ Yields names form.Label first second = is_labelled first second ≡ true
 Yields names form.Unlabelled first second = (name : List ℕ) × (first ≡ token.Name name) × (is_among names name ≡ true) × (is_colon second ≡ false)
 Yields names form.Run first second = begins_other_sentence first ≡ false
 
-name_yields : (names : Names) (name : List ℕ) (second : TokenKind) (c : Bool) → is_colon second ≡ c → (t : Bool) → is_among names name ≡ t → Yields names (name_form c t) (token.Name name) second
+name_yields : (names : Names) (name : List ℕ) (second : TokenKind) (c : Bool) → is_colon second ≡ c → (t : Bool) → is_among names name ≡ t
+    → Yields names (name_form c t) (token.Name name) second
 name_yields names name second true e t f = e
 name_yields names name second false e true f = (name, refl, f, e)
 name_yields names name second false e false f = refl
@@ -70,7 +71,8 @@ name_low true t = omega arith
 name_low false true = omega arith
 name_low false false = omega arith
 
-punctuator_full : (names : Names) (m : Punctuator) (limit : ℕ) → limit < least (punctuator_form m) → Refused (Sentences names) limit [] (token.Punctuator m) true
+punctuator_full : (names : Names) (m : Punctuator) (limit : ℕ) → limit < least (punctuator_form m)
+    → Refused (Sentences names) limit [] (token.Punctuator m) true
 punctuator_full names punctuator.OpenBrace limit full = sentence_none names limit (token.Punctuator punctuator.OpenBrace) full refl
 punctuator_full names punctuator.Semicolon limit full = sentence_none names limit (token.Punctuator punctuator.Semicolon) full refl
 punctuator_full names _ limit full = absurd (omega (arith, full))
@@ -88,8 +90,10 @@ keyword_full names keyword.Return limit full = sentence_none names limit (token.
 keyword_full names _ limit full = absurd (omega (arith, full))
 
 -- the limit doesn't allow the least statement of a form
-pub form_full : (names : Names) (first second : TokenKind) (limit : ℕ) → limit < least (form_of names first second) → Refused (Sentences names) limit [] first true
-form_full names (token.Name name) second limit full = sentence_low names limit (token.Name name) (let l = name_low (is_colon second) (is_among names name) in omega (arith, l, full)) refl refl
+pub form_full : (names : Names) (first second : TokenKind) (limit : ℕ) → limit < least (form_of names first second)
+    → Refused (Sentences names) limit [] first true
+form_full names (token.Name name) second limit full =
+    sentence_low names limit (token.Name name) (let l = name_low (is_colon second) (is_among names name) in omega (arith, l, full)) refl refl
 form_full names (token.Punctuator m) second limit full = punctuator_full names m limit full
 form_full names (token.Keyword k) second limit full = keyword_full names k limit full
 form_full names (token.Number n) second limit full = absurd (omega (arith, full))
@@ -99,7 +103,8 @@ form_full names (token.Unsupported w) second limit full = absurd (omega (arith, 
 form_full names token.Attribute second limit full = absurd (omega (arith, full))
 
 -- the tokens of a label
-pub label_name : (first second : TokenKind) → is_labelled first second ≡ true → (name : List ℕ) × (first ≡ token.Name name) × (second ≡ token.Punctuator punctuator.Colon)
+pub label_name : (first second : TokenKind) → is_labelled first second ≡ true
+    → (name : List ℕ) × (first ≡ token.Name name) × (second ≡ token.Punctuator punctuator.Colon)
 label_name (token.Name name) (token.Punctuator punctuator.Colon) e = (name, refl, refl)
 label_name (token.Name name) _ e = absurd (false≢true e)
 label_name (token.Punctuator m) second e = absurd (false≢true e)
@@ -119,5 +124,6 @@ run_name_form false true e = absurd cc
 run_name_form false false e = (refl, refl)
 
 -- a name that begins an expression is none of a typedef, and has no colon after it
-pub run_name : (names : Names) (name : List ℕ) (second : TokenKind) → form_of names (token.Name name) second ≡ form.Run → (is_colon second ≡ false) × (is_among names name ≡ false)
+pub run_name : (names : Names) (name : List ℕ) (second : TokenKind) → form_of names (token.Name name) second ≡ form.Run
+    → (is_colon second ≡ false) × (is_among names name ≡ false)
 run_name names name second e = run_name_form (is_colon second) (is_among names name) e

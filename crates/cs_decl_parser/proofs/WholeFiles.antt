@@ -1,5 +1,6 @@
 -- Tokens that are a file are refused for want of memory alone: for parsers and programs above.
-use Rattle.std.proofs.Common.{◌≡◌, ℕ, ◌≤◌, inl, inr, List, [], ◌∷◌, ◌++◌, length, drop, refl, sym, ap, ◌∙◌, arith, append_assoc, append-nil, length-drop}
+use Rattle.std.proofs.Common.{◌≡◌, ℕ, ◌≤◌, inl, inr, List, [], ◌∷◌, ◌++◌, length, drop, refl, sym, ap, ◌∙◌, arith, append_assoc}
+use Rattle.std.proofs.Common.{append-nil, length-drop}
 use Rattle.std.proofs.lemmas.Bool.{cases_lt}
 use Rattle.std.proofs.Math.ListN.{drop_of_length-le}
 use Rattle.cs_ast.specs.declared.place.Place.{Place}
@@ -32,7 +33,8 @@ not_refused tokens file at reason h r =
           (spelled ∙ ap (λ rest. r.front ++ kinds rest) (drop_of_length-le tokens all) ∙ append-nil r.front)
     ]
 
-pub file_or_refused : (tokens : List Token) (end : Place) (file : List External) (r : SyntaxRefusal) → IsTheFile tokens file → IsFileRefusal tokens end r → r ≡ refusal.Memory
+pub file_or_refused : (tokens : List Token) (end : Place) (file : List External) (r : SyntaxRefusal) → IsTheFile tokens file → IsFileRefusal tokens end r
+    → r ≡ refusal.Memory
 file_or_refused tokens end file refusal.Memory h i = refl
 file_or_refused tokens end file (refusal.Syntax place) h i = absurd (not_refused tokens file i.0 i.1 h i.3.stopped)
 file_or_refused tokens end file (refusal.Unsupported place word) h i = absurd (not_refused tokens file i.0 i.1 h i.3.stopped)

@@ -29,7 +29,8 @@ pub record IsExactly {A : Type 0} (C : Class) (view : A → C.Tree) (limit : ℕ
   pub exactly : Exactly C limit (view taken.tree)
 
 -- a phrase of the class was taken before the next token; a higher one continues with that or none does
-pub record IsTaken {A : Type 0} (C : Class) (view : A → C.Tree) (limit : ℕ) (tokens : List Token) (from : ℕ) (deep : Bool) (taken : Taken A) : Type 0 where
+pub record IsTaken {A : Type 0} (C : Class) (view : A → C.Tree) (limit : ℕ) (tokens : List Token) (from : ℕ) (deep : Bool) (taken : Taken A) :
+    Type 0 where
   pub height_is : taken.height ≡ C.tall (view taken.tree)
   pub spelled : Spells tokens from taken.next (C.spell (view taken.tree))
   pub took : Took C limit (view taken.tree) (kind_or_end tokens taken.next) deep

@@ -45,7 +45,8 @@ local_of d = (specs d.specs, map declared d.objects.items)
 abbrev pub Controls : Names → Class
 Controls names =
     Following (token.Punctuator punctuator.OpenParenthesis)
-    (Sequence (Firsts names) (Sequence (ClosedSome names 0 (Unit {0}) (token.Punctuator punctuator.Semicolon)) (ClosedSome names 0 (Unit {0}) (token.Punctuator punctuator.CloseParenthesis))))
+    (Sequence (Firsts names) (Sequence (ClosedSome names 0 (Unit {0}) (token.Punctuator punctuator.Semicolon))
+    (ClosedSome names 0 (Unit {0}) (token.Punctuator punctuator.CloseParenthesis))))
 
 abbrev pub control_of : ForParts → First × (Option Written × Option Written)
 control_of parts = (first_of parts.first, (option_map written parts.test, option_map written parts.last))

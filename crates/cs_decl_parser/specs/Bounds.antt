@@ -62,4 +62,5 @@ IsWordOf many tall at found = (found.next ≡ at + many) × (found.height ≡ ta
 
 -- what was taken is the phrase, all but its type
 abbrev pub IsPhraseOf : Phrase → Unclosed RawExpr → Type 0
-IsPhraseOf phrase taken = (taken.tree ≡ phrase.tree) × (taken.height ≡ phrase.height) × (taken.next ≡ phrase.next) × (taken.otherwise ≡ phrase.otherwise)
+IsPhraseOf phrase taken = (taken.tree ≡ phrase.tree) × (taken.height ≡ phrase.height) × (taken.next ≡ phrase.next)
+    × (taken.otherwise ≡ phrase.otherwise)

@@ -1,5 +1,6 @@
 -- What the parts that read declarations answer: words of pointers, names, declarators.
-use Rattle.std.specs.Prelude.{◌≡◌, ℕ, ◌+◌, ◌==◌, ◌&&◌, not, Bool, true, false, IsTrue, List, [], ◌∷◌, map, Option, Some, None, Result, Ok, Err}
+use Rattle.std.specs.Prelude.{◌≡◌, ℕ, ◌+◌, ◌==◌, ◌&&◌, not, Bool, true, false, IsTrue, List, [], ◌∷◌, map, Option, Some, None, Result}
+use Rattle.std.specs.Prelude.{Ok, Err}
 use Rattle.cs_ast.specs.declared.token.Token.{Token}
 use Rattle.cs_ast.specs.declared.token.TokenKind.{TokenKind}
 use Rattle.cs_ast.specs.declared.token.TokenKind.TheVariants as token
@@ -46,7 +47,8 @@ use Rattle.cs_decl_parser.specs.Answers.{Stops, IsTaken, ExactAnswers}
 abbrev pub IsPointerWord : Bool → TokenKind → Option PointerWord → Type 0
 IsPointerWord after_star kind (Some pointer.Star) = kind ≡ token.Punctuator punctuator.Star
 IsPointerWord after_star kind (Some pointer.Const) = (kind ≡ token.Keyword keyword.Const) × (after_star ≡ true)
-IsPointerWord after_star kind None = (kind ≡ token.Punctuator punctuator.Star → ⊥) × (kind ≡ token.Keyword keyword.Const → after_star ≡ true → ⊥)
+IsPointerWord after_star kind None = (kind ≡ token.Punctuator punctuator.Star → ⊥)
+    × (kind ≡ token.Keyword keyword.Const → after_star ≡ true → ⊥)
 
 -- the words of pointers from an index on are these, and no more
 pub record ArePointers (tokens : List Token) (from at : ℕ) (words : List PointerWord) : Type 0 where
@@ -116,7 +118,8 @@ PointedAnswers declares names tokens from (Err (stop.Refused at reason)) = IsNam
 -- a declarator was taken, that a higher one continues where the limit doesn't allow a bound
 abbrev pub IsDeclaratorTaken : Declares → Names → ℕ → List Token → ℕ → Taken RawDeclarator → Type 0
 IsDeclaratorTaken declares names limit tokens from taken =
-    (inner : ℕ) → limit ≡ 1 + inner → IsTaken (DeclaratorsFor declares names) declarator limit tokens from (is_full declares inner (kind_or_end tokens taken.next)) taken
+    (inner : ℕ) → limit ≡ 1 + inner
+    → IsTaken (DeclaratorsFor declares names) declarator limit tokens from (is_full declares inner (kind_or_end tokens taken.next)) taken
 
 -- the same, or a token is refused
 abbrev pub DeclaratorAnswers : Declares → Names → ℕ → List Token → ℕ → Result (Taken RawDeclarator) Stop → Type 0
@@ -124,8 +127,10 @@ DeclaratorAnswers declares names limit tokens from (Ok taken) = IsDeclaratorTake
 DeclaratorAnswers declares names limit tokens from (Err stop) = Stops (DeclaratorsFor declares names) limit tokens from stop
 
 -- bounds between brackets were taken, or a token is refused
-abbrev pub BoundsAnswer : {A : Type 0} → Declares → Names → (A → List (Option Written)) → ℕ → List Token → ℕ → Result (Taken A) Stop → Type 0
-BoundsAnswer declares names view limit tokens from (Ok taken) = IsTaken (BracketsFor declares names) view limit tokens from (is_full declares limit (kind_or_end tokens taken.next)) taken
+abbrev pub BoundsAnswer : {A : Type 0} → Declares → Names → (A → List (Option Written)) → ℕ → List Token → ℕ → Result (Taken A) Stop
+    → Type 0
+BoundsAnswer declares names view limit tokens from (Ok taken) =
+    IsTaken (BracketsFor declares names) view limit tokens from (is_full declares limit (kind_or_end tokens taken.next)) taken
 BoundsAnswer declares names view limit tokens from (Err stop) = Stops (BracketsFor declares names) limit tokens from stop
 
 -- expressions of a level with a token after each that closes it
@@ -140,7 +145,8 @@ ClosedExpressions names level close = record {
 
 -- an expression of a level with the punctuator that closes it
 abbrev pub ClosedAnswer : Names → ExprLevel → Punctuator → ℕ → List Token → ℕ → Result (Taken RawExpr) Stop → Type 0
-ClosedAnswer names level closing limit tokens from result = ExactAnswers (ClosedExpressions names (level_asked level) (token.Punctuator closing)) written limit tokens from result
+ClosedAnswer names level closing limit tokens from result =
+    ExactAnswers (ClosedExpressions names (level_asked level) (token.Punctuator closing)) written limit tokens from result
 
 -- the same, where the expression may lack
 abbrev pub ClosedIfAnyAnswer : Names → ExprLevel → Punctuator → ℕ → List Token → ℕ → Result (Taken (Option RawExpr)) Stop → Type 0
@@ -153,7 +159,8 @@ constant_row taken = (map constant taken.list.items, taken.comma)
 
 -- enumeration constants, with the brace that closes them
 abbrev pub ConstantsAnswer : Names → ℕ → List Token → ℕ → Result (Taken ConstantList) Stop → Type 0
-ConstantsAnswer names limit tokens from result = ExactAnswers (Trailing (Constants names) (token.Punctuator punctuator.CloseBrace)) constant_row limit tokens from result
+ConstantsAnswer names limit tokens from result =
+    ExactAnswers (Trailing (Constants names) (token.Punctuator punctuator.CloseBrace)) constant_row limit tokens from result
 
 -- the name of a parameter, which may lack
 abbrev pub ParameterNameAnswer : Names → List Token → ℕ → Result (Taken (Option RawName)) Stop → Type 0
@@ -162,7 +169,8 @@ ParameterNameAnswer names tokens at (Ok taken) =
     × (kind_or_end tokens at ≡ token.Punctuator punctuator.OpenParenthesis → ⊥)
     × Spells tokens at taken.next (name_text (option_map (λ (n : RawName). n.name) taken.tree))
 ParameterNameAnswer names tokens at (Err stop.Memory) = Unit {0}
-ParameterNameAnswer names tokens at (Err (stop.Refused refused reason)) = (refused ≡ at) × (is_deep reason ≡ false) × (kind_or_end tokens at ≡ token.Punctuator punctuator.OpenParenthesis)
+ParameterNameAnswer names tokens at (Err (stop.Refused refused reason)) =
+    (refused ≡ at) × (is_deep reason ≡ false) × (kind_or_end tokens at ≡ token.Punctuator punctuator.OpenParenthesis)
 
 -- a bound after its opening bracket, with the closing one
 abbrev pub BoundAnswer : Declares → Names → ℕ → List Token → ℕ → Result (Taken (Option RawExpr)) Stop → Type 0
@@ -192,7 +200,8 @@ IsAlone d made = declared made ≡ record { declarator = declarator d; initial =
 
 -- `void` alone stands before a closing parenthesis
 abbrev pub IsVoidAlone : List Token → ℕ → Type 0
-IsVoidAlone tokens from = (kind_or_end tokens from ≡ token.Keyword keyword.Void) × (kind_or_end tokens (from + 1) ≡ token.Punctuator punctuator.CloseParenthesis)
+IsVoidAlone tokens from = (kind_or_end tokens from ≡ token.Keyword keyword.Void)
+    × (kind_or_end tokens (from + 1) ≡ token.Punctuator punctuator.CloseParenthesis)
 
 -- a designator would begin with the token
 abbrev pub is_designator : TokenKind → Bool

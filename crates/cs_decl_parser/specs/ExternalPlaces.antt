@@ -26,5 +26,6 @@ IsPointedPlaced names tokens at pointed =
 -- the head of a function has its places where its name and its parameters have
 abbrev pub IsHeadBuilt : Pointed → RawParameters → RawFunction → Type 0
 IsHeadBuilt pointed parameters f =
-    (list : List Token) → StandsAt pointed.name.place (past (pointers_text pointed.pointers.items) list) → AreParametersPlaced parameters (drop 2 (past (pointers_text pointed.pointers.items) list))
+    (list : List Token) → StandsAt pointed.name.place (past (pointers_text pointed.pointers.items) list)
+    → AreParametersPlaced parameters (drop 2 (past (pointers_text pointed.pointers.items) list))
     → IsHeadPlaced f list

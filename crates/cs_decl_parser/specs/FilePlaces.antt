@@ -37,7 +37,9 @@ use Rattle.cs_ast.specs.RawDeclarationView.{spec, specs_row, specs, declarator, 
 use Rattle.cs_ast.specs.RawDeclarations.{Static, Plain, StructBody, EnumBody, Specs, NoSpec, MoreSpecs}
 use Rattle.cs_ast.specs.RawStatementView.{first_of, sentence, item, switch_item, items_list, external}
 use Rattle.cs_grammar.specs.Text.{Kinds, pointers_text}
-use Rattle.cs_grammar.specs.FileText.{name_text, brackets_text, declarator_text, constant_text, spec_text, specs_text, initial_text, declared_text, head_text, parameter_text, some_text, first_text, test_text, sentence_text, item_text, items_text, switch_item_text, external_text, with_commas}
+use Rattle.cs_grammar.specs.FileText.{name_text, brackets_text, declarator_text, constant_text, spec_text, specs_text, initial_text, declared_text, head_text}
+use Rattle.cs_grammar.specs.FileText.{parameter_text, some_text, first_text, test_text, sentence_text, item_text, items_text, switch_item_text, external_text}
+use Rattle.cs_grammar.specs.FileText.{with_commas}
 use Rattle.cs_grammar.specs.Places.{HasPlaces, StandsAt}
 
 -- the tokens after a text
@@ -192,18 +194,23 @@ abbrev mutual
   ArePartsPlaced kind.Empty tokens = Unit {0}
   ArePartsPlaced (kind.Run e) tokens = HasPlaces e tokens
   ArePartsPlaced (kind.If' test place p body) tokens =
-      HasPlaces test (drop 2 tokens) × (StandsAt place (past (test_text (written test)) (drop 1 tokens)) × ArePartsPlaced body (past (test_text (written test)) (drop 1 tokens)))
+      HasPlaces test (drop 2 tokens)
+      × (StandsAt place (past (test_text (written test)) (drop 1 tokens)) × ArePartsPlaced body (past (test_text (written test)) (drop 1 tokens)))
   ArePartsPlaced (kind.IfElse' test place p body place' q other) tokens =
-      HasPlaces test (drop 2 tokens) × (StandsAt place (past (test_text (written test)) (drop 1 tokens)) × ArePartsPlaced body (past (test_text (written test)) (drop 1 tokens)))
-      × (StandsAt place' (drop 1 (past (sentence_text (sentence body)) (past (test_text (written test)) (drop 1 tokens)))) × ArePartsPlaced other (drop 1 (past (sentence_text (sentence body)) (past (test_text (written test)) (drop 1 tokens)))))
+      HasPlaces test (drop 2 tokens)
+      × (StandsAt place (past (test_text (written test)) (drop 1 tokens)) × ArePartsPlaced body (past (test_text (written test)) (drop 1 tokens)))
+      × (StandsAt place' (drop 1 (past (sentence_text (sentence body)) (past (test_text (written test)) (drop 1 tokens))))
+      × ArePartsPlaced other (drop 1 (past (sentence_text (sentence body)) (past (test_text (written test)) (drop 1 tokens)))))
   ArePartsPlaced (kind.While' test place p body) tokens =
-      HasPlaces test (drop 2 tokens) × (StandsAt place (past (test_text (written test)) (drop 1 tokens)) × ArePartsPlaced body (past (test_text (written test)) (drop 1 tokens)))
+      HasPlaces test (drop 2 tokens)
+      × (StandsAt place (past (test_text (written test)) (drop 1 tokens)) × ArePartsPlaced body (past (test_text (written test)) (drop 1 tokens)))
   ArePartsPlaced (kind.Do' place p body test) tokens =
       (StandsAt place (drop 1 tokens) × ArePartsPlaced body (drop 1 tokens)) × HasPlaces test (drop 2 (past (sentence_text (sentence body)) (drop 1 tokens)))
   ArePartsPlaced (kind.For' first test last place p body) tokens =
       IsFirstPlaced first (drop 2 tokens) × IsSomePlaced test (past_first first (drop 2 tokens))
       × IsSomePlaced last (past_test test (past_first first (drop 2 tokens)))
-      × (StandsAt place (past_test last (past_test test (past_first first (drop 2 tokens)))) × ArePartsPlaced body (past_test last (past_test test (past_first first (drop 2 tokens)))))
+      × (StandsAt place (past_test last (past_test test (past_first first (drop 2 tokens))))
+      × ArePartsPlaced body (past_test last (past_test test (past_first first (drop 2 tokens)))))
   ArePartsPlaced (kind.Switch' value shape row) tokens =
       HasPlaces value (drop 2 tokens) × AreSwitchItemsPlaced row (drop 1 (past (test_text (written value)) (drop 1 tokens)))
   ArePartsPlaced (kind.Goto label) tokens = Unit {0}

@@ -26,7 +26,8 @@ pub record IsRefusedAfter (names : Names) (limit : ℕ) (tokens : List Token) (f
 
 -- want of memory, or a token is refused, within a parameter or after a whole one
 abbrev pub ParameterStops : Names → ℕ → List Token → ℕ → Stop → Type 0
-ParameterStops names limit tokens from (stop.Refused at reason) = IsRefused (ParameterClass names) limit tokens from at reason ⊎ IsRefusedAfter names limit tokens from at reason
+ParameterStops names limit tokens from (stop.Refused at reason) = IsRefused (ParameterClass names) limit tokens from at reason
+    ⊎ IsRefusedAfter names limit tokens from at reason
 ParameterStops names limit tokens from other = Stops (ParameterClass names) limit tokens from other
 
 -- a parameter that no higher one continues, or a token is refused

@@ -17,4 +17,5 @@ pub record IsFresh (parts : Parts) : Type 0 where
 -- want of memory, or a token is refused after the parts, unless it is only too deep in the one that begins after them
 abbrev pub StandsAmidst : List Token → Parts → Stop → Type 0
 StandsAmidst tokens parts stop.Memory = Unit {0}
-StandsAmidst tokens parts (stop.Refused at reason) = (parts.next ≤ at) × (is_deep reason ≡ false → EndInPart parts.names (kinds (take at tokens)) parts.next)
+StandsAmidst tokens parts (stop.Refused at reason) = (parts.next ≤ at)
+    × (is_deep reason ≡ false → EndInPart parts.names (kinds (take at tokens)) parts.next)

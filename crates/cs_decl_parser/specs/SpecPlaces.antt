@@ -43,7 +43,8 @@ IsWordThere tokens at so_far (Some found) = IsWordPlaced tokens at found × IsFr
 
 -- members of one type, with their semicolon
 abbrev pub group_text : RawMember → Kinds → Kinds
-group_text m rest = specs_text (specs m.specs) (with_commas declarator_text (map declarator m.declarators.items) (token.Punctuator punctuator.Semicolon ∷ rest))
+group_text m rest =
+    specs_text (specs m.specs) (with_commas declarator_text (map declarator m.declarators.items) (token.Punctuator punctuator.Semicolon ∷ rest))
 
 abbrev pub IsGroupPlaced : RawMember → List Token → Type 0
 IsGroupPlaced m tokens = HasSpecPlaces m.specs tokens × AreDeclaratorsPlaced m.declarators.items (past (specs_text (specs m.specs)) tokens)

@@ -1,5 +1,6 @@
 -- What the parts that read the words before declarators answer.
-use Rattle.std.specs.Prelude.{◌≡◌, ℕ, ◌+◌, ◌≤◌, ◌<◌, ◌⊎◌, Bool, true, false, List, [], ◌∷◌, ◌++◌, map, Option, Some, None, Result, Ok, Err}
+use Rattle.std.specs.Prelude.{◌≡◌, ℕ, ◌+◌, ◌≤◌, ◌<◌, ◌⊎◌, Bool, true, false, List, [], ◌∷◌, ◌++◌, map, Option, Some, None}
+use Rattle.std.specs.Prelude.{Result, Ok, Err}
 use Rattle.std.specs.Option.{option_map}
 use Rattle.cs_ast.specs.declared.token.Token.{Token}
 use Rattle.cs_ast.specs.declared.token.TokenKind.{TokenKind}
@@ -56,7 +57,8 @@ word_of_keyword other = option_map word.Integer (word_of other)
 
 -- the word of a type that a token is alone
 abbrev pub IsTypeWord : Names → TokenKind → Option TypeWord → Type 0
-IsTypeWord names next (Some found) = ((rest : Kinds) → type_word_text found rest ≡ next ∷ rest) × (has_tag found ≡ false) × (is_known names found ≡ true)
+IsTypeWord names next (Some found) = ((rest : Kinds) → type_word_text found rest ≡ next ∷ rest) × (has_tag found ≡ false)
+    × (is_known names found ≡ true)
 IsTypeWord names next None = (one : TypeWord) → first_of_word one ≡ next → (has_tag one ≡ true) ⊎ (is_known names one ≡ false)
 
 -- the keyword of a word with a tag doesn't stand there
@@ -109,7 +111,8 @@ BlockWordAnswer names tokens at so_far (Err other) = (names_some so_far ≡ fals
 
 -- it is determined by its tokens
 abbrev pub IsReportedByTokens : Names → Spec → Type 0
-IsReportedByTokens names s = (t : Spec) (x y : Kinds) → HasBody names t → IsQuiet t x → IsQuiet s y → spec_text t x ≡ spec_text s y → (t ≡ s) × (x ≡ y)
+IsReportedByTokens names s = (t : Spec) (x y : Kinds) → HasBody names t → IsQuiet t x → IsQuiet s y → spec_text t x ≡ spec_text s y
+    → (t ≡ s) × (x ≡ y)
 
 -- a word before declarators was taken, or a type with a body, which fits after the words before it
 pub record IsSpecTaken (names : Names) (limit : ℕ) (tokens : List Token) (at : ℕ) (so_far : TypeSoFar) (found : NextWord) : Type 0 where
@@ -120,7 +123,8 @@ pub record IsSpecTaken (names : Names) (limit : ℕ) (tokens : List Token) (at :
   pub body : HasBody names (spec found.word)
   pub reported : IsReportedByTokens names (spec found.word)
   pub quiet : (following : Kinds) → Near (kind_or_end tokens found.next) following → IsQuiet (spec found.word) following
-  pub described : (before : List TypeWord) → Describes names so_far before → Describes names found.so_far (before ++ words_of (MoreSpecs (spec found.word) NoSpec))
+  pub described : (before : List TypeWord) → Describes names so_far before
+      → Describes names found.so_far (before ++ words_of (MoreSpecs (spec found.word) NoSpec))
 
 -- a type with `struct` or `enum` is refused after its first token
 pub record IsElementRefused (names : Names) (limit : ℕ) (tokens : List Token) (at refused : ℕ) (reason : Reason) : Type 0 where
@@ -139,7 +143,8 @@ pub record IsEnumFull (limit : ℕ) (tokens : List Token) (at refused : ℕ) (re
 
 abbrev pub ElementStops : Names → ℕ → List Token → ℕ → Stop → Type 0
 ElementStops names limit tokens at stop.Memory = Unit {0}
-ElementStops names limit tokens at (stop.Refused refused reason) = IsElementRefused names limit tokens at refused reason ⊎ IsEnumFull limit tokens at refused reason
+ElementStops names limit tokens at (stop.Refused refused reason) = IsElementRefused names limit tokens at refused reason
+    ⊎ IsEnumFull limit tokens at refused reason
 
 -- a type with `struct` or `enum`, where the words before it name nothing
 abbrev pub ElementAnswer : Names → ℕ → List Token → ℕ → Result NextWord Stop → Type 0
@@ -149,7 +154,8 @@ ElementAnswer names limit tokens at (Err stop) = ElementStops names limit tokens
 -- the word at an index outside blocks
 abbrev pub SpecAnswer : Names → ℕ → List Token → ℕ → TypeSoFar → Result (Option NextWord) Stop → Type 0
 SpecAnswer names limit tokens at so_far (Ok (Some found)) = IsSpecTaken names limit tokens at so_far found
-SpecAnswer names limit tokens at so_far (Ok None) = NothingFits names so_far (kind_or_end tokens at) × (kind_or_end tokens at ≡ token.Keyword keyword.Static → ⊥)
+SpecAnswer names limit tokens at so_far (Ok None) = NothingFits names so_far (kind_or_end tokens at)
+    × (kind_or_end tokens at ≡ token.Keyword keyword.Static → ⊥)
 SpecAnswer names limit tokens at so_far (Err stop.Memory) = Unit {0}
 SpecAnswer names limit tokens at so_far (Err other) = (names_some so_far ≡ false) × ElementStops names limit tokens at other
 

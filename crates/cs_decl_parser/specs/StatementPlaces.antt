@@ -13,7 +13,8 @@ use Rattle.cs_ast.specs.RawStatementView.{statement_of, item, switch_item}
 use Rattle.cs_grammar.specs.FileText.{test_text, sentence_text, item_text, switch_item_text}
 use Rattle.cs_grammar.specs.Places.{HasPlaces, StandsAt}
 use Rattle.cs_decl_parser.specs.declared.loops.ForParts.{ForParts}
-use Rattle.cs_decl_parser.specs.FilePlaces.{past, past_first, past_test, AreSideBySide, IsSomePlaced, IsFirstPlaced, IsStatementPlaced, ArePartsPlaced, IsItemPlaced, IsSwitchItemPlaced}
+use Rattle.cs_decl_parser.specs.FilePlaces.{past, past_first, past_test, AreSideBySide, IsSomePlaced, IsFirstPlaced, IsStatementPlaced, ArePartsPlaced}
+use Rattle.cs_decl_parser.specs.FilePlaces.{IsItemPlaced, IsSwitchItemPlaced}
 
 -- a statement has its places
 abbrev pub HasStatementPlaces : RawStmt → List Token → Type 0
@@ -29,7 +30,8 @@ AreSwitchItemsBeside = AreSideBySide IsSwitchItemPlaced (λ i. switch_item_text 
 -- the parts between the parentheses of a `for`, at the first of them
 abbrev pub AreForPartsPlaced : ForParts → List Token → Type 0
 AreForPartsPlaced parts tokens =
-    IsFirstPlaced parts.first tokens × IsSomePlaced parts.test (past_first parts.first tokens) × IsSomePlaced parts.last (past_test parts.test (past_first parts.first tokens))
+    IsFirstPlaced parts.first tokens × IsSomePlaced parts.test (past_first parts.first tokens)
+    × IsSomePlaced parts.last (past_test parts.test (past_first parts.first tokens))
 
 -- a statement of a kind
 abbrev pub IsMadeOf : Place → RawStmtKind → RawStmt → Type 0
@@ -42,18 +44,21 @@ IsLabelOf at body whole = (list : List Token) → StandsAt at list → HasStatem
 -- a test and a body after a word
 abbrev pub IsTestedOf : Place → RawExpr → RawStmt → RawStmt → Type 0
 IsTestedOf at test body whole =
-    (list : List Token) → StandsAt at list → HasPlaces test (drop 2 list) → HasStatementPlaces body (past (test_text (written test)) (drop 1 list)) → HasStatementPlaces whole list
+    (list : List Token) → StandsAt at list → HasPlaces test (drop 2 list) → HasStatementPlaces body (past (test_text (written test)) (drop 1 list))
+    → HasStatementPlaces whole list
 
 -- `if` with its `else`
 abbrev pub IsChoiceOf : Place → RawExpr → RawStmt → RawStmt → RawStmt → Type 0
 IsChoiceOf at test body other whole =
     (list : List Token) → StandsAt at list → HasPlaces test (drop 2 list) → HasStatementPlaces body (past (test_text (written test)) (drop 1 list))
-    → HasStatementPlaces other (drop 1 (past (sentence_text (statement_of body)) (past (test_text (written test)) (drop 1 list)))) → HasStatementPlaces whole list
+    → HasStatementPlaces other (drop 1 (past (sentence_text (statement_of body)) (past (test_text (written test)) (drop 1 list))))
+    → HasStatementPlaces whole list
 
 -- `do`
 abbrev pub IsDoneOf : Place → RawStmt → RawExpr → RawStmt → Type 0
 IsDoneOf at body test whole =
-    (list : List Token) → StandsAt at list → HasStatementPlaces body (drop 1 list) → HasPlaces test (drop 2 (past (sentence_text (statement_of body)) (drop 1 list))) → HasStatementPlaces whole list
+    (list : List Token) → StandsAt at list → HasStatementPlaces body (drop 1 list)
+    → HasPlaces test (drop 2 (past (sentence_text (statement_of body)) (drop 1 list))) → HasStatementPlaces whole list
 
 -- `for`
 abbrev pub IsLoopOf : Place → ForParts → RawStmt → RawStmt → Type 0

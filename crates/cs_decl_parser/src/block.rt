@@ -37,7 +37,8 @@ pub fn block(
     requires within { from < length source.now.tokens.now }
     requires few { length source.now.tokens.now < 2 ^ 32 }
     requires some { 1 ≤ limit }
-    requires stands { kind_or_end source.now.tokens.now from ≡ token.Punctuator punctuator.OpenBrace }
+    requires stands { kind_or_end source.now.tokens.now from
+        ≡ token.Punctuator punctuator.OpenBrace }
     ensures bounds { IsBounded limit source.now.tokens.now from result }
     ensures parsed { StatementAnswers source.now.names.now limit source.now.tokens.now from result }
     ensures placed { IfOk result (TreeAt HasStatementPlaces source.now.tokens.now from) }
@@ -62,7 +63,8 @@ pub fn items(
     requires few { length source.now.tokens.now < 2 ^ 32 }
     ensures bounds { IsRowBounded limit source.now.tokens.now from result }
     ensures parsed { ItemsAnswers source.now.names.now limit source.now.tokens.now from result }
-    ensures placed { IfOk result (λ taken. AreItemsBeside taken.tree.items (drop from source.now.tokens.now)) }
+    ensures placed { IfOk result (λ taken.
+        AreItemsBeside taken.tree.items (drop from source.now.tokens.now)) }
     ensures closing { IfOk result (λ taken. taken.next < length source.now.tokens.now) }
     ensures apt { IsAnswerApt Scope.Block source.now.tokens.now result }
 {
@@ -88,7 +90,8 @@ pub fn item(alloc: Global, source: &Source, from: usize, limit: u32) -> Result<T
     requires within { from ≤ length source.now.tokens.now }
     requires few { length source.now.tokens.now < 2 ^ 32 }
     ensures bounds { IsBounded limit source.now.tokens.now from result }
-    ensures parsed { Answers (BlockItems source.now.names.now) item_of limit source.now.tokens.now from result }
+    ensures parsed { Answers (BlockItems source.now.names.now) item_of limit source.now.tokens.now
+        from result }
     ensures placed { IfOk result (TreeAt IsItemPlaced source.now.tokens.now from) }
     ensures apt { IsAnswerApt Scope.Block source.now.tokens.now result }
 {
@@ -124,10 +127,14 @@ pub fn declaration(
 ) -> Result<Taken<DeclaredObjects>, Stop>
     requires within { from ≤ length source.now.tokens.now }
     requires few { length source.now.tokens.now < 2 ^ 32 }
-    requires typed { IsTrue (starts_type source.now.names.now (kind_or_end source.now.tokens.now from)) }
+    requires typed { IsTrue
+        (starts_type source.now.names.now (kind_or_end source.now.tokens.now from)) }
     ensures bounds { IsBounded limit source.now.tokens.now from result }
-    ensures parsed { ExactAnswers (Locals source.now.names.now) local_of limit source.now.tokens.now from result }
-    ensures placed { IfOk result (λ taken. IsDeclarationPlaced taken.tree.specs taken.tree.objects.items (drop from source.now.tokens.now)) }
+    ensures parsed { ExactAnswers (Locals source.now.names.now) local_of limit source.now.tokens.now
+        from result }
+    ensures placed { IfOk result (λ taken.
+        IsDeclarationPlaced taken.tree.specs taken.tree.objects.items
+        (drop from source.now.tokens.now)) }
     ensures apt { IsAnswerApt Scope.Block source.now.tokens.now result }
 {
     if limit < 2 {

@@ -91,8 +91,10 @@ fn switch_items(
     requires within { from ≤ length source.now.tokens.now }
     requires few { length source.now.tokens.now < 2 ^ 32 }
     ensures bounds { IsBounded limit source.now.tokens.now from result }
-    ensures parsed { ExactAnswers (SwitchRows source.now.names.now) switch_items_of limit source.now.tokens.now from result }
-    ensures placed { IfOk result (λ taken. AreSwitchItemsBeside taken.tree.items (drop from source.now.tokens.now)) }
+    ensures parsed { ExactAnswers (SwitchRows source.now.names.now) switch_items_of limit
+        source.now.tokens.now from result }
+    ensures placed { IfOk result (λ taken.
+        AreSwitchItemsBeside taken.tree.items (drop from source.now.tokens.now)) }
     ensures apt { IsAnswerApt Scope.Block source.now.tokens.now result }
 {
     let mut list = Vec::new(alloc);
@@ -122,7 +124,8 @@ fn switch_item(
     requires within { from ≤ length source.now.tokens.now }
     requires few { length source.now.tokens.now < 2 ^ 32 }
     ensures bounds { IsBounded limit source.now.tokens.now from result }
-    ensures parsed { Answers (SwitchParts source.now.names.now) switch_item_of limit source.now.tokens.now from result }
+    ensures parsed { Answers (SwitchParts source.now.names.now) switch_item_of limit
+        source.now.tokens.now from result }
     ensures placed { IfOk result (TreeAt IsSwitchItemPlaced source.now.tokens.now from) }
     ensures apt { IsAnswerApt Scope.Block source.now.tokens.now result }
 {
@@ -151,7 +154,8 @@ fn case(
     requires few { length source.now.tokens.now < 2 ^ 32 }
     requires stands { kind_or_end source.now.tokens.now from ≡ token.Keyword keyword.Case }
     ensures bounds { IsBounded limit source.now.tokens.now from result }
-    ensures parsed { Answers (SwitchParts source.now.names.now) switch_item_of limit source.now.tokens.now from result }
+    ensures parsed { Answers (SwitchParts source.now.names.now) switch_item_of limit
+        source.now.tokens.now from result }
     ensures placed { IfOk result (TreeAt IsSwitchItemPlaced source.now.tokens.now from) }
     ensures apt { IsAnswerApt Scope.Block source.now.tokens.now result }
 {
@@ -179,7 +183,9 @@ fn default(source: &Source, from: usize) -> Result<Taken<RawSwitchItem>, Stop>
     requires few { length source.now.tokens.now < 2 ^ 32 }
     requires stands { kind_or_end source.now.tokens.now from ≡ token.Keyword keyword.Default }
     ensures bounds { IsBounded 0 source.now.tokens.now from result }
-    ensures parsed { (limit : ℕ) → Answers (SwitchParts source.now.names.now) switch_item_of limit source.now.tokens.now from result }
+    ensures parsed { (limit : ℕ)
+        → Answers (SwitchParts source.now.names.now) switch_item_of limit source.now.tokens.now
+        from result }
     ensures placed { IfOk result (TreeAt IsSwitchItemPlaced source.now.tokens.now from) }
     ensures apt { IsAnswerApt Scope.Block source.now.tokens.now result }
 {

@@ -47,7 +47,9 @@ pub fn constants(
     requires some { 1 ≤ limit }
     ensures bounds { IsBounded limit source.now.tokens.now from result }
     ensures parsed { ConstantsAnswer source.now.names.now limit source.now.tokens.now from result }
-    ensures placed { IfOk result (λ taken. AreInRow IsConstantPlaced (λ e. constant_text (constant_of e)) taken.tree.list.items (drop from source.now.tokens.now)) }
+    ensures placed { IfOk result (λ taken.
+        AreInRow IsConstantPlaced (λ e. constant_text (constant_of e)) taken.tree.list.items
+        (drop from source.now.tokens.now)) }
     ensures apt { IsAnswerApt Scope.File source.now.tokens.now result }
 {
     let mut list = Vec::new(alloc);
@@ -84,7 +86,8 @@ pub fn closing_at(at: usize, comma: bool) -> usize
 pub fn goes_on(source: &Source, at: usize) -> bool
     requires few { at < 2 ^ 33 }
     ensures within { IsTrue result → at < length source.now.tokens.now }
-    ensures comma { result ≡ list_goes_on (kind_or_end source.now.tokens.now at) (kind_or_end source.now.tokens.now (at + 1)) }
+    ensures comma { result ≡ list_goes_on (kind_or_end source.now.tokens.now at)
+        (kind_or_end source.now.tokens.now (at + 1)) }
 {
     is_punctuator(source, at, Punctuator::Comma)
         && !is_punctuator(source, at + 1, Punctuator::CloseBrace)
@@ -101,7 +104,8 @@ fn constant(
     requires few { length source.now.tokens.now < 2 ^ 32 }
     requires some { 1 ≤ limit }
     ensures bounds { IsUnclosedBounded limit source.now.tokens.now from result }
-    ensures parsed { UnclosedAnswers (Constants source.now.names.now) constant_of limit source.now.tokens.now from result }
+    ensures parsed { UnclosedAnswers (Constants source.now.names.now) constant_of limit
+        source.now.tokens.now from result }
     ensures placed { IfOk result (UnclosedTreeAt IsConstantPlaced source.now.tokens.now from) }
     ensures apt { IsUnclosedApt Scope.File source.now.tokens.now result }
 {
@@ -129,7 +133,8 @@ fn lone(name: RawName, next: usize, otherwise: Reason) -> Unclosed<RawEnumerator
     ensures height { result.height ≡ 1 }
     ensures next { result.next ≡ next }
     ensures otherwise { result.otherwise ≡ otherwise }
-    ensures placed { (tokens : List Token) → StandsAt name.place tokens → IsConstantPlaced result.tree tokens }
+    ensures placed { (tokens : List Token) → StandsAt name.place tokens
+        → IsConstantPlaced result.tree tokens }
 {
     Unclosed {
         tree: enumerator(name, None),
@@ -141,7 +146,8 @@ fn lone(name: RawName, next: usize, otherwise: Reason) -> Unclosed<RawEnumerator
 
 fn enumerator(name: RawName, value: Option<RawExpr>) -> RawEnumerator
     ensures tree { IsConstantOf name.name (option_map written value) result }
-    ensures placed { (tokens : List Token) → StandsAt name.place tokens → IsSomePlaced value (drop 2 tokens) → IsConstantPlaced result tokens }
+    ensures placed { (tokens : List Token) → StandsAt name.place tokens
+        → IsSomePlaced value (drop 2 tokens) → IsConstantPlaced result tokens }
 {
     RawEnumerator {
         place: name.place,

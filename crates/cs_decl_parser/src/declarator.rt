@@ -57,7 +57,8 @@ pub fn declarator(
     requires some { 1 ≤ limit }
     ensures bounds { IsBounded limit source.now.tokens.now from result }
     ensures some { IfOk result (λ taken. 1 ≤ taken.height) }
-    ensures parsed { DeclaratorAnswers declares source.now.names.now limit source.now.tokens.now from result }
+    ensures parsed { DeclaratorAnswers declares source.now.names.now limit source.now.tokens.now
+        from result }
     ensures placed { IfOk result (TreeAt IsDeclaratorPlaced source.now.tokens.now from) }
     ensures apt { IsAnswerApt scope source.now.tokens.now result }
 {
@@ -77,8 +78,11 @@ pub fn pointed_name(
     requires within { from ≤ length source.now.tokens.now }
     requires few { length source.now.tokens.now < 2 ^ 32 }
     ensures bounds { IsBounded 1 source.now.tokens.now from result }
-    ensures parsed { PointedAnswers declares source.now.names.now source.now.tokens.now from result }
-    ensures placed { IfOk result (λ taken. StandsAt taken.tree.name.place (past (pointers_text taken.tree.pointers.items) (drop from source.now.tokens.now))) }
+    ensures parsed { PointedAnswers declares source.now.names.now source.now.tokens.now from
+        result }
+    ensures placed { IfOk result (λ taken.
+        StandsAt taken.tree.name.place (past (pointers_text taken.tree.pointers.items)
+        (drop from source.now.tokens.now))) }
     ensures apt { IsAnswerApt scope source.now.tokens.now result }
 {
     let pointers = stars(alloc, source, from)?;
@@ -99,7 +103,9 @@ pub fn pointed_name(
 /// The name at an index, if one stands there that may be declared.
 fn name_at(source: &Source, at: usize, declares: Declares) -> Result<Option<RawName>, AllocError>
     ensures within { IfOk result (λ name. IsSome name → at < length source.now.tokens.now) }
-    ensures name { IfOk result (IsNameAt (IsNameFor declares source.now.names.now) (kind_or_end source.now.tokens.now at)) }
+    ensures name { IfOk result
+        (IsNameAt (IsNameFor declares source.now.names.now)
+        (kind_or_end source.now.tokens.now at)) }
     ensures placed { IfOk result (λ name. IsNamePlaced name (drop at source.now.tokens.now)) }
 {
     match declares {
@@ -121,8 +127,15 @@ pub fn with_bounds(
     requires some { 1 ≤ limit }
     ensures bounds { IsRowBounded limit source.now.tokens.now pointed.next result }
     ensures some { IfOk result (λ taken. 1 ≤ taken.height) }
-    ensures parsed { (from : ℕ) → IsPointed declares source.now.names.now source.now.tokens.now from pointed → DeclaratorAnswers declares source.now.names.now limit source.now.tokens.now from result }
-    ensures placed { (from : ℕ) → IsPointed declares source.now.names.now source.now.tokens.now from pointed → StandsAt pointed.tree.name.place (past (pointers_text pointed.tree.pointers.items) (drop from source.now.tokens.now)) → IfOk result (TreeAt IsDeclaratorPlaced source.now.tokens.now from) }
+    ensures parsed { (from : ℕ)
+        → IsPointed declares source.now.names.now source.now.tokens.now from pointed
+        → DeclaratorAnswers declares source.now.names.now limit source.now.tokens.now from
+        result }
+    ensures placed { (from : ℕ)
+        → IsPointed declares source.now.names.now source.now.tokens.now from pointed
+        → StandsAt pointed.tree.name.place
+        (past (pointers_text pointed.tree.pointers.items) (drop from source.now.tokens.now))
+        → IfOk result (TreeAt IsDeclaratorPlaced source.now.tokens.now from) }
     ensures apt { IsAnswerApt Scope.Block source.now.tokens.now result }
 {
     let bounds = bounds(alloc, source, pointed.next, limit - 1, declares)?;
@@ -150,8 +163,10 @@ pub fn bounds(
     requires within { from ≤ length source.now.tokens.now }
     requires few { length source.now.tokens.now < 2 ^ 32 }
     ensures bounds { IsRowBounded limit source.now.tokens.now from result }
-    ensures parsed { BoundsAnswer declares source.now.names.now (λ bounds. bounds_of bounds.items) limit source.now.tokens.now from result }
-    ensures placed { IfOk result (λ taken. AreBracketsPlaced taken.tree.items (drop from source.now.tokens.now)) }
+    ensures parsed { BoundsAnswer declares source.now.names.now (λ bounds. bounds_of bounds.items)
+        limit source.now.tokens.now from result }
+    ensures placed { IfOk result (λ taken.
+        AreBracketsPlaced taken.tree.items (drop from source.now.tokens.now)) }
     ensures apt { IsAnswerApt Scope.Block source.now.tokens.now result }
 {
     let mut list = Vec::new(alloc);
@@ -182,9 +197,12 @@ fn lacks_limit(declares: Declares, limit: u32) -> bool
 
 /// Whether the bracket of a bound that the limit allows is at an index.
 fn begins_bound(source: &Source, at: usize, limit: u32, declares: Declares) -> bool
-    ensures bracket { IsTrue result → kind_or_end source.now.tokens.now at ≡ token.Punctuator punctuator.OpenBracket }
+    ensures bracket { IsTrue result
+        → kind_or_end source.now.tokens.now at ≡ token.Punctuator punctuator.OpenBracket }
     ensures limit { IsTrue result → has_no_limit declares limit ≡ false }
-    ensures other { (result ≡ false) → kind_or_end source.now.tokens.now at ≡ token.Punctuator punctuator.OpenBracket → has_no_limit declares limit ≡ true }
+    ensures other { (result ≡ false)
+        → kind_or_end source.now.tokens.now at ≡ token.Punctuator punctuator.OpenBracket
+        → has_no_limit declares limit ≡ true }
     ensures within { IsTrue result → at < length source.now.tokens.now }
 {
     !lacks_limit(declares, limit) && is_punctuator(source, at, Punctuator::OpenBracket)
@@ -201,7 +219,8 @@ fn bound(
     requires within { at < length source.now.tokens.now }
     requires few { length source.now.tokens.now < 2 ^ 32 }
     ensures bounds { IsBounded limit source.now.tokens.now at result }
-    ensures parsed { BoundAnswer declares source.now.names.now limit source.now.tokens.now (at + 1) result }
+    ensures parsed { BoundAnswer declares source.now.names.now limit source.now.tokens.now (at + 1)
+        result }
     ensures placed { IfOk result (TreeAt IsSomePlaced source.now.tokens.now (at + 1)) }
     ensures apt { IsAnswerApt Scope.Block source.now.tokens.now result }
 {
@@ -234,8 +253,12 @@ pub fn declarators(
     requires few { length source.now.tokens.now < 2 ^ 32 }
     requires some { 1 ≤ limit }
     ensures bounds { IsBounded limit source.now.tokens.now from result }
-    ensures parsed { ExactAnswers (Separated (DeclaratorsFor declares source.now.names.now) (token.Punctuator punctuator.Semicolon)) (λ list. map declarator_of list.items) limit source.now.tokens.now from result }
-    ensures placed { IfOk result (λ taken. AreDeclaratorsPlaced taken.tree.items (drop from source.now.tokens.now)) }
+    ensures parsed { ExactAnswers
+        (Separated (DeclaratorsFor declares source.now.names.now)
+        (token.Punctuator punctuator.Semicolon)) (λ list. map declarator_of list.items) limit
+        source.now.tokens.now from result }
+    ensures placed { IfOk result (λ taken.
+        AreDeclaratorsPlaced taken.tree.items (drop from source.now.tokens.now)) }
     ensures apt { IsAnswerApt Scope.File source.now.tokens.now result }
 {
     let scope = Scope::File;
@@ -262,7 +285,8 @@ pub fn declarators(
 /// The refusal of the token after a declarator, at an index.
 fn refuse_after(source: &Source, at: usize, limit: u32, declares: Declares) -> Stop
     requires some { 1 ≤ limit }
-    ensures is { (inner : ℕ) → limit ≡ 1 + inner → RefusesAfter at (is_full declares inner (kind_or_end source.now.tokens.now at)) result }
+    ensures is { (inner : ℕ) → limit ≡ 1 + inner
+        → RefusesAfter at (is_full declares inner (kind_or_end source.now.tokens.now at)) result }
     ensures apt { IsStopApt Scope.File source.now.tokens.now result }
 {
     if lacks_limit(declares, limit - 1) && is_punctuator(source, at, Punctuator::OpenBracket) {

@@ -31,7 +31,8 @@ pub fn expression(
     requires few { length source.now.tokens.now < 2 ^ 32 }
     ensures bounds { IsUnclosedBounded limit source.now.tokens.now from result }
     ensures some { IfOk result (λ taken. 1 ≤ taken.height) }
-    ensures parsed { UnclosedAnswers (Expressions source.now.names.now (level_asked level)) written limit source.now.tokens.now from result }
+    ensures parsed { UnclosedAnswers (Expressions source.now.names.now (level_asked level)) written
+        limit source.now.tokens.now from result }
     ensures placed { IfOk result (UnclosedTreeAt HasPlaces source.now.tokens.now from) }
     ensures apt { IsUnclosedApt Scope.Block source.now.tokens.now result }
 {
@@ -64,7 +65,8 @@ pub fn closed(
     requires closing { IsTrue (closes closing) }
     ensures bounds { IsBounded limit source.now.tokens.now from result }
     ensures some { IfOk result (λ taken. 1 ≤ taken.height) }
-    ensures parsed { ClosedAnswer source.now.names.now level closing limit source.now.tokens.now from result }
+    ensures parsed { ClosedAnswer source.now.names.now level closing limit source.now.tokens.now
+        from result }
     ensures placed { IfOk result (TreeAt HasPlaces source.now.tokens.now from) }
     ensures apt { IsAnswerApt Scope.Block source.now.tokens.now result }
 {
@@ -92,7 +94,8 @@ pub fn closed_if_any(
     requires few { length source.now.tokens.now < 2 ^ 32 }
     requires closing { IsTrue (closes closing) }
     ensures bounds { IsBounded limit source.now.tokens.now from result }
-    ensures parsed { ClosedIfAnyAnswer source.now.names.now level closing limit source.now.tokens.now from result }
+    ensures parsed { ClosedIfAnyAnswer source.now.names.now level closing limit
+        source.now.tokens.now from result }
     ensures placed { IfOk result (TreeAt IsSomePlaced source.now.tokens.now from) }
     ensures apt { IsAnswerApt Scope.Block source.now.tokens.now result }
 {
@@ -122,7 +125,8 @@ pub fn parenthesised(
     requires few { length source.now.tokens.now < 2 ^ 32 }
     requires some { 1 ≤ limit }
     ensures bounds { IsBounded limit source.now.tokens.now from result }
-    ensures parsed { ExactAnswers (Tests source.now.names.now) written limit source.now.tokens.now from result }
+    ensures parsed { ExactAnswers (Tests source.now.names.now) written limit source.now.tokens.now
+        from result }
     ensures placed { IfOk result (TreeAt HasPlaces source.now.tokens.now (from + 1)) }
     ensures apt { IsAnswerApt Scope.Block source.now.tokens.now result }
 {

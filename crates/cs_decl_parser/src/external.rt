@@ -37,7 +37,8 @@ pub fn external(alloc: Global, source: &Source, from: usize) -> Result<Taken<Raw
     requires within { from < length source.now.tokens.now }
     requires few { length source.now.tokens.now < 2 ^ 32 }
     ensures bounds { IsBounded 200 source.now.tokens.now from result }
-    ensures parsed { ExactAnswers (Externals source.now.names.now) external_view 200 source.now.tokens.now from result }
+    ensures parsed { ExactAnswers (Externals source.now.names.now) external_view 200
+        source.now.tokens.now from result }
     ensures placed { IfOk result (TreeAt IsExternalPlaced source.now.tokens.now from) }
     ensures apt { IsAnswerApt Scope.File source.now.tokens.now result }
     ensures inside { IsBodyApt source.now.names.now source.now.tokens.now from result }
@@ -63,7 +64,8 @@ fn typedef(alloc: Global, source: &Source, from: usize) -> Result<Taken<RawExter
     requires few { length source.now.tokens.now < 2 ^ 32 }
     requires stands { kind_or_end source.now.tokens.now from ≡ token.Keyword keyword.Typedef }
     ensures bounds { IsBounded 200 source.now.tokens.now from result }
-    ensures parsed { ExactAnswers (Externals source.now.names.now) external_of 200 source.now.tokens.now from result }
+    ensures parsed { ExactAnswers (Externals source.now.names.now) external_of 200
+        source.now.tokens.now from result }
     ensures placed { IfOk result (TreeAt IsExternalInside source.now.tokens.now from) }
     ensures apt { IsAnswerApt Scope.File source.now.tokens.now result }
     ensures inside { IsBodyApt source.now.names.now source.now.tokens.now from result }
@@ -81,9 +83,11 @@ fn typedef(alloc: Global, source: &Source, from: usize) -> Result<Taken<RawExter
 fn declared(alloc: Global, source: &Source, from: usize) -> Result<Taken<RawExternalKind>, Stop>
     requires within { from < length source.now.tokens.now }
     requires few { length source.now.tokens.now < 2 ^ 32 }
-    requires other { kind_or_end source.now.tokens.now from ≡ token.Keyword keyword.Typedef → ⊥ }
+    requires other { kind_or_end source.now.tokens.now from ≡ token.Keyword keyword.Typedef
+        → ⊥ }
     ensures bounds { IsBounded 200 source.now.tokens.now from result }
-    ensures parsed { ExactAnswers (Externals source.now.names.now) external_of 200 source.now.tokens.now from result }
+    ensures parsed { ExactAnswers (Externals source.now.names.now) external_of 200
+        source.now.tokens.now from result }
     ensures placed { IfOk result (TreeAt IsExternalInside source.now.tokens.now from) }
     ensures apt { IsAnswerApt Scope.File source.now.tokens.now result }
     ensures inside { IsBodyApt source.now.names.now source.now.tokens.now from result }
@@ -114,12 +118,23 @@ fn objects(
     requires within { pointed.next ≤ length source.now.tokens.now }
     requires few { length source.now.tokens.now < 2 ^ 32 }
     requires low { specs.height ≤ 199 }
-    requires stands { kind_or_end source.now.tokens.now pointed.next ≡ token.Punctuator punctuator.OpenParenthesis → ⊥ }
+    requires stands { kind_or_end source.now.tokens.now pointed.next
+        ≡ token.Punctuator punctuator.OpenParenthesis → ⊥ }
     ensures bounds { IsBounded 200 source.now.tokens.now pointed.next result }
-    ensures parsed { (from : ℕ) → IsTypeTaken source.now.names.now source.now.tokens.now from specs → IsPointed declaring.Names source.now.names.now source.now.tokens.now specs.next pointed → ExactAnswers (Externals source.now.names.now) external_of 200 source.now.tokens.now from result }
-    ensures placed { (from : ℕ) → IsTypePlaced source.now.names.now source.now.tokens.now from specs → IsPointedPlaced source.now.names.now source.now.tokens.now specs.next pointed → IfOk result (TreeAt IsExternalInside source.now.tokens.now from) }
+    ensures parsed { (from : ℕ)
+        → IsTypeTaken source.now.names.now source.now.tokens.now from specs
+        → IsPointed declaring.Names source.now.names.now source.now.tokens.now specs.next pointed
+        → ExactAnswers (Externals source.now.names.now) external_of 200 source.now.tokens.now from
+        result }
+    ensures placed { (from : ℕ)
+        → IsTypePlaced source.now.names.now source.now.tokens.now from specs
+        → IsPointedPlaced source.now.names.now source.now.tokens.now specs.next pointed
+        → IfOk result (TreeAt IsExternalInside source.now.tokens.now from) }
     ensures apt { IsAnswerApt Scope.File source.now.tokens.now result }
-    ensures inside { (from : ℕ) → IsTypeTaken source.now.names.now source.now.tokens.now from specs → IsPointed declaring.Names source.now.names.now source.now.tokens.now specs.next pointed → IsBodyApt source.now.names.now source.now.tokens.now from result }
+    ensures inside { (from : ℕ)
+        → IsTypeTaken source.now.names.now source.now.tokens.now from specs
+        → IsPointed declaring.Names source.now.names.now source.now.tokens.now specs.next pointed
+        → IsBodyApt source.now.names.now source.now.tokens.now from result }
 {
     let scope = Scope::File;
     let declarator = with_bounds(alloc, source, pointed, MOST - 1, Declares::Names)?;
@@ -142,12 +157,23 @@ fn function(
     requires within { pointed.next < length source.now.tokens.now }
     requires few { length source.now.tokens.now < 2 ^ 32 }
     requires low { specs.height ≤ 199 }
-    requires stands { kind_or_end source.now.tokens.now pointed.next ≡ token.Punctuator punctuator.OpenParenthesis }
+    requires stands { kind_or_end source.now.tokens.now pointed.next
+        ≡ token.Punctuator punctuator.OpenParenthesis }
     ensures bounds { IsBounded 200 source.now.tokens.now pointed.next result }
-    ensures parsed { (from : ℕ) → IsTypeTaken source.now.names.now source.now.tokens.now from specs → IsPointed declaring.Names source.now.names.now source.now.tokens.now specs.next pointed → ExactAnswers (Externals source.now.names.now) external_of 200 source.now.tokens.now from result }
-    ensures placed { (from : ℕ) → IsTypePlaced source.now.names.now source.now.tokens.now from specs → IsPointedPlaced source.now.names.now source.now.tokens.now specs.next pointed → IfOk result (TreeAt IsExternalInside source.now.tokens.now from) }
+    ensures parsed { (from : ℕ)
+        → IsTypeTaken source.now.names.now source.now.tokens.now from specs
+        → IsPointed declaring.Names source.now.names.now source.now.tokens.now specs.next pointed
+        → ExactAnswers (Externals source.now.names.now) external_of 200 source.now.tokens.now from
+        result }
+    ensures placed { (from : ℕ)
+        → IsTypePlaced source.now.names.now source.now.tokens.now from specs
+        → IsPointedPlaced source.now.names.now source.now.tokens.now specs.next pointed
+        → IfOk result (TreeAt IsExternalInside source.now.tokens.now from) }
     ensures apt { IsAnswerApt Scope.File source.now.tokens.now result }
-    ensures inside { (from : ℕ) → IsTypeTaken source.now.names.now source.now.tokens.now from specs → IsPointed declaring.Names source.now.names.now source.now.tokens.now specs.next pointed → IsBodyApt source.now.names.now source.now.tokens.now from result }
+    ensures inside { (from : ℕ)
+        → IsTypeTaken source.now.names.now source.now.tokens.now from specs
+        → IsPointed declaring.Names source.now.names.now source.now.tokens.now specs.next pointed
+        → IsBodyApt source.now.names.now source.now.tokens.now from result }
 {
     let parameters = parameters(alloc, source, pointed.next + 1, MOST - 2)?;
     let head = head(pointed.tree, parameters);

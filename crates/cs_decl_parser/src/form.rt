@@ -32,7 +32,8 @@ pub enum Form {
 pub fn form_at(source: &Source, at: usize) -> Form
     requires few { at < 2 ^ 33 }
     ensures within { IsFormAt source.now.tokens.now at result }
-    ensures form { result ≡ form_of source.now.names.now (kind_or_end source.now.tokens.now at) (kind_or_end source.now.tokens.now (at + 1)) }
+    ensures form { result ≡ form_of source.now.names.now (kind_or_end source.now.tokens.now at)
+        (kind_or_end source.now.tokens.now (at + 1)) }
 {
     if is_label(source, at) {
         return Form::Label;
@@ -51,7 +52,8 @@ pub fn form_at(source: &Source, at: usize) -> Form
 pub fn is_label(source: &Source, at: usize) -> bool
     requires few { at < 2 ^ 33 }
     ensures within { IsTrue result → at + 1 < length source.now.tokens.now }
-    ensures labelled { result ≡ is_labelled (kind_or_end source.now.tokens.now at) (kind_or_end source.now.tokens.now (at + 1)) }
+    ensures labelled { result ≡ is_labelled (kind_or_end source.now.tokens.now at)
+        (kind_or_end source.now.tokens.now (at + 1)) }
 {
     name_at(source, at).is_some() && is_punctuator(source, at + 1, Punctuator::Colon)
 }

@@ -35,7 +35,8 @@ pub fn initial(
     requires few { length source.now.tokens.now < 2 ^ 32 }
     requires some { 1 ≤ limit }
     ensures bounds { IsUnclosedBounded limit source.now.tokens.now from result }
-    ensures parsed { UnclosedAnswers (Values source.now.names.now) initial_of limit source.now.tokens.now from result }
+    ensures parsed { UnclosedAnswers (Values source.now.names.now) initial_of limit
+        source.now.tokens.now from result }
     ensures placed { IfOk result (UnclosedTreeAt IsInitialPlaced source.now.tokens.now from) }
     ensures apt { IsUnclosedApt scope source.now.tokens.now result }
 {
@@ -72,9 +73,11 @@ fn items(
 ) -> Result<Unclosed<RawInitial>, Stop>
     requires within { from < length source.now.tokens.now }
     requires few { length source.now.tokens.now < 2 ^ 32 }
-    requires stands { kind_or_end source.now.tokens.now from ≡ token.Punctuator punctuator.OpenBrace }
+    requires stands { kind_or_end source.now.tokens.now from
+        ≡ token.Punctuator punctuator.OpenBrace }
     ensures bounds { IsUnclosedBounded limit source.now.tokens.now from result }
-    ensures parsed { UnclosedAnswers (Values source.now.names.now) initial_of limit source.now.tokens.now from result }
+    ensures parsed { UnclosedAnswers (Values source.now.names.now) initial_of limit
+        source.now.tokens.now from result }
     ensures placed { IfOk result (UnclosedTreeAt IsInitialPlaced source.now.tokens.now from) }
     ensures apt { IsUnclosedApt scope source.now.tokens.now result }
 {

@@ -120,7 +120,8 @@ fn control(alloc: Global, source: &Source, from: usize, limit: u32) -> Result<Ta
     requires within { from ≤ length source.now.tokens.now }
     requires few { length source.now.tokens.now < 2 ^ 32 }
     ensures bounds { IsBounded limit source.now.tokens.now from result }
-    ensures parsed { ExactAnswers (Controls source.now.names.now) control_of limit source.now.tokens.now from result }
+    ensures parsed { ExactAnswers (Controls source.now.names.now) control_of limit
+        source.now.tokens.now from result }
     ensures placed { IfOk result (TreeAt AreForPartsPlaced source.now.tokens.now (from + 1)) }
     ensures apt { IsAnswerApt Scope.Block source.now.tokens.now result }
 {
@@ -166,7 +167,8 @@ fn first_part(
     requires within { from ≤ length source.now.tokens.now }
     requires few { length source.now.tokens.now < 2 ^ 32 }
     ensures bounds { IsBounded limit source.now.tokens.now from result }
-    ensures parsed { ExactAnswers (Firsts source.now.names.now) first_of limit source.now.tokens.now from result }
+    ensures parsed { ExactAnswers (Firsts source.now.names.now) first_of limit source.now.tokens.now
+        from result }
     ensures placed { IfOk result (TreeAt IsFirstPlaced source.now.tokens.now from) }
     ensures apt { IsAnswerApt Scope.Block source.now.tokens.now result }
 {

@@ -28,8 +28,10 @@ pub fn members(
     requires within { from ≤ length source.now.tokens.now }
     requires few { length source.now.tokens.now < 2 ^ 32 }
     ensures bounds { IsBounded limit source.now.tokens.now from result }
-    ensures parsed { ExactAnswers (MemberRows source.now.names.now) (λ list. members_list list.items) limit source.now.tokens.now from result }
-    ensures placed { IfOk result (λ taken. AreGroupsPlaced taken.tree.items (drop from source.now.tokens.now)) }
+    ensures parsed { ExactAnswers (MemberRows source.now.names.now)
+        (λ list. members_list list.items) limit source.now.tokens.now from result }
+    ensures placed { IfOk result (λ taken.
+        AreGroupsPlaced taken.tree.items (drop from source.now.tokens.now)) }
     ensures apt { IsAnswerApt Scope.File source.now.tokens.now result }
 {
     let mut list = Vec::new(alloc);
@@ -54,7 +56,8 @@ fn member(alloc: Global, source: &Source, from: usize, limit: u32) -> Result<Tak
     requires within { from ≤ length source.now.tokens.now }
     requires few { length source.now.tokens.now < 2 ^ 32 }
     ensures bounds { IsBounded limit source.now.tokens.now from result }
-    ensures parsed { ExactAnswers (MemberGroups source.now.names.now) group limit source.now.tokens.now from result }
+    ensures parsed { ExactAnswers (MemberGroups source.now.names.now) group limit
+        source.now.tokens.now from result }
     ensures placed { IfOk result (TreeAt IsGroupPlaced source.now.tokens.now from) }
     ensures apt { IsAnswerApt Scope.File source.now.tokens.now result }
 {

@@ -12,7 +12,8 @@ use std::alloc::AllocError;
 /// The name at an index, which may be that of a typedef, if one stands there.
 pub fn any_name_at(source: &Source, at: usize) -> Result<Option<RawName>, AllocError>
     ensures within { IfOk result (λ name. IsSome name → at < length source.now.tokens.now) }
-    ensures name { IfOk result (IsNameAt (λ name. Unit {0}) (kind_or_end source.now.tokens.now at)) }
+    ensures name { IfOk result
+        (IsNameAt (λ name. Unit {0}) (kind_or_end source.now.tokens.now at)) }
     ensures placed { IfOk result (λ name. IsNamePlaced name (drop at source.now.tokens.now)) }
 {
     let Some(name) = name_at(source, at) else {
@@ -28,7 +29,8 @@ pub fn any_name_at(source: &Source, at: usize) -> Result<Option<RawName>, AllocE
 /// The name at an index, if one stands there that is no typedef's.
 pub fn free_name_at(source: &Source, at: usize) -> Result<Option<RawName>, AllocError>
     ensures within { IfOk result (λ name. IsSome name → at < length source.now.tokens.now) }
-    ensures name { IfOk result (IsNameAt (IsFree source.now.names.now) (kind_or_end source.now.tokens.now at)) }
+    ensures name { IfOk result
+        (IsNameAt (IsFree source.now.names.now) (kind_or_end source.now.tokens.now at)) }
     ensures placed { IfOk result (λ name. IsNamePlaced name (drop at source.now.tokens.now)) }
 {
     if begins_type(source, at) {

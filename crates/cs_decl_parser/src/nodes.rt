@@ -41,7 +41,8 @@ pub fn label_node(
     body: Taken<RawStmt>,
 ) -> Result<Taken<RawStmt>, AllocError>
     requires low { body.height < 2 ^ 32 - 1 }
-    ensures node { IfOk result (IsNode (LabelNode name.name (statement_of body.tree)) (body.height + 1) body.next) }
+    ensures node { IfOk result
+        (IsNode (LabelNode name.name (statement_of body.tree)) (body.height + 1) body.next) }
     ensures placed { IfOk result (λ made. IsLabelOf name.place body.tree made.tree) }
 {
     let (height, next) = (body.height + 1, body.next);
@@ -57,7 +58,9 @@ pub fn if_node(
     body: Taken<RawStmt>,
 ) -> Result<Taken<RawStmt>, AllocError>
     requires low { (test.height < 2 ^ 32 - 1) × (body.height < 2 ^ 32 - 1) }
-    ensures node { IfOk result (IsNode (IfNode (written test.tree) (statement_of body.tree)) (max test.height body.height + 1) body.next) }
+    ensures node { IfOk result
+        (IsNode (IfNode (written test.tree) (statement_of body.tree))
+        (max test.height body.height + 1) body.next) }
     ensures placed { IfOk result (λ made. IsTestedOf place test.tree body.tree made.tree) }
 {
     let (height, next) = (test.height.max(body.height) + 1, body.next);
@@ -73,9 +76,13 @@ pub fn if_else_node(
     body: Taken<RawStmt>,
     other: Taken<RawStmt>,
 ) -> Result<Taken<RawStmt>, AllocError>
-    requires low { (test.height < 2 ^ 32 - 1) × (body.height < 2 ^ 32 - 1) × (other.height < 2 ^ 32 - 1) }
-    ensures node { IfOk result (IsNode (IfElseNode (written test.tree) (statement_of body.tree) (statement_of other.tree)) (max (max test.height body.height) other.height + 1) other.next) }
-    ensures placed { IfOk result (λ made. IsChoiceOf place test.tree body.tree other.tree made.tree) }
+    requires low { (test.height < 2 ^ 32 - 1) × (body.height < 2 ^ 32 - 1)
+        × (other.height < 2 ^ 32 - 1) }
+    ensures node { IfOk result
+        (IsNode (IfElseNode (written test.tree) (statement_of body.tree) (statement_of other.tree))
+        (max (max test.height body.height) other.height + 1) other.next) }
+    ensures placed { IfOk result (λ made.
+        IsChoiceOf place test.tree body.tree other.tree made.tree) }
 {
     let height = test.height.max(body.height).max(other.height) + 1;
     let next = other.next;
@@ -91,7 +98,9 @@ pub fn while_node(
     body: Taken<RawStmt>,
 ) -> Result<Taken<RawStmt>, AllocError>
     requires low { (test.height < 2 ^ 32 - 1) × (body.height < 2 ^ 32 - 1) }
-    ensures node { IfOk result (IsNode (WhileNode (written test.tree) (statement_of body.tree)) (max test.height body.height + 1) body.next) }
+    ensures node { IfOk result
+        (IsNode (WhileNode (written test.tree) (statement_of body.tree))
+        (max test.height body.height + 1) body.next) }
     ensures placed { IfOk result (λ made. IsTestedOf place test.tree body.tree made.tree) }
 {
     let (height, next) = (test.height.max(body.height) + 1, body.next);
@@ -108,7 +117,9 @@ pub fn do_node(
     next: usize,
 ) -> Result<Taken<RawStmt>, AllocError>
     requires low { (body.height < 2 ^ 32 - 1) × (test.height < 2 ^ 32 - 1) }
-    ensures node { IfOk result (IsNode (DoNode (statement_of body.tree) (written test.tree)) (max body.height test.height + 1) next) }
+    ensures node { IfOk result
+        (IsNode (DoNode (statement_of body.tree) (written test.tree))
+        (max body.height test.height + 1) next) }
     ensures placed { IfOk result (λ made. IsDoneOf place body.tree test.tree made.tree) }
 {
     let height = body.height.max(test.height) + 1;
@@ -124,7 +135,10 @@ pub fn for_node(
     body: Taken<RawStmt>,
 ) -> Result<Taken<RawStmt>, AllocError>
     requires low { (parts.height < 2 ^ 32 - 1) × (body.height < 2 ^ 32 - 1) }
-    ensures node { IfOk result (IsNode (ForNode (first_of parts.tree.first) (option_map written parts.tree.test) (option_map written parts.tree.last) (statement_of body.tree)) (max parts.height body.height + 1) body.next) }
+    ensures node { IfOk result
+        (IsNode (ForNode (first_of parts.tree.first) (option_map written parts.tree.test)
+        (option_map written parts.tree.last) (statement_of body.tree))
+        (max parts.height body.height + 1) body.next) }
     ensures placed { IfOk result (λ made. IsLoopOf place parts.tree body.tree made.tree) }
 {
     let (height, next) = (parts.height.max(body.height) + 1, body.next);

@@ -36,8 +36,11 @@ pub fn objects(
     requires few { length source.now.tokens.now < 2 ^ 32 }
     requires some { 1 ≤ limit }
     ensures bounds { IsBounded limit source.now.tokens.now from result }
-    ensures parsed { ExactAnswers (Separated (Objects source.now.names.now) (token.Punctuator punctuator.Semicolon)) (λ list. map declared list.items) limit source.now.tokens.now from result }
-    ensures placed { IfOk result (λ taken. AreObjectsPlaced taken.tree.items (drop from source.now.tokens.now)) }
+    ensures parsed { ExactAnswers
+        (Separated (Objects source.now.names.now) (token.Punctuator punctuator.Semicolon))
+        (λ list. map declared list.items) limit source.now.tokens.now from result }
+    ensures placed { IfOk result (λ taken.
+        AreObjectsPlaced taken.tree.items (drop from source.now.tokens.now)) }
     ensures apt { IsAnswerApt scope source.now.tokens.now result }
 {
     let first = object(alloc, source, scope, from, limit)?;
@@ -59,8 +62,17 @@ pub fn with_others(
     requires low { first.height ≤ limit }
     requires apt { IsApt scope (kind_or_end source.now.tokens.now first.next) first.otherwise }
     ensures bounds { IsBounded limit source.now.tokens.now first.next result }
-    ensures parsed { (from : ℕ) → IsUnclosed (Objects source.now.names.now) declared limit source.now.tokens.now from first → ExactAnswers (Separated (Objects source.now.names.now) (token.Punctuator punctuator.Semicolon)) (λ list. map declared list.items) limit source.now.tokens.now from result }
-    ensures placed { (from : ℕ) → IsUnclosed (Objects source.now.names.now) declared limit source.now.tokens.now from first → IsDeclaredPlaced first.tree (drop from source.now.tokens.now) → IfOk result (λ taken. AreObjectsPlaced taken.tree.items (drop from source.now.tokens.now)) }
+    ensures parsed { (from : ℕ)
+        → IsUnclosed (Objects source.now.names.now) declared limit source.now.tokens.now from
+        first
+        → ExactAnswers (Separated (Objects source.now.names.now)
+        (token.Punctuator punctuator.Semicolon)) (λ list. map declared list.items) limit
+        source.now.tokens.now from result }
+    ensures placed { (from : ℕ)
+        → IsUnclosed (Objects source.now.names.now) declared limit source.now.tokens.now from
+        first → IsDeclaredPlaced first.tree (drop from source.now.tokens.now)
+        → IfOk result (λ taken.
+        AreObjectsPlaced taken.tree.items (drop from source.now.tokens.now)) }
     ensures apt { IsAnswerApt scope source.now.tokens.now result }
 {
     let mut list = Vec::new(alloc);
@@ -94,7 +106,8 @@ fn object(
     requires few { length source.now.tokens.now < 2 ^ 32 }
     requires some { 1 ≤ limit }
     ensures bounds { IsUnclosedBounded limit source.now.tokens.now from result }
-    ensures parsed { UnclosedAnswers (Objects source.now.names.now) declared limit source.now.tokens.now from result }
+    ensures parsed { UnclosedAnswers (Objects source.now.names.now) declared limit
+        source.now.tokens.now from result }
     ensures placed { IfOk result (UnclosedTreeAt IsDeclaredPlaced source.now.tokens.now from) }
     ensures apt { IsUnclosedApt scope source.now.tokens.now result }
 {
@@ -116,8 +129,14 @@ pub fn with_value(
     requires some { 1 ≤ declarator.height }
     requires low { declarator.height ≤ limit }
     ensures bounds { IsUnclosedRowBounded limit source.now.tokens.now declarator.next result }
-    ensures parsed { (from : ℕ) → IsDeclaratorTaken declaring.Names source.now.names.now limit source.now.tokens.now from declarator → UnclosedAnswers (Objects source.now.names.now) declared limit source.now.tokens.now from result }
-    ensures placed { (from : ℕ) → IsDeclaratorTaken declaring.Names source.now.names.now limit source.now.tokens.now from declarator → IsDeclaratorPlaced declarator.tree (drop from source.now.tokens.now) → IfOk result (UnclosedTreeAt IsDeclaredPlaced source.now.tokens.now from) }
+    ensures parsed { (from : ℕ)
+        → IsDeclaratorTaken declaring.Names source.now.names.now limit source.now.tokens.now from
+        declarator → UnclosedAnswers (Objects source.now.names.now) declared limit
+        source.now.tokens.now from result }
+    ensures placed { (from : ℕ)
+        → IsDeclaratorTaken declaring.Names source.now.names.now limit source.now.tokens.now from
+        declarator → IsDeclaratorPlaced declarator.tree (drop from source.now.tokens.now)
+        → IfOk result (UnclosedTreeAt IsDeclaredPlaced source.now.tokens.now from) }
     ensures apt { IsUnclosedApt scope source.now.tokens.now result }
 {
     let at = declarator.next;
@@ -148,7 +167,8 @@ fn alone(declarator: Taken<RawDeclarator>, otherwise: Reason) -> Unclosed<RawIni
     ensures height { result.height ≡ declarator.height }
     ensures next { result.next ≡ declarator.next }
     ensures otherwise { result.otherwise ≡ otherwise }
-    ensures placed { (tokens : List Token) → IsDeclaratorPlaced declarator.tree tokens → IsDeclaredPlaced result.tree tokens }
+    ensures placed { (tokens : List Token) → IsDeclaratorPlaced declarator.tree tokens
+        → IsDeclaredPlaced result.tree tokens }
 {
     Unclosed {
         tree: RawInit {

@@ -36,7 +36,8 @@ pub fn parameters(
     requires few { length source.now.tokens.now < 2 ^ 32 }
     requires enough { 4 ≤ limit }
     ensures bounds { IsBounded limit source.now.tokens.now from result }
-    ensures parsed { ExactAnswers (ParameterLists source.now.names.now) parameters_of limit source.now.tokens.now from result }
+    ensures parsed { ExactAnswers (ParameterLists source.now.names.now) parameters_of limit
+        source.now.tokens.now from result }
     ensures placed { IfOk result (TreeAt AreParametersPlaced source.now.tokens.now from) }
     ensures apt { IsAnswerApt Scope.File source.now.tokens.now result }
 {
@@ -84,8 +85,11 @@ fn parameter_list(
     requires enough { 2 ≤ limit }
     requires no_void { IsVoidAlone source.now.tokens.now from → ⊥ }
     ensures bounds { IsBounded limit source.now.tokens.now from result }
-    ensures parsed { ExactAnswers (ParameterRows source.now.names.now) (λ list. map parameter_of list.items) limit source.now.tokens.now from result }
-    ensures placed { IfOk result (λ taken. AreInRow IsParameterPlaced (λ p. parameter_text (parameter_of p)) taken.tree.items (drop from source.now.tokens.now)) }
+    ensures parsed { ExactAnswers (ParameterRows source.now.names.now)
+        (λ list. map parameter_of list.items) limit source.now.tokens.now from result }
+    ensures placed { IfOk result (λ taken.
+        AreInRow IsParameterPlaced (λ p. parameter_text (parameter_of p)) taken.tree.items
+        (drop from source.now.tokens.now)) }
     ensures apt { IsAnswerApt Scope.File source.now.tokens.now result }
 {
     let mut list = Vec::new(alloc);

@@ -35,7 +35,8 @@ pub fn reason_reported(
 ) -> Result<Reason, AllocError>
     requires few { length tokens.now < 2 ^ 32 }
     requires amidst { StandsAmidst tokens.now parts.now (stop.Refused at reason) }
-    ensures { IfOk result (λ reported. IsPartRefusedAt tokens.now at reason → IsFileRefusedAt tokens.now at reported) }
+    ensures { IfOk result (λ reported.
+        IsPartRefusedAt tokens.now at reason → IsFileRefusedAt tokens.now at reported) }
 {
     if is_too_deep(reason) {
         return Ok(reason);
@@ -72,7 +73,11 @@ fn is_brace_out(
 ) -> Result<bool, AllocError>
     requires within { at < length tokens.now }
     requires onward { parts.now.next ≤ at }
-    ensures { IfOk result (λ out. BeginsFile (kinds (take at tokens.now)) → EndInPart parts.now.names (kinds (take at tokens.now)) parts.now.next → (IsTrue out ↔ IsUnsupportedOfFile (kinds (take at tokens.now)) (token.Punctuator punctuator.OpenBrace))) }
+    ensures { IfOk result (λ out.
+        BeginsFile (kinds (take at tokens.now))
+        → EndInPart parts.now.names (kinds (take at tokens.now)) parts.now.next
+        → (IsTrue out ↔ IsUnsupportedOfFile (kinds (take at tokens.now))
+        (token.Punctuator punctuator.OpenBrace))) }
 {
     let before = &tokens[..at];
     if is_tag_inside(alloc, before)? {
@@ -98,7 +103,9 @@ fn begins_designator(tokens: &[Token], at: usize) -> bool
 fn may_open_list(alloc: Global, tokens: &[Token], at: usize) -> Result<bool, AllocError>
     requires within { at < length tokens.now }
     requires few { length tokens.now < 2 ^ 32 }
-    ensures { IfOk result (λ may. BeginsLowFile 200 (kinds (take at tokens.now)) → (IsTrue may ↔ MayHave (kinds (take at tokens.now)) opens_list)) }
+    ensures { IfOk result (λ may.
+        BeginsLowFile 200 (kinds (take at tokens.now))
+        → (IsTrue may ↔ MayHave (kinds (take at tokens.now)) opens_list)) }
 {
     let before = &tokens[..at];
     if !awaits_list(before) {
@@ -117,7 +124,10 @@ fn may_open_list(alloc: Global, tokens: &[Token], at: usize) -> Result<bool, All
 fn may_name_declarator(alloc: Global, tokens: &[Token], at: usize) -> Result<bool, AllocError>
     requires within { at < length tokens.now }
     requires few { length tokens.now < 2 ^ 32 }
-    ensures { IfOk result (λ may. BeginsLowFile 200 (kinds (take at tokens.now)) → (BeginsFile (kinds (take at tokens.now) ++ token.Punctuator punctuator.OpenParenthesis ∷ []) → ⊥) → (IsTrue may ↔ MayHave (kinds (take at tokens.now)) declared_name)) }
+    ensures { IfOk result (λ may.
+        BeginsLowFile 200 (kinds (take at tokens.now))
+        → (BeginsFile (kinds (take at tokens.now) ++ token.Punctuator punctuator.OpenParenthesis
+        ∷ []) → ⊥) → (IsTrue may ↔ MayHave (kinds (take at tokens.now)) declared_name)) }
 {
     let before = &tokens[..at];
     let Some(kind) = token_for_name(alloc, before)? else {
@@ -135,7 +145,9 @@ fn may_name_declarator(alloc: Global, tokens: &[Token], at: usize) -> Result<boo
 /// parsed with that one after them.
 fn file_goes_on(alloc: Global, before: &[Token], next: Token) -> Result<bool, AllocError>
     requires few { length before.now + 1 < 2 ^ 32 }
-    ensures { IfOk result (λ on. BeginsLowFile 200 (kinds before.now) → (IsTrue on ↔ BeginsFile (kinds before.now ++ next.kind ∷ []))) }
+    ensures { IfOk result (λ on.
+        BeginsLowFile 200 (kinds before.now)
+        → (IsTrue on ↔ BeginsFile (kinds before.now ++ next.kind ∷ []))) }
 {
     let mut tokens = Vec::from_clones(alloc, before)?;
     tokens.push(next)?;

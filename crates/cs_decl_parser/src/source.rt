@@ -42,7 +42,8 @@ pub fn punctuator_at(source: &Source, at: usize) -> Option<Punctuator>
 
 /// Whether this punctuator is at an index.
 pub fn is_punctuator(source: &Source, at: usize, punctuator: Punctuator) -> bool
-    ensures punctuator { IsTrue result ↔ (kind_or_end source.now.tokens.now at ≡ token.Punctuator punctuator) }
+    ensures punctuator { IsTrue result
+        ↔ (kind_or_end source.now.tokens.now at ≡ token.Punctuator punctuator) }
     ensures within { IsTrue result → at < length source.now.tokens.now }
 {
     tokens::is_punctuator(source.tokens, at, punctuator)
@@ -58,7 +59,8 @@ pub fn keyword_at(source: &Source, at: usize) -> Option<Keyword>
 
 /// Whether this keyword is at an index.
 pub fn is_keyword(source: &Source, at: usize, keyword: Keyword) -> bool
-    ensures keyword { IsTrue result ↔ (kind_or_end source.now.tokens.now at ≡ token.Keyword keyword) }
+    ensures keyword { IsTrue result
+        ↔ (kind_or_end source.now.tokens.now at ≡ token.Keyword keyword) }
     ensures within { IsTrue result → at < length source.now.tokens.now }
 {
     keyword_at(source, at) == Some(keyword)
@@ -116,7 +118,8 @@ pub fn reason_at(source: &Source, at: usize, scope: Scope) -> Reason
 
 /// The refusal of the token at an index, which no tree of any height continues with.
 pub fn refuse(source: &Source, at: usize, scope: Scope) -> Stop
-    ensures is { result ≡ stop.Refused at (plain_reason scope (kind_or_end source.now.tokens.now at)) }
+    ensures is { result ≡ stop.Refused at
+        (plain_reason scope (kind_or_end source.now.tokens.now at)) }
     ensures apt { IsStopApt scope source.now.tokens.now result }
 {
     Stop::Refused(at, reason_at(source, at, scope))
@@ -127,7 +130,8 @@ pub fn refuse(source: &Source, at: usize, scope: Scope) -> Stop
 pub fn refuse_but(source: &Source, at: usize, scope: Scope, unsupported: Punctuator) -> Stop
     ensures reason { RefusesBut unsupported scope at (kind_or_end source.now.tokens.now at) result }
     ensures plain { RefusesAfter at false result }
-    ensures apt { IsTrue (may_be_out (token.Punctuator unsupported)) → IsStopApt scope source.now.tokens.now result }
+    ensures apt { IsTrue (may_be_out (token.Punctuator unsupported))
+        → IsStopApt scope source.now.tokens.now result }
 {
     if is_punctuator(source, at, unsupported) {
         return Stop::Refused(at, Reason::Unsupported);

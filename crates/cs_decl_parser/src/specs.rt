@@ -43,7 +43,8 @@ pub struct NextWord {
 
 /// Whether what stands before declarators outside blocks may begin with the token at an index.
 pub fn begins_specs(source: &Source, at: usize) -> bool
-    ensures { result ≡ begins_words Scope.File source.now.names.now (kind_or_end source.now.tokens.now at) }
+    ensures { result ≡ begins_words Scope.File source.now.names.now
+        (kind_or_end source.now.tokens.now at) }
 {
     begins_type(source, at) || is_keyword(source, at, Keyword::Static)
 }
@@ -248,7 +249,8 @@ fn with_body(
     requires opened { IsOpened source.now.tokens.now at brace (name_in tag) }
     ensures bounds { IsNextBounded limit source.now.tokens.now at result }
     ensures element { ElementAnswer source.now.names.now limit source.now.tokens.now at result }
-    ensures placed { IsNamePlaced tag (drop (at + 1) source.now.tokens.now) → IfOk result (IsWordPlaced source.now.tokens.now at) }
+    ensures placed { IsNamePlaced tag (drop (at + 1) source.now.tokens.now)
+        → IfOk result (IsWordPlaced source.now.tokens.now at) }
     ensures apt { IsAnswerApt Scope.File source.now.tokens.now result }
 {
     if is_keyword(source, at, Keyword::Struct) {
@@ -279,7 +281,9 @@ fn structure(tag: Option<RawName>, members: Taken<Vec<RawMember>>) -> NextWord
     ensures bounds { IsWordOf 0 (members.height + 1) members.next result }
     ensures word { IsSpecOf (StructBody (name_in tag) (members_list members.tree.items)) result }
     ensures tag { result.tag ≡ place_in tag }
-    ensures placed { (tokens : List Token) → AreGroupsPlaced members.tree.items (in_body (name_in tag) tokens) → IsSpecPlaced result.word tokens }
+    ensures placed { (tokens : List Token)
+        → AreGroupsPlaced members.tree.items (in_body (name_in tag) tokens)
+        → IsSpecPlaced result.word tokens }
 {
     let (name, place) = split(tag);
     NextWord {
@@ -297,7 +301,10 @@ fn enumeration(tag: Option<RawName>, constants: Taken<ConstantList>) -> NextWord
     ensures bounds { IsWordOf 0 (constants.height + 1) constants.next result }
     ensures word { IsSpecOf (enum_of (name_in tag) (constant_row constants.tree)) result }
     ensures tag { result.tag ≡ place_in tag }
-    ensures placed { (tokens : List Token) → AreInRow IsConstantPlaced (λ e. constant_text (constant_of e)) constants.tree.list.items (in_body (name_in tag) tokens) → IsSpecPlaced result.word tokens }
+    ensures placed { (tokens : List Token)
+        → AreInRow IsConstantPlaced (λ e. constant_text (constant_of e))
+        constants.tree.list.items (in_body (name_in tag) tokens)
+        → IsSpecPlaced result.word tokens }
 {
     let (name, place) = split(tag);
     let ConstantList { list, comma } = constants.tree;

@@ -75,7 +75,9 @@ fn leaf(
 ) -> Result<Taken<RawStmt>, AllocError>
     requires within { from < length source.now.tokens.now }
     ensures node { IfOk result (IsNode (sentence kind) 1 next) }
-    ensures placed { IfOk result (λ made. ArePartsPlaced kind (drop from source.now.tokens.now) → HasStatementPlaces made.tree (drop from source.now.tokens.now)) }
+    ensures placed { IfOk result (λ made.
+        ArePartsPlaced kind (drop from source.now.tokens.now)
+        → HasStatementPlaces made.tree (drop from source.now.tokens.now)) }
 {
     Ok(node(alloc, place_at(source, from), kind, 1, next)?)
 }
@@ -86,7 +88,9 @@ fn label(alloc: Global, source: &Source, from: usize, limit: u32) -> Result<Take
     requires within { from + 2 ≤ length source.now.tokens.now }
     requires few { length source.now.tokens.now < 2 ^ 32 }
     requires enough { 2 ≤ limit }
-    requires stands { IsTrue (is_labelled (kind_or_end source.now.tokens.now from) (kind_or_end source.now.tokens.now (from + 1))) }
+    requires stands { IsTrue
+        (is_labelled (kind_or_end source.now.tokens.now from)
+        (kind_or_end source.now.tokens.now (from + 1))) }
     ensures bounds { IsBounded limit source.now.tokens.now from result }
     ensures parsed { StatementAnswers source.now.names.now limit source.now.tokens.now from result }
     ensures placed { IfOk result (TreeAt HasStatementPlaces source.now.tokens.now from) }
@@ -104,7 +108,8 @@ fn label(alloc: Global, source: &Source, from: usize, limit: u32) -> Result<Take
 fn run(alloc: Global, source: &Source, from: usize, limit: u32) -> Result<Taken<RawStmt>, Stop>
     requires within { from ≤ length source.now.tokens.now }
     requires few { length source.now.tokens.now < 2 ^ 32 }
-    requires stands { form_of source.now.names.now (kind_or_end source.now.tokens.now from) (kind_or_end source.now.tokens.now (from + 1)) ≡ form.Run }
+    requires stands { form_of source.now.names.now (kind_or_end source.now.tokens.now from)
+        (kind_or_end source.now.tokens.now (from + 1)) ≡ form.Run }
     ensures bounds { IsBounded limit source.now.tokens.now from result }
     ensures parsed { StatementAnswers source.now.names.now limit source.now.tokens.now from result }
     ensures placed { IfOk result (TreeAt HasStatementPlaces source.now.tokens.now from) }
@@ -123,7 +128,8 @@ fn goto(alloc: Global, source: &Source, from: usize) -> Result<Taken<RawStmt>, S
     requires few { length source.now.tokens.now < 2 ^ 32 }
     requires stands { kind_or_end source.now.tokens.now from ≡ token.Keyword keyword.Goto }
     ensures bounds { IsBounded 1 source.now.tokens.now from result }
-    ensures parsed { (limit : ℕ) → 1 ≤ limit → StatementAnswers source.now.names.now limit source.now.tokens.now from result }
+    ensures parsed { (limit : ℕ) → 1 ≤ limit
+        → StatementAnswers source.now.names.now limit source.now.tokens.now from result }
     ensures placed { IfOk result (TreeAt HasStatementPlaces source.now.tokens.now from) }
     ensures apt { IsAnswerApt Scope.Block source.now.tokens.now result }
 {
@@ -147,7 +153,8 @@ fn jump(
     requires few { length source.now.tokens.now < 2 ^ 32 }
     requires stands { IsJump (kind_or_end source.now.tokens.now from) (sentence kind) }
     ensures bounds { IsBounded 1 source.now.tokens.now from result }
-    ensures parsed { (limit : ℕ) → 1 ≤ limit → StatementAnswers source.now.names.now limit source.now.tokens.now from result }
+    ensures parsed { (limit : ℕ) → 1 ≤ limit
+        → StatementAnswers source.now.names.now limit source.now.tokens.now from result }
     ensures placed { IfOk result (TreeAt HasStatementPlaces source.now.tokens.now from) }
     ensures apt { IsAnswerApt Scope.Block source.now.tokens.now result }
 {

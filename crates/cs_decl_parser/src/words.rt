@@ -19,8 +19,10 @@ pub fn stars(
 ) -> Result<Taken<Vec<PointerWord>>, AllocError>
     requires within { from ≤ length source.now.tokens.now }
     requires few { length source.now.tokens.now < 2 ^ 32 }
-    ensures bounds { IfOk result (λ taken. (from ≤ taken.next) × (taken.next ≤ length source.now.tokens.now)) }
-    ensures pointers { IfOk result (λ taken. ArePointers source.now.tokens.now from taken.next taken.tree.items) }
+    ensures bounds { IfOk result (λ taken.
+        (from ≤ taken.next) × (taken.next ≤ length source.now.tokens.now)) }
+    ensures pointers { IfOk result (λ taken.
+        ArePointers source.now.tokens.now from taken.next taken.tree.items) }
 {
     let mut words = Vec::new(alloc);
     let mut next = from;
@@ -52,7 +54,8 @@ fn pointer_word_at(source: &Source, at: usize, after_star: bool) -> Option<Point
 /// The word of a type that the one token at an index is, if it is one.
 pub fn type_word_at(source: &Source, at: usize) -> Result<Option<TypeWord>, AllocError>
     ensures within { IfOk result (λ word. IsSome word → at < length source.now.tokens.now) }
-    ensures word { IfOk result (IsTypeWord source.now.names.now (kind_or_end source.now.tokens.now at)) }
+    ensures word { IfOk result
+        (IsTypeWord source.now.names.now (kind_or_end source.now.tokens.now at)) }
 {
     if let Some(name) = name_at(source, at) {
         if !begins_type(source, at) {

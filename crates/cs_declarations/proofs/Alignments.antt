@@ -10,7 +10,8 @@ use Rattle.cs_types.specs.declared.structs.StructType.{StructType}
 use Rattle.cs_types.specs.Members.{Member}
 use Rattle.cs_types.specs.IntType.{bytes_of, word_bytes}
 use Rattle.cs_types.specs.Shape.{Shape, void, integer, pointer, array, struct}
-use Rattle.cs_types.specs.Layout.{Layout, round_up, alone, repeated, side_by_side, padded, layout_with, member_layouts, members_of, struct_layout, complete_count, layout_of}
+use Rattle.cs_types.specs.Layout.{Layout, round_up, alone, repeated, side_by_side, padded, layout_with, member_layouts, members_of, struct_layout}
+use Rattle.cs_types.specs.Layout.{complete_count, layout_of}
 use Rattle.cs_types.specs.LeafSearch.{layout_within}
 use Rattle.cs_types.proofs.Nesting.{mapped, chained, first_member}
 
@@ -69,15 +70,18 @@ side_by_side-low from (l ∷ ls) h = omega (arith, h.0, side_by_side-low (round_
 struct_layout-low : (model : DataModel) (table : List StructType) (depth : ℕ) → GivesLow (struct_layout model table depth)
 struct_layout-low model table zero k l h = absurd (cc)
 struct_layout-low model table (suc depth) k l h =
-    let members = chained (λ ms. option_map (λ ls. padded (side_by_side 0 ls)) (member_layouts (layout_within model table depth) ms)) (members_of table k) l h in
+    let members = chained (λ ms. option_map (λ ls. padded (side_by_side 0 ls)) (member_layouts (layout_within model table depth) ms)) (members_of table k) l
+    h in
     let layouts = mapped (λ ls. padded (side_by_side 0 ls)) (member_layouts (layout_within model table depth) members.0) l members.2 in
     let inner = layout_with-low model (struct_layout model table depth) (struct_layout-low model table depth) in
-    low_as l (padded (side_by_side 0 layouts.0)) (ap Some (sym layouts.2)) (side_by_side-low 0 layouts.0 (member_layouts-low (layout_within model table depth) inner members.0 layouts.0 layouts.1))
+    low_as l (padded (side_by_side 0 layouts.0)) (ap Some (sym layouts.2))
+    (side_by_side-low 0 layouts.0 (member_layouts-low (layout_within model table depth) inner members.0 layouts.0 layouts.1))
 
 -- no layout of a type has a greater alignment
 pub layout_of-low : (model : DataModel) (table : List StructType) → GivesLow (layout_of model table)
 layout_of-low model table = layout_with-low model (struct_layout model table (complete_count table)) (struct_layout-low model table (complete_count table))
 
 -- nor have members side by side
-pub members-low : (model : DataModel) (table : List StructType) (ms : List Member) (ls : List Layout) → member_layouts (layout_of model table) ms ≡ Some ls → (side_by_side 0 ls).align ≤ 8
+pub members-low : (model : DataModel) (table : List StructType) (ms : List Member) (ls : List Layout) → member_layouts (layout_of model table) ms ≡ Some ls
+    → (side_by_side 0 ls).align ≤ 8
 members-low model table ms ls h = side_by_side-low 0 ls (member_layouts-low (layout_of model table) (layout_of-low model table) ms ls h)

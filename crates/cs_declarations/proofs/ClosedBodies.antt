@@ -26,9 +26,12 @@ module _ (k : Environment) (at : Place) (name : Option (List ℕ)) (groups : Lis
   pub members_stop : (r : TypeRefusal) → IsRefused (members_of_list o.known groups nothing_laid) r → IsRefused (struct_body k at name groups) r
   members_stop r h = refused_by r body_opened (lift-refused (struct_read o k.reading name) (members_of_list o.known groups nothing_laid) r h)
 
-  pub body_closed : (b : Body) (after : Environment) → members_of_list o.known groups nothing_laid ≡ Fine b → b.known.reading ≡ k.reading ++ o.number ∷ [] →
-      after ≡ with_reading (take (length b.known.reading - 1) b.known.reading) (with_members o.number (name_or_none name) b.laying b.known) → struct_body k at name groups ≡ Fine (struct o.number, after)
+  pub body_closed : (b : Body) (after : Environment) → members_of_list o.known groups nothing_laid ≡ Fine b
+      → b.known.reading ≡ k.reading ++ o.number ∷ [] →
+      after ≡ with_reading (take (length b.known.reading - 1) b.known.reading) (with_members o.number (name_or_none name) b.laying b.known)
+      → struct_body k at name groups ≡ Fine (struct o.number, after)
   body_closed b after e reading is =
       body_opened ∙ ap (lift (struct_read o k.reading name)) e ∙ lift-fine (struct_read o k.reading name) b
-      ∙ ap (λ rs. Fine (struct o.number, with_reading rs (with_members o.number (name_or_none name) b.laying b.known))) (sym (popped k.reading b.known.reading o.number reading))
+      ∙ ap (λ rs. Fine (struct o.number, with_reading rs (with_members o.number (name_or_none name) b.laying b.known)))
+      (sym (popped k.reading b.known.reading o.number reading))
       ∙ ap (λ x. Fine (struct o.number, x)) (sym is)

@@ -8,7 +8,8 @@ use Rattle.cs_types.specs.declared.data_model.DataModel.{DataModel}
 use Rattle.cs_types.specs.declared.structs.StructType.{StructType}
 use Rattle.cs_types.specs.Members.{Member}
 use Rattle.cs_types.specs.Shape.{Shape, void, integer, pointer, array, struct}
-use Rattle.cs_types.specs.Layout.{Layout, repeated, side_by_side, padded, offsets, member_layouts, members_of, struct_layout, complete_count, layout_of, IsSmall, HasSmallSizes, IsLaid}
+use Rattle.cs_types.specs.Layout.{Layout, repeated, side_by_side, padded, offsets, member_layouts, members_of, struct_layout, complete_count, layout_of}
+use Rattle.cs_types.specs.Layout.{IsSmall, HasSmallSizes, IsLaid}
 use Rattle.cs_types.specs.LeafSearch.{layout_within}
 use Rattle.cs_types.proofs.Nesting.{Extends, mapped, chained, first_member, layout_with-Extends, member_layouts-Extends, struct_layout-Extends}
 
@@ -33,7 +34,8 @@ module _ (model : DataModel) (before after : List StructType) (grows : Grows bef
   pub layout_of-Grows : Extends (layout_of model before) (layout_of model after)
   layout_of-Grows =
       layout_with-Extends model (struct_layout model before (complete_count before)) (struct_layout model after (complete_count after))
-      (λ k l h. struct_layout-Extends model after (complete_count before) (complete_count after) grows.count k l (struct_layout-Grows (complete_count before) k l h))
+      (λ k l h.
+      struct_layout-Extends model after (complete_count before) (complete_count after) grows.count k l (struct_layout-Grows (complete_count before) k l h))
 
   small-kept : (shape : Shape) (l : Layout) → layout_of model before shape ≡ Some l → IsSmall model before shape → IsSmall model after shape
   small-kept shape l e h =
@@ -41,7 +43,8 @@ module _ (model : DataModel) (before after : List StructType) (grows : Grows bef
       subst P (e ∙ sym (layout_of-Grows shape l e)) h
 
   -- and its small sizes
-  pub HasSmallSizes-Grows : (shape : Shape) (l : Layout) → layout_of model before shape ≡ Some l → HasSmallSizes model before shape → HasSmallSizes model after shape
+  pub HasSmallSizes-Grows : (shape : Shape) (l : Layout) → layout_of model before shape ≡ Some l → HasSmallSizes model before shape
+      → HasSmallSizes model after shape
   HasSmallSizes-Grows void l e h = tt
   HasSmallSizes-Grows (integer ty) l e h = tt
   HasSmallSizes-Grows (pointer target) l e h = tt
@@ -50,7 +53,8 @@ module _ (model : DataModel) (before after : List StructType) (grows : Grows bef
       (HasSmallSizes-Grows element parts.0 parts.1 h.0, small-kept (array element count) l e h.1)
   HasSmallSizes-Grows (struct number) l e h = small-kept (struct number) l e h
 
-  pub AllSmall-Grows : (ms : List Member) (ls : List Layout) → member_layouts (layout_of model before) ms ≡ Some ls → All (λ (m : Member). HasSmallSizes model before m.ty) ms → All (λ (m : Member). HasSmallSizes model after m.ty) ms
+  pub AllSmall-Grows : (ms : List Member) (ls : List Layout) → member_layouts (layout_of model before) ms ≡ Some ls
+      → All (λ (m : Member). HasSmallSizes model before m.ty) ms → All (λ (m : Member). HasSmallSizes model after m.ty) ms
   AllSmall-Grows [] ls e h = All-nil (λ (m : Member). HasSmallSizes model after m.ty)
   AllSmall-Grows (m ∷ ms) ls e h =
       let parts = first_member (layout_of model before) m ms ls e in
@@ -58,11 +62,13 @@ module _ (model : DataModel) (before after : List StructType) (grows : Grows bef
       (HasSmallSizes-Grows m.ty parts.first parts.laid (All-head (λ (m : Member). HasSmallSizes model before m.ty) m ms h))
       (AllSmall-Grows ms parts.rest parts.others (All-tail (λ (m : Member). HasSmallSizes model before m.ty) m ms h))
 
-  pub layouts-Grows : (ms : List Member) (ls : List Layout) → member_layouts (layout_of model before) ms ≡ Some ls → member_layouts (layout_of model after) ms ≡ Some ls
+  pub layouts-Grows : (ms : List Member) (ls : List Layout) → member_layouts (layout_of model before) ms ≡ Some ls
+      → member_layouts (layout_of model after) ms ≡ Some ls
   layouts-Grows = member_layouts-Extends (layout_of model before) (layout_of model after) layout_of-Grows
 
   -- a struct that is laid out stays so
-  pub IsLaid-Grows : (number : ℕ) (laid : StructType) (ms : List Member) → HasSmallSizes model before (struct number) × IsLaid model before number laid ms → HasSmallSizes model after (struct number) × IsLaid model after number laid ms
+  pub IsLaid-Grows : (number : ℕ) (laid : StructType) (ms : List Member) → HasSmallSizes model before (struct number) × IsLaid model before number laid ms
+      → HasSmallSizes model after (struct number) × IsLaid model after number laid ms
   IsLaid-Grows number laid ms h =
       let was = h.1 in
       let whole = mapped (λ (layout : Layout). layout.size) (layout_of model before (struct number)) laid.size was.size in

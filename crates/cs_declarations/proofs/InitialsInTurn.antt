@@ -13,9 +13,11 @@ use Rattle.cs_scopes.specs.Verdicts.{Verdict, Fine, Fault, lift, IsRefused}
 use Rattle.cs_scopes.proofs.Lifting.{lift-fault, lift-refused}
 use Rattle.cs_consts.proofs.SingleParts.{lift_is}
 use Rattle.cs_scopes.proofs.Lifting.{refused_as}
-use Rattle.cs_declarations.specs.Initializers.{Storage, InFile, InFunction, Reading, has_form, initial_read, initial_judged, stored, limited, kept_with, initial_typed}
+use Rattle.cs_declarations.specs.Initializers.{Storage, InFile, InFunction, Reading, has_form, initial_read, initial_judged, stored, limited, kept_with}
+use Rattle.cs_declarations.specs.Initializers.{initial_typed}
 
-module _ (c : Context) (literals : Literals) (storage : Storage) (at : Place) (ty : Shape) (written : RawInitial) (form : has_form c.table.list storage ty written ≡ true) where
+module _ (c : Context) (literals : Literals) (storage : Storage) (at : Place) (ty : Shape) (written : RawInitial)
+    (form : has_form c.table.list storage ty written ≡ true) where
   abbrev asked : Reading → Verdict Reading
   asked r = lift (kept_with r.1) (lift (limited c.table.list storage at ty) (initial_judged c storage at ty r.0))
 
@@ -29,21 +31,27 @@ module _ (c : Context) (literals : Literals) (storage : Storage) (at : Place) (t
     was_read : initial_typed c literals storage at ty written ≡ asked (read, texts)
     was_read = formed ∙ lift_is asked _ (read, texts) reads
 
-    pub judging_refused : (r : TypeRefusal) → IsRefused (initial_judged c storage at ty read) r → IsRefused (initial_typed c literals storage at ty written) r
+    pub judging_refused : (r : TypeRefusal) → IsRefused (initial_judged c storage at ty read) r
+        → IsRefused (initial_typed c literals storage at ty written) r
     judging_refused r h = refused_as r was_read (lift-refused (kept_with texts) _ r (lift-refused (limited c.table.list storage at ty) _ r h))
 
     module _ (found : Initial) (judged : initial_judged c storage at ty read ≡ Fine found) where
       was_judged : initial_typed c literals storage at ty written ≡ lift (kept_with texts) (limited c.table.list storage at ty found)
       was_judged = was_read ∙ ap (lift (kept_with texts)) (lift_is (limited c.table.list storage at ty) _ found judged)
 
-      stored_if : (b : Bool) → is_some (stored c.table.list ty found) ≡ b → limited c.table.list InFunction at ty found ≡ (if b then Fine found else Fault code_of.TooManyScalars at)
+      stored_if : (b : Bool) → is_some (stored c.table.list ty found) ≡ b
+          → limited c.table.list InFunction at ty found ≡ (if b then Fine found else Fault code_of.TooManyScalars at)
       stored_if b e = ap (λ (b : Bool). if b then Fine found else Fault code_of.TooManyScalars at) e
 
-      pub stores_many : storage ≡ InFunction → is_some (stored c.table.list ty found) ≡ false → initial_typed c literals storage at ty written ≡ Fault code_of.TooManyScalars at
-      stores_many e f = was_judged ∙ ap (λ s. lift (kept_with texts) (limited c.table.list s at ty found)) e ∙ ap (lift (kept_with texts)) (stored_if false f) ∙ lift-fault (kept_with texts) code_of.TooManyScalars at
+      pub stores_many : storage ≡ InFunction → is_some (stored c.table.list ty found) ≡ false
+          → initial_typed c literals storage at ty written ≡ Fault code_of.TooManyScalars at
+      stores_many e f = was_judged ∙ ap (λ s. lift (kept_with texts) (limited c.table.list s at ty found)) e
+          ∙ ap (lift (kept_with texts)) (stored_if false f) ∙ lift-fault (kept_with texts) code_of.TooManyScalars at
 
-      pub stores_few : storage ≡ InFunction → is_some (stored c.table.list ty found) ≡ true → initial_typed c literals storage at ty written ≡ Fine (found, texts)
-      stores_few e f = was_judged ∙ ap (λ s. lift (kept_with texts) (limited c.table.list s at ty found)) e ∙ ap (lift (kept_with texts)) (stored_if true f) ∙ lift_is (kept_with texts) _ found refl
+      pub stores_few : storage ≡ InFunction → is_some (stored c.table.list ty found) ≡ true
+          → initial_typed c literals storage at ty written ≡ Fine (found, texts)
+      stores_few e f = was_judged ∙ ap (λ s. lift (kept_with texts) (limited c.table.list s at ty found)) e
+          ∙ ap (lift (kept_with texts)) (stored_if true f) ∙ lift_is (kept_with texts) _ found refl
 
       pub stores_in_file : storage ≡ InFile → initial_typed c literals storage at ty written ≡ Fine (found, texts)
       stores_in_file e = was_judged ∙ ap (λ s. lift (kept_with texts) (limited c.table.list s at ty found)) e ∙ lift_is (kept_with texts) _ found refl

@@ -11,7 +11,8 @@ there_first : {A : Type 0} (o p : Option A) → is_some o ≡ true → option_or
 there_first None p h = absurd (cc)
 there_first (Some a) p h = refl
 
-pub newest_inside : (name : List ℕ) (outer : ℕ) (ds : List Declaration) → is_some (newest name (drop outer ds)) ≡ true → newest name ds ≡ newest name (drop outer ds)
+pub newest_inside : (name : List ℕ) (outer : ℕ) (ds : List Declaration) → is_some (newest name (drop outer ds)) ≡ true
+    → newest name ds ≡ newest name (drop outer ds)
 newest_inside name zero ds h = refl
 newest_inside name (suc outer) [] h = refl
 newest_inside name (suc outer) (d ∷ ds) h =

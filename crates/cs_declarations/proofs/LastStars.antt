@@ -14,7 +14,8 @@ begins_const-star (Const ∷ ws) = refl
 following-star : (ws : List PointerWord) → consts_after (ws ++ Star ∷ []) ≡ false ∷ consts_after ws
 following-star [] = refl
 following-star (Const ∷ ws) = following-star ws
-following-star (Star ∷ ws) = ap (λ xs. xs ++ begins_const (ws ++ Star ∷ []) ∷ []) (following-star ws) ∙ ap (λ b. (false ∷ consts_after ws) ++ b ∷ []) (begins_const-star ws)
+following-star (Star ∷ ws) = ap (λ xs. xs ++ begins_const (ws ++ Star ∷ []) ∷ []) (following-star ws)
+    ∙ ap (λ b. (false ∷ consts_after ws) ++ b ∷ []) (begins_const-star ws)
 
 -- with `const` after the last star
 abbrev last_const : List Bool → List Bool
@@ -34,7 +35,8 @@ following-const [] = refl
 following-const (Const ∷ ws) = following-const ws
 following-const (Star ∷ []) = refl
 following-const (Star ∷ (Const ∷ ws)) = ap (λ bs. bs ++ true ∷ []) (following-const (Const ∷ ws)) ∙ last_const-true (consts_after (Const ∷ ws))
-following-const (Star ∷ (Star ∷ ws)) = ap (λ bs. bs ++ false ∷ []) (following-const (Star ∷ ws)) ∙ last_const-more (consts_after ws) (begins_const ws) false
+following-const (Star ∷ (Star ∷ ws)) = ap (λ bs. bs ++ false ∷ []) (following-const (Star ∷ ws))
+    ∙ last_const-more (consts_after ws) (begins_const ws) false
 
 second_of-more : (b : Bool) (bs : List Bool) → second_of (b ∷ bs) ≡ first_of bs
 second_of-more b [] = refl
@@ -46,7 +48,8 @@ star_after ws s are = record {
   before = are.last ∙ sym (second_of-more false (consts_after ws)) ∙ sym (ap second_of (following-star ws));
 }
 
-const_known : (bs : List Bool) (b : Bool) → Some b ≡ first_of bs → (Some true ≡ first_of (last_const bs)) × (second_of bs ≡ second_of (last_const bs))
+const_known : (bs : List Bool) (b : Bool) → Some b ≡ first_of bs
+    → (Some true ≡ first_of (last_const bs)) × (second_of bs ≡ second_of (last_const bs))
 const_known [] b e = cc
 const_known (x ∷ bs) b e = (refl, refl)
 
@@ -54,7 +57,8 @@ const_unknown : (bs : List Bool) → None ≡ first_of bs → bs ≡ last_const 
 const_unknown [] e = refl
 const_unknown (x ∷ bs) e = cc
 
-pub const_after : (ws : List PointerWord) (s : Stars) (b : Bool) → s.last ≡ Some b → AreLastStars ws s → AreLastStars (ws ++ Const ∷ []) (record { last = Some true; before = s.before })
+pub const_after : (ws : List PointerWord) (s : Stars) (b : Bool) → s.last ≡ Some b → AreLastStars ws s
+    → AreLastStars (ws ++ Const ∷ []) (record { last = Some true; before = s.before })
 const_after ws s b is are =
     let known = const_known (consts_after ws) b (sym is ∙ are.last) in
     record {

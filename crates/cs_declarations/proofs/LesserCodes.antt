@@ -3,13 +3,17 @@ use Rattle.std.proofs.Common.{◌≡◌, List, [], ◌∷◌, get_or, Bool, true
 use Rattle.std.specs.Prelude.{nat_le, if◌then◌else◌}
 use Rattle.std.proofs.lemmas.Bool.{leb-true, leb-false}
 use Rattle.cs_scopes.specs.declared.refusal.TypeCode.{TypeCode}
-use Rattle.cs_scopes.specs.declared.refusal.TypeCode.TheVariants.{UnknownName, DeclaredTwice, NotLvalue, OperandTypes, ArgumentCount, IncompleteType, Size, NoTarget, PointerConversion, CaseTwice, Jump, NoMember, Initializer, FunctionName, NotConstant, VoidValue, Return, TooManyScalars}
+use Rattle.cs_scopes.specs.declared.refusal.TypeCode.TheVariants.{UnknownName, DeclaredTwice, NotLvalue, OperandTypes, ArgumentCount, IncompleteType, Size}
+use Rattle.cs_scopes.specs.declared.refusal.TypeCode.TheVariants.{NoTarget, PointerConversion, CaseTwice, Jump, NoMember, Initializer, FunctionName}
+use Rattle.cs_scopes.specs.declared.refusal.TypeCode.TheVariants.{NotConstant, VoidValue, Return, TooManyScalars}
 use Rattle.cs_scopes.specs.Verdicts.{number_of}
 use Rattle.cs_expressions.specs.Calls.{lesser}
 
 -- the codes by their numbers, which begin at 1
 abbrev codes : List TypeCode
-codes = UnknownName ∷ UnknownName ∷ DeclaredTwice ∷ NotLvalue ∷ OperandTypes ∷ ArgumentCount ∷ IncompleteType ∷ Size ∷ NoTarget ∷ PointerConversion ∷ CaseTwice ∷ Jump ∷ NoMember ∷ Initializer ∷ FunctionName ∷ NotConstant ∷ VoidValue ∷ Return ∷ TooManyScalars ∷ []
+codes = UnknownName ∷ UnknownName ∷ DeclaredTwice ∷ NotLvalue ∷ OperandTypes ∷ ArgumentCount ∷ IncompleteType ∷ Size ∷ NoTarget
+    ∷ PointerConversion ∷ CaseTwice ∷ Jump ∷ NoMember ∷ Initializer ∷ FunctionName ∷ NotConstant ∷ VoidValue ∷ Return ∷ TooManyScalars
+    ∷ []
 
 by_number : (code : TypeCode) → get_or codes (number_of code) UnknownName ≡ code
 by_number UnknownName = refl
@@ -58,19 +62,21 @@ second_is : (a b : TypeCode) → nat_le (number_of a) (number_of b) ≡ false �
 second_is a b e = ap (λ x. chosen x a b) e
 
 pub lesser-assoc : (a b c : TypeCode) → lesser (lesser a b) c ≡ lesser a (lesser b c)
-lesser-assoc a b c = by_tests (nat_le (number_of a) (number_of b)) (nat_le (number_of b) (number_of c)) (nat_le (number_of a) (number_of c)) refl refl refl where
-  by_tests : (s t u : Bool) → nat_le (number_of a) (number_of b) ≡ s → nat_le (number_of b) (number_of c) ≡ t → nat_le (number_of a) (number_of c) ≡ u → lesser (lesser a b) c ≡ lesser a (lesser b c)
-  by_tests true true true e f g = ap (λ x. lesser x c) (first_is a b e) ∙ first_is a c g ∙ sym (ap (lesser a) (first_is b c f) ∙ first_is a b e)
-  by_tests true true false e f g =
-      let one = leb-true (number_of a) (number_of b) e in
-      let two = leb-true (number_of b) (number_of c) f in
-      let three = leb-false (number_of a) (number_of c) g in
-      absurd (omega (arith, one, two, three))
-  by_tests true false u e f g = ap (λ x. lesser x c) (first_is a b e) ∙ sym (ap (lesser a) (second_is b c f))
-  by_tests false true u e f g = ap (λ x. lesser x c) (second_is a b e) ∙ first_is b c f ∙ sym (ap (lesser a) (first_is b c f) ∙ second_is a b e)
-  by_tests false false true e f g =
-      let one = leb-false (number_of a) (number_of b) e in
-      let two = leb-false (number_of b) (number_of c) f in
-      let three = leb-true (number_of a) (number_of c) g in
-      absurd (omega (arith, one, two, three))
-  by_tests false false false e f g = ap (λ x. lesser x c) (second_is a b e) ∙ second_is b c f ∙ sym (ap (lesser a) (second_is b c f) ∙ second_is a c g)
+lesser-assoc a b c = by_tests (nat_le (number_of a) (number_of b)) (nat_le (number_of b) (number_of c)) (nat_le (number_of a) (number_of c)) refl refl refl
+  where
+    by_tests : (s t u : Bool) → nat_le (number_of a) (number_of b) ≡ s → nat_le (number_of b) (number_of c) ≡ t
+        → nat_le (number_of a) (number_of c) ≡ u → lesser (lesser a b) c ≡ lesser a (lesser b c)
+    by_tests true true true e f g = ap (λ x. lesser x c) (first_is a b e) ∙ first_is a c g ∙ sym (ap (lesser a) (first_is b c f) ∙ first_is a b e)
+    by_tests true true false e f g =
+        let one = leb-true (number_of a) (number_of b) e in
+        let two = leb-true (number_of b) (number_of c) f in
+        let three = leb-false (number_of a) (number_of c) g in
+        absurd (omega (arith, one, two, three))
+    by_tests true false u e f g = ap (λ x. lesser x c) (first_is a b e) ∙ sym (ap (lesser a) (second_is b c f))
+    by_tests false true u e f g = ap (λ x. lesser x c) (second_is a b e) ∙ first_is b c f ∙ sym (ap (lesser a) (first_is b c f) ∙ second_is a b e)
+    by_tests false false true e f g =
+        let one = leb-false (number_of a) (number_of b) e in
+        let two = leb-false (number_of b) (number_of c) f in
+        let three = leb-true (number_of a) (number_of c) g in
+        absurd (omega (arith, one, two, three))
+    by_tests false false false e f g = ap (λ x. lesser x c) (second_is a b e) ∙ second_is b c f ∙ sym (ap (lesser a) (second_is b c f) ∙ second_is a c g)

@@ -17,11 +17,13 @@ if_fine : {A : Type 0} (b : Bool) (x y : A) (code : TypeCode) (at : Place) → (
 if_fine true x y code at e = cc
 if_fine false x y code at e = cc
 
-array_made : (model : DataModel) (table : List StructType) (at : Place) (n : ℤ) (element whole : Shape) → array_of model table at n element ≡ Fine whole → array element (unsigned_abs n) ≡ whole
+array_made : (model : DataModel) (table : List StructType) (at : Place) (n : ℤ) (element whole : Shape) → array_of model table at n element ≡ Fine whole
+    → array element (unsigned_abs n) ≡ whole
 unfolding array_of
 array_made model table at n element whole e = if_fine (is_array_size n && is_some (bytes_in model table (array element (unsigned_abs n)))) _ _ _ at e
 
-pub array_as_passed : (c : Context) (at : Place) (n : ℤ) (element whole : Shape) → array_of c.model c.table.list at n element ≡ Fine whole → array_passed c at (Some n) element ≡ plainly_passed at whole
+pub array_as_passed : (c : Context) (at : Place) (n : ℤ) (element whole : Shape) → array_of c.model c.table.list at n element ≡ Fine whole
+    → array_passed c at (Some n) element ≡ plainly_passed at whole
 array_as_passed c at n element whole e =
     let rule : Shape → Verdict Passed = λ whole. Fine (elements_passed element (Some (unsigned_abs n))) in
     ap (lift rule) e ∙ lift-fine rule whole ∙ ap (plainly_passed at) (array_made c.model c.table.list at n element whole e)

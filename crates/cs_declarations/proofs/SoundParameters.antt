@@ -13,7 +13,8 @@ use Rattle.cs_scopes.specs.Meanings.{Typedef}
 use Rattle.cs_scopes.specs.TypeNames.{starred}
 use Rattle.cs_declarations.specs.Environment.{Environment, declaring, is_declared_here}
 use Rattle.cs_declarations.specs.Bodies.{Typing, specs_type, declarator_type, typedef_added, typedefs_added}
-use Rattle.cs_declarations.specs.Parameters.{place_of, Passed, Head, naming, is_free_name, with_parameter, parameter_passed, parameter_typed, parameters_after, parameters_typed}
+use Rattle.cs_declarations.specs.Parameters.{place_of, Passed, Head, naming, is_free_name, with_parameter, parameter_passed, parameter_typed, parameters_after}
+use Rattle.cs_declarations.specs.Parameters.{parameters_typed}
 use Rattle.cs_declarations.specs.LaidOut.{IsSound}
 use Rattle.cs_declarations.proofs.FineVerdicts.{IfFine, IfFine-lift, IfFine-lift_any, IfFine-cond, IfFine-at}
 use Rattle.cs_declarations.proofs.SoundStructs.{GoesOn, GoesOn-same, GoesOn-trans}
@@ -25,12 +26,14 @@ typedef_added-GoesOn : (k between : Environment) (base : Shape) (d : RawDeclarat
 typedef_added-GoesOn k between base d g =
     let rule : Shape → Verdict Environment = λ ty. Fine (declaring d.name (Typedef ty) between) in
     let typed = declarator_type between.context base None d in
-    IfFine-cond (is_declared_here d.name between) (Fault DeclaredTwice d.place) (lift rule typed) (GoesOn k) (λ twice. tt) (λ new. IfFine-lift_any rule typed (GoesOn k) (λ ty. g))
+    IfFine-cond (is_declared_here d.name between) (Fault DeclaredTwice d.place) (lift rule typed) (GoesOn k) (λ twice. tt)
+    (λ new. IfFine-lift_any rule typed (GoesOn k) (λ ty. g))
 
 typedefs-GoesOn : (k between : Environment) (base : Shape) (ds : List RawDeclarator) → GoesOn k between → IfFine (typedefs_added base ds between) (GoesOn k)
 typedefs-GoesOn k between base [] g = g
 typedefs-GoesOn k between base (d ∷ ds) g =
-    IfFine-lift (typedefs_added base ds) (typedef_added base d between) (GoesOn k) (GoesOn k) (typedef_added-GoesOn k between base d g) (λ following h. typedefs-GoesOn k following base ds h)
+    IfFine-lift (typedefs_added base ds) (typedef_added base d between) (GoesOn k) (GoesOn k) (typedef_added-GoesOn k between base d g)
+    (λ following h. typedefs-GoesOn k following base ds h)
 
 pub typedefs_added-GoesOn : (k : Environment) (base : Shape) (ds : List RawDeclarator) → IsSound k → IfFine (typedefs_added base ds k) (GoesOn k)
 typedefs_added-GoesOn k base ds sound = typedefs-GoesOn k k base ds (GoesOn-same k sound)
@@ -69,15 +72,18 @@ module _ (k : Environment) (p : RawParameter) (before : Head) where
       (specs_type-GoesOn before.known p.place p.specs g.sound)
       (λ found h. at_type-GoesOn found (GoesOn-trans k before.known found.1 g h))
 
-parameters_after-GoesOn : (k : Environment) (ps : List RawParameter) (before : Head) → HeadGoesOn k before → IfFine (parameters_after ps before) (HeadGoesOn k)
+parameters_after-GoesOn : (k : Environment) (ps : List RawParameter) (before : Head) → HeadGoesOn k before
+    → IfFine (parameters_after ps before) (HeadGoesOn k)
 parameters_after-GoesOn k [] before g = g
 parameters_after-GoesOn k (p ∷ ps) before g =
-    IfFine-lift (parameters_after ps) (parameter_typed p before) (HeadGoesOn k) (HeadGoesOn k) (parameter_typed-GoesOn k p before g) (λ following h. parameters_after-GoesOn k ps following h)
+    IfFine-lift (parameters_after ps) (parameter_typed p before) (HeadGoesOn k) (HeadGoesOn k) (parameter_typed-GoesOn k p before g)
+    (λ following h. parameters_after-GoesOn k ps following h)
 
 pub parameters_typed-GoesOn : (k : Environment) (parameters : RawParameters) → IsSound k → IfFine (parameters_typed k parameters) (HeadGoesOn k)
 parameters_typed-GoesOn k parameter_lists.Empty sound = GoesOn-same k sound
 parameters_typed-GoesOn k parameter_lists.Void sound = GoesOn-same k sound
-parameters_typed-GoesOn k (parameter_lists.List list) sound = parameters_after-GoesOn k list.items (record { variables = []; written = []; known = k }) (GoesOn-same k sound)
+parameters_typed-GoesOn k (parameter_lists.List list) sound =
+    parameters_after-GoesOn k list.items (record { variables = []; written = []; known = k }) (GoesOn-same k sound)
 
 -- ---- what they leave, where all is fine
 
@@ -85,4 +91,5 @@ pub typedefs_laid : (k after : Environment) (base : Shape) (ds : List RawDeclara
 typedefs_laid k after base ds reported sound = (IfFine-at (typedefs_added base ds k) (GoesOn k) after reported (typedefs_added-GoesOn k base ds sound)).sound
 
 pub parameters_laid : (k : Environment) (parameters : RawParameters) (h : Head) → parameters_typed k parameters ≡ Fine h → IsSound k → IsSound h.known
-parameters_laid k parameters h reported sound = (IfFine-at (parameters_typed k parameters) (HeadGoesOn k) h reported (parameters_typed-GoesOn k parameters sound)).sound
+parameters_laid k parameters h reported sound =
+    (IfFine-at (parameters_typed k parameters) (HeadGoesOn k) h reported (parameters_typed-GoesOn k parameters sound)).sound

@@ -1,5 +1,6 @@
 -- Tags, opened structs and completed ones leave the structs laid out: for the types that words name.
-use Rattle.std.proofs.Common.{◌≡◌, ℕ, ◌+◌, ◌-◌, ◌<◌, ◌≤◌, ◌^◌, ◌≢◌, ◌||◌, Bool, true, false, cond, nat_eq, List, [], ◌∷◌, ◌++◌, length, is_some, sym, ◌∙◌, ap, ap₂, refl, subst, arith, length-append, length-set, eq-eqb}
+use Rattle.std.proofs.Common.{◌≡◌, ℕ, ◌+◌, ◌-◌, ◌<◌, ◌≤◌, ◌^◌, ◌≢◌, ◌||◌, Bool, true, false, cond, nat_eq, List, []}
+use Rattle.std.proofs.Common.{◌∷◌, ◌++◌, length, is_some, sym, ◌∙◌, ap, ap₂, refl, subst, arith, length-append, length-set, eq-eqb}
 use Rattle.std.specs.Prelude.{Option, Some, None, IfSome, slice_set, slice_index_or}
 use Rattle.std.specs.List.{All}
 use Rattle.std.specs.Cmp.Lexicographic.{pointwise}
@@ -18,7 +19,8 @@ use Rattle.cs_scopes.specs.Verdicts.{Fine, Fault}
 use Rattle.cs_scopes.specs.Sizes.{bytes_in}
 use Rattle.cs_scopes.specs.Scopes.{tagged}
 use Rattle.cs_declarations.specs.Environment.{Environment, model_of, table_of, with_tag}
-use Rattle.cs_declarations.specs.Bodies.{Typing, Laying, Opening, Body, empty_struct, with_struct, with_tagged_struct, tag_in, struct_named, is_among, opened, opening_tagged, opening, name_or_none, struct_read}
+use Rattle.cs_declarations.specs.Bodies.{Typing, Laying, Opening, Body, empty_struct, with_struct, with_tagged_struct, tag_in, struct_named, is_among, opened}
+use Rattle.cs_declarations.specs.Bodies.{opening_tagged, opening, name_or_none, struct_read}
 use Rattle.cs_declarations.specs.LaidOut.{IsOpen, IsOfTable, AreSound, IsSound}
 use Rattle.cs_declarations.proofs.Alignments.{members-low}
 use Rattle.cs_declarations.proofs.CompletedTables.{members_of-push, Grows-push, pushed, others_keep, Grows-set, completed}
@@ -41,7 +43,10 @@ abbrev pub GoesOn : Environment → Environment → Type 0
 GoesOn k after = Following k (model_of after) (table_of after) after.context.scope.tags after.reading
 
 Grows-trans : (first second third : List StructType) → Grows first second → Grows second third → Grows first third
-Grows-trans first second third g h = record { members = λ number ms e. h.members number ms (g.members number ms e); count = (let one = g.count in let two = h.count in omega arith) }
+Grows-trans first second third g h = record {
+  members = λ number ms e. h.members number ms (g.members number ms e);
+  count = (let one = g.count in let two = h.count in omega arith);
+}
 
 pub GoesOn-same : (k : Environment) → IsSound k → GoesOn k k
 GoesOn-same k h = record { sound = h; grows = record { members = λ number ms e. e; count = omega arith }; same_model = refl; same_reading = refl }
@@ -55,21 +60,28 @@ GoesOn-trans k between after g h = record {
 }
 
 -- members so far stay laid
-pub IsLaying-GoesOn : (k after : Environment) → GoesOn k after → (l : Laying) → IsLaying (model_of k) (table_of k) l → IsLaying (model_of after) (table_of after) l
+pub IsLaying-GoesOn : (k after : Environment) → GoesOn k after → (l : Laying) → IsLaying (model_of k) (table_of k) l
+    → IsLaying (model_of after) (table_of after) l
 IsLaying-GoesOn k after g l h =
     subst (λ (model : DataModel). IsLaying model (table_of after) l) (sym g.same_model) (IsLaying-Grows (model_of k) (table_of k) (table_of after) g.grows l h)
 
 -- where no struct is known
 pub none-AreSound : (model : DataModel) → AreSound model [] [] []
-none-AreSound model = record { laid_out = λ number laid ms stands has. absurd (cc); tagged = All-nil (λ (t : Tag). IsOfTable [] t.meaning); begun = All-nil (IsOpen []) }
+none-AreSound model = record {
+  laid_out = λ number laid ms stands has. absurd (cc);
+  tagged = All-nil (λ (t : Tag). IsOfTable [] t.meaning);
+  begun = All-nil (IsOpen []);
+}
 
 -- a type that objects may have keeps its small sizes
-pub object-Fits : (k after : Environment) → IsSound k → GoesOn k after → (shape : Shape) (bytes : ℕ) → bytes_in (model_of k) (table_of k) shape ≡ Some bytes → Fits (model_of after) (table_of after) shape
+pub object-Fits : (k after : Environment) → IsSound k → GoesOn k after
+    → (shape : Shape) (bytes : ℕ) → bytes_in (model_of k) (table_of k) shape ≡ Some bytes → Fits (model_of after) (table_of after) shape
 object-Fits k after sound g shape bytes e =
     let h = bytes_in-HasLayout (model_of k) (table_of k) sound.laid_out shape bytes e in
     record {
       laid_out = g.sound.laid_out;
-      small = subst (λ (model : DataModel). HasSmallSizes model (table_of after) shape) (sym g.same_model) (HasSmallSizes-Grows (model_of k) (table_of k) (table_of after) g.grows shape h.layout h.laid h.small);
+      small = subst (λ (model : DataModel). HasSmallSizes model (table_of after) shape) (sym g.same_model)
+          (HasSmallSizes-Grows (model_of k) (table_of k) (table_of after) g.grows shape h.layout h.laid h.small);
     }
 
 -- ---- tags
@@ -79,22 +91,26 @@ IfSome-cond true x o P h g = h
 IfSome-cond false x o P h g = g
 
 -- what a tag stands for
-pub tagged-IsOfTable : (table : List StructType) (name : List ℕ) (tags : List Tag) → All (λ (t : Tag). IsOfTable table t.meaning) tags → IfSome (tagged name tags) (IsOfTable table)
+pub tagged-IsOfTable : (table : List StructType) (name : List ℕ) (tags : List Tag) → All (λ (t : Tag). IsOfTable table t.meaning) tags
+    → IfSome (tagged name tags) (IsOfTable table)
 tagged-IsOfTable table name [] h = tt
 tagged-IsOfTable table name (t ∷ ts) h =
     let P : Tag → Type 0 = λ t. IsOfTable table t.meaning in
-    IfSome-cond (pointwise nat_eq name t.name) t.meaning (tagged name ts) (IsOfTable table) (All-head P t ts h) (tagged-IsOfTable table name ts (All-tail P t ts h))
+    IfSome-cond (pointwise nat_eq name t.name) t.meaning (tagged name ts) (IsOfTable table) (All-head P t ts h)
+    (tagged-IsOfTable table name ts (All-tail P t ts h))
 
 longer : (before after : List StructType) → length before ≤ length after → (m : TagMeaning) → IsOfTable before m → IsOfTable after m
 longer before after more (tag.Struct number) h = omega arith
 longer before after more tag.Enum h = tt
 
 -- one more tag
-pub with_tag-GoesOn : (k between : Environment) (name : List ℕ) (meaning : TagMeaning) → IsOfTable (table_of between) meaning → GoesOn k between → GoesOn k (with_tag name meaning between)
+pub with_tag-GoesOn : (k between : Environment) (name : List ℕ) (meaning : TagMeaning) → IsOfTable (table_of between) meaning → GoesOn k between
+    → GoesOn k (with_tag name meaning between)
 with_tag-GoesOn k between name meaning of_table g = record {
   sound = record {
     laid_out = g.sound.laid_out;
-    tagged = All-push (λ (t : Tag). IsOfTable (table_of between) t.meaning) between.context.scope.tags (record { name = name; meaning = meaning }) g.sound.tagged of_table;
+    tagged = All-push (λ (t : Tag). IsOfTable (table_of between) t.meaning) between.context.scope.tags (record { name = name; meaning = meaning })
+        g.sound.tagged of_table;
     begun = g.sound.begun;
   };
   grows = g.grows;
@@ -115,8 +131,13 @@ module _ (k : Environment) (name : List ℕ) (sound : IsSound k) where
       record {
         sound = record {
           laid_out = pushed (empty_struct name) refl (model_of k) table sound.laid_out;
-          tagged = All-weaker (λ (t : Tag). IsOfTable table t.meaning) (λ (t : Tag). IsOfTable after t.meaning) (λ t h. longer table after more t.meaning h) k.context.scope.tags sound.tagged;
-          begun = All-weaker (IsOpen table) (IsOpen after) (λ number h. record { within = (let w = h.within in omega arith); empty = members_of-push (empty_struct name) refl table number ∙ h.empty }) k.reading sound.begun;
+          tagged = All-weaker (λ (t : Tag). IsOfTable table t.meaning) (λ (t : Tag). IsOfTable after t.meaning) (λ t h. longer table after more t.meaning h)
+              k.context.scope.tags sound.tagged;
+          begun = All-weaker (IsOpen table) (IsOpen after) (λ number h.
+              record {
+                within = (let w = h.within in omega arith);
+                empty = members_of-push (empty_struct name) refl table number ∙ h.empty;
+              }) k.reading sound.begun;
         };
         grows = Grows-push (empty_struct name) refl table;
         same_model = refl;
@@ -127,7 +148,8 @@ module _ (k : Environment) (name : List ℕ) (sound : IsSound k) where
   with_tagged_struct-GoesOn = with_tag-GoesOn k (with_struct name k) name (tag.Struct (length (table_of k))) last_in with_struct-GoesOn
 
 -- the struct that a tag names where no body stands after it
-pub struct_named-GoesOn : (at : Place) (name : List ℕ) (k : Environment) (meaning : Option TagMeaning) → IsSound k → IfFine (struct_named at name k meaning) (λ (t : Typing). GoesOn k t.1)
+pub struct_named-GoesOn : (at : Place) (name : List ℕ) (k : Environment) (meaning : Option TagMeaning) → IsSound k
+    → IfFine (struct_named at name k meaning) (λ (t : Typing). GoesOn k t.1)
 struct_named-GoesOn at name k (Some (tag.Struct number)) sound = GoesOn-same k sound
 struct_named-GoesOn at name k (Some tag.Enum) sound = tt
 struct_named-GoesOn at name k None sound = with_tagged_struct-GoesOn k name sound
@@ -142,7 +164,8 @@ pub record IsOpened (k : Environment) (o : Opening) : Type 0 where
   pub more_reading : o.known.reading ≡ k.reading ++ o.number ∷ []
   pub apart : All (λ number. number ≢ o.number) k.reading
 
-opened-IsOpened : (k between : Environment) (number : ℕ) → GoesOn k between → IsOpen (table_of between) number → All (λ other. other ≢ number) k.reading → IsOpened k (opened number between)
+opened-IsOpened : (k between : Environment) (number : ℕ) → GoesOn k between → IsOpen (table_of between) number
+    → All (λ other. other ≢ number) k.reading → IsOpened k (opened number between)
 opened-IsOpened k between number g is_open apart = record {
   sound = record {
     laid_out = g.sound.laid_out;
@@ -157,7 +180,8 @@ opened-IsOpened k between number g is_open apart = record {
 
 -- a new struct is apart from those that are being read
 new_apart : (k : Environment) → IsSound k → All (λ number. number ≢ length (table_of k)) k.reading
-new_apart k sound = All-weaker (IsOpen (table_of k)) (λ number. number ≢ length (table_of k)) (λ number h. λ e. (let w = h.within in absurd (omega arith))) k.reading sound.begun
+new_apart k sound = All-weaker (IsOpen (table_of k)) (λ number. number ≢ length (table_of k)) (λ number h. λ e. (let w = h.within in absurd (omega arith)))
+    k.reading sound.begun
 
 new_open : (table : List StructType) (name : List ℕ) → IsOpen (table ++ empty_struct name ∷ []) (length table)
 new_open table name = record {
@@ -180,20 +204,25 @@ none_there : {A : Type 0} (o : Option A) → is_some o ≡ false → o ≡ None
 none_there None h = refl
 none_there (Some x) h = absurd (cc)
 
-opening_tagged-IsOpened : (at : Place) (name : List ℕ) (k : Environment) → IsSound k → (meaning : Option TagMeaning) → IfSome meaning (IsOfTable (table_of k)) → IfFine (opening_tagged at name k meaning) (IsOpened k)
+opening_tagged-IsOpened : (at : Place) (name : List ℕ) (k : Environment) → IsSound k
+    → (meaning : Option TagMeaning) → IfSome meaning (IsOfTable (table_of k)) → IfFine (opening_tagged at name k meaning) (IsOpened k)
 opening_tagged-IsOpened at name k sound (Some (tag.Struct number)) within =
     IfFine-cond (is_among number k.reading || is_some (members_of (table_of k) number)) (Fault DeclaredTwice at) (Fine (opened number k)) (IsOpened k)
     (λ twice. tt)
     (λ new.
     let parts = or_parts (is_among number k.reading) (is_some (members_of (table_of k) number)) new in
-    opened-IsOpened k k number (GoesOn-same k sound) (record { within = within; empty = none_there (members_of (table_of k) number) parts.1 }) (among-apart number k.reading parts.0))
+    opened-IsOpened k k number (GoesOn-same k sound) (record { within = within; empty = none_there (members_of (table_of k) number) parts.1 })
+    (among-apart number k.reading parts.0))
 opening_tagged-IsOpened at name k sound (Some tag.Enum) within = tt
 opening_tagged-IsOpened at name k sound None within =
-    opened-IsOpened k (with_tagged_struct name k) (length (table_of k)) (with_tagged_struct-GoesOn k name sound) (new_open (table_of k) name) (new_apart k sound)
+    opened-IsOpened k (with_tagged_struct name k) (length (table_of k)) (with_tagged_struct-GoesOn k name sound) (new_open (table_of k) name)
+    (new_apart k sound)
 
 pub opening-IsOpened : (at : Place) (name : Option (List ℕ)) (k : Environment) → IsSound k → IfFine (opening at name k) (IsOpened k)
-opening-IsOpened at (Some name) k sound = opening_tagged-IsOpened at name k sound (tag_in k name) (tagged-IsOfTable (table_of k) name k.context.scope.tags sound.tagged)
-opening-IsOpened at None k sound = opened-IsOpened k (with_struct [] k) (length (table_of k)) (with_struct-GoesOn k [] sound) (new_open (table_of k) []) (new_apart k sound)
+opening-IsOpened at (Some name) k sound =
+    opening_tagged-IsOpened at name k sound (tag_in k name) (tagged-IsOfTable (table_of k) name k.context.scope.tags sound.tagged)
+opening-IsOpened at None k sound =
+    opened-IsOpened k (with_struct [] k) (length (table_of k)) (with_struct-GoesOn k [] sound) (new_open (table_of k) []) (new_apart k sound)
 
 -- ---- a struct whose body was read
 
@@ -248,10 +277,13 @@ module _ (k : Environment) (o : Opening) (is_opened : IsOpened k o) (name : Opti
       record {
         sound = record {
           laid_out = laid_out;
-          tagged = All-weaker (λ (t : Tag). IsOfTable before t.meaning) (λ (t : Tag). IsOfTable after t.meaning) (λ t h. longer before after (omega arith) t.meaning h) b.known.context.scope.tags read.0.sound.tagged;
+          tagged = All-weaker (λ (t : Tag). IsOfTable before t.meaning) (λ (t : Tag). IsOfTable after t.meaning)
+              (λ t h. longer before after (omega arith) t.meaning h) b.known.context.scope.tags read.0.sound.tagged;
           begun = λ i d within. still (slice_index_or k.reading i d) (reads.0 i d within) (is_opened.apart i d within);
         };
-        grows = Grows-trans (table_of k) (table_of o.known) after is_opened.grows (Grows-trans (table_of o.known) before after read.0.grows (Grows-set model before o.number reads.1.within reads.1.empty complete b.laying.members refl));
+        grows = Grows-trans (table_of k) (table_of o.known) after is_opened.grows
+            (Grows-trans (table_of o.known) before after read.0.grows
+            (Grows-set model before o.number reads.1.within reads.1.empty complete b.laying.members refl));
         same_model = read.0.same_model ∙ is_opened.same_model;
         same_reading = refl;
       }

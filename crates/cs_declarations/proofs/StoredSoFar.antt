@@ -1,5 +1,6 @@
 -- How many scalars items store, before those of the items that are left: for the count of what an initializer stores.
-use Rattle.std.proofs.Common.{◌≡◌, ℕ, suc, ◌+◌, ◌<◌, ◌≤◌, arith, ◌⊎◌, inl, inr, List, [], ◌∷◌, drop, length, Bool, true, false, Option, Some, None, refl, sym, ap, ◌∙◌, Vec, Global}
+use Rattle.std.proofs.Common.{◌≡◌, ℕ, suc, ◌+◌, ◌<◌, ◌≤◌, arith, ◌⊎◌, inl, inr, List, [], ◌∷◌, drop, length, Bool, true}
+use Rattle.std.proofs.Common.{false, Option, Some, None, refl, sym, ap, ◌∙◌, Vec, Global}
 use Rattle.std.proofs.Math.ListN.{drop_of_length-le}
 use Rattle.std.specs.Prelude.{slice_get, nat_le, if◌then◌else◌}
 use Rattle.std.proofs.lemmas.Bool.{leb-true, leb-false}
@@ -69,7 +70,8 @@ none_before (Some n) (Some m) = elim (few_cases (n + m)) [
   | inr c ↦ ap (together (Some 0)) c.1 ∙ sym c.1
 ]
 
-pub nothing_yet : (table : List StructType) (types : List Shape) (parts : Initials) → together (Some 0) (stored_parts table types parts) ≡ stored_parts table types parts
+pub nothing_yet : (table : List StructType) (types : List Shape) (parts : Initials)
+    → together (Some 0) (stored_parts table types parts) ≡ stored_parts table types parts
 nothing_yet table [] NoPart = refl
 nothing_yet table (ty ∷ types) NoPart = refl
 nothing_yet table [] (Part first others) = refl
@@ -80,39 +82,51 @@ no_types : (table : List StructType) (parts : Initials) → stored_parts table [
 no_types table NoPart = refl
 no_types table (Part first others) = refl
 
-pub stored-List : (table : List StructType) (ty : Shape) (types : List Shape) (v : initials.Initial) (list : Vec initials.Initial Global) → part_types table ty ≡ Some types → v ≡ initials.TheVariants.List list → stored table ty (initial v) ≡ stored_parts table types (initial_list list.items)
+pub stored-List : (table : List StructType) (ty : Shape) (types : List Shape) (v : initials.Initial) (list : Vec initials.Initial Global)
+    → part_types table ty ≡ Some types → v ≡ initials.TheVariants.List list
+    → stored table ty (initial v) ≡ stored_parts table types (initial_list list.items)
 stored-List table ty types v list parts is =
-    ap (λ v. stored table ty (initial v)) is ∙ ap (stored table ty) (initial-List list) ∙ ap (λ p. stored_parts table (types_or_none p) (initial_list list.items)) parts
+    ap (λ v. stored table ty (initial v)) is ∙ ap (stored table ty) (initial-List list)
+    ∙ ap (λ p. stored_parts table (types_or_none p) (initial_list list.items)) parts
 
-pub stored-none : (table : List StructType) (ty : Shape) (v : initials.Initial) (list : Vec initials.Initial Global) → part_types table ty ≡ None → v ≡ initials.TheVariants.List list → stored table ty (initial v) ≡ Some 0
+pub stored-none : (table : List StructType) (ty : Shape) (v : initials.Initial) (list : Vec initials.Initial Global) → part_types table ty ≡ None
+    → v ≡ initials.TheVariants.List list → stored table ty (initial v) ≡ Some 0
 stored-none table ty v list parts is =
-    ap (λ v. stored table ty (initial v)) is ∙ ap (stored table ty) (initial-List list) ∙ ap (λ p. stored_parts table (types_or_none p) (initial_list list.items)) parts
+    ap (λ v. stored table ty (initial v)) is ∙ ap (stored table ty) (initial-List list)
+    ∙ ap (λ p. stored_parts table (types_or_none p) (initial_list list.items)) parts
     ∙ no_types table (initial_list list.items)
 
 -- all is counted
 counted : (all : ℕ) (left whole : Option ℕ) → all ≤ 4096 → left ≡ Some 0 → together (Some all) left ≡ whole → whole ≡ Some all
 counted all left whole h e so_far = sym so_far ∙ ap (together (Some all)) e ∙ ap few (let f : all + 0 ≡ all = omega arith in f) ∙ few-within all h
 
-module _ (table : List StructType) (types : List Shape) (items : List initials.Initial) (all i : ℕ) (whole : Option ℕ) (so_far : together (Some all) (stored_parts table (drop i types) (initial_list (drop i items))) ≡ whole) where
+module _ (table : List StructType) (types : List Shape) (items : List initials.Initial) (all i : ℕ) (whole : Option ℕ)
+    (so_far : together (Some all) (stored_parts table (drop i types) (initial_list (drop i items))) ≡ whole) where
   pub stored_over : all ≤ 4096 → slice_get types i ≡ None → whole ≡ Some all
-  stored_over h part = counted all _ whole h (ap (λ ts. stored_parts table ts (initial_list (drop i items))) (types_past types i part) ∙ no_types table (initial_list (drop i items))) so_far
+  stored_over h part = counted all _ whole h (ap (λ ts. stored_parts table ts (initial_list (drop i items))) (types_past types i part)
+      ∙ no_types table (initial_list (drop i items))) so_far
 
   pub stored_end : all ≤ 4096 → length items ≤ i → whole ≡ Some all
   stored_end h past = counted all _ whole h (ap (λ xs. stored_parts table (drop i types) (initial_list xs)) (drop_of_length-le items past)) so_far
 
   module _ (item : initials.Initial) (there : drop i items ≡ item ∷ drop (suc i) items) (ty : Shape) (part : slice_get types i ≡ Some ty) where
-    next : together (Some all) (together (stored table ty (initial item)) (stored_parts table (drop (suc i) types) (initial_list (drop (suc i) items)))) ≡ whole
-    next = sym (ap (λ ts. together (Some all) (stored_parts table ts (initial_list (drop i items)))) (types_from types i ty part) ∙ ap (λ xs. together (Some all) (stored_parts table (ty ∷ drop (suc i) types) (initial_list xs))) there) ∙ so_far
+    next : together (Some all) (together (stored table ty (initial item)) (stored_parts table (drop (suc i) types) (initial_list (drop (suc i) items))))
+        ≡ whole
+    next = sym (ap (λ ts. together (Some all) (stored_parts table ts (initial_list (drop i items)))) (types_from types i ty part)
+        ∙ ap (λ xs. together (Some all) (stored_parts table (ty ∷ drop (suc i) types) (initial_list xs))) there) ∙ so_far
 
     pub stored_stops : stored table ty (initial item) ≡ None → whole ≡ None
     stored_stops e = sym next ∙ ap (λ s. together (Some all) (together s (stored_parts table (drop (suc i) types) (initial_list (drop (suc i) items))))) e
 
     pub stored_past : (n : ℕ) → stored table ty (initial item) ≡ Some n → few (all + n) ≡ None → whole ≡ None
-    stored_past n e f = sym next ∙ ap (λ s. together (Some all) (together s (stored_parts table (drop (suc i) types) (initial_list (drop (suc i) items))))) e ∙ part_past all n _ (few_passed (all + n) f)
+    stored_past n e f = sym next ∙ ap (λ s. together (Some all) (together s (stored_parts table (drop (suc i) types) (initial_list (drop (suc i) items))))) e
+        ∙ part_past all n _ (few_passed (all + n) f)
 
-    pub stored_more : (n more : ℕ) → stored table ty (initial item) ≡ Some n → few (all + n) ≡ Some more → together (Some more) (stored_parts table (drop (suc i) types) (initial_list (drop (suc i) items))) ≡ whole
+    pub stored_more : (n more : ℕ) → stored table ty (initial item) ≡ Some n → few (all + n) ≡ Some more
+        → together (Some more) (stored_parts table (drop (suc i) types) (initial_list (drop (suc i) items))) ≡ whole
     stored_more n more e f =
         let sum = few_is (all + n) more f in
         ap (λ k. together (Some k) (stored_parts table (drop (suc i) types) (initial_list (drop (suc i) items)))) (sym sum.1)
-        ∙ sym (ap (λ s. together (Some all) (together s (stored_parts table (drop (suc i) types) (initial_list (drop (suc i) items))))) e ∙ part_more all n _ sum.0)
+        ∙ sym (ap (λ s. together (Some all) (together s (stored_parts table (drop (suc i) types) (initial_list (drop (suc i) items))))) e
+        ∙ part_more all n _ sum.0)
         ∙ next

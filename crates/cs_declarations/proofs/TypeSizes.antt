@@ -27,16 +27,20 @@ limited-few n bytes h =
     let few : n ≤ 2 ^ 20 = leb-true n (2 ^ 20) parts.0 in
     (sym parts.1, subst (λ (m : ℕ). m ≤ 2 ^ 20) parts.1 few)
 
-small_at : (model : DataModel) (table : List StructType) (shape : Shape) (l : Layout) (bytes : ℕ) → layout_of model table shape ≡ Some l → l.size ≡ bytes → bytes ≤ 2 ^ 20 → IfSome (layout_of model table shape) (λ layout. layout.size ≤ 2 ^ 40)
+small_at : (model : DataModel) (table : List StructType) (shape : Shape) (l : Layout) (bytes : ℕ) → layout_of model table shape ≡ Some l
+    → l.size ≡ bytes → bytes ≤ 2 ^ 20 → IfSome (layout_of model table shape) (λ layout. layout.size ≤ 2 ^ 40)
 small_at model table shape l bytes laid size few =
     let P : Option Layout → Type 0 = λ o. IfSome o (λ layout. layout.size ≤ 2 ^ 40) in
     let fits : l.size ≤ 2 ^ 40 = omega arith in
     subst P (sym laid) fits
 
-pub bytes_in-HasLayout : (model : DataModel) (table : List StructType) → IsLaidOut model table → (shape : Shape) (bytes : ℕ) → bytes_in model table shape ≡ Some bytes → HasLayout model table shape bytes
+pub bytes_in-HasLayout : (model : DataModel) (table : List StructType) → IsLaidOut model table
+    → (shape : Shape) (bytes : ℕ) → bytes_in model table shape ≡ Some bytes → HasLayout model table shape bytes
 bytes_in-HasLayout model table sound void bytes h = absurd (cc)
-bytes_in-HasLayout model table sound (integer ty) bytes h = record { layout = alone (bytes_of model ty) (integer ty); laid = refl; size = cc; align = refl; small = tt }
-bytes_in-HasLayout model table sound (pointer target) bytes h = record { layout = alone (word_bytes model) (pointer target); laid = refl; size = cc; align = refl; small = tt }
+bytes_in-HasLayout model table sound (integer ty) bytes h =
+    record { layout = alone (bytes_of model ty) (integer ty); laid = refl; size = cc; align = refl; small = tt }
+bytes_in-HasLayout model table sound (pointer target) bytes h =
+    record { layout = alone (word_bytes model) (pointer target); laid = refl; size = cc; align = refl; small = tt }
 bytes_in-HasLayout model table sound (array element count) bytes h =
     let parts = chained (λ inner. limited (count * inner)) (bytes_in model table element) bytes h in
     let few = limited-few (count * parts.0) bytes parts.2 in

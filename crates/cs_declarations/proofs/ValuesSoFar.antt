@@ -1,5 +1,6 @@
 -- The values of the items so far before those of the items that are left: for the loops over items.
-use Rattle.std.proofs.Common.{◌≡◌, ℕ, suc, ◌≤◌, List, [], ◌∷◌, ◌++◌, drop, length, Some, None, refl, sym, ap, ◌∙◌, Vec, Global, Bool}
+use Rattle.std.proofs.Common.{◌≡◌, ℕ, suc, ◌≤◌, List, [], ◌∷◌, ◌++◌, drop, length, Some, None, refl, sym, ap, ◌∙◌, Vec, Global}
+use Rattle.std.proofs.Common.{Bool}
 use Rattle.std.proofs.Math.ListN.{drop_of_length-le}
 use Rattle.std.specs.Prelude.{slice_get}
 use Rattle.cs_types.specs.Shape.{Shape}
@@ -19,16 +20,19 @@ use Rattle.cs_scopes.specs.Verdicts.{Verdict, Fine, Fault, lift, IsRefused}
 use Rattle.cs_scopes.proofs.Lifting.{lift-fine, lift-fault, lift-refused}
 use Rattle.cs_consts.proofs.SingleParts.{lift_is}
 use Rattle.cs_scopes.proofs.Lifting.{refused_as}
-use Rattle.cs_declarations.specs.Initializers.{Reading, Readings, part_types, types_or_none, value_read, expression_read, parts_read, one_more, initial_read, items_read, list_read}
+use Rattle.cs_declarations.specs.Initializers.{Reading, Readings, part_types, types_or_none, value_read, expression_read, parts_read, one_more, initial_read}
+use Rattle.cs_declarations.specs.Initializers.{items_read, list_read}
 use Rattle.cs_declarations.proofs.PartTypes.{types_from, types_past}
 use Rattle.cs_declarations.proofs.WrittenLists.{items_of}
 
 -- an expression for something that is no array
-module _ (c : Context) (literals : Literals) (ty : Shape) (e : RawExpr) (plain : expression_read c literals ty e ≡ lift (value_read literals e.kind.value) (operand_of c literals (Some ty) e)) where
+module _ (c : Context) (literals : Literals) (ty : Shape) (e : RawExpr)
+    (plain : expression_read c literals ty e ≡ lift (value_read literals e.kind.value) (operand_of c literals (Some ty) e)) where
   pub operand_refused : (r : TypeRefusal) → IsRefused (operand_of c literals (Some ty) e) r → IsRefused (expression_read c literals ty e) r
   operand_refused r h = refused_as r plain (lift-refused (value_read literals e.kind.value) _ r h)
 
-  pub operand_read : (v : Expr) (following : Literals) → operand_of c literals (Some ty) e ≡ Fine (typed v) → following ≡ literals_after literals e.kind.value → expression_read c literals ty e ≡ Fine (Value (typed v), following)
+  pub operand_read : (v : Expr) (following : Literals) → operand_of c literals (Some ty) e ≡ Fine (typed v)
+      → following ≡ literals_after literals e.kind.value → expression_read c literals ty e ≡ Fine (Value (typed v), following)
   operand_read v following h texts = plain ∙ lift_is (value_read literals e.kind.value) _ (typed v) h ∙ ap (λ ls. Fine (Value (typed v), ls)) (sym texts)
 
 -- values before others
@@ -53,12 +57,14 @@ same_rule : {A B : Type 0} (f g : A → Verdict B) → ((a : A) → f a ≡ g a)
 same_rule f g h (Fine value) = lift-fine f value ∙ h value ∙ sym (lift-fine g value)
 same_rule f g h (Fault code place) = lift-fault f code place ∙ sym (lift-fault g code place)
 
-read-row : (c : Context) (literals : Literals) (types : List Shape) (n : _) (row : first_value.Row_of-RawInitial n) → list_read c literals types (first_value.items-the_row-RawInitial n row) ≡ items_read c literals types row
+read-row : (c : Context) (literals : Literals) (types : List Shape) (n : _) (row : first_value.Row_of-RawInitial n)
+    → list_read c literals types (first_value.items-the_row-RawInitial n row) ≡ items_read c literals types row
 read-row c literals [] n first_value.end_of-RawInitial = refl
 read-row c literals (ty ∷ types) n first_value.end_of-RawInitial = refl
 read-row c literals [] n (first_value.more_of-RawInitial first others) = refl
 read-row c literals (ty ∷ types) n (first_value.more_of-RawInitial first others) =
-    same_rule (λ (r : Reading). lift (one_more r.0) (list_read c r.1 types (first_value.items-the_row-RawInitial _ others))) (λ (r : Reading). lift (one_more r.0) (items_read c r.1 types others))
+    same_rule (λ (r : Reading). lift (one_more r.0) (list_read c r.1 types (first_value.items-the_row-RawInitial _ others)))
+    (λ (r : Reading). lift (one_more r.0) (items_read c r.1 types others))
     (λ r. ap (lift (one_more r.0)) (read-row c r.1 types _ others)) (initial_read c literals ty first)
 
 no_types : (c : Context) (literals : Literals) (items : List RawInitial) → list_read c literals [] items ≡ Fine (NoPart, literals)
@@ -70,32 +76,40 @@ no_items c literals [] = refl
 no_items c literals (ty ∷ types) = refl
 
 -- the values of a list
-module _ (c : Context) (literals : Literals) (ty : Shape) (v : RawInitial) (list : Vec RawInitial Global) (comma : Bool) (is : v ≡ first_value.TheVariants.List list comma) where
+module _ (c : Context) (literals : Literals) (ty : Shape) (v : RawInitial) (list : Vec RawInitial Global) (comma : Bool)
+    (is : v ≡ first_value.TheVariants.List list comma) where
   pub initial_read-List : initial_read c literals ty v ≡ lift parts_read (list_read c literals (types_or_none (part_types c.table.list ty)) list.items)
   initial_read-List =
       let row = items_of (first_value.TheVariants.List list comma) in
       ap (initial_read c literals ty) is ∙ ap (lift parts_read) (sym (read-row c literals (types_or_none (part_types c.table.list ty)) row.0 row.1))
-      ∙ ap (λ xs. lift parts_read (list_read c literals (types_or_none (part_types c.table.list ty)) xs)) (first_value.items_hidden-the_row-RawInitial-0 list)
+      ∙ ap (λ xs. lift parts_read (list_read c literals (types_or_none (part_types c.table.list ty)) xs))
+      (first_value.items_hidden-the_row-RawInitial-0 list)
 
-  pub list_values : (types : List Shape) → part_types c.table.list ty ≡ Some types → initial_read c literals ty v ≡ lift parts_read (list_read c literals types list.items)
+  pub list_values : (types : List Shape) → part_types c.table.list ty ≡ Some types
+      → initial_read c literals ty v ≡ lift parts_read (list_read c literals types list.items)
   list_values types parts = initial_read-List ∙ ap (λ p. lift parts_read (list_read c literals (types_or_none p) list.items)) parts
 
-  pub list_refused : (types : List Shape) (r : TypeRefusal) → part_types c.table.list ty ≡ Some types → IsRefused (list_read c literals types list.items) r → IsRefused (initial_read c literals ty v) r
+  pub list_refused : (types : List Shape) (r : TypeRefusal) → part_types c.table.list ty ≡ Some types
+      → IsRefused (list_read c literals types list.items) r → IsRefused (initial_read c literals ty v) r
   list_refused types r parts h = refused_as r (list_values types parts) (lift-refused parts_read _ r h)
 
-  pub list_is : (types : List Shape) (found : Readings) → part_types c.table.list ty ≡ Some types → list_read c literals types list.items ≡ Fine found → initial_read c literals ty v ≡ Fine (Parts found.0, found.1)
+  pub list_is : (types : List Shape) (found : Readings) → part_types c.table.list ty ≡ Some types → list_read c literals types list.items ≡ Fine found
+      → initial_read c literals ty v ≡ Fine (Parts found.0, found.1)
   list_is types found parts h = list_values types parts ∙ lift_is parts_read _ found h
 
   pub no_values : part_types c.table.list ty ≡ None → initial_read c literals ty v ≡ Fine (Parts NoPart, literals)
-  no_values parts = initial_read-List ∙ ap (λ p. lift parts_read (list_read c literals (types_or_none p) list.items)) parts ∙ lift_is parts_read _ (NoPart, literals) (no_types c literals list.items)
+  no_values parts = initial_read-List ∙ ap (λ p. lift parts_read (list_read c literals (types_or_none p) list.items)) parts
+      ∙ lift_is parts_read _ (NoPart, literals) (no_types c literals list.items)
 
 -- what is read further, before which values stand
-regrouped : (list : List Held) (v : Held) (rest : Verdict Readings) → lift (following list) (lift (one_more (initial v)) rest) ≡ lift (following (list ++ v ∷ [])) rest
+regrouped : (list : List Held) (v : Held) (rest : Verdict Readings)
+    → lift (following list) (lift (one_more (initial v)) rest) ≡ lift (following (list ++ v ∷ [])) rest
 regrouped list v (Fine r) =
     ap (lift (following list)) (lift-fine (one_more (initial v)) r) ∙ lift-fine (following list) (Part (initial v) r.0, r.1)
     ∙ ap (λ all. Fine (all, r.1)) (before-push list v r.0) ∙ sym (lift-fine (following (list ++ v ∷ [])) r)
 regrouped list v (Fault code place) =
-    ap (lift (following list)) (lift-fault (one_more (initial v)) code place) ∙ lift-fault (following list) code place ∙ sym (lift-fault (following (list ++ v ∷ [])) code place)
+    ap (lift (following list)) (lift-fault (one_more (initial v)) code place) ∙ lift-fault (following list) code place
+    ∙ sym (lift-fault (following (list ++ v ∷ [])) code place)
 
 none_yet : (v : Verdict Readings) → lift (following []) v ≡ v
 none_yet (Fine r) = lift-fine (following []) r
@@ -104,7 +118,8 @@ none_yet (Fault code place) = lift-fault (following []) code place
 pub nothing_read : (list : List Held) (v : Verdict Readings) → list ≡ [] → lift (following list) v ≡ v
 nothing_read list v empty = ap (λ xs. lift (following xs) v) empty ∙ none_yet v
 
-module _ (c : Context) (types : List Shape) (items : List RawInitial) (literals : Literals) (i : ℕ) (list : List Held) (whole : Verdict Readings) (so_far : lift (following list) (list_read c literals (drop i types) (drop i items)) ≡ whole) where
+module _ (c : Context) (types : List Shape) (items : List RawInitial) (literals : Literals) (i : ℕ) (list : List Held) (whole : Verdict Readings)
+    (so_far : lift (following list) (list_read c literals (drop i types) (drop i items)) ≡ whole) where
   all_read : list_read c literals (drop i types) (drop i items) ≡ Fine (NoPart, literals) → whole ≡ Fine (initial_list list, literals)
   all_read e = sym so_far ∙ lift_is (following list) _ (NoPart, literals) e ∙ ap (λ all. Fine (all, literals)) (before-all list)
 
@@ -119,12 +134,14 @@ module _ (c : Context) (types : List Shape) (items : List RawInitial) (literals 
     further r = lift (one_more r.0) (list_read c r.1 (drop (suc i) types) (drop (suc i) items))
 
     next : lift (following list) (lift further (initial_read c literals ty item)) ≡ whole
-    next = sym (ap (λ ts. lift (following list) (list_read c literals ts (drop i items))) (types_from types i ty part) ∙ ap (λ xs. lift (following list) (list_read c literals (ty ∷ drop (suc i) types) xs)) there) ∙ so_far
+    next = sym (ap (λ ts. lift (following list) (list_read c literals ts (drop i items))) (types_from types i ty part)
+        ∙ ap (λ xs. lift (following list) (list_read c literals (ty ∷ drop (suc i) types) xs)) there) ∙ so_far
 
     pub read_stops : (r : TypeRefusal) → IsRefused (initial_read c literals ty item) r → IsRefused whole r
     read_stops r h = refused_as r (sym next) (lift-refused (following list) _ r (lift-refused further _ r h))
 
-    pub read_more : (v : Held) (then_literals : Literals) (more : List Held) → initial_read c literals ty item ≡ Fine (initial v, then_literals) → more ≡ list ++ v ∷ [] → lift (following more) (list_read c then_literals (drop (suc i) types) (drop (suc i) items)) ≡ whole
+    pub read_more : (v : Held) (then_literals : Literals) (more : List Held) → initial_read c literals ty item ≡ Fine (initial v, then_literals)
+        → more ≡ list ++ v ∷ [] → lift (following more) (list_read c then_literals (drop (suc i) types) (drop (suc i) items)) ≡ whole
     read_more v then_literals more h pushed =
         ap (λ xs. lift (following xs) (list_read c then_literals (drop (suc i) types) (drop (suc i) items))) pushed
         ∙ sym (regrouped list v (list_read c then_literals (drop (suc i) types) (drop (suc i) items)))

@@ -1,5 +1,6 @@
 -- The types that words before declarators name, with the bodies of structs and enums (C11 6.7.2).
-use Rattle.std.specs.Prelude.{ℕ, ◌+◌, ◌^◌, ℤ, pos, ◌+ℤ◌, nat_le, nat_eq, int_le, Bool, true, false, not, ◌&&◌, ◌||◌, if◌then◌else◌, List, [], ◌∷◌, ◌++◌, length, max, slice_set, Option, Some, None, is_some}
+use Rattle.std.specs.Prelude.{ℕ, ◌+◌, ◌^◌, ℤ, pos, ◌+ℤ◌, nat_le, nat_eq, int_le, Bool, true, false, not, ◌&&◌, ◌||◌}
+use Rattle.std.specs.Prelude.{if◌then◌else◌, List, [], ◌∷◌, ◌++◌, length, max, slice_set, Option, Some, None, is_some}
 use Rattle.std.specs.List.{list_any}
 use Rattle.std.specs.Cmp.Lexicographic.{pointwise}
 use Rattle.cs_types.specs.declared.data_model.DataModel.{DataModel}
@@ -133,7 +134,8 @@ members_declared c base (d ∷ ds) before = lift (members_declared c base ds) (m
 -- the struct with this number has these members (C11 6.7.2.1, paragraph 17)
 abbrev pub with_members : ℕ → List ℕ → Laying → Environment → Environment
 with_members number name laying k =
-    with_table (slice_set (table_of k) number (record { tag = name; members = Some laying.members; size = round_up laying.size laying.align; align = laying.align })) k
+    with_table (slice_set (table_of k) number
+    (record { tag = name; members = Some laying.members; size = round_up laying.size laying.align; align = laying.align })) k
 
 -- a number that `int` holds (C11 6.7.2.2, paragraph 2)
 abbrev pub is_int : Environment → ℤ → Bool

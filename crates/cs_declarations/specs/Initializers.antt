@@ -1,5 +1,6 @@
 -- What objects hold at first (C11 6.7.9): the items of a list go to the elements or members in order, each as its own braces say.
-use Rattle.std.specs.Prelude.{ℕ, zero, suc, ◌+◌, nat_le, nat_lt, nat_eq, Bool, true, false, not, ◌&&◌, ◌||◌, if◌then◌else◌, List, [], ◌∷◌, length, map, Option, Some, None, is_some}
+use Rattle.std.specs.Prelude.{ℕ, zero, suc, ◌+◌, nat_le, nat_lt, nat_eq, Bool, true, false, not, ◌&&◌, ◌||◌, if◌then◌else◌, List, []}
+use Rattle.std.specs.Prelude.{◌∷◌, length, map, Option, Some, None, is_some}
 use Rattle.cs_types.specs.declared.int_type.IntType.TheVariants.{Char, SChar, UChar}
 use Rattle.cs_types.specs.Shape.{Shape, integer, array, struct}
 use Rattle.cs_ast.specs.declared.place.Place.{Place}
@@ -9,7 +10,8 @@ use Rattle.cs_ast.specs.declared.raw.expression.RawExprKind.TheVariants as kind
 use Rattle.cs_ast.specs.declared.raw.declaration.RawInitial as first_value
 use Rattle.cs_ast.specs.declared.raw.declaration.RawInitial.{RawInitial}
 use Rattle.cs_types.specs.declared.data_model.DataModel.{DataModel}
-use Rattle.cs_ast.specs.TypedTree.{Typed, Of, Null, Address, Decay, Sum, Convert, Text, Index, Global as GlobalObject, Member as MemberOf, Initial, Value, Parts, Bytes, Initials, NoPart, Part}
+use Rattle.cs_ast.specs.TypedTree.{Typed, Of, Null, Address, Decay, Sum, Convert, Text, Index, Global as GlobalObject, Member as MemberOf, Initial, Value}
+use Rattle.cs_ast.specs.TypedTree.{Parts, Bytes, Initials, NoPart, Part}
 use Rattle.cs_types.specs.Layout.{members_of}
 use Rattle.cs_types.specs.Members.{Member}
 use Rattle.cs_types.specs.declared.structs.StructType.{StructType}

@@ -27,9 +27,11 @@ pub fn specs_type(
     place: Place,
     specs: &RawSpecs,
 ) -> Result<CType, TypeRefusal>
-    ensures reported { AnswersWith typing (specs_type (environment_of known.old) place specs.now) result known.new }
+    ensures reported { AnswersWith typing (specs_type (environment_of known.old) place specs.now)
+        result known.new }
     ensures reading { OnOk result (known.new.reading.items ≡ known.old.reading.items) }
-    ensures laid_out { IsSound (environment_of known.old) → OnOk result (IsSound (environment_of known.new)) }
+    ensures laid_out { IsSound (environment_of known.old)
+        → OnOk result (IsSound (environment_of known.new)) }
 {
     let tag_place = specs.tag.unwrap_or(place);
     for word in &specs.words {
@@ -54,7 +56,9 @@ fn word_type(
     place: Place,
     words: &[SpecWord],
 ) -> Result<CType, TypeRefusal>
-    ensures reported { AnswersWith typing (word_type (environment_of known.old) (Some tag) place (plain_words words.now) (whole_word (plain_words words.now))) result known.new }
+    ensures reported { AnswersWith typing
+        (word_type (environment_of known.old) (Some tag) place (plain_words words.now)
+        (whole_word (plain_words words.now))) result known.new }
     ensures reading { OnOk result (known.new.reading.items ≡ known.old.reading.items) }
 {
     match whole_word(words) {
@@ -68,7 +72,9 @@ fn word_type(
 
 // The struct that a tag names where no body stands after it: the tag may be new (C11 6.7.2.3, paragraph 8).
 fn struct_named(known: &mut Environment, place: Place, name: &Name) -> Result<CType, TypeRefusal>
-    ensures reported { AnswersWith typing (struct_named place name.now (environment_of known.old) (tag_in (environment_of known.old) name.now)) result known.new }
+    ensures reported { AnswersWith typing
+        (struct_named place name.now (environment_of known.old)
+        (tag_in (environment_of known.old) name.now)) result known.new }
     ensures reading { OnOk result (known.new.reading.items ≡ known.old.reading.items) }
 {
     match known.context.scope.tags.meaning(name) {
@@ -88,8 +94,10 @@ fn begin_struct(
     place: Place,
     tag: &Option<Name>,
 ) -> Result<u32, TypeRefusal>
-    ensures reported { AnswersWith opened_as (opening place tag.now (environment_of known.old)) result known.new }
-    ensures reading { IfOk result (λ number. known.new.reading.items ≡ known.old.reading.items ++ number ∷ []) }
+    ensures reported { AnswersWith opened_as (opening place tag.now (environment_of known.old))
+        result known.new }
+    ensures reading { IfOk result (λ number.
+        known.new.reading.items ≡ known.old.reading.items ++ number ∷ []) }
 {
     let number = match tag {
         None => known.add_struct(Name::from_slice(alloc, b"")?)?,
@@ -112,7 +120,8 @@ fn struct_body(
     tag: &Option<Name>,
     members: &[RawMember],
 ) -> Result<CType, TypeRefusal>
-    ensures reported { AnswersWith typing (struct_body (environment_of known.old) place tag.now members.now) result known.new }
+    ensures reported { AnswersWith typing
+        (struct_body (environment_of known.old) place tag.now members.now) result known.new }
     ensures reading { OnOk result (known.new.reading.items ≡ known.old.reading.items) }
 {
     let number = begin_struct(alloc, known, place, tag)?;
@@ -128,7 +137,8 @@ fn members_read(
     known: &mut Environment,
     groups: &[RawMember],
 ) -> Result<Laying, TypeRefusal>
-    ensures reported { AnswersWith body (members_of_list (environment_of known.old) groups.now nothing_laid) result known.new }
+    ensures reported { AnswersWith body
+        (members_of_list (environment_of known.old) groups.now nothing_laid) result known.new }
     ensures reading { OnOk result (known.new.reading.items ≡ known.old.reading.items) }
 {
     let mut so_far = Laying {
@@ -150,7 +160,8 @@ fn group_read(
     group: &RawMember,
     before: Laying,
 ) -> Result<Laying, TypeRefusal>
-    ensures reported { AnswersWith body (group_of (environment_of known.old) group.now (laying before)) result known.new }
+    ensures reported { AnswersWith body
+        (group_of (environment_of known.old) group.now (laying before)) result known.new }
     ensures reading { OnOk result (known.new.reading.items ≡ known.old.reading.items) }
 {
     let place = first_name(&group.declarators);

@@ -51,7 +51,8 @@ pub fn last_stars(pointers: &[PointerWord]) -> Stars
 impl Stars {
     // The last two stars after one more word.
     fn following(self, word: PointerWord) -> Stars
-        ensures { (before : List PointerWord) → AreLastStars before self → AreLastStars (before ++ word ∷ []) result }
+        ensures { (before : List PointerWord) → AreLastStars before self
+            → AreLastStars (before ++ word ∷ []) result }
     {
         match (word, self.last) {
             (PointerWord::Star, last) => Stars {

@@ -42,7 +42,8 @@ fn declare_constant(
     next: i128,
     constant: &RawEnumerator,
 ) -> Result<i128, TypeRefusal>
-    ensures reported { AnswersWith counting (constant_declared constant.now (counting next known.old)) result known.new }
+    ensures reported { AnswersWith counting
+        (constant_declared constant.now (counting next known.old)) result known.new }
     ensures reading { OnOk result (known.new.reading.items ≡ known.old.reading.items) }
     ensures tags { OnOk result (known.new.context.scope.tags ≡ known.old.context.scope.tags) }
 {
@@ -63,7 +64,8 @@ fn declare_constants(
     known: &mut Environment,
     constants: &[RawEnumerator],
 ) -> Result<i128, TypeRefusal>
-    ensures reported { AnswersWith counting (constants_declared constants.now (counting (pos 0) known.old)) result known.new }
+    ensures reported { AnswersWith counting
+        (constants_declared constants.now (counting (pos 0) known.old)) result known.new }
     ensures reading { OnOk result (known.new.reading.items ≡ known.old.reading.items) }
     ensures tags { OnOk result (known.new.context.scope.tags ≡ known.old.context.scope.tags) }
 {
@@ -83,7 +85,8 @@ pub fn enum_body(
     tag: &Option<Name>,
     constants: &[RawEnumerator],
 ) -> Result<CType, TypeRefusal>
-    ensures reported { AnswersWith typing (enum_body (environment_of known.old) place tag.now constants.now) result known.new }
+    ensures reported { AnswersWith typing
+        (enum_body (environment_of known.old) place tag.now constants.now) result known.new }
     ensures reading { OnOk result (known.new.reading.items ≡ known.old.reading.items) }
 {
     if let Some(name) = tag

@@ -39,7 +39,8 @@ pub struct ScopeSnapshot {
 impl Environment {
     /// Declares a name in the innermost scope (C11 6.2.1).
     pub fn declare(&mut self, name: &Name, meaning: Meaning) -> Result<(), AllocError>
-        ensures { OnOk result (environment_of self.new ≡ declaring name.now (meaning_of meaning) (environment_of self.old)) }
+        ensures { OnOk result (environment_of self.new
+            ≡ declaring name.now (meaning_of meaning) (environment_of self.old)) }
     {
         let name = name.copy()?;
         self.context
@@ -60,7 +61,8 @@ impl Environment {
 
     /// What a name was declared as in the innermost scope.
     pub fn meaning_here(&self, name: &Name) -> Option<&Meaning>
-        ensures { option_map meaning_of (option_copied result) ≡ meaning_here name.now (environment_of self.now) }
+        ensures { option_map meaning_of (option_copied result)
+            ≡ meaning_here name.now (environment_of self.now) }
     {
         if self.is_declared_here(name) {
             self.context.scope.declarations.newest(name)
@@ -99,8 +101,10 @@ impl Environment {
 
     /// Adds a struct of this name without members, and gives its number.
     pub fn add_struct(&mut self, name: Name) -> Result<u32, AllocError>
-        ensures number { IfOk result (λ number. number ≡ length (table_of (environment_of self.old))) }
-        ensures known { OnOk result (environment_of self.new ≡ with_struct name (environment_of self.old)) }
+        ensures number { IfOk result (λ number.
+            number ≡ length (table_of (environment_of self.old))) }
+        ensures known { OnOk result
+            (environment_of self.new ≡ with_struct name (environment_of self.old)) }
     {
         let number = self.number_of_structs()?;
         self.context.table.list.push(StructType {
@@ -115,8 +119,10 @@ impl Environment {
     /// Adds a struct of this tag, which is new, and gives its number.
     pub fn add_tagged_struct(&mut self, tag: &Name) -> Result<u32, AllocError>
         requires { tag_in (environment_of self.old) tag.now ≡ None }
-        ensures number { IfOk result (λ number. number ≡ length (table_of (environment_of self.old))) }
-        ensures known { OnOk result (environment_of self.new ≡ with_tagged_struct tag.now (environment_of self.old)) }
+        ensures number { IfOk result (λ number.
+            number ≡ length (table_of (environment_of self.old))) }
+        ensures known { OnOk result
+            (environment_of self.new ≡ with_tagged_struct tag.now (environment_of self.old)) }
     {
         let number = self.add_struct(tag.copy()?)?;
         self.add_tag(tag, TagMeaning::Struct(number))?;
@@ -126,7 +132,8 @@ impl Environment {
     /// Adds a tag, which is new.
     pub fn add_tag(&mut self, tag: &Name, meaning: TagMeaning) -> Result<(), AllocError>
         requires { tag_in (environment_of self.old) tag.now ≡ None }
-        ensures { OnOk result (environment_of self.new ≡ with_tag tag.now meaning (environment_of self.old)) }
+        ensures { OnOk result (environment_of self.new
+            ≡ with_tag tag.now meaning (environment_of self.old)) }
     {
         let name = tag.copy()?;
         self.context.scope.tags.add(Tag { name, meaning })
@@ -134,7 +141,8 @@ impl Environment {
 
     /// Whether a struct has a body, or one of it is being read.
     pub fn has_body(&self, number: u32) -> bool
-        ensures { result ≡ (is_among number (environment_of self.now).reading || is_some (members_of (table_of (environment_of self.now)) number)) }
+        ensures { result ≡ (is_among number (environment_of self.now).reading
+            || is_some (members_of (table_of (environment_of self.now)) number)) }
     {
         self.is_being_read(number) || members_of(&self.context.table, number).is_some()
     }
@@ -154,7 +162,10 @@ impl Environment {
         tag: &Option<Name>,
         laid: Laying,
     ) -> Result<(), AllocError>
-        ensures { OnOk result (environment_of self.new ≡ with_reading (take (length (environment_of self.old).reading - 1) (environment_of self.old).reading) (with_members number (name_or_none tag.now) (laying laid) (environment_of self.old))) }
+        ensures { OnOk result (environment_of self.new
+            ≡ with_reading (take (length (environment_of self.old).reading - 1)
+            (environment_of self.old).reading)
+            (with_members number (name_or_none tag.now) (laying laid) (environment_of self.old))) }
     {
         let size = rounded_up(laid.size, laid.align).ok_or(AllocError)?;
         let complete = StructType {
@@ -179,7 +190,8 @@ impl Environment {
         base: &CType,
         declarator: &RawDeclarator,
     ) -> Result<(), TypeRefusal>
-        ensures { Leaves (typedef_added (shape_of base.now) declarator.now (environment_of self.old)) result (environment_of self.new) }
+        ensures { Leaves (typedef_added (shape_of base.now) declarator.now
+            (environment_of self.old)) result (environment_of self.new) }
     {
         if self.is_declared_here(&declarator.name) {
             return Err(TypeRefusal::Code(TypeCode::DeclaredTwice, declarator.place));
@@ -196,8 +208,11 @@ impl Environment {
         base: &CType,
         declarators: &[RawDeclarator],
     ) -> Result<(), TypeRefusal>
-        ensures reported { Leaves (typedefs_added (shape_of base.now) declarators.now (environment_of self.old)) result (environment_of self.new) }
-        ensures laid_out { IsSound (environment_of self.old) → OnOk result (IsSound (environment_of self.new)) }
+        ensures reported { Leaves
+            (typedefs_added (shape_of base.now) declarators.now (environment_of self.old)) result
+            (environment_of self.new) }
+        ensures laid_out { IsSound (environment_of self.old)
+            → OnOk result (IsSound (environment_of self.new)) }
     {
         for declarator in declarators {
             self.declare_typedef(alloc, base, declarator)?;

@@ -35,7 +35,8 @@ impl<'a> Parts<'a> {
     /// The type of the part with this number.
     #[tactic(auto, using(crate::proofs::PartTypes::parts_by_number))]
     pub fn ty(self, number: usize) -> Option<&'a CType>
-        ensures { option_map (λ ty. shape_of ty.now) result ≡ slice_get (types_of self.entry) number }
+        ensures { option_map (λ ty. shape_of ty.now) result
+            ≡ slice_get (types_of self.entry) number }
     {
         match self {
             Parts::Elements(element, count) if (number as u64) < count => Some(element),
@@ -72,7 +73,8 @@ fn takes_expression(storage: Storage, ty: &CType, tree: &RawExprKind) -> bool
 /// Whether a written initializer has the form that a type asks for, as far as its braces and the number of its items tell.
 #[cycle(forms)]
 pub fn has_form(table: &StructTable, storage: Storage, ty: &CType, written: &RawInitial) -> bool
-    ensures { result ≡ has_form table.now.list (view.storage storage) (shape_of ty.now) written.now }
+    ensures { result ≡ has_form table.now.list (view.storage storage) (shape_of ty.now)
+        written.now }
 {
     match written {
         RawInitial::Value(tree) => takes_expression(storage, ty, &*tree.kind),
@@ -86,7 +88,8 @@ pub fn has_form(table: &StructTable, storage: Storage, ty: &CType, written: &Raw
 // The same of each item of a list, of which there may be as many as parts.
 #[cycle(forms)]
 fn have_forms(table: &StructTable, storage: Storage, parts: Parts, items: &[RawInitial]) -> bool
-    ensures { result ≡ list_has_forms table.now.list (view.storage storage) (types_of parts.entry) items.now }
+    ensures { result ≡ list_has_forms table.now.list (view.storage storage) (types_of parts.entry)
+        items.now }
 {
     let mut number = 0;
     for item in items {

@@ -28,7 +28,9 @@ fn expression_read(
     ty: &CType,
     tree: &RawExpr,
 ) -> Result<Initial, TypeRefusal>
-    ensures { AnswersWith reading (expression_read context.now literals.old.items (shape_of ty.now) tree.now) result literals.new.items }
+    ensures { AnswersWith reading
+        (expression_read context.now literals.old.items (shape_of ty.now) tree.now) result
+        literals.new.items }
 {
     if let CType::Array(_, _) = ty {
         let text = text_of(alloc, &*tree.kind)?;
@@ -57,7 +59,9 @@ fn initial_read(
     ty: &CType,
     written: &RawInitial,
 ) -> Result<Initial, TypeRefusal>
-    ensures { AnswersWith reading (initial_read context.now literals.old.items (shape_of ty.now) written.now) result literals.new.items }
+    ensures { AnswersWith reading
+        (initial_read context.now literals.old.items (shape_of ty.now) written.now) result
+        literals.new.items }
 {
     match written {
         RawInitial::Value(tree) => expression_read(alloc, context, literals, ty, tree),
@@ -80,7 +84,9 @@ fn items_read(
     parts: Parts,
     items: &[RawInitial],
 ) -> Result<Vec<Initial>, TypeRefusal>
-    ensures { AnswersWith (λ list following. readings list.items following) (list_read context.now literals.old.items (types_of parts.entry) items.now) result literals.new.items }
+    ensures { AnswersWith (λ list following. readings list.items following)
+        (list_read context.now literals.old.items (types_of parts.entry) items.now) result
+        literals.new.items }
 {
     let mut list = Vec::new(alloc);
     for item in items {
@@ -102,7 +108,9 @@ pub fn initial_typed(
     ty: &CType,
     written: &RawInitial,
 ) -> Result<Initial, TypeRefusal>
-    ensures { AnswersWith reading (initial_typed context.now literals.old.items (view.storage storage) place (shape_of ty.now) written.now) result literals.new.items }
+    ensures { AnswersWith reading
+        (initial_typed context.now literals.old.items (view.storage storage) place (shape_of ty.now)
+        written.now) result literals.new.items }
 {
     if !has_form(&context.table, storage, ty, written) {
         return Err(TypeRefusal::Code(TypeCode::Initializer, place));

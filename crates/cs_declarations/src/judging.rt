@@ -27,7 +27,9 @@ fn value_judged(
     ty: &CType,
     value: Expr,
 ) -> Result<Initial, TypeRefusal>
-    ensures { Answers initial (value_judged context.now.model (view.storage storage) place (shape_of ty.now) (typed value)) result }
+    ensures { Answers initial
+        (value_judged context.now.model (view.storage storage) place (shape_of ty.now)
+        (typed value)) result }
 {
     let converted = converted(alloc, context.model, place, value, ty)?;
     if is_admitted(context.model, storage, &converted) {
@@ -58,7 +60,9 @@ fn part_judged(
     ty: &CType,
     part: Initial,
 ) -> Result<Initial, TypeRefusal>
-    ensures { Answers initial (part_judged context.now (view.storage storage) place (shape_of ty.now) (initial part)) result }
+    ensures { Answers initial
+        (part_judged context.now (view.storage storage) place (shape_of ty.now) (initial part))
+        result }
 {
     match part {
         Initial::Value(value) => {
@@ -88,7 +92,9 @@ fn parts_judged(
     parts: Parts,
     items: Vec<Initial>,
 ) -> Result<Vec<Initial>, TypeRefusal>
-    ensures { Answers (λ list. initial_list list.items) (parts_judged context.now (view.storage storage) place (types_of parts.entry) (initial_list items.items)) result }
+    ensures { Answers (λ list. initial_list list.items)
+        (parts_judged context.now (view.storage storage) place (types_of parts.entry)
+        (initial_list items.items)) result }
 {
     let mut list = Vec::new(alloc);
     let mut wrong = None;
@@ -119,7 +125,9 @@ pub fn judged(
     ty: &CType,
     written: Initial,
 ) -> Result<Initial, TypeRefusal>
-    ensures { Answers initial (initial_judged context.now (view.storage storage) place (shape_of ty.now) (initial written)) result }
+    ensures { Answers initial
+        (initial_judged context.now (view.storage storage) place (shape_of ty.now)
+        (initial written)) result }
 {
     match written {
         Initial::Value(value) => value_judged(alloc, context, storage, place, ty, value),

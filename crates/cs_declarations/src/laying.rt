@@ -76,7 +76,8 @@ impl Laying {
         name: &Name,
         ty: CType,
     ) -> Result<(), TypeRefusal>
-        ensures { Leaves (member_added context.now place name.now (laying self.old) (shape_of ty)) result (laying self.new) }
+        ensures { Leaves (member_added context.now place name.now (laying self.old) (shape_of ty))
+            result (laying self.new) }
     {
         let whole = complete_at(&context.table, place, ty)?;
         match bytes_in(context.model, &context.table, &whole) {
@@ -97,7 +98,8 @@ impl Laying {
         bytes: u64,
         align: u64,
     ) -> Result<(), TypeRefusal>
-        ensures { Leaves (placed place name.now (shape_of ty) bytes align (laying self.old)) result (laying self.new) }
+        ensures { Leaves (placed place name.now (shape_of ty) bytes align (laying self.old)) result
+            (laying self.new) }
     {
         match end_of(self.size, bytes, align) {
             Some((offset, end)) => {
@@ -120,7 +122,8 @@ fn add_member(
     declarator: &RawDeclarator,
     so_far: &mut Laying,
 ) -> Result<(), TypeRefusal>
-    ensures { Leaves (member_declared context.now (shape_of base.now) declarator.now (laying so_far.old)) result (laying so_far.new) }
+    ensures { Leaves (member_declared context.now (shape_of base.now) declarator.now
+        (laying so_far.old)) result (laying so_far.new) }
 {
     if has_member(&so_far.members, &declarator.name) {
         return Err(TypeRefusal::Code(TypeCode::DeclaredTwice, declarator.place));
@@ -137,7 +140,8 @@ pub fn add_members(
     declarators: &[RawDeclarator],
     before: Laying,
 ) -> Result<Laying, TypeRefusal>
-    ensures { Answers laying (members_declared context.now (shape_of base.now) declarators.now (laying before)) result }
+    ensures { Answers laying
+        (members_declared context.now (shape_of base.now) declarators.now (laying before)) result }
 {
     let mut so_far = before;
     for declarator in declarators {
@@ -148,7 +152,8 @@ pub fn add_members(
 
 // Where so many bytes with this alignment begin and end after others, if an object may have so many.
 fn end_of(before: u64, bytes: u64, align: u64) -> Option<(u64, u64)>
-    ensures { result ≡ (if nat_le (round_up before align + bytes) (2 ^ 20) then Some (round_up before align, round_up before align + bytes) else None) }
+    ensures { result ≡ (if nat_le (round_up before align + bytes) (2 ^ 20)
+        then Some (round_up before align, round_up before align + bytes) else None) }
 {
     let offset = rounded_up(before, align)?;
     if offset > MOST_BYTES || bytes > MOST_BYTES - offset {

@@ -107,7 +107,8 @@ fn parameter_passed(
     parameter: &RawParameter,
     base: CType,
 ) -> Result<Passed, TypeRefusal>
-    ensures { Answers passed_of (parameter_passed context.now parameter.now (shape_of base)) result }
+    ensures { Answers passed_of (parameter_passed context.now parameter.now (shape_of base))
+        result }
 {
     let place = place_of(parameter);
     let whole = bounded(context, place, base, &parameter.bounds)?;
@@ -145,7 +146,8 @@ impl Head {
         known: &mut Environment,
         parameter: &RawParameter,
     ) -> Result<(), TypeRefusal>
-        ensures { Leaves (parameter_typed parameter.now (head self.old known.old)) result (head self.new known.new) }
+        ensures { Leaves (parameter_typed parameter.now (head self.old known.old)) result
+            (head self.new known.new) }
     {
         let base = specs_type(alloc, known, parameter.place, &parameter.specs)?;
         if is_declared(known, parameter) {
@@ -165,7 +167,9 @@ impl Head {
         parameter: &RawParameter,
         found: Passed,
     ) -> Result<(), AllocError>
-        ensures { OnOk result (with_parameter parameter.now (head self.old known.old) (environment_of known.old) (passed_of found) ≡ Fine (head self.new known.new)) }
+        ensures { OnOk result
+            (with_parameter parameter.now (head self.old known.old) (environment_of known.old)
+            (passed_of found) ≡ Fine (head self.new known.new)) }
     {
         self.written.push(may_write(parameter, &found.ty))?;
         let name = match &parameter.name {
@@ -192,8 +196,10 @@ pub fn parameters_typed(
     known: &mut Environment,
     parameters: &RawParameters,
 ) -> Result<Head, TypeRefusal>
-    ensures reported { AnswersWith head (parameters_typed (environment_of known.old) parameters.now) result known.new }
-    ensures laid_out { IsSound (environment_of known.old) → OnOk result (IsSound (environment_of known.new)) }
+    ensures reported { AnswersWith head (parameters_typed (environment_of known.old) parameters.now)
+        result known.new }
+    ensures laid_out { IsSound (environment_of known.old)
+        → OnOk result (IsSound (environment_of known.new)) }
 {
     let mut head = Head {
         parameters: Vec::new(alloc),

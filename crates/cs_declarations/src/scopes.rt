@@ -22,7 +22,8 @@ fn taken_after(
     outer: usize,
 ) -> Result<Vec<Declaration>, AllocError>
     ensures left { OnOk result (declarations.new ≡ take outer declarations.old) }
-    ensures taken { IfOk result (λ list. map declaration_of (reverse list.items) ≡ drop outer declarations.old) }
+    ensures taken { IfOk result (λ list.
+        map declaration_of (reverse list.items) ≡ drop outer declarations.old) }
 {
     let mut list = Vec::new(alloc);
     while declarations.len() > outer {
@@ -36,7 +37,8 @@ fn taken_after(
 // Declares all of these, the last one first.
 #[tactic(auto, using(crate::proofs::ScopesApart::moved))]
 fn declare_each(declarations: &mut Declarations, list: Vec<Declaration>) -> Result<(), AllocError>
-    ensures { OnOk result (declarations.new ≡ declarations.old ++ map declaration_of (reverse list.items)) }
+    ensures { OnOk result (declarations.new
+        ≡ declarations.old ++ map declaration_of (reverse list.items)) }
 {
     let mut list = list;
     while let Some(declaration) = list.pop() {
@@ -48,8 +50,11 @@ fn declare_each(declarations: &mut Declarations, list: Vec<Declaration>) -> Resu
 impl Environment {
     /// Ends the scope that began there, and gives what it declared.
     pub fn leave_with(&mut self, alloc: Global, around: ScopeSnapshot) -> Result<Inner, AllocError>
-        ensures left { OnOk result (environment_of self.new ≡ left_to (snapshot around) (environment_of self.old)) }
-        ensures inner { IfOk result (λ inner. map declaration_of (reverse inner.list.items) ≡ drop around.declarations (declarations_of (environment_of self.old))) }
+        ensures left { OnOk result (environment_of self.new
+            ≡ left_to (snapshot around) (environment_of self.old)) }
+        ensures inner { IfOk result (λ inner.
+            map declaration_of (reverse inner.list.items)
+            ≡ drop around.declarations (declarations_of (environment_of self.old))) }
     {
         let declarations = &mut self.context.scope.declarations;
         let list = taken_after(alloc, declarations, around.declarations)?;
@@ -59,7 +64,10 @@ impl Environment {
 
     /// Declares in the innermost scope what another one declared.
     pub fn declare_all(&mut self, inner: Inner) -> Result<(), AllocError>
-        ensures { OnOk result (environment_of self.new ≡ with_declarations (declarations_of (environment_of self.old) ++ map declaration_of (reverse inner.list.items)) self.old.outer (environment_of self.old)) }
+        ensures { OnOk result (environment_of self.new
+            ≡ with_declarations (declarations_of (environment_of self.old)
+            ++ map declaration_of (reverse inner.list.items)) self.old.outer
+            (environment_of self.old)) }
     {
         declare_each(&mut self.context.scope.declarations, inner.list)
     }

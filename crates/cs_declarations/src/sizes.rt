@@ -171,7 +171,8 @@ pub fn declarator_type(
     count: Option<usize>,
     declarator: &RawDeclarator,
 ) -> Result<CType, TypeRefusal>
-    ensures { Answers shape_of (declarator_type context.now (shape_of base.now) count declarator.now) result }
+    ensures { Answers shape_of
+        (declarator_type context.now (shape_of base.now) count declarator.now) result }
 {
     let place = declarator.place;
     let pointed = starred(alloc, &declarator.pointers, base.copy(alloc)?)?;

@@ -38,7 +38,8 @@ fn stored(table: &StructTable, ty: &CType, found: &Initial) -> Option<u64>
 // The same of the items of a list.
 #[cycle(stored)]
 fn stored_parts(table: &StructTable, parts: Parts, items: &[Initial]) -> Option<u64>
-    ensures { result ≡ stored_parts table.now.list (types_of parts.entry) (initial_list items.now) }
+    ensures { result ≡ stored_parts table.now.list (types_of parts.entry)
+        (initial_list items.now) }
 {
     let mut all = 0;
     let mut number = 0;

@@ -1,13 +1,15 @@
 -- Every run ends of a machine whose silent steps leave fewer turns, or as many and less weight: by the events left, then the turns,
 -- then the weight.
-use Rattle.std.proofs.Common.{◌≡◌, ℕ, zero, suc, ◌+◌, ◌<◌, ◌≤◌, ◌⊎◌, Bool, true, false, [], ◌∷◌, ◌++◌, length, if◌then◌else◌, inl, inr, refl, ap, ◌∙◌, arith}
+use Rattle.std.proofs.Common.{◌≡◌, ℕ, zero, suc, ◌+◌, ◌<◌, ◌≤◌, ◌⊎◌, Bool, true, false, [], ◌∷◌, ◌++◌, length}
+use Rattle.std.proofs.Common.{if◌then◌else◌, inl, inr, refl, ap, ◌∙◌, arith}
 use Rattle.std.proofs.lemmas.Bool.Decides.{nat_tests}
 use Rattle.std.proofs.lemmas.List.{length-append}
 use Rattle.cs_events.specs.declared.event.Event.{Event}
 use Rattle.cs_events.specs.declared.outcome.Outcome.{Outcome}
 use Rattle.cs_events.specs.Operations.{is_true}
 use Rattle.cs_events.specs.Acts.{Act}
-use Rattle.cs_events.specs.Runs.{Setting, Log, Performed, Continues, Finishes, perform, with_event, with_read, with_touch, has_room, operation_event, number_of, allocation_event, access_event, stays, goes}
+use Rattle.cs_events.specs.Runs.{Setting, Log, Performed, Continues, Finishes, perform, with_event, with_read, with_touch, has_room, operation_event, number_of}
+use Rattle.cs_events.specs.Runs.{allocation_event, access_event, stays, goes}
 use Rattle.cs_events.specs.Growth.{GoesOn, log_of}
 use Rattle.cs_events.specs.Silence.{Owes, owes_next, stops, reads, asks, allocates, reaches, touches, IsBelow, Lessens, Ending}
 use Rattle.cs_events.proofs.LogGrowth.{act_adds}
@@ -36,17 +38,20 @@ module _ {State : Type 0} where
   Went setting Next log (Finishes outcome later) = Unit {0}
 
   -- after an event for which there was room
-  louder : (setting : Setting) (Next : State → Type 0) (log : Log) (event : Event) (done : Performed State) → passed log < setting.budgets.events → GoesOn (with_event log event) (log_of done) → Went setting Next log done
+  louder : (setting : Setting) (Next : State → Type 0) (log : Log) (event : Event) (done : Performed State) → passed log < setting.budgets.events
+      → GoesOn (with_event log event) (log_of done) → Went setting Next log done
   louder setting Next log event (Continues next later) room more = inl (room, more_events log later event more)
   louder setting Next log event (Finishes outcome later) room more = tt
 
   -- after an event, or at the end of the run where there was no room
-  after_event : (setting : Setting) (Next : State → Type 0) (log : Log) (event : Event) (outcome : Outcome) (end : Log) (done : Performed State) (room : Bool) → has_room setting log ≡ room → GoesOn (with_event log event) (log_of done) → Went setting Next log (if room then done else Finishes outcome end)
+  after_event : (setting : Setting) (Next : State → Type 0) (log : Log) (event : Event) (outcome : Outcome) (end : Log) (done : Performed State) (room : Bool)
+      → has_room setting log ≡ room → GoesOn (with_event log event) (log_of done) → Went setting Next log (if room then done else Finishes outcome end)
   after_event setting Next log event outcome end done true h more = louder setting Next log event done (grind (arith, nat_tests)) more
   after_event setting Next log event outcome end done false h more = tt
 
   -- the same seen from a log with as many events
-  from_as_many : (setting : Setting) (Next : State → Type 0) (log before : Log) (done : Performed State) → passed before ≡ passed log → Went setting Next before done → Went setting Next log done
+  from_as_many : (setting : Setting) (Next : State → Type 0) (log before : Log) (done : Performed State) → passed before ≡ passed log
+      → Went setting Next before done → Went setting Next log done
   from_as_many setting Next log before (Continues next later) e (inl loud) =
       let room = loud.0 in
       let more = loud.1 in
@@ -80,7 +85,8 @@ module _ {State : Type 0} where
     HasLeft events log = setting.budgets.events ≤ passed log + events
 
     -- a run that ends after its next act ends
-    one_more : (m next : State) (log later : Log) → perform setting log (step m) ≡ Continues next later → Ending step setting next later → Ending step setting m log
+    one_more : (m next : State) (log later : Log) → perform setting log (step m) ≡ Continues next later → Ending step setting next later
+        → Ending step setting m log
     one_more m next log later e ending = record {
       outcome = ending.outcome;
       end = ending.end;
@@ -88,13 +94,21 @@ module _ {State : Type 0} where
     }
 
     -- the next act is performed, and what it leads to ends
-    act_ends : (m : State) (log : Log) (done : Performed State) → perform setting log (step m) ≡ done → Went setting (IsBelow turns weight (turns m) (weight m)) log done → ((next : State) (later : Log) → IsLouder setting log later → Ending step setting next later) → ((next : State) (later : Log) → passed later ≡ passed log → IsBelow turns weight (turns m) (weight m) next → Ending step setting next later) → Ending step setting m log
-    act_ends m log (Finishes outcome later) e w loud quiet = record { outcome = outcome; end = later; ended = record { last = m; before = log; leads = stays refl refl; finishes = e } }
+    act_ends : (m : State) (log : Log) (done : Performed State) → perform setting log (step m) ≡ done
+        → Went setting (IsBelow turns weight (turns m) (weight m)) log done
+        → ((next : State) (later : Log) → IsLouder setting log later → Ending step setting next later)
+        → ((next : State) (later : Log) → passed later ≡ passed log → IsBelow turns weight (turns m) (weight m) next → Ending step setting next later)
+        → Ending step setting m log
+    act_ends m log (Finishes outcome later) e w loud quiet =
+        record { outcome = outcome; end = later; ended = record { last = m; before = log; leads = stays refl refl; finishes = e } }
     act_ends m log (Continues next later) e (inl l) loud quiet = one_more m next log later e (loud next later l)
     act_ends m log (Continues next later) e (inr q) loud quiet = one_more m next log later e (quiet next later q.1 q.0)
 
     -- a run ends from a state below, where those with fewer turns end, and those with as many and less weight
-    below_ends : (events some much : ℕ) → ((next : State) (later : Log) → HasLeft events later → turns next < some → Ending step setting next later) → ((next : State) (later : Log) → HasLeft events later → turns next ≤ some → weight next < much → Ending step setting next later) → (m : State) (log : Log) → HasLeft events log → turns m ≤ some → weight m < suc much → (next : State) (later : Log) → passed later ≡ passed log → IsBelow turns weight (turns m) (weight m) next → Ending step setting next later
+    below_ends : (events some much : ℕ) → ((next : State) (later : Log) → HasLeft events later → turns next < some → Ending step setting next later)
+        → ((next : State) (later : Log) → HasLeft events later → turns next ≤ some → weight next < much → Ending step setting next later)
+        → (m : State) (log : Log) → HasLeft events log → turns m ≤ some → weight m < suc much
+        → (next : State) (later : Log) → passed later ≡ passed log → IsBelow turns weight (turns m) (weight m) next → Ending step setting next later
     below_ends events some much fewer lighter m log left few light next later same (inl less) = fewer next later (omega arith) (omega arith)
     below_ends events some much fewer lighter m log left few light next later same (inr less) =
         let as_few = less.0 in
@@ -102,26 +116,34 @@ module _ {State : Type 0} where
         lighter next later (omega arith) (omega arith) (omega arith)
 
     -- by the weight, where runs with fewer turns or fewer events left end
-    by_weight : Lessens step turns weight → (events some : ℕ) → ((next : State) (log later : Log) → HasLeft events log → IsLouder setting log later → Ending step setting next later) → ((next : State) (later : Log) → HasLeft events later → turns next < some → Ending step setting next later) → (much : ℕ) (m : State) (log : Log) → HasLeft events log → turns m ≤ some → weight m < much → Ending step setting m log
+    by_weight : Lessens step turns weight → (events some : ℕ)
+        → ((next : State) (log later : Log) → HasLeft events log → IsLouder setting log later → Ending step setting next later)
+        → ((next : State) (later : Log) → HasLeft events later → turns next < some → Ending step setting next later)
+        → (much : ℕ) (m : State) (log : Log) → HasLeft events log → turns m ≤ some → weight m < much → Ending step setting m log
     by_weight lessens events some loud fewer zero m log left few light = absurd (omega arith)
     by_weight lessens events some loud fewer (suc much) m log left few light =
         act_ends m log (perform setting log (step m)) refl (went setting (IsBelow turns weight (turns m) (weight m)) log (lessens m))
         (λ next later l. loud next log later left l)
-        (below_ends events some much fewer (λ next later left' few' light'. by_weight lessens events some loud fewer much next later left' few' light') m log left few light)
+        (below_ends events some much fewer (λ next later left' few' light'. by_weight lessens events some loud fewer much next later left' few' light') m log
+        left few light)
 
     -- by the turns, where runs with fewer events left end
-    by_turns : Lessens step turns weight → (events : ℕ) → ((next : State) (log later : Log) → HasLeft events log → IsLouder setting log later → Ending step setting next later) → (some : ℕ) (m : State) (log : Log) → HasLeft events log → turns m ≤ some → Ending step setting m log
+    by_turns : Lessens step turns weight → (events : ℕ)
+        → ((next : State) (log later : Log) → HasLeft events log → IsLouder setting log later → Ending step setting next later)
+        → (some : ℕ) (m : State) (log : Log) → HasLeft events log → turns m ≤ some → Ending step setting m log
     by_turns lessens events loud zero m log left few =
         by_weight lessens events zero loud (λ next later left' none. absurd (omega arith)) (suc (weight m)) m log left few (omega arith)
     by_turns lessens events loud (suc some) m log left few =
-        by_weight lessens events (suc some) loud (λ next later left' less. by_turns lessens events loud some next later left' (omega arith)) (suc (weight m)) m log left few (omega arith)
+        by_weight lessens events (suc some) loud (λ next later left' less. by_turns lessens events loud some next later left' (omega arith)) (suc (weight m)) m
+        log left few (omega arith)
 
     -- by the events that are left
     by_events : Lessens step turns weight → (events : ℕ) (m : State) (log : Log) → HasLeft events log → Ending step setting m log
     by_events lessens zero m log left =
         by_turns lessens zero (λ next log' later left' loud. let room = loud.0 in absurd (omega arith)) (turns m) m log left (omega arith)
     by_events lessens (suc events) m log left =
-        by_turns lessens (suc events) (λ next log' later left' loud. let room = loud.0 in let more = loud.1 in by_events lessens events next later (omega arith)) (turns m) m log left (omega arith)
+        by_turns lessens (suc events) (λ next log' later left' loud.
+        let room = loud.0 in let more = loud.1 in by_events lessens events next later (omega arith)) (turns m) m log left (omega arith)
 
     -- every run ends
     pub every_run_ends : Lessens step turns weight → (m : State) (log : Log) → Ending step setting m log

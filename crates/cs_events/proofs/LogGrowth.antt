@@ -7,7 +7,8 @@ use Rattle.cs_events.specs.declared.outcome.Outcome.{Outcome}
 use Rattle.cs_events.specs.Operations.{is_true}
 use Rattle.cs_events.specs.Touches.{Touch}
 use Rattle.cs_events.specs.Acts.{Act, Goes, Stops, Reads, Asks, Allocates, Reaches, Touches}
-use Rattle.cs_events.specs.Runs.{Setting, Log, Performed, Continues, Finishes, perform, with_event, with_read, with_touch, has_room, operation_event, number_of, allocation_event, access_event, Leads, stays, goes, EndsFrom}
+use Rattle.cs_events.specs.Runs.{Setting, Log, Performed, Continues, Finishes, perform, with_event, with_read, with_touch, has_room, operation_event, number_of}
+use Rattle.cs_events.specs.Runs.{allocation_event, access_event, Leads, stays, goes, EndsFrom}
 use Rattle.cs_events.specs.Growth.{GoesOn, log_of}
 
 -- nothing is added
@@ -15,7 +16,8 @@ nothing_more : {A : Type 0} (xs : List A) → (more : List A) × (xs ≡ xs ++ m
 nothing_more xs = ([], sym (append-nil xs))
 
 -- more is added to what was added
-more_yet : {A : Type 0} (xs ys zs : List A) → (more : List A) × (ys ≡ xs ++ more) → (more : List A) × (zs ≡ ys ++ more) → (more : List A) × (zs ≡ xs ++ more)
+more_yet : {A : Type 0} (xs ys zs : List A) → (more : List A) × (ys ≡ xs ++ more) → (more : List A) × (zs ≡ ys ++ more)
+    → (more : List A) × (zs ≡ xs ++ more)
 more_yet xs ys zs one two = (one.0 ++ two.0, two.1 ∙ ap (λ l. l ++ two.0) one.1 ∙ append_assoc xs one.0 two.0)
 
 -- a log goes on from itself
@@ -41,7 +43,8 @@ touch_more log touch = record { events = nothing_more log.events; read = nothing
 
 module _ {State : Type 0} where
   -- an event that is passed, or the end of the run where it can't be
-  if_room : (room : Bool) (log : Log) (outcome : Outcome) (done : Performed State) → GoesOn log (log_of done) → GoesOn log (log_of (if room then done else Finishes outcome log))
+  if_room : (room : Bool) (log : Log) (outcome : Outcome) (done : Performed State) → GoesOn log (log_of done)
+      → GoesOn log (log_of (if room then done else Finishes outcome log))
   if_room true log outcome done more = more
   if_room false log outcome done more = stays_so log
 
@@ -52,11 +55,16 @@ module _ {State : Type 0} where
   act_adds setting log (Stops outcome) = stays_so log
   act_adds setting log (Reads path onward) = goes_on_yet (read_more log path) (act_adds setting (with_read log path) (onward (setting.inputs path)))
   act_adds setting log (Asks at operation onward) =
-      if_room (has_room setting log) log _ _ (goes_on_yet (event_more log (operation_event setting log at operation)) (act_adds setting (with_event log (operation_event setting log at operation)) (onward (number_of setting log operation))))
+      if_room (has_room setting log) log _ _
+      (goes_on_yet (event_more log (operation_event setting log at operation))
+      (act_adds setting (with_event log (operation_event setting log at operation)) (onward (number_of setting log operation))))
   act_adds setting log (Allocates at path onward) =
-      if_room (has_room setting log) log _ _ (goes_on_yet (goes_on_yet (read_more log path) (event_more (with_read log path) (allocation_event setting at path))) (act_adds setting (with_event (with_read log path) (allocation_event setting at path)) (onward (is_true (setting.inputs path)))))
+      if_room (has_room setting log) log _ _
+      (goes_on_yet (goes_on_yet (read_more log path) (event_more (with_read log path) (allocation_event setting at path)))
+      (act_adds setting (with_event (with_read log path) (allocation_event setting at path)) (onward (is_true (setting.inputs path)))))
   act_adds setting log (Reaches at object offset act) =
-      if_room (has_room setting log) log _ _ (goes_on_yet (event_more log (access_event at offset)) (act_adds setting (with_event log (access_event at offset)) act))
+      if_room (has_room setting log) log _ _
+      (goes_on_yet (event_more log (access_event at offset)) (act_adds setting (with_event log (access_event at offset)) act))
   act_adds setting log (Touches touch act) = goes_on_yet (touch_more log touch) (act_adds setting (with_touch log touch) act)
 
   module _ (step : State → Act State) (setting : Setting) where

@@ -6,7 +6,8 @@ use Rattle.cs_events.specs.declared.operation.Operation.{Operation}
 use Rattle.cs_events.specs.Operations.{is_true}
 use Rattle.cs_events.specs.Objects.{Object}
 use Rattle.cs_events.specs.Acts.{Act, Goes, Stops, Reads, Asks, Allocates, Reaches, Touches}
-use Rattle.cs_events.specs.Runs.{Setting, Log, empty, with_event, with_read, with_touch, has_room, operation_event, number_of, allocation_event, access_event, Leads}
+use Rattle.cs_events.specs.Runs.{Setting, Log, empty, with_event, with_read, with_touch, has_room, operation_event, number_of, allocation_event, access_event}
+use Rattle.cs_events.specs.Runs.{Leads}
 
 -- what is about to show at a place. What an operation's own result and quotient are doesn't depend on what is guessed there
 pub data Pending : Type 0 where
@@ -26,11 +27,13 @@ module _ {State : Type 0} where
   pending_in setting log event (Reads path onward) = pending_in setting (with_read log path) event (onward (setting.inputs path))
   pending_in setting log event (Asks at operation onward) =
       if has_room setting log
-      then (if is_next log event then Some (Operates at operation) else pending_in setting (with_event log (operation_event setting log at operation)) event (onward (number_of setting log operation)))
+      then (if is_next log event then Some (Operates at operation)
+      else pending_in setting (with_event log (operation_event setting log at operation)) event (onward (number_of setting log operation)))
       else None
   pending_in setting log event (Allocates at path onward) =
       if has_room setting log
-      then (if is_next log event then Some (Tries at path) else pending_in setting (with_event (with_read log path) (allocation_event setting at path)) event (onward (is_true (setting.inputs path))))
+      then (if is_next log event then Some (Tries at path)
+      else pending_in setting (with_event (with_read log path) (allocation_event setting at path)) event (onward (is_true (setting.inputs path))))
       else None
   pending_in setting log event (Reaches at object offset act) =
       if has_room setting log

@@ -1,5 +1,6 @@
 -- Runs of any machine whose steps are acts.
-use Rattle.std.specs.Prelude.{◌≡◌, ℕ, suc, ◌==◌, Bool, ◌&&◌, nat_lt, int_le, ℤ, List, [], ◌∷◌, ◌++◌, Option, Some, None, length, ◌⊎◌, if◌then◌else◌}
+use Rattle.std.specs.Prelude.{◌≡◌, ℕ, suc, ◌==◌, Bool, ◌&&◌, nat_lt, int_le, ℤ, List, [], ◌∷◌, ◌++◌, Option, Some, None, length}
+use Rattle.std.specs.Prelude.{◌⊎◌, if◌then◌else◌}
 use Rattle.cs_ast.specs.declared.place.Place.{Place}
 use Rattle.cs_inputs.specs.declared.path.Path.{Path}
 use Rattle.cs_types.specs.declared.data_model.DataModel.{DataModel}
@@ -109,7 +110,8 @@ module _ {State : Type 0} where
   -- the run of a machine with this step leads from a state and a log to others
   pub data Leads (step : State → Act State) (setting : Setting) : State → Log → State → Log → Type 0 where
     stays : {m last : State} {log end : Log} → m ≡ last → log ≡ end → Leads step setting m log last end
-    goes : {m next last : State} {log later end : Log} → perform setting log (step m) ≡ Continues next later → Leads step setting next later last end → Leads step setting m log last end
+    goes : {m next last : State} {log later end : Log} → perform setting log (step m) ≡ Continues next later → Leads step setting next later last end
+        → Leads step setting m log last end
 
   -- the run from a state and a log ends so, with this log; `last` is the state before its last act
   pub record EndsFrom (step : State → Act State) (setting : Setting) (m : State) (log : Log) (outcome : Outcome) (end : Log) : Type 0 where

@@ -13,10 +13,14 @@ module _ {S T : Type 0} (R : S → T → Type 0) where
   pub data Yields : Act S → Act T → Type 0 where
     both_go : {s : S} {t : T} → R s t → Yields (Goes s) (Goes t)
     both_stop : {outcome : Outcome} → Yields (Stops outcome) (Stops outcome)
-    both_read : {path : Path} {f : ℤ → Act S} {g : ℤ → Act T} → ((number : ℤ) → Yields (f number) (g number)) → Yields (Reads path f) (Reads path g)
-    both_ask : {at : Place} {operation : Operation} {f : ℤ → Act S} {g : ℤ → Act T} → ((number : ℤ) → Yields (f number) (g number)) → Yields (Asks at operation f) (Asks at operation g)
-    both_allocate : {at : Place} {path : Path} {f : Bool → Act S} {g : Bool → Act T} → ((given : Bool) → Yields (f given) (g given)) → Yields (Allocates at path f) (Allocates at path g)
-    both_reach : {at : Place} {object : Object} {offset : ℤ} {a : Act S} {b : Act T} → Yields a b → Yields (Reaches at object offset a) (Reaches at object offset b)
+    both_read : {path : Path} {f : ℤ → Act S} {g : ℤ → Act T} → ((number : ℤ) → Yields (f number) (g number))
+        → Yields (Reads path f) (Reads path g)
+    both_ask : {at : Place} {operation : Operation} {f : ℤ → Act S} {g : ℤ → Act T} → ((number : ℤ) → Yields (f number) (g number))
+        → Yields (Asks at operation f) (Asks at operation g)
+    both_allocate : {at : Place} {path : Path} {f : Bool → Act S} {g : Bool → Act T} → ((given : Bool) → Yields (f given) (g given))
+        → Yields (Allocates at path f) (Allocates at path g)
+    both_reach : {at : Place} {object : Object} {offset : ℤ} {a : Act S} {b : Act T} → Yields a b
+        → Yields (Reaches at object offset a) (Reaches at object offset b)
     both_touch : {touch : Touch} {a : Act S} {b : Act T} → Yields a b → Yields (Touches touch a) (Touches touch b)
 
   module _ (step : S → Act S) (step' : T → Act T) where

@@ -1,5 +1,6 @@
 -- Expressions of one token and between parentheses: for the contract of `primary`.
-use Rattle.std.proofs.Common.{◌≡◌, ℕ, suc, ◌+◌, ◌-◌, ◌<◌, ◌≤◌, ◌⊎◌, inl, inr, Bool, true, false, not, List, [], ◌∷◌, ◌++◌, refl, sym, ap, ◌∙◌, subst, arith}
+use Rattle.std.proofs.Common.{◌≡◌, ℕ, suc, ◌+◌, ◌-◌, ◌<◌, ◌≤◌, ◌⊎◌, inl, inr, Bool, true, false, not, List, [], ◌∷◌}
+use Rattle.std.proofs.Common.{◌++◌, refl, sym, ap, ◌∙◌, subst, arith}
 use Rattle.std.proofs.lemmas.Bool.{false≢true, not-true, both_ways, not_from_false}
 use Rattle.cs_ast.specs.declared.token.TokenKind.{TokenKind}
 use Rattle.cs_ast.specs.declared.token.TokenKind.TheVariants as token
@@ -7,7 +8,8 @@ use Rattle.cs_ast.specs.declared.token.Punctuator.{Punctuator}
 use Rattle.cs_ast.specs.declared.token.Punctuator.TheVariants as punctuator
 use Rattle.cs_ast.specs.declared.token.IntegerConstant.{IntegerConstant}
 use Rattle.cs_ast.specs.declared.token.Length.TheVariants.{Plain}
-use Rattle.cs_ast.specs.RawTree.{Written, WrittenList, Named, Numeral, Character, Literal, Enclosed, Index, Call, Member, Arrow, StepAfter, StepBefore, Prefix, SizeOf, SizeOfType, Cast, Infix, Choice, Assign, Comma, End, More}
+use Rattle.cs_ast.specs.RawTree.{Written, WrittenList, Named, Numeral, Character, Literal, Enclosed, Index, Call, Member, Arrow, StepAfter, StepBefore, Prefix}
+use Rattle.cs_ast.specs.RawTree.{SizeOf, SizeOfType, Cast, Infix, Choice, Assign, Comma, End, More}
 use Rattle.cs_ast.specs.RawHeight.{height}
 use Rattle.cs_grammar.specs.TypeWords.{Names, is_among}
 use Rattle.cs_grammar.specs.Levels.{level_of, infix_level}
@@ -54,7 +56,8 @@ height_some (Comma l r) = omega arith
 -- a phrase of the tightest level is a leaf or stands between parentheses
 pub data Tight (names : Names) (e : Written) (after tokens : Kinds) : Type 0 where
   leaf : (kind : TokenKind) → is_leaf names kind ≡ true → IsLeaf kind e → tokens ≡ kind ∷ after → Tight names e after tokens
-  around : (inner : Written) → e ≡ Enclosed inner → IsWell names inner → tokens ≡ open_parenthesis ∷ text inner (close_parenthesis ∷ after) → Tight names e after tokens
+  around : (inner : Written) → e ≡ Enclosed inner → IsWell names inner → tokens ≡ open_parenthesis ∷ text inner (close_parenthesis ∷ after)
+      → Tight names e after tokens
 
 pub primary_is : (names : Names) (e : Written) (after : Kinds) → IsPhrase names 16 e → Tight names e after (text e after)
 primary_is names (Named name) after is = leaf (token.Name name) (not_from_false (is_among names name) is.1) refl refl
@@ -129,7 +132,8 @@ leaf_no_parenthesis names (token.Unsupported n) k e = cc
 leaf_no_parenthesis names token.Attribute k e = cc
 
 -- a leaf was taken
-pub leaf_took : (names : Names) (limit : ℕ) (kind : TokenKind) (e : Written) → 1 ≤ limit → is_leaf names kind ≡ true → IsLeaf kind e → Exactly (Expressions names 16) limit e
+pub leaf_took : (names : Names) (limit : ℕ) (kind : TokenKind) (e : Written) → 1 ≤ limit → is_leaf names kind ≡ true → IsLeaf kind e
+    → Exactly (Expressions names 16) limit e
 leaf_took names limit kind e some k a = record {
   is_phrase = leaf_phrase names kind e k a;
   low = let h = leaf_height kind e a in omega arith;
@@ -146,12 +150,16 @@ leaf_took names limit kind e some k a = record {
 }
 
 -- a token that begins no primary expression, or one that the limit doesn't allow
-pub leaf_refused : (names : Names) (limit : ℕ) (next : TokenKind) (deep : Bool) → (next ≡ open_parenthesis → ⊥) → is_leaf names next ≡ deep → (deep ≡ true → limit < 1) → (deep ≡ true → (e : Written) × IsLeaf next e) → Refused (Expressions names 16) limit [] next deep
+pub leaf_refused : (names : Names) (limit : ℕ) (next : TokenKind) (deep : Bool) → (next ≡ open_parenthesis → ⊥) → is_leaf names next ≡ deep
+    → (deep ≡ true → limit < 1) → (deep ≡ true → (e : Written) × IsLeaf next e) → Refused (Expressions names 16) limit [] next deep
 leaf_refused names limit next deep closed is full tree = record {
   begun = inl refl;
   never = λ other after following is' shut near same.
       elim near [
-        | inl none ↦ absurd (elim (primary_is names other after is') [ leaf k' kk a t ↦ let s = sym t ∙ same ∙ none in cc | around inner w well t ↦ let s = sym t ∙ same ∙ none in cc ])
+        | inl none ↦ absurd (elim (primary_is names other after is') [
+          | leaf k' kk a t ↦ let s = sym t ∙ same ∙ none in cc
+          | around inner w well t ↦ let s = sym t ∙ same ∙ none in cc
+        ])
         | inr m ↦
             elim (primary_is names other after is') [
               | leaf k' kk a t ↦
@@ -170,9 +178,16 @@ leaf_refused names limit next deep closed is full tree = record {
 }
 
 -- the place of an expression between parentheses
-pub enclosed_tail : (names : Names) (limit : ℕ) → 2 ≤ limit → Tail (Expressions names 16) (ClosedBy (Expressions names 0) close_parenthesis) limit (limit - 1) (open_parenthesis ∷ []) Enclosed (λ rest. Unit {0})
+pub enclosed_tail : (names : Names) (limit : ℕ) → 2 ≤ limit
+    → Tail (Expressions names 16) (ClosedBy (Expressions names 0) close_parenthesis) limit (limit - 1) (open_parenthesis ∷ []) Enclosed (λ rest. Unit {0})
 enclosed_tail names limit least = record {
-  started = inr (record { phrase = Enclosed zero; more = text zero (close_parenthesis ∷ []); is_phrase = (omega arith, tt); low = omega arith; spelled = refl });
+  started = inr (record {
+    phrase = Enclosed zero;
+    more = text zero (close_parenthesis ∷ []);
+    is_phrase = (omega arith, tt);
+    low = omega arith;
+    spelled = refl;
+  });
   invert = λ whole after following is shut fit same.
       elim (primary_is names whole after is) [
         | leaf kind k a t ↦ let s = sym t ∙ same in absurd (leaf_no_parenthesis names kind k cc)
@@ -185,7 +200,8 @@ enclosed_tail names limit least = record {
   rises = λ part high. omega arith;
 }
 
-pub closes : (names : Names) (level : ℕ) (m : Punctuator) → join_of (token.Punctuator m ∷ []) ≤ level → (more : Kinds) → join_of (token.Punctuator m ∷ more) ≤ level
+pub closes : (names : Names) (level : ℕ) (m : Punctuator) → join_of (token.Punctuator m ∷ []) ≤ level
+    → (more : Kinds) → join_of (token.Punctuator m ∷ more) ≤ level
 closes names level m le more = le
 
 -- an opening parenthesis that the limit doesn't allow
@@ -194,29 +210,48 @@ enclosed_full names limit full = record {
   begun = inl refl;
   never = λ other after following is shut near same.
       elim near [
-        | inl none ↦ absurd (elim (primary_is names other after is) [ leaf k' kk a t ↦ let s = sym t ∙ same ∙ none in cc | around inner w well t ↦ let s = sym t ∙ same ∙ none in cc ])
+        | inl none ↦ absurd (elim (primary_is names other after is) [
+          | leaf k' kk a t ↦ let s = sym t ∙ same ∙ none in cc
+          | around inner w well t ↦ let s = sym t ∙ same ∙ none in cc
+        ])
         | inr m ↦
             elim (primary_is names other after is) [
               | leaf k' kk a t ↦ let s = sym t ∙ same ∙ m.1 in absurd (leaf_no_parenthesis names k' kk cc)
               | around inner w well t ↦
                   let h = height_some inner in
-                  record { reported = refl; high = subst (λ (x : Written). limit < height x) (sym w) (omega arith); onward = λ none. let z = sym m.1 ∙ none in cc }
+                  record {
+                    reported = refl;
+                    high = subst (λ (x : Written). limit < height x) (sym w) (omega arith);
+                    onward = λ none. let z = sym m.1 ∙ none in cc;
+                  }
             ]
       ];
   further = λ reported. record { phrase = Enclosed zero; more = text zero (close_parenthesis ∷ []); is_phrase = (omega arith, tt); spelled = refl };
 }
 
-pub enclosed_refused : (names : Names) (limit : ℕ) → 2 ≤ limit → (front : Kinds) (next : TokenKind) (deep : Bool) → Refused (Expressions names 0) (limit - 1) front next deep → Refused (Expressions names 16) limit (open_parenthesis ∷ front) next deep
+pub enclosed_refused : (names : Names) (limit : ℕ) → 2 ≤ limit
+    → (front : Kinds) (next : TokenKind) (deep : Bool) → Refused (Expressions names 0) (limit - 1) front next deep
+    → Refused (Expressions names 16) limit (open_parenthesis ∷ front) next deep
 enclosed_refused names limit least front next deep r =
-    tail_refused (Expressions names 16) (ClosedBy (Expressions names 0) close_parenthesis) limit (limit - 1) (open_parenthesis ∷ []) Enclosed (λ rest. Unit {0}) (closed_law (Expressions names 0) close_parenthesis (text_law names 0)) (enclosed_tail names limit least) front next deep (λ following near. tt)
+    tail_refused (Expressions names 16) (ClosedBy (Expressions names 0) close_parenthesis) limit (limit - 1) (open_parenthesis ∷ []) Enclosed
+    (λ rest. Unit {0}) (closed_law (Expressions names 0) close_parenthesis (text_law names 0)) (enclosed_tail names limit least) front next deep
+    (λ following near. tt)
     (closed_refused (Expressions names 0) close_parenthesis (limit - 1) (text_law names 0) (λ part more. omega arith) front next deep r)
 
-pub enclosed_wrong : (names : Names) (limit : ℕ) → 2 ≤ limit → (part : Written) (next : TokenKind) (deep : Bool) → Took (Expressions names 0) (limit - 1) part next deep → (next ≡ close_parenthesis → ⊥) → Refused (Expressions names 16) limit (open_parenthesis ∷ text part []) next deep
+pub enclosed_wrong : (names : Names) (limit : ℕ) → 2 ≤ limit
+    → (part : Written) (next : TokenKind) (deep : Bool) → Took (Expressions names 0) (limit - 1) part next deep → (next ≡ close_parenthesis → ⊥)
+    → Refused (Expressions names 16) limit (open_parenthesis ∷ text part []) next deep
 enclosed_wrong names limit least part next deep t other =
-    tail_refused (Expressions names 16) (ClosedBy (Expressions names 0) close_parenthesis) limit (limit - 1) (open_parenthesis ∷ []) Enclosed (λ rest. Unit {0}) (closed_law (Expressions names 0) close_parenthesis (text_law names 0)) (enclosed_tail names limit least) (text part []) next deep (λ following near. tt)
+    tail_refused (Expressions names 16) (ClosedBy (Expressions names 0) close_parenthesis) limit (limit - 1) (open_parenthesis ∷ []) Enclosed
+    (λ rest. Unit {0}) (closed_law (Expressions names 0) close_parenthesis (text_law names 0)) (enclosed_tail names limit least) (text part []) next deep
+    (λ following near. tt)
     (closed_wrong (Expressions names 0) close_parenthesis (limit - 1) (text_law names 0) (λ part more. omega arith) part next deep t other)
 
-pub enclosed_took : (names : Names) (limit : ℕ) → 2 ≤ limit → (part : Written) (deep : Bool) (next : TokenKind) → Took (Expressions names 0) (limit - 1) part close_parenthesis deep → Took (Expressions names 16) limit (Enclosed part) next false
+pub enclosed_took : (names : Names) (limit : ℕ) → 2 ≤ limit
+    → (part : Written) (deep : Bool) (next : TokenKind) → Took (Expressions names 0) (limit - 1) part close_parenthesis deep
+    → Took (Expressions names 16) limit (Enclosed part) next false
 enclosed_took names limit least part deep next t =
-    tail_took (Expressions names 16) (ClosedBy (Expressions names 0) close_parenthesis) limit (limit - 1) (open_parenthesis ∷ []) Enclosed (λ rest. Unit {0}) (closed_law (Expressions names 0) close_parenthesis (text_law names 0)) (enclosed_tail names limit least) part next false (λ following near. tt)
-    (exact_took (ClosedBy (Expressions names 0) close_parenthesis) (limit - 1) part (closed_exact (Expressions names 0) close_parenthesis (limit - 1) (λ part more. omega arith) part deep t) next)
+    tail_took (Expressions names 16) (ClosedBy (Expressions names 0) close_parenthesis) limit (limit - 1) (open_parenthesis ∷ []) Enclosed (λ rest. Unit {0})
+    (closed_law (Expressions names 0) close_parenthesis (text_law names 0)) (enclosed_tail names limit least) part next false (λ following near. tt)
+    (exact_took (ClosedBy (Expressions names 0) close_parenthesis) (limit - 1) part
+    (closed_exact (Expressions names 0) close_parenthesis (limit - 1) (λ part more. omega arith) part deep t) next)

@@ -9,7 +9,8 @@ use Rattle.cs_ast.specs.declared.raw.written_type.TypeWord.TheVariants as word
 use Rattle.cs_ast.specs.declared.raw.written_type.IntegerWord.TheVariants.{Char, Short, Int, Long, Signed, Unsigned}
 use Rattle.cs_ast.specs.declared.raw.written_type.PointerWord.{PointerWord}
 use Rattle.cs_ast.specs.declared.raw.written_type.PointerWord.TheVariants as pointer
-use Rattle.cs_ast.specs.RawTree.{Written, WrittenList, Named, Numeral, Character, Literal, Enclosed, Index, Call, Member, Arrow, StepAfter, StepBefore, Prefix, SizeOf, SizeOfType, Cast, Infix, Choice, Assign, Comma, End, More}
+use Rattle.cs_ast.specs.RawTree.{Written, WrittenList, Named, Numeral, Character, Literal, Enclosed, Index, Call, Member, Arrow, StepAfter, StepBefore, Prefix}
+use Rattle.cs_ast.specs.RawTree.{SizeOf, SizeOfType, Cast, Infix, Choice, Assign, Comma, End, More}
 use Rattle.cs_grammar.specs.Punctuators.{step_punctuator, infix_punctuator, assign_punctuator}
 use Rattle.cs_grammar.specs.Text.{Kinds, text, listed, after_commas, bounds_text, words_text, pointers_text, type_word_text}
 
@@ -57,8 +58,10 @@ mutual
   endless_text (Character v) rest = refl
   endless_text (Literal b) rest = refl
   endless_text (Enclosed i) rest = endless_text i (close_parenthesis ∷ rest)
-  endless_text (Index a n) rest = endless_text a (token.Punctuator punctuator.OpenBracket ∷ text n (close_bracket ∷ rest)) ∙ endless_text n (close_bracket ∷ rest)
-  endless_text (Call f es) rest = endless_text f (token.Punctuator punctuator.OpenParenthesis ∷ listed es (close_parenthesis ∷ rest)) ∙ endless_listed es (close_parenthesis ∷ rest)
+  endless_text (Index a n) rest = endless_text a (token.Punctuator punctuator.OpenBracket ∷ text n (close_bracket ∷ rest))
+      ∙ endless_text n (close_bracket ∷ rest)
+  endless_text (Call f es) rest = endless_text f (token.Punctuator punctuator.OpenParenthesis ∷ listed es (close_parenthesis ∷ rest))
+      ∙ endless_listed es (close_parenthesis ∷ rest)
   endless_text (Member o n) rest = endless_text o (token.Punctuator punctuator.Dot ∷ token.Name n ∷ rest)
   endless_text (Arrow o n) rest = endless_text o (token.Punctuator punctuator.Arrow ∷ token.Name n ∷ rest)
   endless_text (StepAfter s o) rest = endless_text o (token.Punctuator (step_punctuator s) ∷ rest)
@@ -66,13 +69,16 @@ mutual
   endless_text (Prefix op o) rest = endless_text o rest
   endless_text (SizeOf o) rest = endless_text o rest
   endless_text (SizeOfType ws ps bs) rest =
-      endless_words ws (pointers_text ps (bounds_text bs (close_parenthesis ∷ rest))) ∙ endless_pointers ps (bounds_text bs (close_parenthesis ∷ rest)) ∙ endless_bounds bs (close_parenthesis ∷ rest)
+      endless_words ws (pointers_text ps (bounds_text bs (close_parenthesis ∷ rest))) ∙ endless_pointers ps (bounds_text bs (close_parenthesis ∷ rest))
+      ∙ endless_bounds bs (close_parenthesis ∷ rest)
   endless_text (Cast ws ps bs o) rest =
-      endless_words ws (pointers_text ps (bounds_text bs (close_parenthesis ∷ text o rest))) ∙ endless_pointers ps (bounds_text bs (close_parenthesis ∷ text o rest))
+      endless_words ws (pointers_text ps (bounds_text bs (close_parenthesis ∷ text o rest)))
+      ∙ endless_pointers ps (bounds_text bs (close_parenthesis ∷ text o rest))
       ∙ endless_bounds bs (close_parenthesis ∷ text o rest) ∙ endless_text o rest
   endless_text (Infix op l r) rest = endless_text l (token.Punctuator (infix_punctuator op) ∷ text r rest) ∙ endless_text r rest
   endless_text (Choice t o e) rest =
-      endless_text t (token.Punctuator punctuator.Question ∷ text o (token.Punctuator punctuator.Colon ∷ text e rest)) ∙ endless_text o (token.Punctuator punctuator.Colon ∷ text e rest) ∙ endless_text e rest
+      endless_text t (token.Punctuator punctuator.Question ∷ text o (token.Punctuator punctuator.Colon ∷ text e rest))
+      ∙ endless_text o (token.Punctuator punctuator.Colon ∷ text e rest) ∙ endless_text e rest
   endless_text (Assign op o v) rest = endless_text o (token.Punctuator (assign_punctuator op) ∷ text v rest) ∙ endless_text v rest
   endless_text (Comma l r) rest = endless_text l (token.Punctuator punctuator.Comma ∷ text r rest) ∙ endless_text r rest
 

@@ -1,5 +1,6 @@
 -- Which tokens continue with which chains: for the contracts of `postfix`, `infix` and `comma`.
-use Rattle.std.proofs.Common.{◌≡◌, ℕ, suc, ◌+◌, ◌<◌, ◌≤◌, Bool, true, false, List, [], ◌∷◌, Option, Some, None, refl, sym, ap, ◌∙◌, subst, arith}
+use Rattle.std.proofs.Common.{◌≡◌, ℕ, suc, ◌+◌, ◌<◌, ◌≤◌, Bool, true, false, List, [], ◌∷◌, Option, Some, None, refl, sym, ap}
+use Rattle.std.proofs.Common.{◌∙◌, subst, arith}
 use Rattle.cs_ast.specs.declared.token.TokenKind.{TokenKind}
 use Rattle.cs_ast.specs.declared.token.TokenKind.TheVariants as token
 use Rattle.cs_ast.specs.declared.token.Punctuator.{Punctuator}
@@ -22,13 +23,31 @@ use Rattle.cs_expr_parser.specs.Operators.{IsInfixAt}
 use Rattle.cs_expr_parser.proofs.Suffixes.{index_addition, call_addition, member_addition, arrow_addition, step_addition, infix_addition, comma_addition}
 
 pub postfix_chain : IsChain 15
-postfix_chain = record { not_assign = λ e. absurd (omega (arith, e)); not_choice = λ e. absurd (omega (arith, e)); not_cast = λ e. absurd (omega (arith, e)); not_unary = λ e. absurd (omega (arith, e)); most = omega arith }
+postfix_chain = record {
+  not_assign = λ e. absurd (omega (arith, e));
+  not_choice = λ e. absurd (omega (arith, e));
+  not_cast = λ e. absurd (omega (arith, e));
+  not_unary = λ e. absurd (omega (arith, e));
+  most = omega arith;
+}
 
 pub infix_chain : (level : ℕ) → 3 ≤ level → level ≤ 12 → IsChain level
-infix_chain level some few = record { not_assign = λ e. absurd (omega (arith, e)); not_choice = λ e. absurd (omega (arith, e)); not_cast = λ e. absurd (omega (arith, e)); not_unary = λ e. absurd (omega (arith, e)); most = omega arith }
+infix_chain level some few = record {
+  not_assign = λ e. absurd (omega (arith, e));
+  not_choice = λ e. absurd (omega (arith, e));
+  not_cast = λ e. absurd (omega (arith, e));
+  not_unary = λ e. absurd (omega (arith, e));
+  most = omega arith;
+}
 
 pub comma_chain : IsChain 0
-comma_chain = record { not_assign = λ e. absurd (omega (arith, e)); not_choice = λ e. absurd (omega (arith, e)); not_cast = λ e. absurd (omega (arith, e)); not_unary = λ e. absurd (omega (arith, e)); most = omega arith }
+comma_chain = record {
+  not_assign = λ e. absurd (omega (arith, e));
+  not_choice = λ e. absurd (omega (arith, e));
+  not_cast = λ e. absurd (omega (arith, e));
+  not_unary = λ e. absurd (omega (arith, e));
+  most = omega arith;
+}
 
 suffix_join : (m : Punctuator) → is_suffix m ≡ true → punctuator_join m ≡ 16
 suffix_join punctuator.OpenBracket s = refl
@@ -49,7 +68,8 @@ no_suffix_punctuator punctuator.Decrement s j = cc
 no_suffix_punctuator _ s j = absurd (omega (arith, j))
 
 -- the punctuator that is left
-pub last_suffix : (m : Punctuator) → is_suffix m ≡ true → (m ≡ punctuator.OpenBracket → ⊥) → (m ≡ punctuator.OpenParenthesis → ⊥) → (m ≡ punctuator.Dot → ⊥) → (m ≡ punctuator.Arrow → ⊥) → (m ≡ punctuator.Increment → ⊥) → m ≡ punctuator.Decrement
+pub last_suffix : (m : Punctuator) → is_suffix m ≡ true → (m ≡ punctuator.OpenBracket → ⊥) → (m ≡ punctuator.OpenParenthesis → ⊥)
+    → (m ≡ punctuator.Dot → ⊥) → (m ≡ punctuator.Arrow → ⊥) → (m ≡ punctuator.Increment → ⊥) → m ≡ punctuator.Decrement
 last_suffix punctuator.OpenBracket s a b c d e = absurd (a refl)
 last_suffix punctuator.OpenParenthesis s a b c d e = absurd (b refl)
 last_suffix punctuator.Dot s a b c d e = absurd (c refl)
@@ -124,28 +144,49 @@ no_comma (token.Text k) none j = absurd (omega (arith, j))
 begins : (names : Names) (level limit : ℕ) (front : Kinds) → BeginsLow (Expressions names level) limit front → Begins (Expressions names level) front
 begins names level limit front b = record { phrase = b.phrase; more = b.more; is_phrase = b.is_phrase; spelled = b.spelled }
 
-suffix_begins : (names : Names) (left : Written) (m : Punctuator) → is_suffix m ≡ true → IsPhrase names 15 left → Begins (Expressions names 15) (text left (token.Punctuator m ∷ []))
-suffix_begins names left punctuator.OpenBracket s is = begins names 15 (suc (height left)) (text left (token.Punctuator punctuator.OpenBracket ∷ [])) (index_addition names left (suc (height left)) is (omega arith)).started
-suffix_begins names left punctuator.OpenParenthesis s is = begins names 15 (suc (height left)) (text left (token.Punctuator punctuator.OpenParenthesis ∷ [])) (call_addition names left (suc (height left)) is (omega arith)).started
-suffix_begins names left punctuator.Dot s is = begins names 15 (suc (height left)) (text left (token.Punctuator punctuator.Dot ∷ [])) (member_addition names left (suc (height left)) is (omega arith)).started
-suffix_begins names left punctuator.Arrow s is = begins names 15 (suc (height left)) (text left (token.Punctuator punctuator.Arrow ∷ [])) (arrow_addition names left (suc (height left)) is (omega arith)).started
-suffix_begins names left punctuator.Increment s is = begins names 15 (suc (height left)) (text left (token.Punctuator punctuator.Increment ∷ [])) (step_addition names left (suc (height left)) Up is (omega arith)).started
-suffix_begins names left punctuator.Decrement s is = begins names 15 (suc (height left)) (text left (token.Punctuator punctuator.Decrement ∷ [])) (step_addition names left (suc (height left)) Down is (omega arith)).started
+suffix_begins : (names : Names) (left : Written) (m : Punctuator) → is_suffix m ≡ true → IsPhrase names 15 left
+    → Begins (Expressions names 15) (text left (token.Punctuator m ∷ []))
+suffix_begins names left punctuator.OpenBracket s is =
+    begins names 15 (suc (height left)) (text left (token.Punctuator punctuator.OpenBracket ∷ []))
+    (index_addition names left (suc (height left)) is (omega arith)).started
+suffix_begins names left punctuator.OpenParenthesis s is =
+    begins names 15 (suc (height left)) (text left (token.Punctuator punctuator.OpenParenthesis ∷ []))
+    (call_addition names left (suc (height left)) is (omega arith)).started
+suffix_begins names left punctuator.Dot s is =
+    begins names 15 (suc (height left)) (text left (token.Punctuator punctuator.Dot ∷ []))
+    (member_addition names left (suc (height left)) is (omega arith)).started
+suffix_begins names left punctuator.Arrow s is =
+    begins names 15 (suc (height left)) (text left (token.Punctuator punctuator.Arrow ∷ []))
+    (arrow_addition names left (suc (height left)) is (omega arith)).started
+suffix_begins names left punctuator.Increment s is =
+    begins names 15 (suc (height left)) (text left (token.Punctuator punctuator.Increment ∷ []))
+    (step_addition names left (suc (height left)) Up is (omega arith)).started
+suffix_begins names left punctuator.Decrement s is =
+    begins names 15 (suc (height left)) (text left (token.Punctuator punctuator.Decrement ∷ []))
+    (step_addition names left (suc (height left)) Down is (omega arith)).started
 suffix_begins names left _ s is = absurd cc
 
 -- some postfix expression begins with another and a punctuator that stands after one
-pub postfix_further : (names : Names) (left : Written) (kind : TokenKind) (m : Punctuator) → IsSuffixAt kind (Some m) → IsPhrase names 15 left → Begins (Expressions names 15) (text left (kind ∷ []))
-postfix_further names left kind m s is = subst (λ (k : TokenKind). Begins (Expressions names 15) (text left (k ∷ []))) (sym s.0) (suffix_begins names left m s.1 is)
+pub postfix_further : (names : Names) (left : Written) (kind : TokenKind) (m : Punctuator) → IsSuffixAt kind (Some m) → IsPhrase names 15 left
+    → Begins (Expressions names 15) (text left (kind ∷ []))
+postfix_further names left kind m s is =
+    subst (λ (k : TokenKind). Begins (Expressions names 15) (text left (k ∷ []))) (sym s.0) (suffix_begins names left m s.1 is)
 
-infix_begins : (names : Names) (level : ℕ) (left : Written) (op : InfixOp) → infix_level op ≡ level → IsPhrase names level left → Begins (Expressions names level) (text left (token.Punctuator (infix_punctuator op) ∷ []))
+infix_begins : (names : Names) (level : ℕ) (left : Written) (op : InfixOp) → infix_level op ≡ level → IsPhrase names level left
+    → Begins (Expressions names level) (text left (token.Punctuator (infix_punctuator op) ∷ []))
 infix_begins names level left op l is =
     subst (λ (n : ℕ). Begins (Expressions names n) (text left (token.Punctuator (infix_punctuator op) ∷ []))) l
-    (begins names (infix_level op) (suc (height left)) (text left (token.Punctuator (infix_punctuator op) ∷ [])) (infix_addition names left (suc (height left)) op (subst (λ (n : ℕ). IsPhrase names n left) (sym l) is) (omega arith)).started)
+    (begins names (infix_level op) (suc (height left)) (text left (token.Punctuator (infix_punctuator op) ∷ []))
+    (infix_addition names left (suc (height left)) op (subst (λ (n : ℕ). IsPhrase names n left) (sym l) is) (omega arith)).started)
 
-pub infix_further : (names : Names) (level : ℕ) (left : Written) (kind : TokenKind) (op : InfixOp) → IsInfixAt level kind (Some op) → IsPhrase names level left → Begins (Expressions names level) (text left (kind ∷ []))
-infix_further names level left kind op s is = subst (λ (k : TokenKind). Begins (Expressions names level) (text left (k ∷ []))) (sym s.0) (infix_begins names level left op s.1 is)
+pub infix_further : (names : Names) (level : ℕ) (left : Written) (kind : TokenKind) (op : InfixOp) → IsInfixAt level kind (Some op)
+    → IsPhrase names level left → Begins (Expressions names level) (text left (kind ∷ []))
+infix_further names level left kind op s is =
+    subst (λ (k : TokenKind). Begins (Expressions names level) (text left (k ∷ []))) (sym s.0) (infix_begins names level left op s.1 is)
 
-pub comma_further : (names : Names) (left : Written) (kind : TokenKind) → kind ≡ token.Punctuator punctuator.Comma → IsPhrase names 0 left → Begins (Expressions names 0) (text left (kind ∷ []))
+pub comma_further : (names : Names) (left : Written) (kind : TokenKind) → kind ≡ token.Punctuator punctuator.Comma → IsPhrase names 0 left
+    → Begins (Expressions names 0) (text left (kind ∷ []))
 comma_further names left kind k is =
     subst (λ (x : TokenKind). Begins (Expressions names 0) (text left (x ∷ []))) (sym k)
-    (begins names 0 (suc (height left)) (text left (token.Punctuator punctuator.Comma ∷ [])) (comma_addition names left (suc (height left)) is (omega arith)).started)
+    (begins names 0 (suc (height left)) (text left (token.Punctuator punctuator.Comma ∷ []))
+    (comma_addition names left (suc (height left)) is (omega arith)).started)

@@ -1,5 +1,6 @@
 -- What stands before an operand: for the contracts of `unary`, `sized` and `cast`.
-use Rattle.std.proofs.Common.{◌≡◌, ℕ, suc, ◌+◌, ◌-◌, ◌<◌, ◌≤◌, ◌⊎◌, inl, inr, Bool, true, false, List, [], ◌∷◌, ◌++◌, refl, sym, ap, ◌∙◌, subst, arith, Option, Some, None, append_assoc}
+use Rattle.std.proofs.Common.{◌≡◌, ℕ, suc, ◌+◌, ◌-◌, ◌<◌, ◌≤◌, ◌⊎◌, inl, inr, Bool, true, false, List, [], ◌∷◌, ◌++◌}
+use Rattle.std.proofs.Common.{refl, sym, ap, ◌∙◌, subst, arith, Option, Some, None, append_assoc}
 use Rattle.std.proofs.lemmas.Bool.{false≢true, both_ways, cases_lt}
 use Rattle.cs_ast.specs.declared.token.TokenKind.{TokenKind}
 use Rattle.cs_ast.specs.declared.token.TokenKind.TheVariants as token
@@ -13,7 +14,8 @@ use Rattle.cs_ast.specs.declared.raw.operator.PrefixOp.TheVariants as prefix
 use Rattle.cs_ast.specs.declared.raw.written_type.TypeWord.{TypeWord}
 use Rattle.cs_ast.specs.declared.raw.written_type.TypeWord.TheVariants as word
 use Rattle.cs_ast.specs.declared.raw.written_type.PointerWord.{PointerWord}
-use Rattle.cs_ast.specs.RawTree.{Written, WrittenList, Named, Numeral, Character, Literal, Enclosed, Index, Call, Member, Arrow, StepAfter, StepBefore, Prefix, SizeOf, SizeOfType, Cast, Infix, Choice, Assign, Comma, End, More}
+use Rattle.cs_ast.specs.RawTree.{Written, WrittenList, Named, Numeral, Character, Literal, Enclosed, Index, Call, Member, Arrow, StepAfter, StepBefore, Prefix}
+use Rattle.cs_ast.specs.RawTree.{SizeOf, SizeOfType, Cast, Infix, Choice, Assign, Comma, End, More}
 use Rattle.cs_ast.specs.RawHeight.{height, highest}
 use Rattle.cs_grammar.specs.TypeWords.{Names, is_type, is_pointer}
 use Rattle.cs_grammar.specs.Levels.{level_of, infix_level}
@@ -79,14 +81,17 @@ before_not_primary names before.Size = refl
 -- a unary expression is a postfix one, has something before its operand, or is the `sizeof` of a type
 pub data IsUnary (names : Names) (e : Written) (after tokens : Kinds) : Type 0 where
   plain : 15 ≤ level_of e → IsUnary names e after tokens
-  prefixed : (b : Before) (operand : Written) → e ≡ prefixed_tree b operand → IsPhrase names (operand_level b) operand → tokens ≡ before_text b ∷ text operand after → IsUnary names e after tokens
-  measured : (parts : TypeParts) → e ≡ SizeOfType parts.words parts.pointers parts.bounds → IsTypeOf names parts → tokens ≡ token.Keyword keyword.Sizeof ∷ open_parenthesis ∷ type_closed_text parts after → IsUnary names e after tokens
+  prefixed : (b : Before) (operand : Written) → e ≡ prefixed_tree b operand → IsPhrase names (operand_level b) operand
+      → tokens ≡ before_text b ∷ text operand after → IsUnary names e after tokens
+  measured : (parts : TypeParts) → e ≡ SizeOfType parts.words parts.pointers parts.bounds → IsTypeOf names parts
+      → tokens ≡ token.Keyword keyword.Sizeof ∷ open_parenthesis ∷ type_closed_text parts after → IsUnary names e after tokens
 
 pub unary_is : (names : Names) (e : Written) (after : Kinds) → IsPhrase names 14 e → IsUnary names e after (text e after)
 unary_is names (StepBefore s o) after is = prefixed (before.Step s) o refl (is.1.0, is.1.1) refl
 unary_is names (Prefix op o) after is = prefixed (before.Operator op) o refl (is.1.0, is.1.1) refl
 unary_is names (SizeOf o) after is = prefixed before.Size o refl (is.1.0, is.1.1) refl
-unary_is names (SizeOfType ws ps bs) after is = measured (record { words = ws; pointers = ps; bounds = bs }) refl (record { words = is.1.0; pointers = is.1.1; bounds = is.1.2 }) refl
+unary_is names (SizeOfType ws ps bs) after is =
+    measured (record { words = ws; pointers = ps; bounds = bs }) refl (record { words = is.1.0; pointers = is.1.1; bounds = is.1.2 }) refl
 unary_is names (Named name) after is = plain (omega arith)
 unary_is names (Numeral n) after is = plain (omega arith)
 unary_is names (Character v) after is = plain (omega arith)
@@ -106,10 +111,12 @@ unary_is names (Comma l r) after is = absurd (omega (arith, is.0))
 -- a cast is one, or a unary expression
 pub data IsCast (names : Names) (e : Written) (after tokens : Kinds) : Type 0 where
   tighter : 14 ≤ level_of e → IsCast names e after tokens
-  converted : (parts : TypeParts) (operand : Written) → e ≡ Cast parts.words parts.pointers parts.bounds operand → IsTypeOf names parts → IsPhrase names 13 operand → tokens ≡ open_parenthesis ∷ type_closed_text parts (text operand after) → IsCast names e after tokens
+  converted : (parts : TypeParts) (operand : Written) → e ≡ Cast parts.words parts.pointers parts.bounds operand → IsTypeOf names parts
+      → IsPhrase names 13 operand → tokens ≡ open_parenthesis ∷ type_closed_text parts (text operand after) → IsCast names e after tokens
 
 pub cast_is : (names : Names) (e : Written) (after : Kinds) → IsPhrase names 13 e → IsCast names e after (text e after)
-cast_is names (Cast ws ps bs o) after is = converted (record { words = ws; pointers = ps; bounds = bs }) o refl (record { words = is.1.0; pointers = is.1.1; bounds = is.1.2 }) (is.1.3, is.1.4) refl
+cast_is names (Cast ws ps bs o) after is =
+    converted (record { words = ws; pointers = ps; bounds = bs }) o refl (record { words = is.1.0; pointers = is.1.1; bounds = is.1.2 }) (is.1.3, is.1.4) refl
 cast_is names (StepBefore s o) after is = tighter (omega arith)
 cast_is names (Prefix op o) after is = tighter (omega arith)
 cast_is names (SizeOf o) after is = tighter (omega arith)
@@ -130,13 +137,16 @@ cast_is names (Assign op l r) after is = absurd (omega (arith, is.0))
 cast_is names (Comma l r) after is = absurd (omega (arith, is.0))
 
 -- tokens that begin with a token of one kind pass its test
-pub passes_first : (test : TokenKind → Bool) (tokens : Kinds) (first : TokenKind) (others : Kinds) → BeginsWith test tokens → tokens ≡ first ∷ others → test first ≡ true
-passes_first test tokens first others b same = let s : b.first ∷ b.others ≡ first ∷ others = sym b.are ∙ same in let e : first ≡ b.first = cc in ap test e ∙ b.passes
+pub passes_first : (test : TokenKind → Bool) (tokens : Kinds) (first : TokenKind) (others : Kinds) → BeginsWith test tokens → tokens ≡ first ∷ others
+    → test first ≡ true
+passes_first test tokens first others b same = let s : b.first ∷ b.others ≡ first ∷ others = sym b.are ∙ same in let e : first ≡ b.first = cc in
+    ap test e ∙ b.passes
 
 pub types_law : (names : Names) → Lawful (Types names)
 types_law names = λ parts x y. type_append parts.words parts.pointers parts.bounds (close_parenthesis ∷ x) y
 
-pub type_text_begins : (names : Names) (parts : TypeParts) (after : Kinds) → IsTypeOf names parts → BeginsWith (begins_type names) (type_closed_text parts after)
+pub type_text_begins : (names : Names) (parts : TypeParts) (after : Kinds) → IsTypeOf names parts
+    → BeginsWith (begins_type names) (type_closed_text parts after)
 type_text_begins names parts after is = type_begins names parts.words (type_text [] parts.pointers parts.bounds (close_parenthesis ∷ after)) is.words
 
 -- tokens that begin with a type begin with no expression
@@ -144,10 +154,12 @@ pub type_no_expression : (names : Names) (tokens : Kinds) → BeginsWith (begins
 type_no_expression names tokens t e = begins_one names t.first (passes_first (begins_expression names) tokens t.first t.others e t.are) t.passes
 
 -- a unary expression begins with no type between parentheses
-pub no_type_inner : (names : Names) (e : Written) (after rest : Kinds) (parts : TypeParts) → IsPhrase names 14 e → IsTypeOf names parts → text e after ≡ open_parenthesis ∷ type_closed_text parts rest → ⊥
+pub no_type_inner : (names : Names) (e : Written) (after rest : Kinds) (parts : TypeParts) → IsPhrase names 14 e → IsTypeOf names parts
+    → text e after ≡ open_parenthesis ∷ type_closed_text parts rest → ⊥
 no_type_inner names e after rest parts is ty same =
     let i = unary_inner names e after (type_closed_text parts rest) is same in
-    type_no_expression names (type_closed_text parts rest) (type_text_begins names parts rest ty) (subst (BeginsWith (begins_expression names)) (sym i.are) (expression_begins names i.inner (close_parenthesis ∷ i.rest) i.is_well))
+    type_no_expression names (type_closed_text parts rest) (type_text_begins names parts rest ty)
+    (subst (BeginsWith (begins_expression names)) (sym i.are) (expression_begins names i.inner (close_parenthesis ∷ i.rest) i.is_well))
 
 punctuator_gap : (m : Punctuator) → punctuator_join m ≤ 15 → punctuator_join m ≤ 13
 punctuator_gap punctuator.OpenBracket h = absurd (omega (arith, h))
@@ -172,7 +184,8 @@ join_gap (token.Text k ∷ others) h = omega arith
 
 -- after `sizeof` no type stands between parentheses
 abbrev pub NoType : Names → Before → Kinds → Type 0
-NoType names b following = b ≡ before.Size → (parts : TypeParts) (rest : Kinds) → IsTypeOf names parts → following ≡ open_parenthesis ∷ type_closed_text parts rest → ⊥
+NoType names b following = b ≡ before.Size → (parts : TypeParts) (rest : Kinds) → IsTypeOf names parts
+    → following ≡ open_parenthesis ∷ type_closed_text parts rest → ⊥
 
 prefixed_text : (b : Before) (e : Written) (after : Kinds) → text (prefixed_tree b e) after ≡ before_text b ∷ text e after
 prefixed_text (before.Step by) e after = refl
@@ -200,14 +213,23 @@ zero_phrase names (before.Operator op) = (omega arith, tt)
 zero_phrase names before.Size = (omega arith, tt)
 
 -- an operand with something before it
-pub before_tail : (names : Names) (limit : ℕ) (b : Before) → 2 ≤ limit → Tail (Expressions names 14) (Expressions names (operand_level b)) limit (limit - 1) (before_text b ∷ []) (prefixed_tree b) (NoType names b)
+pub before_tail : (names : Names) (limit : ℕ) (b : Before) → 2 ≤ limit
+    → Tail (Expressions names 14) (Expressions names (operand_level b)) limit (limit - 1) (before_text b ∷ []) (prefixed_tree b) (NoType names b)
 before_tail names limit b least = record {
   started =
       let h = prefixed_height b zero in
-      inr (record { phrase = prefixed_tree b zero; more = text zero []; is_phrase = prefixed_phrase names b zero (zero_phrase names b); low = omega arith; spelled = prefixed_text b zero [] });
+      inr (record {
+        phrase = prefixed_tree b zero;
+        more = text zero [];
+        is_phrase = prefixed_phrase names b zero (zero_phrase names b);
+        low = omega arith;
+        spelled = prefixed_text b zero [];
+      });
   invert = λ whole after following is shut fit same.
       elim (unary_is names whole after is) [
-        | plain l ↦ absurd (both_ways (begins_primary names (before_text b)) (before_not_primary names b) (passes_first (begins_primary names) (text whole after) (before_text b) following (postfix_begins names whole after (l, is.1)) same))
+        | plain l ↦
+            absurd (both_ways (begins_primary names (before_text b)) (before_not_primary names b)
+            (passes_first (begins_primary names) (text whole after) (before_text b) following (postfix_begins names whole after (l, is.1)) same))
         | prefixed b' o w i t ↦
             let s : before_text b' ∷ text o after ≡ before_text b ∷ following = sym t ∙ same in
             let k : b' ≡ b = before_same b' b cc in
@@ -227,10 +249,15 @@ no_tokens : (names : Names) (e : Written) (after : Kinds) → IsPhrase names 14 
 no_tokens names e after is same = let b = expression_begins names e after is.1 in let s = sym b.are ∙ same in cc
 
 -- what `sizeof` begins: it stands before a unary expression, or before a type
-pub size_is : (names : Names) (e : Written) (after following : Kinds) → IsPhrase names 14 e → text e after ≡ token.Keyword keyword.Sizeof ∷ following → ((x : Written) × (e ≡ SizeOf x) × IsPhrase names 14 x × (following ≡ text x after)) ⊎ ((parts : TypeParts) × (e ≡ SizeOfType parts.words parts.pointers parts.bounds) × IsTypeOf names parts × (following ≡ open_parenthesis ∷ type_closed_text parts after))
+pub size_is : (names : Names) (e : Written) (after following : Kinds) → IsPhrase names 14 e → text e after ≡ token.Keyword keyword.Sizeof ∷ following
+    → ((x : Written) × (e ≡ SizeOf x) × IsPhrase names 14 x × (following ≡ text x after))
+    ⊎ ((parts : TypeParts) × (e ≡ SizeOfType parts.words parts.pointers parts.bounds) × IsTypeOf names parts
+    × (following ≡ open_parenthesis ∷ type_closed_text parts after))
 size_is names e after following is same =
     elim (unary_is names e after is) [
-      | plain l ↦ absurd (both_ways (begins_primary names (before_text before.Size)) (before_not_primary names before.Size) (passes_first (begins_primary names) (text e after) (before_text before.Size) following (postfix_begins names e after (l, is.1)) same))
+      | plain l ↦
+          absurd (both_ways (begins_primary names (before_text before.Size)) (before_not_primary names before.Size)
+          (passes_first (begins_primary names) (text e after) (before_text before.Size) following (postfix_begins names e after (l, is.1)) same))
       | prefixed b o w i t ↦
           let s : before_text b ∷ text o after ≡ before_text before.Size ∷ following = sym t ∙ same in
           let k : b ≡ before.Size = before_same b before.Size cc in
@@ -247,30 +274,52 @@ before_full names limit b full = record {
         | inl none ↦ absurd (no_tokens names other after is (same ∙ none))
         | inr m ↦
             elim (unary_is names other after is) [
-              | plain l ↦ absurd (both_ways (begins_primary names (before_text b)) (before_not_primary names b) (passes_first (begins_primary names) (text other after) (before_text b) m.0 (postfix_begins names other after (l, is.1)) (same ∙ m.1)))
+              | plain l ↦
+                  absurd (both_ways (begins_primary names (before_text b)) (before_not_primary names b)
+                  (passes_first (begins_primary names) (text other after) (before_text b) m.0 (postfix_begins names other after (l, is.1)) (same ∙ m.1)))
               | prefixed b' o w i t ↦
                   let h = prefixed_height b' o in
                   let g = height_some o in
-                  record { reported = refl; high = subst (λ (x : Written). limit < height x) (sym w) (omega arith); onward = λ none. let z = sym m.1 ∙ none in cc }
-              | measured parts w ty t ↦ record { reported = refl; high = subst (λ (x : Written). limit < height x) (sym w) (omega arith); onward = λ none. let z = sym m.1 ∙ none in cc }
+                  record {
+                    reported = refl;
+                    high = subst (λ (x : Written). limit < height x) (sym w) (omega arith);
+                    onward = λ none. let z = sym m.1 ∙ none in cc;
+                  }
+              | measured parts w ty t ↦ record {
+                reported = refl;
+                high = subst (λ (x : Written). limit < height x) (sym w) (omega arith);
+                onward = λ none. let z = sym m.1 ∙ none in cc;
+              }
             ]
       ];
-  further = λ reported. record { phrase = prefixed_tree b zero; more = text zero []; is_phrase = prefixed_phrase names b zero (zero_phrase names b); spelled = prefixed_text b zero [] };
+  further = λ reported. record {
+    phrase = prefixed_tree b zero;
+    more = text zero [];
+    is_phrase = prefixed_phrase names b zero (zero_phrase names b);
+    spelled = prefixed_text b zero [];
+  };
 }
 
 -- what was taken with nothing before it
-pub unary_passes : (names : Names) (limit : ℕ) (e : Written) (next : TokenKind) (deep : Bool) → Took (Expressions names 15) limit e next deep → Took (Expressions names 14) limit e next deep
+pub unary_passes : (names : Names) (limit : ℕ) (e : Written) (next : TokenKind) (deep : Bool) → Took (Expressions names 15) limit e next deep
+    → Took (Expressions names 14) limit e next deep
 unary_passes names limit e next deep t =
     pass_took names 14 15 limit e next deep (omega arith) t
     (λ other after following is loose shut near same.
     absurd (elim (unary_is names other after is) [
       | plain l ↦ omega arith
-      | prefixed b o w i s ↦ both_ways (begins_primary names (before_text b)) (before_not_primary names b) (passes_first (begins_primary names) (text e following) (before_text b) (text o after) (postfix_begins names e following t.is_phrase) (sym same ∙ s))
-      | measured parts w ty s ↦ both_ways (begins_primary names (before_text before.Size)) (before_not_primary names before.Size) (passes_first (begins_primary names) (text e following) (before_text before.Size) (open_parenthesis ∷ type_closed_text parts after) (postfix_begins names e following t.is_phrase) (sym same ∙ s))
+      | prefixed b o w i s ↦ both_ways (begins_primary names (before_text b)) (before_not_primary names b)
+          (passes_first (begins_primary names) (text e following) (before_text b) (text o after) (postfix_begins names e following t.is_phrase) (sym same
+          ∙ s))
+      | measured parts w ty s ↦ both_ways (begins_primary names (before_text before.Size)) (before_not_primary names before.Size)
+          (passes_first (begins_primary names) (text e following) (before_text before.Size) (open_parenthesis ∷ type_closed_text parts after)
+          (postfix_begins names e following t.is_phrase) (sym same ∙ s))
     ]))
 
 -- a token before an operand doesn't stand first where a postfix expression was refused
-not_before : (names : Names) (limit : ℕ) (front : Kinds) (next : TokenKind) (deep : Bool) (b : Before) (others following : Kinds) → Refused (Expressions names 15) limit front next deep → (front ≡ [] → next ≡ before_text b → ⊥) → Near next following → before_text b ∷ others ≡ front ++ following → ⊥
+not_before : (names : Names) (limit : ℕ) (front : Kinds) (next : TokenKind) (deep : Bool) (b : Before) (others following : Kinds)
+    → Refused (Expressions names 15) limit front next deep → (front ≡ [] → next ≡ before_text b → ⊥) → Near next following
+    → before_text b ∷ others ≡ front ++ following → ⊥
 not_before names limit [] next deep b others following r none near same =
     elim near [
       | inl e ↦ let s = same ∙ e in cc
@@ -285,18 +334,24 @@ not_before names limit (f ∷ fs) next deep b others following r none near same 
           both_ways (begins_primary names (before_text b)) (before_not_primary names b) (ap (begins_primary names) e ∙ p)
     ]
 
-pub unary_passes_refused : (names : Names) (limit : ℕ) (front : Kinds) (next : TokenKind) (deep : Bool) → ((b : Before) → front ≡ [] → next ≡ before_text b → ⊥) → Refused (Expressions names 15) limit front next deep → Refused (Expressions names 14) limit front next deep
+pub unary_passes_refused : (names : Names) (limit : ℕ) (front : Kinds) (next : TokenKind) (deep : Bool)
+    → ((b : Before) → front ≡ [] → next ≡ before_text b → ⊥) → Refused (Expressions names 15) limit front next deep
+    → Refused (Expressions names 14) limit front next deep
 unary_passes_refused names limit front next deep none r =
     pass_refused names 14 15 limit front next deep (omega arith) r
     (λ other after following is loose shut near same.
     absurd (elim (unary_is names other after is) [
       | plain l ↦ omega arith
       | prefixed b o w i s ↦ not_before names limit front next deep b (text o after) following r (none b) near (sym s ∙ same)
-      | measured parts w ty s ↦ not_before names limit front next deep before.Size (open_parenthesis ∷ type_closed_text parts after) following r (none before.Size) near (sym s ∙ same)
+      | measured parts w ty s ↦ not_before names limit front next deep before.Size (open_parenthesis ∷ type_closed_text parts after) following r
+          (none before.Size) near (sym s ∙ same)
     ]))
 
 -- where a unary expression was refused, no type between parentheses stands but where the limit doesn't allow one
-pub not_type : (names : Names) (limit : ℕ) (front : Kinds) (next : TokenKind) (deep : Bool) (parts : TypeParts) (rest following : Kinds) → Refused (Expressions names 14) limit front next deep → (front ≡ open_parenthesis ∷ [] → begins_type names next ≡ false) → IsTypeOf names parts → Near next following → open_parenthesis ∷ type_closed_text parts rest ≡ front ++ following → (front ≡ []) × (next ≡ open_parenthesis)
+pub not_type : (names : Names) (limit : ℕ) (front : Kinds) (next : TokenKind) (deep : Bool) (parts : TypeParts) (rest following : Kinds)
+    → Refused (Expressions names 14) limit front next deep → (front ≡ open_parenthesis ∷ [] → begins_type names next ≡ false)
+    → IsTypeOf names parts → Near next following → open_parenthesis ∷ type_closed_text parts rest ≡ front ++ following
+    → (front ≡ []) × (next ≡ open_parenthesis)
 not_type names limit [] next deep parts rest following r none ty near same =
     elim near [
       | inl e ↦ absurd (let s = same ∙ e in cc)
@@ -320,7 +375,8 @@ not_type names limit (f ∷ g ∷ fs) next deep parts rest following r none ty n
     absurd (elim r.begun [
       | inl n ↦ cc
       | inr l ↦
-          let i = unary_inner names l.phrase [] ((g ∷ fs) ++ l.more) l.is_phrase (l.spelled ∙ ap (λ (x : TokenKind). x ∷ ((g ∷ fs) ++ l.more)) (sym e)) in
+          let i = unary_inner names l.phrase [] ((g ∷ fs) ++ l.more) l.is_phrase (l.spelled
+          ∙ ap (λ (x : TokenKind). x ∷ ((g ∷ fs) ++ l.more)) (sym e)) in
           let w = expression_begins names i.inner (close_parenthesis ∷ i.rest) i.is_well in
           let p = passes_first (begins_expression names) (text i.inner (close_parenthesis ∷ i.rest)) g (fs ++ l.more) w (sym i.are) in
           let s : b.first ∷ b.others ≡ g ∷ (fs ++ following) = sym b.are ∙ t in
@@ -329,7 +385,8 @@ not_type names limit (f ∷ g ∷ fs) next deep parts rest following r none ty n
     ])
 
 -- what was taken without a type between parentheses before it
-pub cast_passes : (names : Names) (limit : ℕ) (e : Written) (next : TokenKind) (deep : Bool) → Took (Expressions names 14) limit e next deep → Took (Expressions names 13) limit e next deep
+pub cast_passes : (names : Names) (limit : ℕ) (e : Written) (next : TokenKind) (deep : Bool) → Took (Expressions names 14) limit e next deep
+    → Took (Expressions names 13) limit e next deep
 cast_passes names limit e next deep t =
     pass_took names 13 14 limit e next deep (omega arith) t
     (λ other after following is loose shut near same.
@@ -338,7 +395,9 @@ cast_passes names limit e next deep t =
       | converted parts o w ty i s ↦ no_type_inner names e following (text o after) parts t.is_phrase ty (sym same ∙ s)
     ]))
 
-pub cast_passes_refused : (names : Names) (limit : ℕ) (front : Kinds) (next : TokenKind) (deep : Bool) → (front ≡ open_parenthesis ∷ [] → begins_type names next ≡ false) → Refused (Expressions names 14) limit front next deep → Refused (Expressions names 13) limit front next deep
+pub cast_passes_refused : (names : Names) (limit : ℕ) (front : Kinds) (next : TokenKind) (deep : Bool)
+    → (front ≡ open_parenthesis ∷ [] → begins_type names next ≡ false) → Refused (Expressions names 14) limit front next deep
+    → Refused (Expressions names 13) limit front next deep
 cast_passes_refused names limit front next deep none r =
     pass_refused names 13 14 limit front next deep (omega arith) r
     (λ other after following is loose shut near same.
@@ -346,8 +405,14 @@ cast_passes_refused names limit front next deep none r =
       | tighter l ↦ absurd (omega arith)
       | converted parts o w ty i s ↦
           let n = not_type names limit front next deep parts (text o after) following r none ty near (sym s ∙ same) in
-          let v = r.never (Enclosed zero) [] (open_parenthesis ∷ text zero (close_parenthesis ∷ [])) (omega arith, tt) (omega arith) (inr (text zero (close_parenthesis ∷ []), ap (λ (x : TokenKind). x ∷ text zero (close_parenthesis ∷ [])) (sym n.1))) (ap (λ (x : Kinds). x ++ (open_parenthesis ∷ text zero (close_parenthesis ∷ []))) (sym n.0)) in
+          let v = r.never (Enclosed zero) [] (open_parenthesis ∷ text zero (close_parenthesis ∷ [])) (omega arith, tt) (omega arith)
+          (inr (text zero (close_parenthesis ∷ []), ap (λ (x : TokenKind). x ∷ text zero (close_parenthesis ∷ [])) (sym n.1)))
+          (ap (λ (x : Kinds). x ++ (open_parenthesis ∷ text zero (close_parenthesis ∷ []))) (sym n.0)) in
           let full : limit < 2 = v.high in
           let h = height_some o in
-          record { reported = v.reported; high = subst (λ (x : Written). limit < height x) (sym w) (omega arith); onward = λ none'. let z = sym s ∙ same ∙ ap (λ (x : Kinds). x ++ following) n.0 ∙ none' in cc }
+          record {
+            reported = v.reported;
+            high = subst (λ (x : Written). limit < height x) (sym w) (omega arith);
+            onward = λ none'. let z = sym s ∙ same ∙ ap (λ (x : Kinds). x ++ following) n.0 ∙ none' in cc;
+          }
     ])

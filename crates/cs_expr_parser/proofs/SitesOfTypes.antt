@@ -1,5 +1,6 @@
 -- The returns of `parenthesised_type`, over tokens by their numbers.
-use Rattle.std.proofs.Common.{◌≡◌, ℕ, suc, ◌+◌, ◌<◌, ◌≤◌, ◌⊎◌, inl, inr, Bool, true, false, List, [], ◌∷◌, ◌++◌, Result, Ok, Err, length, refl, sym, ap, ◌∙◌, subst, arith}
+use Rattle.std.proofs.Common.{◌≡◌, ℕ, suc, ◌+◌, ◌<◌, ◌≤◌, ◌⊎◌, inl, inr, Bool, true, false, List, [], ◌∷◌, ◌++◌, Result}
+use Rattle.std.proofs.Common.{Ok, Err, length, refl, sym, ap, ◌∙◌, subst, arith}
 use Rattle.cs_ast.specs.declared.token.Token.{Token}
 use Rattle.cs_ast.specs.declared.token.TokenKind.{TokenKind}
 use Rattle.cs_ast.specs.declared.token.TokenKind.TheVariants as token
@@ -28,11 +29,13 @@ use Rattle.cs_expr_parser.proofs.Stopping.{refused_number, refused_here, stops_i
 use Rattle.cs_expr_parser.proofs.TypesInside.{IsQuiet, bounds_quiet, head_text, type_exact, type_refused}
 
 -- only memory is wanting where pointers are read
-pub pointers_stop : (C : Class) (limit : ℕ) (tokens : List Token) (from at : ℕ) (s : Stop) → PointersAnswer tokens at (Err s) → Stops C limit tokens from s
+pub pointers_stop : (C : Class) (limit : ℕ) (tokens : List Token) (from at : ℕ) (s : Stop) → PointersAnswer tokens at (Err s)
+    → Stops C limit tokens from s
 pointers_stop C limit tokens from at stop.Memory p = tt
 pointers_stop C limit tokens from at (stop.Refused number reason) p = absurd p
 
-quiet_first : (names : Names) (ws : List TypeWord) (ps : List PointerWord) (first : TokenKind) (xs ys : Kinds) → IsQuiet names ws ps (first ∷ xs) → IsQuiet names ws ps (first ∷ ys)
+quiet_first : (names : Names) (ws : List TypeWord) (ps : List PointerWord) (first : TokenKind) (xs ys : Kinds) → IsQuiet names ws ps (first ∷ xs)
+    → IsQuiet names ws ps (first ∷ ys)
 quiet_first names ws ps first xs ys q = record {
   no_star = λ more e. let k : first ≡ token.Punctuator punctuator.Star = cc in q.no_star xs (ap (λ (x : TokenKind). x ∷ xs) k);
   no_const = λ more e. let k : first ≡ token.Keyword keyword.Const = cc in q.no_const xs (ap (λ (x : TokenKind). x ∷ xs) k);
@@ -40,7 +43,9 @@ quiet_first names ws ps first xs ys q = record {
 }
 
 -- where the words and the pointers end, no other one stands
-quiet_here : (names : Names) (tokens : List Token) (from : ℕ) (words : TypeWords) (pointers : PointerWords) → IsWordsFrom names tokens from words → IsPointersFrom tokens words.next pointers → (following : Kinds) → Near (kind_or_end tokens pointers.next) following → IsQuiet names words.words.items pointers.words.items following
+quiet_here : (names : Names) (tokens : List Token) (from : ℕ) (words : TypeWords) (pointers : PointerWords) → IsWordsFrom names tokens from words
+    → IsPointersFrom tokens words.next pointers → (following : Kinds) → Near (kind_or_end tokens pointers.next) following
+    → IsQuiet names words.words.items pointers.words.items following
 quiet_here names tokens from words pointers w p following near =
     elim near [
       | inl none ↦ record {
@@ -54,13 +59,17 @@ quiet_here names tokens from words pointers w p following near =
         no_word = λ empty one others more e.
             let z = sym m.1 ∙ e in
             let k : kind_or_end tokens pointers.next ≡ first_of_word one = cc in
-            let sp : Spells tokens words.next pointers.next (λ rest. [] ++ rest) = subst (λ (ps : List PointerWord). Spells tokens words.next pointers.next (pointers_text ps)) empty p.spelled in
+            let sp : Spells tokens words.next pointers.next (λ rest. [] ++ rest) =
+            subst (λ (ps : List PointerWord). Spells tokens words.next pointers.next (pointers_text ps)) empty p.spelled in
             w.stuck one others (sym k ∙ refused_here tokens words.next pointers.next [] sp refl);
       }
     ]
 
 -- nor where the bounds after them were refused
-quiet_front : (names : Names) (ws : List TypeWord) (ps : List PointerWord) (limit : ℕ) (front : Kinds) (next : TokenKind) (deep : Bool) → Refused (Rows closed_bounds_text (ArePhrases names 2)) limit front next deep → (front ≡ [] → (following : Kinds) → Near next following → IsQuiet names ws ps following) → (following : Kinds) → Near next following → IsQuiet names ws ps (front ++ following)
+quiet_front : (names : Names) (ws : List TypeWord) (ps : List PointerWord) (limit : ℕ) (front : Kinds) (next : TokenKind) (deep : Bool)
+    → Refused (Rows closed_bounds_text (ArePhrases names 2)) limit front next deep
+    → (front ≡ [] → (following : Kinds) → Near next following → IsQuiet names ws ps following) → (following : Kinds) → Near next following
+    → IsQuiet names ws ps (front ++ following)
 quiet_front names ws ps limit [] next deep r here following near = here refl following near
 quiet_front names ws ps limit (f ∷ fs) next deep r here following near =
     elim r.begun [
@@ -68,26 +77,43 @@ quiet_front names ws ps limit (f ∷ fs) next deep r here following near =
       | inr l ↦ quiet_first names ws ps f (fs ++ l.more) (fs ++ following) (subst (IsQuiet names ws ps) l.spelled (bounds_quiet names ws ps l.phrase []))
     ]
 
-pub words_and_pointers : (names : Names) (tokens : List Token) (from : ℕ) (words : TypeWords) (pointers : PointerWords) → IsWordsFrom names tokens from words → IsPointersFrom tokens words.next pointers → Spells tokens from pointers.next (λ rest. words_text words.words.items (pointers_text pointers.words.items rest))
-words_and_pointers names tokens from words pointers w p = spells_more tokens from words.next pointers.next (words_text words.words.items) (pointers_text pointers.words.items) w.spelled p.spelled
+pub words_and_pointers : (names : Names) (tokens : List Token) (from : ℕ) (words : TypeWords) (pointers : PointerWords)
+    → IsWordsFrom names tokens from words → IsPointersFrom tokens words.next pointers
+    → Spells tokens from pointers.next (λ rest. words_text words.words.items (pointers_text pointers.words.items rest))
+words_and_pointers names tokens from words pointers w p =
+    spells_more tokens from words.next pointers.next (words_text words.words.items) (pointers_text pointers.words.items) w.spelled p.spelled
 
 -- the bounds were refused
-pub bounds_stop : (names : Names) (limit : ℕ) (tokens : List Token) (from : ℕ) (words : TypeWords) (pointers : PointerWords) → IsWordsFrom names tokens from words → IsPointersFrom tokens words.next pointers → (s : Stop) → Stops (Rows closed_bounds_text (ArePhrases names 2)) limit tokens pointers.next s → Stops (Types names) limit tokens from s
+pub bounds_stop : (names : Names) (limit : ℕ) (tokens : List Token) (from : ℕ) (words : TypeWords) (pointers : PointerWords)
+    → IsWordsFrom names tokens from words → IsPointersFrom tokens words.next pointers
+    → (s : Stop) → Stops (Rows closed_bounds_text (ArePhrases names 2)) limit tokens pointers.next s → Stops (Types names) limit tokens from s
 bounds_stop names limit tokens from words pointers w p s r =
-    stops_in (Types names) (Rows closed_bounds_text (ArePhrases names 2)) limit limit tokens from pointers.next (words_text words.words.items (pointers_text pointers.words.items []))
-    (spells_as tokens from pointers.next (λ rest. words_text words.words.items (pointers_text pointers.words.items rest)) (λ rest. words_text words.words.items (pointers_text pointers.words.items []) ++ rest) (words_and_pointers names tokens from words pointers w p) (λ rest. sym (head_text words.words.items pointers.words.items rest)))
+    stops_in (Types names) (Rows closed_bounds_text (ArePhrases names 2)) limit limit tokens from pointers.next
+    (words_text words.words.items (pointers_text pointers.words.items []))
+    (spells_as tokens from pointers.next (λ rest. words_text words.words.items (pointers_text pointers.words.items rest))
+    (λ rest. words_text words.words.items (pointers_text pointers.words.items []) ++ rest) (words_and_pointers names tokens from words pointers w p)
+    (λ rest. sym (head_text words.words.items pointers.words.items rest)))
     (λ front at deep sp x.
     type_refused names limit words.words.items pointers.words.items w.is_type p.is_pointer front (kind_or_end tokens at) deep
     (quiet_front names words.words.items pointers.words.items limit front (kind_or_end tokens at) deep x
-    (λ empty following near. quiet_here names tokens from words pointers w p following (subst (λ (k : TokenKind). Near k following) (refused_here tokens pointers.next at front sp empty) near))) x) s r
+    (λ empty following near.
+    quiet_here names tokens from words pointers w p following
+    (subst (λ (k : TokenKind). Near k following) (refused_here tokens pointers.next at front sp empty) near))) x) s r
 
 -- the type of its words, pointers and bounds
-pub type_taken : (names : Names) (limit : ℕ) (tokens : List Token) (from : ℕ) (words : TypeWords) (pointers : PointerWords) (listed : Listed) (whole : TakenType) → IsWordsFrom names tokens from words → IsPointersFrom tokens words.next pointers → IsRowFrom closed_bounds_text (ArePhrases names 2) limit tokens pointers.next listed → parts_of whole ≡ (let made : TypeParts = record { words = words.words.items; pointers = pointers.words.items; bounds = written_list listed.trees.items } in made) → whole.height ≡ listed.height → whole.next ≡ listed.next → IsTypeFrom names limit tokens from whole
+pub type_taken : (names : Names) (limit : ℕ) (tokens : List Token) (from : ℕ) (words : TypeWords) (pointers : PointerWords) (listed : Listed)
+    (whole : TakenType) → IsWordsFrom names tokens from words → IsPointersFrom tokens words.next pointers
+    → IsRowFrom closed_bounds_text (ArePhrases names 2) limit tokens pointers.next listed
+    → parts_of whole
+    ≡ (let made : TypeParts = record { words = words.words.items; pointers = pointers.words.items; bounds = written_list listed.trees.items } in made)
+    → whole.height ≡ listed.height → whole.next ≡ listed.next → IsTypeFrom names limit tokens from whole
 type_taken names limit tokens from words pointers listed whole w p b parts tall next = record {
   height_is = tall ∙ b.height_is ∙ ap (λ (x : TypeParts). highest x.bounds) (sym parts);
   spelled =
       subst (λ (n : ℕ). Spells tokens from n (type_closed_text (parts_of whole))) (sym next)
       (subst (λ (x : TypeParts). Spells tokens from listed.next (type_closed_text x)) (sym parts)
-      (spells_more tokens from pointers.next listed.next (λ rest. words_text words.words.items (pointers_text pointers.words.items rest)) (closed_bounds_text (written_list listed.trees.items)) (words_and_pointers names tokens from words pointers w p) b.spelled));
-  exactly = subst (λ (x : TypeParts). Exactly (Types names) limit x) (sym parts) (type_exact names limit words.words.items pointers.words.items (written_list listed.trees.items) w.is_type p.is_pointer b.exactly);
+      (spells_more tokens from pointers.next listed.next (λ rest. words_text words.words.items (pointers_text pointers.words.items rest))
+      (closed_bounds_text (written_list listed.trees.items)) (words_and_pointers names tokens from words pointers w p) b.spelled));
+  exactly = subst (λ (x : TypeParts). Exactly (Types names) limit x) (sym parts)
+      (type_exact names limit words.words.items pointers.words.items (written_list listed.trees.items) w.is_type p.is_pointer b.exactly);
 }

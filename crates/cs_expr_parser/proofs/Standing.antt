@@ -1,5 +1,6 @@
 -- Tokens by their numbers: for the contracts of all parts of the parser.
-use Rattle.std.proofs.Common.{◌≡◌, ℕ, suc, ◌+◌, ◌<◌, ◌≤◌, ◌⊎◌, inl, inr, List, [], ◌∷◌, ◌++◌, Option, Some, None, length, drop, slice_get, get_or, refl, sym, ap, ◌∙◌, subst, arith, add-one, append_assoc}
+use Rattle.std.proofs.Common.{◌≡◌, ℕ, suc, ◌+◌, ◌<◌, ◌≤◌, ◌⊎◌, inl, inr, List, [], ◌∷◌, ◌++◌, Option, Some, None, length}
+use Rattle.std.proofs.Common.{drop, slice_get, get_or, refl, sym, ap, ◌∙◌, subst, arith, add-one, append_assoc}
 use Rattle.std.proofs.Math.Seq.{drop-cons}
 use Rattle.std.proofs.Math.ListN.{drop_of_length-le}
 use Rattle.std.proofs.lemmas.Option.{slice_get_within, get_or_from_slice_get, slice_get-get_or}
@@ -31,15 +32,19 @@ pub kind_of_none : (tokens : List Token) (at : ℕ) → slice_get tokens at ≡ 
 kind_of_none tokens at e = ap first_kind (drop_of_length-le tokens (past_end tokens at e))
 
 -- a token that isn't the end stands there, and the others after it
-pub stands : (tokens : List Token) (at : ℕ) (kind : TokenKind) → kind_or_end tokens at ≡ kind → (kind ≡ token.Attribute → ⊥) → (at < length tokens) × (kinds (drop at tokens) ≡ kind ∷ kinds (drop (at + 1) tokens))
+pub stands : (tokens : List Token) (at : ℕ) (kind : TokenKind) → kind_or_end tokens at ≡ kind → (kind ≡ token.Attribute → ⊥)
+    → (at < length tokens) × (kinds (drop at tokens) ≡ kind ∷ kinds (drop (at + 1) tokens))
 stands [] at kind e ne =
     absurd (ne (sym e ∙ ap first_kind (drop_of_length-le [] {i = at} (omega arith))))
 stands (t ∷ ts) at kind e ne =
     elim (cases_lt at (length (t ∷ ts))) [
       | inl less ↦
           let d = drop-cons (t ∷ ts) at t less in
-          let k : (get_or (t ∷ ts) at t).kind ≡ kind = sym (ap first_kind d) ∙ e in
-          (less, ap kinds d ∙ ap (λ (x : TokenKind). x ∷ kinds (drop (suc at) (t ∷ ts))) k ∙ ap (λ (n : ℕ). kind ∷ kinds (drop n (t ∷ ts))) (sym (add-one at)))
+          let k : (get_or (t ∷ ts) at t).kind ≡ kind = sym (ap first_kind d) ∙ e in (
+            less,
+            ap kinds d ∙ ap (λ (x : TokenKind). x ∷ kinds (drop (suc at) (t ∷ ts))) k
+                ∙ ap (λ (n : ℕ). kind ∷ kinds (drop n (t ∷ ts))) (sym (add-one at)),
+          )
       | inr more ↦ absurd (ne (sym e ∙ ap first_kind (drop_of_length-le (t ∷ ts) more)))
     ]
 
@@ -57,7 +62,8 @@ kinds_first [] kind others e = absurd cc
 kinds_first (t ∷ ts) kind others e = cc
 
 -- one token
-pub spells_one : (tokens : List Token) (at : ℕ) (kind : TokenKind) → kind_or_end tokens at ≡ kind → (kind ≡ token.Attribute → ⊥) → Spells tokens at (at + 1) (λ rest. kind ∷ rest)
+pub spells_one : (tokens : List Token) (at : ℕ) (kind : TokenKind) → kind_or_end tokens at ≡ kind → (kind ≡ token.Attribute → ⊥)
+    → Spells tokens at (at + 1) (λ rest. kind ∷ rest)
 spells_one tokens at kind e ne =
     let s = stands tokens at kind e ne in
     let less : at < length tokens = s.0 in
@@ -67,11 +73,13 @@ pub spells_none : (tokens : List Token) (at : ℕ) → at ≤ length tokens → 
 spells_none tokens at within = record { onward = omega arith; within = within; spelled = refl }
 
 -- tokens, and tokens after them
-pub spells_more : (tokens : List Token) (from mid next : ℕ) (f g : Kinds → Kinds) → Spells tokens from mid f → Spells tokens mid next g → Spells tokens from next (λ rest. f (g rest))
+pub spells_more : (tokens : List Token) (from mid next : ℕ) (f g : Kinds → Kinds) → Spells tokens from mid f → Spells tokens mid next g
+    → Spells tokens from next (λ rest. f (g rest))
 spells_more tokens from mid next f g a b = record { onward = omega (arith, a.onward, b.onward); within = b.within; spelled = a.spelled ∙ ap f b.spelled }
 
 -- the same tokens in other words
-pub spells_as : (tokens : List Token) (from next : ℕ) (f g : Kinds → Kinds) → Spells tokens from next f → ((rest : Kinds) → f rest ≡ g rest) → Spells tokens from next g
+pub spells_as : (tokens : List Token) (from next : ℕ) (f g : Kinds → Kinds) → Spells tokens from next f → ((rest : Kinds) → f rest ≡ g rest)
+    → Spells tokens from next g
 spells_as tokens from next f g a same = record { onward = a.onward; within = a.within; spelled = a.spelled ∙ same (kinds (drop next tokens)) }
 
 pub punctuator_is : (kind : TokenKind) (m : Punctuator) → punctuator_of kind ≡ Some m → kind ≡ token.Punctuator m

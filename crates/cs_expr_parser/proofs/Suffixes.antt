@@ -1,5 +1,6 @@
 -- What stands after an operand and belongs to it: for the contracts of `suffixed`, `infix` and `comma`.
-use Rattle.std.proofs.Common.{◌≡◌, ℕ, suc, ◌+◌, ◌-◌, ◌<◌, ◌≤◌, ◌⊎◌, inl, inr, Bool, true, false, List, [], ◌∷◌, ◌++◌, refl, sym, ap, ◌∙◌, subst, arith}
+use Rattle.std.proofs.Common.{◌≡◌, ℕ, suc, ◌+◌, ◌-◌, ◌<◌, ◌≤◌, ◌⊎◌, inl, inr, Bool, true, false, List, [], ◌∷◌, ◌++◌}
+use Rattle.std.proofs.Common.{refl, sym, ap, ◌∙◌, subst, arith}
 use Rattle.cs_ast.specs.declared.token.TokenKind.{TokenKind}
 use Rattle.cs_ast.specs.declared.token.TokenKind.TheVariants as token
 use Rattle.cs_ast.specs.declared.token.Punctuator.{Punctuator}
@@ -33,12 +34,20 @@ step_token Up m i d e = i (sym e)
 step_token Down m i d e = d (sym e)
 
 -- `left [ number ]`
-pub index_addition : (names : Names) (left : Written) (limit : ℕ) → IsPhrase names 15 left → height left < limit → Addition names 15 left limit (token.Punctuator punctuator.OpenBracket) (ClosedBy (Expressions names 0) (token.Punctuator punctuator.CloseBracket)) (limit - 1) (Index left)
+pub index_addition : (names : Names) (left : Written) (limit : ℕ) → IsPhrase names 15 left → height left < limit
+    → Addition names 15 left limit (token.Punctuator punctuator.OpenBracket) (ClosedBy (Expressions names 0) (token.Punctuator punctuator.CloseBracket))
+    (limit - 1) (Index left)
 index_addition names left limit is low = record {
   chain = refl;
   started =
       let h = height_some left in
-      record { phrase = Index left zero; more = text zero (close_bracket ∷ []); is_phrase = (omega arith, (is.0, is.1, tt)); low = omega arith; spelled = sym (text_append left (token.Punctuator punctuator.OpenBracket ∷ []) (text zero (close_bracket ∷ []))) };
+      record {
+        phrase = Index left zero;
+        more = text zero (close_bracket ∷ []);
+        is_phrase = (omega arith, (is.0, is.1, tt));
+        low = omega arith;
+        spelled = sym (text_append left (token.Punctuator punctuator.OpenBracket ∷ []) (text zero (close_bracket ∷ [])));
+      };
   invert = λ whole after following is' s.
       elim s [
         | indexed n l w b ↦ let p = subst (IsPhrase names 15) w is' in (n, w, (omega arith, p.1.2), cc)
@@ -57,12 +66,19 @@ index_addition names left limit is low = record {
 }
 
 -- `left ( arguments )`
-pub call_addition : (names : Names) (left : Written) (limit : ℕ) → IsPhrase names 15 left → height left < limit → Addition names 15 left limit (token.Punctuator punctuator.OpenParenthesis) (Rows arguments_text (ArePhrases names 1)) (limit - 2) (Call left)
+pub call_addition : (names : Names) (left : Written) (limit : ℕ) → IsPhrase names 15 left → height left < limit
+    → Addition names 15 left limit (token.Punctuator punctuator.OpenParenthesis) (Rows arguments_text (ArePhrases names 1)) (limit - 2) (Call left)
 call_addition names left limit is low = record {
   chain = refl;
   started =
       let h = height_some left in
-      record { phrase = Call left End; more = close_parenthesis ∷ []; is_phrase = (omega arith, (is.0, is.1, tt)); low = omega arith; spelled = sym (text_append left (token.Punctuator punctuator.OpenParenthesis ∷ []) (close_parenthesis ∷ [])) };
+      record {
+        phrase = Call left End;
+        more = close_parenthesis ∷ [];
+        is_phrase = (omega arith, (is.0, is.1, tt));
+        low = omega arith;
+        spelled = sym (text_append left (token.Punctuator punctuator.OpenParenthesis ∷ []) (close_parenthesis ∷ []));
+      };
   invert = λ whole after following is' s.
       elim s [
         | called es l w b ↦ let p = subst (IsPhrase names 15) w is' in (es, w, p.1.2, cc)
@@ -81,10 +97,17 @@ call_addition names left limit is low = record {
 }
 
 -- `left . name`
-pub member_addition : (names : Names) (left : Written) (limit : ℕ) → IsPhrase names 15 left → height left < limit → Addition names 15 left limit (token.Punctuator punctuator.Dot) AnyName 0 (Member left)
+pub member_addition : (names : Names) (left : Written) (limit : ℕ) → IsPhrase names 15 left → height left < limit
+    → Addition names 15 left limit (token.Punctuator punctuator.Dot) AnyName 0 (Member left)
 member_addition names left limit is low = record {
   chain = refl;
-  started = record { phrase = Member left []; more = token.Name [] ∷ []; is_phrase = (omega arith, (is.0, is.1)); low = omega arith; spelled = sym (text_append left (token.Punctuator punctuator.Dot ∷ []) (token.Name [] ∷ [])) };
+  started = record {
+    phrase = Member left [];
+    more = token.Name [] ∷ [];
+    is_phrase = (omega arith, (is.0, is.1));
+    low = omega arith;
+    spelled = sym (text_append left (token.Punctuator punctuator.Dot ∷ []) (token.Name [] ∷ []));
+  };
   invert = λ whole after following is' s.
       elim s [
         | selected n l w b ↦ (n, w, tt, cc)
@@ -103,10 +126,17 @@ member_addition names left limit is low = record {
 }
 
 -- `left -> name`
-pub arrow_addition : (names : Names) (left : Written) (limit : ℕ) → IsPhrase names 15 left → height left < limit → Addition names 15 left limit (token.Punctuator punctuator.Arrow) AnyName 0 (Arrow left)
+pub arrow_addition : (names : Names) (left : Written) (limit : ℕ) → IsPhrase names 15 left → height left < limit
+    → Addition names 15 left limit (token.Punctuator punctuator.Arrow) AnyName 0 (Arrow left)
 arrow_addition names left limit is low = record {
   chain = refl;
-  started = record { phrase = Arrow left []; more = token.Name [] ∷ []; is_phrase = (omega arith, (is.0, is.1)); low = omega arith; spelled = sym (text_append left (token.Punctuator punctuator.Arrow ∷ []) (token.Name [] ∷ [])) };
+  started = record {
+    phrase = Arrow left [];
+    more = token.Name [] ∷ [];
+    is_phrase = (omega arith, (is.0, is.1));
+    low = omega arith;
+    spelled = sym (text_append left (token.Punctuator punctuator.Arrow ∷ []) (token.Name [] ∷ []));
+  };
   invert = λ whole after following is' s.
       elim s [
         | followed_by n l w b ↦ (n, w, tt, cc)
@@ -130,15 +160,23 @@ steps_differ Down Down e = refl
 steps_differ Up Down e = absurd cc
 steps_differ Down Up e = absurd cc
 
-step_tokens : (s : Step) → (step_punctuator s ≡ punctuator.OpenBracket → ⊥) × (step_punctuator s ≡ punctuator.OpenParenthesis → ⊥) × (step_punctuator s ≡ punctuator.Dot → ⊥) × (step_punctuator s ≡ punctuator.Arrow → ⊥)
+step_tokens : (s : Step) → (step_punctuator s ≡ punctuator.OpenBracket → ⊥) × (step_punctuator s ≡ punctuator.OpenParenthesis → ⊥)
+    × (step_punctuator s ≡ punctuator.Dot → ⊥) × (step_punctuator s ≡ punctuator.Arrow → ⊥)
 step_tokens Up = (λ e. cc, λ e. cc, λ e. cc, λ e. cc)
 step_tokens Down = (λ e. cc, λ e. cc, λ e. cc, λ e. cc)
 
 -- `left ++`
-pub step_addition : (names : Names) (left : Written) (limit : ℕ) (by : Step) → IsPhrase names 15 left → height left < limit → Addition names 15 left limit (token.Punctuator (step_punctuator by)) Ended 0 (λ (end : Unit {0}). StepAfter by left)
+pub step_addition : (names : Names) (left : Written) (limit : ℕ) (by : Step) → IsPhrase names 15 left → height left < limit
+    → Addition names 15 left limit (token.Punctuator (step_punctuator by)) Ended 0 (λ (end : Unit {0}). StepAfter by left)
 step_addition names left limit by is low = record {
   chain = step_join by;
-  started = record { phrase = StepAfter by left; more = []; is_phrase = (omega arith, (is.0, is.1)); low = omega arith; spelled = sym (text_append left (token.Punctuator (step_punctuator by) ∷ []) []) };
+  started = record {
+    phrase = StepAfter by left;
+    more = [];
+    is_phrase = (omega arith, (is.0, is.1));
+    low = omega arith;
+    spelled = sym (text_append left (token.Punctuator (step_punctuator by) ∷ []) []);
+  };
   invert = λ whole after following is' s.
       let d = step_tokens by in
       elim s [
@@ -207,13 +245,21 @@ pub infix_same : (a b : InfixOp) → infix_punctuator a ≡ infix_punctuator b �
 infix_same a b e = sym (of_punctuator_infix a) ∙ ap of_punctuator e ∙ of_punctuator_infix b
 
 -- `left operator right`
-pub infix_addition : (names : Names) (left : Written) (limit : ℕ) (op : InfixOp) → IsPhrase names (infix_level op) left → height left < limit → Addition names (infix_level op) left limit (token.Punctuator (infix_punctuator op)) (Expressions names (suc (infix_level op))) (limit - 1) (Infix op left)
+pub infix_addition : (names : Names) (left : Written) (limit : ℕ) (op : InfixOp) → IsPhrase names (infix_level op) left → height left < limit
+    → Addition names (infix_level op) left limit (token.Punctuator (infix_punctuator op)) (Expressions names (suc (infix_level op))) (limit - 1)
+    (Infix op left)
 infix_addition names left limit op is low = record {
   chain = infix_join op;
   started =
       let h = height_some left in
       let i = (infix_levels op).1 in
-      record { phrase = Infix op left zero; more = text zero []; is_phrase = (omega arith, (is.0, is.1, omega arith, tt)); low = omega arith; spelled = sym (text_append left (token.Punctuator (infix_punctuator op) ∷ []) (text zero [])) };
+      record {
+        phrase = Infix op left zero;
+        more = text zero [];
+        is_phrase = (omega arith, (is.0, is.1, omega arith, tt));
+        low = omega arith;
+        spelled = sym (text_append left (token.Punctuator (infix_punctuator op) ∷ []) (text zero []));
+      };
   invert = λ whole after following is' s.
       let i = infix_levels op in
       let i1 = i.0 in
@@ -240,12 +286,19 @@ infix_addition names left limit op is low = record {
 }
 
 -- `first , second`
-pub comma_addition : (names : Names) (left : Written) (limit : ℕ) → IsPhrase names 0 left → height left < limit → Addition names 0 left limit (token.Punctuator punctuator.Comma) (Expressions names 1) (limit - 1) (Comma left)
+pub comma_addition : (names : Names) (left : Written) (limit : ℕ) → IsPhrase names 0 left → height left < limit
+    → Addition names 0 left limit (token.Punctuator punctuator.Comma) (Expressions names 1) (limit - 1) (Comma left)
 comma_addition names left limit is low = record {
   chain = refl;
   started =
       let h = height_some left in
-      record { phrase = Comma left zero; more = text zero []; is_phrase = (omega arith, (is.1, omega arith, tt)); low = omega arith; spelled = sym (text_append left (token.Punctuator punctuator.Comma ∷ []) (text zero [])) };
+      record {
+        phrase = Comma left zero;
+        more = text zero [];
+        is_phrase = (omega arith, (is.1, omega arith, tt));
+        low = omega arith;
+        spelled = sym (text_append left (token.Punctuator punctuator.Comma ∷ []) (text zero []));
+      };
   invert = λ whole after following is' s.
       elim s [
         | continued f l w b ↦ let p = subst (IsPhrase names 0) w is' in (f, w, (p.1.1, p.1.2), cc)

@@ -1,5 +1,6 @@
 -- Types between parentheses before an operand or after `sizeof`: for the contracts of `cast` and `sized`.
-use Rattle.std.proofs.Common.{◌≡◌, ℕ, suc, ◌+◌, ◌-◌, ◌<◌, ◌≤◌, max, ◌⊎◌, inl, inr, Bool, true, false, List, [], ◌∷◌, ◌++◌, refl, sym, ap, ◌∙◌, subst, arith, append_assoc}
+use Rattle.std.proofs.Common.{◌≡◌, ℕ, suc, ◌+◌, ◌-◌, ◌<◌, ◌≤◌, max, ◌⊎◌, inl, inr, Bool, true, false, List, [], ◌∷◌}
+use Rattle.std.proofs.Common.{◌++◌, refl, sym, ap, ◌∙◌, subst, arith, append_assoc}
 use Rattle.std.proofs.lemmas.Bool.{false≢true, both_ways}
 use Rattle.cs_ast.specs.declared.token.TokenKind.{TokenKind}
 use Rattle.cs_ast.specs.declared.token.TokenKind.TheVariants as token
@@ -23,7 +24,8 @@ use Rattle.cs_expr_parser.specs.Unary.{before_text, prefixed_tree}
 use Rattle.cs_expr_parser.specs.declared.unary.Before.{Before}
 use Rattle.cs_expr_parser.specs.declared.unary.Before.TheVariants as before
 use Rattle.cs_expr_parser.proofs.Closings.{zero, height_some, open_parenthesis, close_parenthesis}
-use Rattle.cs_expr_parser.proofs.Prefixes.{IsUnary, plain, prefixed, measured, unary_is, IsCast, tighter, converted, cast_is, passes_first, types_law, type_text_begins, type_no_expression, no_type_inner, NoType, before_tail, size_is, not_type}
+use Rattle.cs_expr_parser.proofs.Prefixes.{IsUnary, plain, prefixed, measured, unary_is, IsCast, tighter, converted, cast_is, passes_first, types_law}
+use Rattle.cs_expr_parser.proofs.Prefixes.{type_text_begins, type_no_expression, no_type_inner, NoType, before_tail, size_is, not_type}
 
 abbrev pub sizeof_token : TokenKind
 sizeof_token = token.Keyword keyword.Sizeof
@@ -40,7 +42,8 @@ void_is : (names : Names) → IsTypeOf names void_type
 void_is names = record { words = refl; pointers = refl; bounds = tt }
 
 -- where a type is refused, no expression stands
-pub refused_type : (names : Names) (limit : ℕ) (front : Kinds) (next : TokenKind) (deep : Bool) → Refused (Types names) limit front next deep → (front ≡ [] → begins_type names next ≡ true) → (following : Kinds) → Near next following → NoExpression names (front ++ following)
+pub refused_type : (names : Names) (limit : ℕ) (front : Kinds) (next : TokenKind) (deep : Bool) → Refused (Types names) limit front next deep
+    → (front ≡ [] → begins_type names next ≡ true) → (following : Kinds) → Near next following → NoExpression names (front ++ following)
 refused_type names limit [] next deep r starts following near e =
     elim near [
       | inl n ↦ let s = sym e.are ∙ n in cc
@@ -55,9 +58,16 @@ refused_type names limit (f ∷ fs) next deep r starts following near e =
     ]
 
 -- the type of a cast
-cast_hole : (names : Names) (limit : ℕ) → 2 ≤ limit → Hole (Expressions names 13) (Types names) limit (limit - 1) (open_parenthesis ∷ []) (NoExpression names) (λ rest. Unit {0})
+cast_hole : (names : Names) (limit : ℕ) → 2 ≤ limit
+    → Hole (Expressions names 13) (Types names) limit (limit - 1) (open_parenthesis ∷ []) (NoExpression names) (λ rest. Unit {0})
 cast_hole names limit least = record {
-  started = inr (record { phrase = Cast (word.Void ∷ []) [] End zero; more = token.Keyword keyword.Void ∷ close_parenthesis ∷ text zero []; is_phrase = (omega arith, (refl, refl, tt, omega arith, tt)); low = omega arith; spelled = refl });
+  started = inr (record {
+    phrase = Cast (word.Void ∷ []) [] End zero;
+    more = token.Keyword keyword.Void ∷ close_parenthesis ∷ text zero [];
+    is_phrase = (omega arith, (refl, refl, tt, omega arith, tt));
+    low = omega arith;
+    spelled = refl;
+  });
   invert = λ whole after following is shut fit same.
       elim (cast_is names whole after is) [
         | tighter l ↦
@@ -65,7 +75,15 @@ cast_hole names limit least = record {
             absurd (fit (subst (BeginsWith (begins_expression names)) (sym i.are) (expression_begins names i.inner (close_parenthesis ∷ i.rest) i.is_well)))
         | converted parts o w ty i t ↦
             let s = sym t ∙ same in
-            record { part = parts; rest = text o after; is_phrase = ty; spelled = cc; shut = tt; after = tt; rises = λ high. subst (λ (x : Written). limit < height x) (sym w) (omega (arith, high)) }
+            record {
+              part = parts;
+              rest = text o after;
+              is_phrase = ty;
+              spelled = cc;
+              shut = tt;
+              after = tt;
+              rises = λ high. subst (λ (x : Written). limit < height x) (sym w) (omega (arith, high));
+            }
       ];
   complete = λ part is. record {
     whole = Cast part.words part.pointers part.bounds zero;
@@ -76,12 +94,17 @@ cast_hole names limit least = record {
   };
 }
 
-pub cast_type_refused : (names : Names) (limit : ℕ) → 2 ≤ limit → (front : Kinds) (next : TokenKind) (deep : Bool) → (front ≡ [] → begins_type names next ≡ true) → Refused (Types names) (limit - 1) front next deep → Refused (Expressions names 13) limit (open_parenthesis ∷ front) next deep
+pub cast_type_refused : (names : Names) (limit : ℕ) → 2 ≤ limit
+    → (front : Kinds) (next : TokenKind) (deep : Bool) → (front ≡ [] → begins_type names next ≡ true)
+    → Refused (Types names) (limit - 1) front next deep → Refused (Expressions names 13) limit (open_parenthesis ∷ front) next deep
 cast_type_refused names limit least front next deep starts r =
-    hole_refused (Expressions names 13) (Types names) limit (limit - 1) (open_parenthesis ∷ []) (NoExpression names) (λ rest. Unit {0}) (types_law names) (cast_hole names limit least) front next deep (refused_type names (limit - 1) front next deep r starts) r
+    hole_refused (Expressions names 13) (Types names) limit (limit - 1) (open_parenthesis ∷ []) (NoExpression names) (λ rest. Unit {0}) (types_law names)
+    (cast_hole names limit least) front next deep (refused_type names (limit - 1) front next deep r starts) r
 
 -- the operand of a cast
-cast_tail : (names : Names) (limit : ℕ) (parts : TypeParts) → 2 ≤ limit → Exactly (Types names) (limit - 1) parts → Tail (Expressions names 13) (Expressions names 13) limit (limit - 1) (open_parenthesis ∷ type_closed_text parts []) (Cast parts.words parts.pointers parts.bounds) (λ rest. Unit {0})
+cast_tail : (names : Names) (limit : ℕ) (parts : TypeParts) → 2 ≤ limit → Exactly (Types names) (limit - 1) parts
+    → Tail (Expressions names 13) (Expressions names 13) limit (limit - 1) (open_parenthesis ∷ type_closed_text parts [])
+    (Cast parts.words parts.pointers parts.bounds) (λ rest. Unit {0})
 cast_tail names limit parts least e =
     let low' = e.low in
     record {
@@ -93,7 +116,8 @@ cast_tail names limit parts least e =
         spelled = ap (λ (x : Kinds). open_parenthesis ∷ x) (sym (types_law names parts [] (text zero [])));
       });
       invert = λ whole after following is shut fit same.
-          let s : text whole after ≡ open_parenthesis ∷ type_closed_text parts following = same ∙ ap (λ (x : Kinds). open_parenthesis ∷ x) (types_law names parts [] following) in
+          let s : text whole after ≡ open_parenthesis ∷ type_closed_text parts following = same
+          ∙ ap (λ (x : Kinds). open_parenthesis ∷ x) (types_law names parts [] following) in
           elim (cast_is names whole after is) [
             | tighter l ↦ absurd (no_type_inner names whole after following parts (l, is.1) e.is_phrase s)
             | converted parts' o w ty i t ↦
@@ -108,13 +132,21 @@ cast_tail names limit parts least e =
       rises = λ part high. omega arith;
     }
 
-pub cast_refused : (names : Names) (limit : ℕ) (parts : TypeParts) → 2 ≤ limit → Exactly (Types names) (limit - 1) parts → (front : Kinds) (next : TokenKind) (deep : Bool) → Refused (Expressions names 13) (limit - 1) front next deep → Refused (Expressions names 13) limit ((open_parenthesis ∷ type_closed_text parts []) ++ front) next deep
+pub cast_refused : (names : Names) (limit : ℕ) (parts : TypeParts) → 2 ≤ limit → Exactly (Types names) (limit - 1) parts
+    → (front : Kinds) (next : TokenKind) (deep : Bool) → Refused (Expressions names 13) (limit - 1) front next deep
+    → Refused (Expressions names 13) limit ((open_parenthesis ∷ type_closed_text parts []) ++ front) next deep
 cast_refused names limit parts least e front next deep r =
-    tail_refused (Expressions names 13) (Expressions names 13) limit (limit - 1) (open_parenthesis ∷ type_closed_text parts []) (Cast parts.words parts.pointers parts.bounds) (λ rest. Unit {0}) (text_law names 13) (cast_tail names limit parts least e) front next deep (λ following near. tt) r
+    tail_refused (Expressions names 13) (Expressions names 13) limit (limit - 1) (open_parenthesis ∷ type_closed_text parts [])
+    (Cast parts.words parts.pointers parts.bounds) (λ rest. Unit {0}) (text_law names 13) (cast_tail names limit parts least e) front next deep
+    (λ following near. tt) r
 
-pub cast_took : (names : Names) (limit : ℕ) (parts : TypeParts) → 2 ≤ limit → Exactly (Types names) (limit - 1) parts → (part : Written) (next : TokenKind) (deep : Bool) → Took (Expressions names 13) (limit - 1) part next deep → Took (Expressions names 13) limit (Cast parts.words parts.pointers parts.bounds part) next deep
+pub cast_took : (names : Names) (limit : ℕ) (parts : TypeParts) → 2 ≤ limit → Exactly (Types names) (limit - 1) parts
+    → (part : Written) (next : TokenKind) (deep : Bool) → Took (Expressions names 13) (limit - 1) part next deep
+    → Took (Expressions names 13) limit (Cast parts.words parts.pointers parts.bounds part) next deep
 cast_took names limit parts least e part next deep t =
-    tail_took (Expressions names 13) (Expressions names 13) limit (limit - 1) (open_parenthesis ∷ type_closed_text parts []) (Cast parts.words parts.pointers parts.bounds) (λ rest. Unit {0}) (text_law names 13) (cast_tail names limit parts least e) part next deep (λ following near. tt) t
+    tail_took (Expressions names 13) (Expressions names 13) limit (limit - 1) (open_parenthesis ∷ type_closed_text parts [])
+    (Cast parts.words parts.pointers parts.bounds) (λ rest. Unit {0}) (text_law names 13) (cast_tail names limit parts least e) part next deep
+    (λ following near. tt) t
 
 -- a parenthesis and a type that the limit doesn't allow
 pub cast_full : (names : Names) (limit : ℕ) → limit < 2 → Refused (Expressions names 13) limit [] open_parenthesis true
@@ -132,16 +164,28 @@ cast_full names limit full = record {
                   record { reported = refl; high = omega (arith, k); onward = λ none. let z = sym m.1 ∙ none in cc }
               | converted parts o w ty i t ↦
                   let h = height_some o in
-                  record { reported = refl; high = subst (λ (x : Written). limit < height x) (sym w) (omega arith); onward = λ none. let z = sym m.1 ∙ none in cc }
+                  record {
+                    reported = refl;
+                    high = subst (λ (x : Written). limit < height x) (sym w) (omega arith);
+                    onward = λ none. let z = sym m.1 ∙ none in cc;
+                  }
             ]
       ];
   further = λ reported. record { phrase = Enclosed zero; more = text zero (close_parenthesis ∷ []); is_phrase = (omega arith, tt); spelled = refl };
 }
 
 -- the type after `sizeof`
-size_tail : (names : Names) (limit : ℕ) → 2 ≤ limit → Tail (Expressions names 14) (Types names) limit (limit - 1) (sizeof_token ∷ open_parenthesis ∷ []) (λ (parts : TypeParts). SizeOfType parts.words parts.pointers parts.bounds) (NoExpression names)
+size_tail : (names : Names) (limit : ℕ) → 2 ≤ limit
+    → Tail (Expressions names 14) (Types names) limit (limit - 1) (sizeof_token ∷ open_parenthesis ∷ [])
+    (λ (parts : TypeParts). SizeOfType parts.words parts.pointers parts.bounds) (NoExpression names)
 size_tail names limit least = record {
-  started = inr (record { phrase = SizeOfType (word.Void ∷ []) [] End; more = token.Keyword keyword.Void ∷ close_parenthesis ∷ []; is_phrase = (omega arith, (refl, refl, tt)); low = omega arith; spelled = refl });
+  started = inr (record {
+    phrase = SizeOfType (word.Void ∷ []) [] End;
+    more = token.Keyword keyword.Void ∷ close_parenthesis ∷ [];
+    is_phrase = (omega arith, (refl, refl, tt));
+    low = omega arith;
+    spelled = refl;
+  });
   invert = λ whole after following is shut fit same.
       elim (size_is names whole after (open_parenthesis ∷ following) is same) [
         | inl x ↦
@@ -156,37 +200,54 @@ size_tail names limit least = record {
   rises = λ part high. omega arith;
 }
 
-pub size_type_refused : (names : Names) (limit : ℕ) → 2 ≤ limit → (front : Kinds) (next : TokenKind) (deep : Bool) → (front ≡ [] → begins_type names next ≡ true) → Refused (Types names) (limit - 1) front next deep → Refused (Expressions names 14) limit (sizeof_token ∷ open_parenthesis ∷ front) next deep
+pub size_type_refused : (names : Names) (limit : ℕ) → 2 ≤ limit
+    → (front : Kinds) (next : TokenKind) (deep : Bool) → (front ≡ [] → begins_type names next ≡ true)
+    → Refused (Types names) (limit - 1) front next deep → Refused (Expressions names 14) limit (sizeof_token ∷ open_parenthesis ∷ front) next deep
 size_type_refused names limit least front next deep starts r =
-    tail_refused (Expressions names 14) (Types names) limit (limit - 1) (sizeof_token ∷ open_parenthesis ∷ []) (λ (parts : TypeParts). SizeOfType parts.words parts.pointers parts.bounds) (NoExpression names) (types_law names) (size_tail names limit least) front next deep (refused_type names (limit - 1) front next deep r starts) r
+    tail_refused (Expressions names 14) (Types names) limit (limit - 1) (sizeof_token ∷ open_parenthesis ∷ [])
+    (λ (parts : TypeParts). SizeOfType parts.words parts.pointers parts.bounds) (NoExpression names) (types_law names) (size_tail names limit least) front
+    next deep (refused_type names (limit - 1) front next deep r starts) r
 
-pub size_type_took : (names : Names) (limit : ℕ) → 2 ≤ limit → (parts : TypeParts) (next : TokenKind) → Exactly (Types names) (limit - 1) parts → Took (Expressions names 14) limit (SizeOfType parts.words parts.pointers parts.bounds) next false
+pub size_type_took : (names : Names) (limit : ℕ) → 2 ≤ limit → (parts : TypeParts) (next : TokenKind) → Exactly (Types names) (limit - 1) parts
+    → Took (Expressions names 14) limit (SizeOfType parts.words parts.pointers parts.bounds) next false
 size_type_took names limit least parts next e =
-    tail_took (Expressions names 14) (Types names) limit (limit - 1) (sizeof_token ∷ open_parenthesis ∷ []) (λ (parts : TypeParts). SizeOfType parts.words parts.pointers parts.bounds) (NoExpression names) (types_law names) (size_tail names limit least) parts next false
+    tail_took (Expressions names 14) (Types names) limit (limit - 1) (sizeof_token ∷ open_parenthesis ∷ [])
+    (λ (parts : TypeParts). SizeOfType parts.words parts.pointers parts.bounds) (NoExpression names) (types_law names) (size_tail names limit least) parts
+    next false
     (λ following near x. type_no_expression names (type_closed_text parts following) (type_text_begins names parts following e.is_phrase) x)
     (exact_took (Types names) (limit - 1) parts e next)
 
 -- the expression after `sizeof`
-pub size_refused : (names : Names) (limit : ℕ) → 2 ≤ limit → (front : Kinds) (next : TokenKind) (deep : Bool) → (front ≡ open_parenthesis ∷ [] → begins_type names next ≡ false) → (next ≡ open_parenthesis → 3 ≤ limit) → Refused (Expressions names 14) (limit - 1) front next deep → Refused (Expressions names 14) limit (sizeof_token ∷ front) next deep
+pub size_refused : (names : Names) (limit : ℕ) → 2 ≤ limit
+    → (front : Kinds) (next : TokenKind) (deep : Bool) → (front ≡ open_parenthesis ∷ [] → begins_type names next ≡ false)
+    → (next ≡ open_parenthesis → 3 ≤ limit) → Refused (Expressions names 14) (limit - 1) front next deep
+    → Refused (Expressions names 14) limit (sizeof_token ∷ front) next deep
 size_refused names limit least front next deep none wide r =
-    tail_refused (Expressions names 14) (Expressions names 14) limit (limit - 1) (sizeof_token ∷ []) SizeOf (NoType names before.Size) (text_law names 14) (before_tail names limit before.Size least) front next deep
+    tail_refused (Expressions names 14) (Expressions names 14) limit (limit - 1) (sizeof_token ∷ []) SizeOf (NoType names before.Size) (text_law names 14)
+    (before_tail names limit before.Size least) front next deep
     (λ following near e parts rest ty same.
     let n = not_type names (limit - 1) front next deep parts rest following r none ty near (sym same) in
-    let v = r.never (Enclosed zero) [] (open_parenthesis ∷ text zero (close_parenthesis ∷ [])) (omega arith, tt) (omega arith) (inr (text zero (close_parenthesis ∷ []), ap (λ (x : TokenKind). x ∷ text zero (close_parenthesis ∷ [])) (sym n.1))) (ap (λ (x : Kinds). x ++ (open_parenthesis ∷ text zero (close_parenthesis ∷ []))) (sym n.0)) in
+    let v = r.never (Enclosed zero) [] (open_parenthesis ∷ text zero (close_parenthesis ∷ [])) (omega arith, tt) (omega arith)
+    (inr (text zero (close_parenthesis ∷ []), ap (λ (x : TokenKind). x ∷ text zero (close_parenthesis ∷ [])) (sym n.1)))
+    (ap (λ (x : Kinds). x ++ (open_parenthesis ∷ text zero (close_parenthesis ∷ []))) (sym n.0)) in
     let full : limit - 1 < 2 = v.high in
     let w = wide n.1 in
     omega arith)
     r
 
-pub size_took : (names : Names) (limit : ℕ) → 2 ≤ limit → (part : Written) (next : TokenKind) (deep : Bool) → Took (Expressions names 14) (limit - 1) part next deep → Took (Expressions names 14) limit (SizeOf part) next deep
+pub size_took : (names : Names) (limit : ℕ) → 2 ≤ limit → (part : Written) (next : TokenKind) (deep : Bool)
+    → Took (Expressions names 14) (limit - 1) part next deep → Took (Expressions names 14) limit (SizeOf part) next deep
 size_took names limit least part next deep t =
-    tail_took (Expressions names 14) (Expressions names 14) limit (limit - 1) (sizeof_token ∷ []) SizeOf (NoType names before.Size) (text_law names 14) (before_tail names limit before.Size least) part next deep
+    tail_took (Expressions names 14) (Expressions names 14) limit (limit - 1) (sizeof_token ∷ []) SizeOf (NoType names before.Size) (text_law names 14)
+    (before_tail names limit before.Size least) part next deep
     (λ following near e parts rest ty same. no_type_inner names part following rest parts t.is_phrase ty same) t
 
 -- a parenthesis after `sizeof` where the limit allows a type alone
-pub size_full : (names : Names) (front : Kinds) (next : TokenKind) (deep : Bool) → (front ≡ [] → begins_type names next ≡ false) → Refused (Expressions names 0) 0 front next deep → Refused (Expressions names 14) 2 (sizeof_token ∷ open_parenthesis ∷ front) next deep
+pub size_full : (names : Names) (front : Kinds) (next : TokenKind) (deep : Bool) → (front ≡ [] → begins_type names next ≡ false)
+    → Refused (Expressions names 0) 0 front next deep → Refused (Expressions names 14) 2 (sizeof_token ∷ open_parenthesis ∷ front) next deep
 size_full names front next deep none r =
-    let empty : front ≡ [] = elim r.begun [ inl e ↦ e | inr l ↦ absurd (let h = height_some l.phrase in let k : height l.phrase ≤ 0 = l.low in omega arith) ] in
+    let empty : front ≡ [] =
+    elim r.begun [ inl e ↦ e | inr l ↦ absurd (let h = height_some l.phrase in let k : height l.phrase ≤ 0 = l.low in omega arith) ] in
     record {
       begun = inr (record {
         phrase = SizeOfType (word.Void ∷ []) [] End;
@@ -209,7 +270,8 @@ size_full names front next deep none r =
                 let s' : following ≡ b.first ∷ b.others = sym (ap (λ (x : Kinds). x ++ following) empty) ∙ s ∙ b.are in
                 absurd (elim near [
                   | inl n ↦ let z = sym s' ∙ n in cc
-                  | inr m ↦ let z : next ∷ m.0 ≡ b.first ∷ b.others = sym m.1 ∙ s' in let k : next ≡ b.first = cc in both_ways (begins_type names next) (none empty) (ap (begins_type names) k ∙ b.passes)
+                  | inr m ↦ let z : next ∷ m.0 ≡ b.first ∷ b.others = sym m.1 ∙ s' in let k : next ≡ b.first = cc in
+                      both_ways (begins_type names next) (none empty) (ap (begins_type names) k ∙ b.passes)
                 ])
           ];
       further = λ reported.
@@ -218,6 +280,8 @@ size_full names front next deep none r =
             phrase = SizeOf (Enclosed b.phrase);
             more = b.more ++ (close_parenthesis ∷ []);
             is_phrase = (omega arith, (omega arith, b.is_phrase.1));
-            spelled = ap (λ (x : Kinds). sizeof_token ∷ open_parenthesis ∷ x) (splits (Expressions names 0) (text_law names 0) b.phrase (close_parenthesis ∷ []) ∙ ap (λ (x : Kinds). x ++ (close_parenthesis ∷ [])) b.spelled ∙ append_assoc (front ++ next ∷ []) b.more (close_parenthesis ∷ []));
+            spelled = ap (λ (x : Kinds). sizeof_token ∷ open_parenthesis ∷ x)
+                (splits (Expressions names 0) (text_law names 0) b.phrase (close_parenthesis ∷ [])
+                ∙ ap (λ (x : Kinds). x ++ (close_parenthesis ∷ [])) b.spelled ∙ append_assoc (front ++ next ∷ []) b.more (close_parenthesis ∷ []));
           };
     }

@@ -1,6 +1,7 @@
 -- The words, pointers and bounds of a type, one after another: for the contracts of `type_words`, `pointer_words` and
 -- `parenthesised_type`.
-use Rattle.std.proofs.Common.{◌≡◌, ℕ, suc, ◌+◌, ◌<◌, ◌≤◌, ◌⊎◌, inl, inr, Bool, true, false, List, [], ◌∷◌, ◌++◌, refl, sym, ap, ◌∙◌, subst, arith, append_assoc, append-nil, Option, Some, None}
+use Rattle.std.proofs.Common.{◌≡◌, ℕ, suc, ◌+◌, ◌<◌, ◌≤◌, ◌⊎◌, inl, inr, Bool, true, false, List, [], ◌∷◌, ◌++◌, refl}
+use Rattle.std.proofs.Common.{sym, ap, ◌∙◌, subst, arith, append_assoc, append-nil, Option, Some, None}
 use Rattle.std.proofs.lemmas.Bool.{false≢true, both_ways}
 use Rattle.cs_ast.specs.declared.token.TokenKind.{TokenKind}
 use Rattle.cs_ast.specs.declared.token.TokenKind.TheVariants as token
@@ -94,15 +95,21 @@ pub record IsMarked (tokens : Kinds) : Type 0 where
 
 pub bounds_marked : (bs : WrittenList) (after : Kinds) → IsMarked (closed_bounds_text bs after)
 bounds_marked End after = record { punctuator = punctuator.CloseParenthesis; others = after; are = refl }
-bounds_marked (More x xs) after = record { punctuator = punctuator.OpenBracket; others = text x (token.Punctuator punctuator.CloseBracket ∷ closed_bounds_text xs after); are = refl }
+bounds_marked (More x xs) after = record {
+  punctuator = punctuator.OpenBracket;
+  others = text x (token.Punctuator punctuator.CloseBracket ∷ closed_bounds_text xs after);
+  are = refl;
+}
 
-pub pointers_marked : (ps : List PointerWord) (bs : WrittenList) (after : Kinds) → is_pointer ps ≡ true → IsMarked (pointers_text ps (closed_bounds_text bs after))
+pub pointers_marked : (ps : List PointerWord) (bs : WrittenList) (after : Kinds) → is_pointer ps ≡ true
+    → IsMarked (pointers_text ps (closed_bounds_text bs after))
 pointers_marked [] bs after is = bounds_marked bs after
 pointers_marked (pointer.Star ∷ ps) bs after is = record { punctuator = punctuator.Star; others = pointers_text ps (closed_bounds_text bs after); are = refl }
 pointers_marked (pointer.Const ∷ ps) bs after is = absurd cc
 
 -- words that begin so continue with others
-pub words_go_on : (ws other : List TypeWord) (rest following : Kinds) → IsMarked rest → words_text other rest ≡ words_text ws following → (more : List TypeWord) × (other ≡ ws ++ more) × (words_text more rest ≡ following)
+pub words_go_on : (ws other : List TypeWord) (rest following : Kinds) → IsMarked rest → words_text other rest ≡ words_text ws following
+    → (more : List TypeWord) × (other ≡ ws ++ more) × (words_text more rest ≡ following)
 words_go_on [] other rest following m same = (other, refl, same)
 words_go_on (w ∷ ws) [] rest following m same =
     let f = word_first w (words_text ws following) in
@@ -113,7 +120,8 @@ words_go_on (w ∷ ws) (v ∷ vs) rest following m same =
     let f = words_go_on ws vs rest following m k.1 in
     (f.0, ap (λ (x : TypeWord). x ∷ vs) k.0 ∙ ap (λ (xs : List TypeWord). w ∷ xs) f.1, f.2)
 
-bounds_first_punctuator : (bs : WrittenList) (after : Kinds) (m : Punctuator) (more : Kinds) → closed_bounds_text bs after ≡ token.Punctuator m ∷ more → m ≡ punctuator.Star → ⊥
+bounds_first_punctuator : (bs : WrittenList) (after : Kinds) (m : Punctuator) (more : Kinds) → closed_bounds_text bs after ≡ token.Punctuator m ∷ more
+    → m ≡ punctuator.Star → ⊥
 bounds_first_punctuator End after m more same e = cc
 bounds_first_punctuator (More x xs) after m more same e = cc
 
@@ -121,7 +129,9 @@ bounds_no_star : (bs : WrittenList) (after more : Kinds) → closed_bounds_text 
 bounds_no_star bs after more same = bounds_first_punctuator bs after punctuator.Star more same refl
 
 -- pointers that begin so continue with others
-pointers_go_on : (ps other : List PointerWord) (bs : WrittenList) (after following : Kinds) → pointers_text other (closed_bounds_text bs after) ≡ pointers_text ps following → (more : List PointerWord) × (other ≡ ps ++ more) × (pointers_text more (closed_bounds_text bs after) ≡ following)
+pointers_go_on : (ps other : List PointerWord) (bs : WrittenList) (after following : Kinds)
+    → pointers_text other (closed_bounds_text bs after) ≡ pointers_text ps following
+    → (more : List PointerWord) × (other ≡ ps ++ more) × (pointers_text more (closed_bounds_text bs after) ≡ following)
 pointers_go_on [] other bs after following same = (other, refl, same)
 pointers_go_on (pointer.Star ∷ ps) [] bs after following same = absurd (bounds_no_star bs after (pointers_text ps following) same)
 pointers_go_on (pointer.Const ∷ ps) [] bs after following same = absurd (let m = bounds_marked bs after in let s = sym m.are ∙ same in cc)
@@ -138,17 +148,22 @@ pointers_go_on (pointer.Const ∷ ps) (pointer.Star ∷ qs) bs after following s
 pub record IsQuiet (names : Names) (ws : List TypeWord) (ps : List PointerWord) (following : Kinds) : Type 0 where
   pub no_star : (more : Kinds) → following ≡ token.Punctuator punctuator.Star ∷ more → ⊥
   pub no_const : (more : Kinds) → following ≡ token.Keyword keyword.Const ∷ more → ⊥
-  pub no_word : ps ≡ [] → (one : TypeWord) (words : List TypeWord) (more : Kinds) → following ≡ first_of_word one ∷ more → is_type names (ws ++ one ∷ words) ≡ false
+  pub no_word : ps ≡ [] → (one : TypeWord) (words : List TypeWord) (more : Kinds) → following ≡ first_of_word one ∷ more
+      → is_type names (ws ++ one ∷ words) ≡ false
 
-pub bounds_quiet : (names : Names) (ws : List TypeWord) (ps : List PointerWord) (bs : WrittenList) (after : Kinds) → IsQuiet names ws ps (closed_bounds_text bs after)
+pub bounds_quiet : (names : Names) (ws : List TypeWord) (ps : List PointerWord) (bs : WrittenList) (after : Kinds)
+    → IsQuiet names ws ps (closed_bounds_text bs after)
 bounds_quiet names ws ps bs after = record {
   no_star = λ more e. bounds_first_punctuator bs after punctuator.Star more e refl;
   no_const = λ more e. let m = bounds_marked bs after in let s = sym m.are ∙ e in cc;
-  no_word = λ none one words more e. let m = bounds_marked bs after in let s : token.Punctuator m.punctuator ∷ m.others ≡ first_of_word one ∷ more = sym m.are ∙ e in absurd (word_no_punctuator one m.punctuator cc);
+  no_word = λ none one words more e. let m = bounds_marked bs after in
+      let s : token.Punctuator m.punctuator ∷ m.others ≡ first_of_word one ∷ more = sym m.are ∙ e in absurd (word_no_punctuator one m.punctuator cc);
 }
 
 -- the words of a type that begins so are all there
-words_all : (names : Names) (ws other : List TypeWord) (ps : List PointerWord) (rest following : Kinds) → is_pointer ps ≡ true → IsQuiet names ws ps following → is_type names other ≡ true → (more : List TypeWord) → other ≡ ws ++ more → words_text more rest ≡ pointers_text ps following → (other ≡ ws) × (rest ≡ pointers_text ps following)
+words_all : (names : Names) (ws other : List TypeWord) (ps : List PointerWord) (rest following : Kinds) → is_pointer ps ≡ true
+    → IsQuiet names ws ps following → is_type names other ≡ true → (more : List TypeWord) → other ≡ ws ++ more
+    → words_text more rest ≡ pointers_text ps following → (other ≡ ws) × (rest ≡ pointers_text ps following)
 words_all names ws other ps rest following p quiet is [] o same = (o ∙ append-nil ws, same)
 words_all names ws other [] rest following p quiet is (w ∷ more) o same =
     let f = word_first w (words_text more rest) in
@@ -159,15 +174,19 @@ words_all names ws other (pointer.Star ∷ ps) rest following p quiet is (w ∷ 
     absurd (word_no_punctuator w punctuator.Star cc)
 words_all names ws other (pointer.Const ∷ ps) rest following p quiet is (w ∷ more) o same = absurd cc
 
-pointers_all : (names : Names) (ws : List TypeWord) (ps other : List PointerWord) (rest following : Kinds) → IsQuiet names ws ps following → (more : List PointerWord) → other ≡ ps ++ more → pointers_text more rest ≡ following → (other ≡ ps) × (rest ≡ following)
+pointers_all : (names : Names) (ws : List TypeWord) (ps other : List PointerWord) (rest following : Kinds) → IsQuiet names ws ps following
+    → (more : List PointerWord) → other ≡ ps ++ more → pointers_text more rest ≡ following → (other ≡ ps) × (rest ≡ following)
 pointers_all names ws ps other rest following quiet [] o same = (o ∙ append-nil ps, same)
 pointers_all names ws ps other rest following quiet (pointer.Star ∷ more) o same = absurd (quiet.no_star (pointers_text more rest) (sym same))
 pointers_all names ws ps other rest following quiet (pointer.Const ∷ more) o same = absurd (quiet.no_const (pointers_text more rest) (sym same))
 
 -- a type that begins with these words and pointers has them
-pub type_invert : (names : Names) (ws : List TypeWord) (ps : List PointerWord) (other : TypeParts) (after following : Kinds) → is_pointer ps ≡ true → IsQuiet names ws ps following → IsTypeOf names other → type_closed_text other after ≡ words_text ws (pointers_text ps following) → (other.words ≡ ws) × (other.pointers ≡ ps) × (closed_bounds_text other.bounds after ≡ following)
+pub type_invert : (names : Names) (ws : List TypeWord) (ps : List PointerWord) (other : TypeParts) (after following : Kinds) → is_pointer ps ≡ true
+    → IsQuiet names ws ps following → IsTypeOf names other → type_closed_text other after ≡ words_text ws (pointers_text ps following)
+    → (other.words ≡ ws) × (other.pointers ≡ ps) × (closed_bounds_text other.bounds after ≡ following)
 type_invert names ws ps other after following p quiet is same =
-    let f = words_go_on ws other.words (pointers_text other.pointers (closed_bounds_text other.bounds after)) (pointers_text ps following) (pointers_marked other.pointers other.bounds after is.pointers) same in
+    let f = words_go_on ws other.words (pointers_text other.pointers (closed_bounds_text other.bounds after)) (pointers_text ps following)
+    (pointers_marked other.pointers other.bounds after is.pointers) same in
     let w = words_all names ws other.words ps (pointers_text other.pointers (closed_bounds_text other.bounds after)) following p quiet is.words f.0 f.1 f.2 in
     let g = pointers_go_on ps other.pointers other.bounds after following w.1 in
     let q = pointers_all names ws ps other.pointers (closed_bounds_text other.bounds after) following quiet g.0 g.1 g.2 in
@@ -177,7 +196,9 @@ pub head_text : (ws : List TypeWord) (ps : List PointerWord) (x : Kinds) → wor
 head_text ws ps x = words_append ws (pointers_text ps []) x ∙ ap (words_text ws) (pointers_append ps [] x)
 
 -- the bounds of a type were taken
-pub type_exact : (names : Names) (limit : ℕ) (ws : List TypeWord) (ps : List PointerWord) (bs : WrittenList) → is_type names ws ≡ true → is_pointer ps ≡ true → Exactly (Rows closed_bounds_text (ArePhrases names 2)) limit bs → Exactly (Types names) limit (record { words = ws; pointers = ps; bounds = bs })
+pub type_exact : (names : Names) (limit : ℕ) (ws : List TypeWord) (ps : List PointerWord) (bs : WrittenList) → is_type names ws ≡ true
+    → is_pointer ps ≡ true → Exactly (Rows closed_bounds_text (ArePhrases names 2)) limit bs
+    → Exactly (Types names) limit (record { words = ws; pointers = ps; bounds = bs })
 type_exact names limit ws ps bs w p e = record {
   is_phrase = record { words = w; pointers = p; bounds = e.is_phrase };
   low = e.low;
@@ -192,7 +213,10 @@ type_exact names limit ws ps bs w p e = record {
 }
 
 -- the bounds of a type were refused
-pub type_refused : (names : Names) (limit : ℕ) (ws : List TypeWord) (ps : List PointerWord) → is_type names ws ≡ true → is_pointer ps ≡ true → (front : Kinds) (next : TokenKind) (deep : Bool) → ((following : Kinds) → Near next following → IsQuiet names ws ps (front ++ following)) → Refused (Rows closed_bounds_text (ArePhrases names 2)) limit front next deep → Refused (Types names) limit (words_text ws (pointers_text ps []) ++ front) next deep
+pub type_refused : (names : Names) (limit : ℕ) (ws : List TypeWord) (ps : List PointerWord) → is_type names ws ≡ true → is_pointer ps ≡ true
+    → (front : Kinds) (next : TokenKind) (deep : Bool) → ((following : Kinds) → Near next following → IsQuiet names ws ps (front ++ following))
+    → Refused (Rows closed_bounds_text (ArePhrases names 2)) limit front next deep
+    → Refused (Types names) limit (words_text ws (pointers_text ps []) ++ front) next deep
 type_refused names limit ws ps w p front next deep quiet r = record {
   begun = inr (elim r.begun [
     | inl none ↦ record {
@@ -200,18 +224,22 @@ type_refused names limit ws ps w p front next deep quiet r = record {
       more = close_parenthesis ∷ [];
       is_phrase = record { words = w; pointers = p; bounds = tt };
       low = omega arith;
-      spelled = sym (ap (λ (x : Kinds). (words_text ws (pointers_text ps []) ++ x) ++ (close_parenthesis ∷ [])) none ∙ ap (λ (x : Kinds). x ++ (close_parenthesis ∷ [])) (append-nil (words_text ws (pointers_text ps []))) ∙ head_text ws ps (close_parenthesis ∷ []));
+      spelled = sym (ap (λ (x : Kinds). (words_text ws (pointers_text ps []) ++ x) ++ (close_parenthesis ∷ [])) none
+          ∙ ap (λ (x : Kinds). x ++ (close_parenthesis ∷ [])) (append-nil (words_text ws (pointers_text ps [])))
+          ∙ head_text ws ps (close_parenthesis ∷ []));
     }
     | inr l ↦ record {
       phrase = record { words = ws; pointers = ps; bounds = l.phrase };
       more = l.more;
       is_phrase = record { words = w; pointers = p; bounds = l.is_phrase };
       low = l.low;
-      spelled = sym (append_assoc (words_text ws (pointers_text ps [])) front l.more ∙ head_text ws ps (front ++ l.more) ∙ ap (λ (x : Kinds). words_text ws (pointers_text ps x)) (sym l.spelled));
+      spelled = sym (append_assoc (words_text ws (pointers_text ps [])) front l.more ∙ head_text ws ps (front ++ l.more)
+          ∙ ap (λ (x : Kinds). words_text ws (pointers_text ps x)) (sym l.spelled));
     }
   ]);
   never = λ other after following is shut near same.
-      let f = type_invert names ws ps other after (front ++ following) p (quiet following near) is (same ∙ append_assoc (words_text ws (pointers_text ps [])) front following ∙ head_text ws ps (front ++ following)) in
+      let f = type_invert names ws ps other after (front ++ following) p (quiet following near) is (same
+      ∙ append_assoc (words_text ws (pointers_text ps [])) front following ∙ head_text ws ps (front ++ following)) in
       let v = r.never other.bounds after following is.bounds tt near f.2 in
       record { reported = v.reported; high = v.high; onward = v.onward };
   further = λ reported.
@@ -220,6 +248,8 @@ type_refused names limit ws ps w p front next deep quiet r = record {
         phrase = record { words = ws; pointers = ps; bounds = b.phrase };
         more = b.more;
         is_phrase = record { words = w; pointers = p; bounds = b.is_phrase };
-        spelled = sym (ap (λ (x : Kinds). x ++ b.more) (append_assoc (words_text ws (pointers_text ps [])) front (next ∷ [])) ∙ append_assoc (words_text ws (pointers_text ps [])) (front ++ next ∷ []) b.more ∙ head_text ws ps ((front ++ next ∷ []) ++ b.more) ∙ ap (λ (x : Kinds). words_text ws (pointers_text ps x)) (sym b.spelled));
+        spelled = sym (ap (λ (x : Kinds). x ++ b.more) (append_assoc (words_text ws (pointers_text ps [])) front (next ∷ []))
+            ∙ append_assoc (words_text ws (pointers_text ps [])) (front ++ next ∷ []) b.more ∙ head_text ws ps ((front ++ next ∷ []) ++ b.more)
+            ∙ ap (λ (x : Kinds). words_text ws (pointers_text ps x)) (sym b.spelled));
       };
 }

@@ -71,7 +71,8 @@ pub record IsRefusedAt (names : Names) (level limit : ℕ) (tokens : List Token)
 -- want of memory, or a token is refused for the right reason, as the parts of the parser say it to one another
 abbrev pub IsStopped : Names → ℕ → ℕ → List Token → ℕ → Stop → Type 0
 IsStopped names level limit tokens from stop.Memory = Unit {0}
-IsStopped names level limit tokens from (stop.Refused at reason) = IsRefused (Expressions names level) limit tokens from at reason × IsReportedAt names tokens from at reason
+IsStopped names level limit tokens from (stop.Refused at reason) =
+    IsRefused (Expressions names level) limit tokens from at reason × IsReportedAt names tokens from at reason
 
 -- the place of the first of these tokens, or of the end of input
 abbrev pub first_place : Place → List Token → Place
@@ -93,7 +94,8 @@ IsRefusalBy token reason other = ⊥
 -- a refusal of the token with this index, for this reason, or want of memory
 abbrev pub IsRefusalFor : List Token → Place → ℕ → Reason → SyntaxRefusal → Type 0
 IsRefusalFor tokens end at Syntax (refusal.Syntax place) = place ≡ place_or_end tokens end at
-IsRefusalFor tokens end at Unsupported (refusal.Unsupported place word) = (place ≡ place_or_end tokens end at) × (word ≡ unsupported_spelling (kind_or_end tokens at))
+IsRefusalFor tokens end at Unsupported (refusal.Unsupported place word) =
+    (place ≡ place_or_end tokens end at) × (word ≡ unsupported_spelling (kind_or_end tokens at))
 IsRefusalFor tokens end at TooDeep (refusal.TooDeep place) = place ≡ place_or_end tokens end at
 IsRefusalFor tokens end at reason refusal.Memory = Unit {0}
 IsRefusalFor tokens end at reason other = ⊥
@@ -106,4 +108,5 @@ reason_there None reason = Syntax
 -- want of memory, or the refusal of the first token that no phrase of the level that is low enough continues with
 abbrev pub IsRefusal : Names → ℕ → ℕ → List Token → Place → ℕ → SyntaxRefusal → Type 0
 IsRefusal names level limit tokens end from refusal.Memory = Unit {0}
-IsRefusal names level limit tokens end from other = (at : ℕ) × (reason : Reason) × IsRefusalFor tokens end at reason other × IsRefusedAt names level limit tokens from at reason
+IsRefusal names level limit tokens end from other = (at : ℕ) × (reason : Reason) × IsRefusalFor tokens end at reason other
+    × IsRefusedAt names level limit tokens from at reason

@@ -1,5 +1,6 @@
 -- What the parts of the parser of expressions answer to one another.
-use Rattle.std.specs.Prelude.{◌≡◌, ℕ, ◌+◌, ◌≤◌, ◌<◌, Bool, true, false, List, [], ◌∷◌, ◌++◌, drop, length, Option, None, if◌then◌else◌, Result, Ok, Err}
+use Rattle.std.specs.Prelude.{◌≡◌, ℕ, ◌+◌, ◌≤◌, ◌<◌, Bool, true, false, List, [], ◌∷◌, ◌++◌, drop, length, Option, None}
+use Rattle.std.specs.Prelude.{if◌then◌else◌, Result, Ok, Err}
 use Rattle.cs_ast.specs.declared.token.Token.{Token}
 use Rattle.cs_ast.specs.declared.token.TokenKind.{TokenKind}
 use Rattle.cs_ast.specs.declared.token.TokenKind.TheVariants as token
@@ -130,7 +131,8 @@ Types names = record {
 }
 
 -- phrases in a row were taken
-pub record IsRowFrom (spell : WrittenList → Kinds → Kinds) (Is : WrittenList → Type 0) (limit : ℕ) (tokens : List Token) (from : ℕ) (taken : Listed) : Type 0 where
+pub record IsRowFrom (spell : WrittenList → Kinds → Kinds) (Is : WrittenList → Type 0) (limit : ℕ) (tokens : List Token) (from : ℕ) (taken : Listed) :
+    Type 0 where
   pub height_is : taken.height ≡ highest (written_list taken.trees.items)
   pub spelled : Spells tokens from taken.next (spell (written_list taken.trees.items))
   pub exactly : Exactly (Rows spell Is) limit (written_list taken.trees.items)

@@ -52,17 +52,20 @@ PlacesAfter place operand node = (tokens : List Token) → HasPlaces operand tok
 -- the node has its places where its operands have, with the token at this place between them
 abbrev pub PlacesBetween : Place → RawExpr → RawExpr → RawExpr → Type 0
 PlacesBetween place left right node =
-    (tokens : List Token) → HasPlaces left tokens → StandsAt place (after_tree left tokens) → HasPlaces right (drop 1 (after_tree left tokens)) → HasPlaces node tokens
+    (tokens : List Token) → HasPlaces left tokens → StandsAt place (after_tree left tokens) → HasPlaces right (drop 1 (after_tree left tokens))
+    → HasPlaces node tokens
 
 -- the same where the right part is the name of a member
 abbrev pub PlacesMember : Place → RawExpr → RawName → RawExpr → Type 0
 PlacesMember place object name node =
-    (tokens : List Token) → HasPlaces object tokens → StandsAt place (after_tree object tokens) → StandsAt name.place (drop 1 (after_tree object tokens)) → HasPlaces node tokens
+    (tokens : List Token) → HasPlaces object tokens → StandsAt place (after_tree object tokens) → StandsAt name.place (drop 1 (after_tree object tokens))
+    → HasPlaces node tokens
 
 -- the same where the right part is arguments
 abbrev pub PlacesCall : Place → RawExpr → List RawExpr → RawExpr → Type 0
 PlacesCall place function arguments node =
-    (tokens : List Token) → HasPlaces function tokens → StandsAt place (after_tree function tokens) → AreInRow arguments (drop 1 (after_tree function tokens)) → HasPlaces node tokens
+    (tokens : List Token) → HasPlaces function tokens → StandsAt place (after_tree function tokens)
+    → AreInRow arguments (drop 1 (after_tree function tokens)) → HasPlaces node tokens
 
 -- the choice has its places where its parts have, with a token after each of the first two
 abbrev pub PlacesChoice : Place → RawExpr → RawExpr → RawExpr → RawExpr → Type 0
@@ -73,7 +76,8 @@ PlacesChoice place test one other node =
 -- `sizeof` a type has its places where the type has, after two tokens
 abbrev pub PlacesSizeOfType : Place → WrittenType → List RawExpr → RawExpr → Type 0
 PlacesSizeOfType place ty bounds node =
-    (tokens : List Token) → StandsAt place tokens → HasTagPlace ty (drop 2 tokens) → AreInBrackets bounds (after_words ty (drop 2 tokens)) → HasPlaces node tokens
+    (tokens : List Token) → StandsAt place tokens → HasTagPlace ty (drop 2 tokens) → AreInBrackets bounds (after_words ty (drop 2 tokens))
+    → HasPlaces node tokens
 
 -- a cast has its places where the type has, after one token, and the operand after the parenthesis that closes the type
 abbrev pub PlacesCast : Place → WrittenType → List RawExpr → RawExpr → RawExpr → Type 0
@@ -105,17 +109,20 @@ EndsAt tokens from tree next = after_tree tree (drop from tokens) ≡ drop next 
 
 -- the node has its places where its operand has
 abbrev pub IsBuiltAfter : List Token → Taken → Taken → Type 0
-IsBuiltAfter tokens left whole = (from : ℕ) → HasPlaces left.tree (drop from tokens) → EndsAt tokens from left.tree left.next → HasPlaces whole.tree (drop from tokens)
+IsBuiltAfter tokens left whole = (from : ℕ) → HasPlaces left.tree (drop from tokens) → EndsAt tokens from left.tree left.next
+    → HasPlaces whole.tree (drop from tokens)
 
 -- the node has its places where its two operands have, with one token between them
 abbrev pub IsBuiltWith : List Token → Taken → Taken → Taken → Type 0
 IsBuiltWith tokens left right whole =
-    (from : ℕ) → HasPlaces left.tree (drop from tokens) → EndsAt tokens from left.tree left.next → HasPlaces right.tree (drop (left.next + 1) tokens) → HasPlaces whole.tree (drop from tokens)
+    (from : ℕ) → HasPlaces left.tree (drop from tokens) → EndsAt tokens from left.tree left.next → HasPlaces right.tree (drop (left.next + 1) tokens)
+    → HasPlaces whole.tree (drop from tokens)
 
 -- the call has its places where the function and the arguments have
 abbrev pub IsBuiltWithRow : List Token → Taken → Listed → Taken → Type 0
 IsBuiltWithRow tokens left listed whole =
-    (from : ℕ) → HasPlaces left.tree (drop from tokens) → EndsAt tokens from left.tree left.next → AreInRow listed.trees.items (drop (left.next + 1) tokens) → HasPlaces whole.tree (drop from tokens)
+    (from : ℕ) → HasPlaces left.tree (drop from tokens) → EndsAt tokens from left.tree left.next
+    → AreInRow listed.trees.items (drop (left.next + 1) tokens) → HasPlaces whole.tree (drop from tokens)
 
 -- the node has its places where its operand has, with one token before it
 abbrev pub IsBuiltBefore : List Token → ℕ → Taken → Taken → Type 0
@@ -124,7 +131,8 @@ IsBuiltBefore tokens from operand whole = HasPlaces operand.tree (drop (from + 1
 -- the choice has its places where its three parts have
 abbrev pub IsBuiltOfThree : List Token → Taken → Taken → Taken → Taken → Type 0
 IsBuiltOfThree tokens test one other whole =
-    (from : ℕ) → HasPlaces test.tree (drop from tokens) → EndsAt tokens from test.tree test.next → HasPlaces one.tree (drop (test.next + 1) tokens) → EndsAt tokens (test.next + 1) one.tree one.next
+    (from : ℕ) → HasPlaces test.tree (drop from tokens) → EndsAt tokens from test.tree test.next → HasPlaces one.tree (drop (test.next + 1) tokens)
+    → EndsAt tokens (test.next + 1) one.tree one.next
     → HasPlaces other.tree (drop (one.next + 1) tokens) → HasPlaces whole.tree (drop from tokens)
 
 -- a type that was taken has its places, and ends before a token
@@ -139,7 +147,8 @@ IsTypeMeasured tokens from taken whole = IsTypePlaced tokens (from + 2) taken �
 
 -- the cast has its places where the type and the operand have
 abbrev pub IsTypeConverting : List Token → ℕ → TakenType → Taken → Taken → Type 0
-IsTypeConverting tokens from taken operand whole = IsTypePlaced tokens (from + 1) taken → HasPlaces operand.tree (drop taken.next tokens) → HasPlaces whole.tree (drop from tokens)
+IsTypeConverting tokens from taken operand whole = IsTypePlaced tokens (from + 1) taken → HasPlaces operand.tree (drop taken.next tokens)
+    → HasPlaces whole.tree (drop from tokens)
 
 abbrev pub IsOkTypePlaced : List Token → ℕ → Result TakenType Stop → Type 0
 IsOkTypePlaced tokens from (Ok taken) = IsTypePlaced tokens from taken

@@ -1,5 +1,6 @@
 -- What the parts of the parser of types answer to one another.
-use Rattle.std.specs.Prelude.{◌≡◌, ℕ, ◌+◌, ◌≤◌, ◌<◌, length, Bool, true, false, List, [], ◌∷◌, ◌++◌, Option, Some, None, Result, Ok, Err, if◌then◌else◌}
+use Rattle.std.specs.Prelude.{◌≡◌, ℕ, ◌+◌, ◌≤◌, ◌<◌, length, Bool, true, false, List, [], ◌∷◌, ◌++◌, Option, Some, None, Result}
+use Rattle.std.specs.Prelude.{Ok, Err, if◌then◌else◌}
 use Rattle.cs_ast.specs.declared.token.Token.{Token}
 use Rattle.cs_ast.specs.declared.token.TokenKind.{TokenKind}
 use Rattle.cs_ast.specs.declared.token.TokenKind.TheVariants as token
@@ -124,15 +125,18 @@ word_of_tag is_struct tag = if is_struct then word.Struct tag else word.Enum tag
 -- the answer where `struct` or `enum` stands
 abbrev pub TagAnswer : Bool → List Token → ℕ → TypeSoFar → Result (Option NextWord) Stop → Type 0
 TagAnswer is_struct tokens at so_far (Ok (Some found)) =
-    (tag : List ℕ) × (kind_or_end tokens (at + 1) ≡ token.Name tag) × (found.word ≡ word_of_tag is_struct tag) × (found.next ≡ at + 2) × (names_some so_far ≡ false)
+    (tag : List ℕ) × (kind_or_end tokens (at + 1) ≡ token.Name tag) × (found.word ≡ word_of_tag is_struct tag) × (found.next ≡ at + 2)
+    × (names_some so_far ≡ false)
 TagAnswer is_struct tokens at so_far (Ok None) = names_some so_far ≡ true
 TagAnswer is_struct tokens at so_far (Err stop.Memory) = Unit {0}
 TagAnswer is_struct tokens at so_far (Err (stop.Refused refused reason)) =
-    (name_of (kind_or_end tokens (at + 1)) ≡ None) × (refused ≡ at + 1) × (names_some so_far ≡ false) × (reason ≡ plain_reason (kind_or_end tokens refused) true)
+    (name_of (kind_or_end tokens (at + 1)) ≡ None) × (refused ≡ at + 1) × (names_some so_far ≡ false)
+    × (reason ≡ plain_reason (kind_or_end tokens refused) true)
 
 -- the answer for a keyword: the word of an integer type that it is
 abbrev pub IsIntegerAt : Keyword → ℕ → Option NextWord → Type 0
-IsIntegerAt kind at (Some found) = (one : IntegerWord) × (word_of kind ≡ Some one) × (found.word ≡ word.Integer one) × (found.next ≡ at + 1) × (found.tag ≡ None)
+IsIntegerAt kind at (Some found) = (one : IntegerWord) × (word_of kind ≡ Some one) × (found.word ≡ word.Integer one) × (found.next ≡ at + 1)
+    × (found.tag ≡ None)
 IsIntegerAt kind at None = word_of kind ≡ None
 
 abbrev pub IsPointerAt : TokenKind → Option PointerWord → Type 0

@@ -77,7 +77,9 @@ fn joined(
 ) -> Result<Taken, AllocError>
     requires within { left.next < length tokens.now }
     requires low { (left.height < 2 ^ 32 - 1) × (right.height < 2 ^ 32 - 1) }
-    ensures node { IfOk result (IsNode (Infix operator (written left.tree) (written right.tree)) (max left.height right.height + 1) right.next right.deep) }
+    ensures node { IfOk result
+        (IsNode (Infix operator (written left.tree) (written right.tree))
+        (max left.height right.height + 1) right.next right.deep) }
     ensures placed { IfOk result (IsBuiltWith tokens.now left right) }
 {
     let place = place_at(tokens, left.next);

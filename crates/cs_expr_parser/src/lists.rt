@@ -38,7 +38,8 @@ pub fn arguments(
     requires within { from ≤ length tokens.now }
     requires few { length tokens.now < 2 ^ 32 }
     ensures bounds { IsRowBounded limit tokens.now from result }
-    ensures parsed { RowAnswers arguments_text (ArePhrases names.now ASSIGN) limit tokens.now from result }
+    ensures parsed { RowAnswers arguments_text (ArePhrases names.now ASSIGN) limit tokens.now from
+        result }
     ensures reported { IsStopReported names.now tokens.now from result }
     ensures placed { IsRowPlaced tokens.now from result }
 {
@@ -84,8 +85,10 @@ pub fn bounds(
     requires few { length tokens.now < 2 ^ 32 }
     requires least { 1 ≤ limit }
     ensures bounds { IsRowBounded limit tokens.now from result }
-    ensures parsed { RowAnswers closed_bounds_text (ArePhrases names.now CHOICE) limit tokens.now from result }
-    ensures reported { (before : Kinds) → YieldsAfter names.now before after_tag → IsStopReportedAfter names.now before tokens.now from result }
+    ensures parsed { RowAnswers closed_bounds_text (ArePhrases names.now CHOICE) limit tokens.now
+        from result }
+    ensures reported { (before : Kinds) → YieldsAfter names.now before after_tag
+        → IsStopReportedAfter names.now before tokens.now from result }
     ensures placed { AreBoundsPlaced tokens.now from result }
 {
     let mut trees = Vec::new(alloc);

@@ -63,8 +63,11 @@ fn chosen(
     other: Taken,
 ) -> Result<Taken, AllocError>
     requires within { test.next < length tokens.now }
-    requires low { (test.height < 2 ^ 32 - 1) × (one.height < 2 ^ 32 - 1) × (other.height < 2 ^ 32 - 1) }
-    ensures node { IfOk result (IsNode (Choice (written test.tree) (written one.tree) (written other.tree)) (max (max test.height one.height) other.height + 1) other.next other.deep) }
+    requires low { (test.height < 2 ^ 32 - 1) × (one.height < 2 ^ 32 - 1)
+        × (other.height < 2 ^ 32 - 1) }
+    ensures node { IfOk result
+        (IsNode (Choice (written test.tree) (written one.tree) (written other.tree))
+        (max (max test.height one.height) other.height + 1) other.next other.deep) }
     ensures placed { IfOk result (IsBuiltOfThree tokens.now test one other) }
 {
     let place = place_at(tokens, test.next);
@@ -125,7 +128,9 @@ fn stored(
 ) -> Result<Taken, AllocError>
     requires within { object.next < length tokens.now }
     requires low { (object.height < 2 ^ 32 - 1) × (value.height < 2 ^ 32 - 1) }
-    ensures node { IfOk result (IsNode (Assign operator (written object.tree) (written value.tree)) (max object.height value.height + 1) value.next value.deep) }
+    ensures node { IfOk result
+        (IsNode (Assign operator (written object.tree) (written value.tree))
+        (max object.height value.height + 1) value.next value.deep) }
     ensures placed { IfOk result (IsBuiltWith tokens.now object value) }
 {
     let place = place_at(tokens, object.next);
@@ -174,7 +179,9 @@ fn followed(
 ) -> Result<Taken, AllocError>
     requires within { first.next < length tokens.now }
     requires low { (first.height < 2 ^ 32 - 1) × (second.height < 2 ^ 32 - 1) }
-    ensures node { IfOk result (IsNode (Comma (written first.tree) (written second.tree)) (max first.height second.height + 1) second.next second.deep) }
+    ensures node { IfOk result
+        (IsNode (Comma (written first.tree) (written second.tree))
+        (max first.height second.height + 1) second.next second.deep) }
     ensures placed { IfOk result (IsBuiltWith tokens.now first second) }
 {
     let place = place_at(tokens, first.next);

@@ -36,7 +36,8 @@ pub fn leaf_at(
 /// The expression of one token: a name that is no typedef name, a constant or a text.
 fn leaf(alloc: Global, token: &Token, names: &TypedefNames) -> Result<Option<RawExpr>, AllocError>
     ensures leaf { IfOk result (IsLeafOf names.now token.now.kind) }
-    ensures placed { IfOk result (λ found. (others : List OneToken) → IsFoundPlaced found (token.now ∷ others)) }
+    ensures placed { IfOk result (λ found.
+        (others : List OneToken) → IsFoundPlaced found (token.now ∷ others)) }
 {
     let Some(kind) = leaf_kind(&token.kind, names)? else {
         return Ok(None);
@@ -86,7 +87,8 @@ pub fn index(
     array: RawExpr,
     number: RawExpr,
 ) -> Result<RawExpr, AllocError>
-    ensures tree { IfOk result (λ tree. written tree ≡ IndexNode (written array) (written number)) }
+    ensures tree { IfOk result (λ tree.
+        written tree ≡ IndexNode (written array) (written number)) }
     ensures placed { IfOk result (PlacesBetween place array number) }
 {
     node(alloc, place, RawExprKind::Index(array, number))
@@ -187,7 +189,9 @@ pub fn size_of_type(
     bounds: Vec<RawExpr>,
 ) -> Result<RawExpr, AllocError>
     ensures tree { IfOk result
-        (λ tree. written tree ≡ SizeOfTypeNode ty.words.items ty.pointers.items (written_list bounds.items)) }
+        (λ tree.
+        written tree ≡ SizeOfTypeNode ty.words.items ty.pointers.items
+        (written_list bounds.items)) }
     ensures placed { IfOk result (PlacesSizeOfType place ty bounds.items) }
 {
     node(alloc, place, RawExprKind::SizeOfType(ty, bounds))
@@ -202,7 +206,9 @@ pub fn cast(
     operand: RawExpr,
 ) -> Result<RawExpr, AllocError>
     ensures tree { IfOk result
-        (λ tree. written tree ≡ CastNode ty.words.items ty.pointers.items (written_list bounds.items) (written operand)) }
+        (λ tree.
+        written tree ≡ CastNode ty.words.items ty.pointers.items (written_list bounds.items)
+        (written operand)) }
     ensures placed { IfOk result (PlacesCast place ty bounds.items operand) }
 {
     node(alloc, place, RawExprKind::Cast(ty, bounds, operand))
@@ -260,7 +266,8 @@ pub fn comma(
     first: RawExpr,
     second: RawExpr,
 ) -> Result<RawExpr, AllocError>
-    ensures tree { IfOk result (λ tree. written tree ≡ CommaNode (written first) (written second)) }
+    ensures tree { IfOk result (λ tree.
+        written tree ≡ CommaNode (written first) (written second)) }
     ensures placed { IfOk result (PlacesBetween place first second) }
 {
     node(alloc, place, RawExprKind::Comma(first, second))

@@ -34,7 +34,8 @@ pub fn expression(
     requires within { from ≤ length tokens.now }
     requires few { length tokens.now < 2 ^ 32 }
     ensures taken { IfOk result (IsTaken names.now (level_asked level) limit tokens.now from) }
-    ensures refused { IfErr result (IsRefusal names.now (level_asked level) limit tokens.now end from) }
+    ensures refused { IfErr result
+        (IsRefusal names.now (level_asked level) limit tokens.now end from) }
 {
     match expression_at(alloc, tokens, names, from, limit, level) {
         Ok(phrase) => Ok(phrase),
@@ -88,7 +89,9 @@ fn phrase(tokens: &[Token], taken: Taken) -> Phrase
     ensures tree { result.tree ≡ taken.tree }
     ensures height { result.height ≡ taken.height }
     ensures next { result.next ≡ taken.next }
-    ensures otherwise { result.otherwise ≡ reason_of taken.deep (kind_or_end tokens.now taken.next) (ends_in_type (written taken.tree)) }
+    ensures otherwise { result.otherwise
+        ≡ reason_of taken.deep (kind_or_end tokens.now taken.next)
+        (ends_in_type (written taken.tree)) }
 {
     let otherwise = reason_after(tokens, &taken);
     Phrase {

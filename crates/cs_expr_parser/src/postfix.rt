@@ -103,9 +103,12 @@ fn suffixed(
     requires some { 1 ≤ left.height }
     requires few { length tokens.now < 2 ^ 32 }
     ensures bounds { IsBounded limit tokens.now left.next result }
-    ensures chained { (from : ℕ) → IsChainFrom names.now POSTFIX limit tokens.now from left → ChainAnswers names.now POSTFIX limit tokens.now from result }
-    ensures reported { (from : ℕ) → IsChainFrom names.now POSTFIX limit tokens.now from left → IsStopReported names.now tokens.now from result }
-    ensures placed { (from : ℕ) → IsChainFrom names.now POSTFIX limit tokens.now from left → HasPlaces left.tree (drop from tokens.now) → IsOkPlaced tokens.now from result }
+    ensures chained { (from : ℕ) → IsChainFrom names.now POSTFIX limit tokens.now from left
+        → ChainAnswers names.now POSTFIX limit tokens.now from result }
+    ensures reported { (from : ℕ) → IsChainFrom names.now POSTFIX limit tokens.now from left
+        → IsStopReported names.now tokens.now from result }
+    ensures placed { (from : ℕ) → IsChainFrom names.now POSTFIX limit tokens.now from left
+        → HasPlaces left.tree (drop from tokens.now) → IsOkPlaced tokens.now from result }
 {
     match punctuator {
         Punctuator::OpenBracket => {
@@ -131,7 +134,9 @@ fn indexed(alloc: Global, tokens: &[Token], left: Taken, number: Taken) -> Resul
     requires within { left.next < length tokens.now }
     requires low { (left.height < 2 ^ 32 - 1) × (number.height < 2 ^ 32 - 1) }
     requires few { number.next < 2 ^ 32 }
-    ensures node { IfOk result (IsNode (Index (written left.tree) (written number.tree)) (max left.height number.height + 1) (number.next + 1) false) }
+    ensures node { IfOk result
+        (IsNode (Index (written left.tree) (written number.tree))
+        (max left.height number.height + 1) (number.next + 1) false) }
     ensures placed { IfOk result (IsBuiltWith tokens.now left number) }
 {
     let tree = index(alloc, place_at(tokens, left.next), left.tree, number.tree)?;
@@ -147,7 +152,9 @@ fn indexed(alloc: Global, tokens: &[Token], left: Taken, number: Taken) -> Resul
 fn called(alloc: Global, tokens: &[Token], left: Taken, listed: Listed) -> Result<Taken, AllocError>
     requires within { left.next < length tokens.now }
     requires low { (left.height < 2 ^ 32 - 1) × (listed.height < 2 ^ 32 - 2) }
-    ensures node { IfOk result (IsNode (Call (written left.tree) (written_list listed.trees.items)) (max left.height (listed.height + 1) + 1) listed.next false) }
+    ensures node { IfOk result
+        (IsNode (Call (written left.tree) (written_list listed.trees.items))
+        (max left.height (listed.height + 1) + 1) listed.next false) }
     ensures placed { IfOk result (IsBuiltWithRow tokens.now left listed) }
 {
     let tree = call(alloc, place_at(tokens, left.next), left.tree, listed.trees)?;
@@ -191,7 +198,9 @@ fn selected_node(
     name: RawName,
     through: bool,
 ) -> Result<RawExpr, AllocError>
-    ensures tree { IfOk result (λ tree. written tree ≡ (if through then Arrow (written object) name.name else Member (written object) name.name)) }
+    ensures tree { IfOk result (λ tree.
+        written tree ≡ (if through then Arrow (written object) name.name
+        else Member (written object) name.name)) }
     ensures placed { IfOk result (PlacesMember place object name) }
 {
     if through {
@@ -206,7 +215,8 @@ fn stepped(alloc: Global, tokens: &[Token], left: Taken, by: Step) -> Result<Tak
     requires within { left.next < length tokens.now }
     requires low { left.height < 2 ^ 32 - 1 }
     requires few { left.next < 2 ^ 32 }
-    ensures node { IfOk result (IsNode (StepAfter by (written left.tree)) (left.height + 1) (left.next + 1) false) }
+    ensures node { IfOk result
+        (IsNode (StepAfter by (written left.tree)) (left.height + 1) (left.next + 1) false) }
     ensures placed { IfOk result (IsBuiltAfter tokens.now left) }
 {
     let tree = step_after(alloc, place_at(tokens, left.next), by, left.tree)?;

@@ -60,7 +60,8 @@ fn enclosed(alloc: Global, tokens: &[Token], from: usize, inner: Taken) -> Resul
     requires within { from < length tokens.now }
     requires low { inner.height < 2 ^ 32 - 1 }
     requires few { inner.next < 2 ^ 32 }
-    ensures node { IfOk result (IsNode (Enclosed (written inner.tree)) (inner.height + 1) (inner.next + 1) false) }
+    ensures node { IfOk result
+        (IsNode (Enclosed (written inner.tree)) (inner.height + 1) (inner.next + 1) false) }
     ensures placed { IfOk result (IsBuiltBefore tokens.now from inner) }
 {
     let tree = parenthesis(alloc, place_at(tokens, from), inner.tree)?;

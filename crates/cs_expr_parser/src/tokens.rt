@@ -37,7 +37,8 @@ fn punctuator_of(kind: &TokenKind) -> Option<Punctuator>
 
 /// Whether this punctuator is at an index.
 pub fn is_punctuator(tokens: &[Token], at: usize, punctuator: Punctuator) -> bool
-    ensures punctuator { IsTrue result ↔ (kind_or_end tokens.now at ≡ token.Punctuator punctuator) }
+    ensures punctuator { IsTrue result
+        ↔ (kind_or_end tokens.now at ≡ token.Punctuator punctuator) }
     ensures within { IsTrue result → at < length tokens.now }
 {
     punctuator_at(tokens, at) == Some(punctuator)
@@ -179,7 +180,8 @@ pub fn refuse_in_type(tokens: &[Token], at: usize, after_type: bool) -> Stop
 
 /// Why the token after an expression is refused, if nothing else continues with it.
 pub fn reason_after(tokens: &[Token], taken: &Taken) -> Reason
-    ensures { result ≡ reason_of taken.now.deep (kind_or_end tokens.now taken.now.next) (ends_in_type (written taken.now.tree)) }
+    ensures { result ≡ reason_of taken.now.deep (kind_or_end tokens.now taken.now.next)
+        (ends_in_type (written taken.now.tree)) }
 {
     if taken.deep {
         return Reason::TooDeep;
@@ -192,7 +194,9 @@ pub fn reason_after(tokens: &[Token], taken: &Taken) -> Reason
 
 /// The refusal of the token after an expression.
 pub fn refuse_after(tokens: &[Token], taken: &Taken) -> Stop
-    ensures { result ≡ Stop.Refused taken.now.next (reason_of taken.now.deep (kind_or_end tokens.now taken.now.next) (ends_in_type (written taken.now.tree))) }
+    ensures { result ≡ Stop.Refused taken.now.next
+        (reason_of taken.now.deep (kind_or_end tokens.now taken.now.next)
+        (ends_in_type (written taken.now.tree))) }
 {
     Stop::Refused(taken.next, reason_after(tokens, taken))
 }

@@ -105,11 +105,13 @@ fn type_words(
 ) -> Result<TypeWords, Stop>
     requires within { from ≤ length tokens.now }
     requires few { length tokens.now < 2 ^ 32 }
-    ensures bounds { IfOk result (λ taken. (from ≤ taken.next) × (taken.next ≤ length tokens.now)) }
+    ensures bounds { IfOk result (λ taken.
+        (from ≤ taken.next) × (taken.next ≤ length tokens.now)) }
     ensures refused { IsStopBounded tokens.now from result }
     ensures words { WordsAnswer names.now tokens.now from result }
     ensures reported { IsStopReported names.now tokens.now from result }
-    ensures placed { IfOk result (λ taken. IsTagPlaced taken.tag taken.words.items (drop from tokens.now)) }
+    ensures placed { IfOk result (λ taken.
+        IsTagPlaced taken.tag taken.words.items (drop from tokens.now)) }
 {
     let mut words = Vec::new(alloc);
     let mut so_far = TypeSoFar::Nothing;
@@ -144,7 +146,8 @@ fn joining_word_at(
     requires within { at ≤ length tokens.now }
     requires few { length tokens.now < 2 ^ 32 }
     ensures bounds { IsJoiningBounded tokens.now at result }
-    ensures joining { (words : List WordOfType) → Describes names.now so_far words → JoiningAnswer names.now words tokens.now at result }
+    ensures joining { (words : List WordOfType) → Describes names.now so_far words
+        → JoiningAnswer names.now words tokens.now at result }
     ensures placed { IsJoiningTagged tokens.now at result }
 {
     let Some(found) = word_at(tokens, names, at, so_far)? else {
@@ -274,7 +277,8 @@ fn pointer_words(alloc: Global, tokens: &[Token], from: usize) -> Result<Pointer
     requires within { from ≤ length tokens.now }
     requires few { length tokens.now < 2 ^ 32 }
     requires no_const { kind_or_end tokens.now from ≡ token.Keyword keyword.Const → ⊥ }
-    ensures bounds { IfOk result (λ taken. (from ≤ taken.next) × (taken.next ≤ length tokens.now)) }
+    ensures bounds { IfOk result (λ taken.
+        (from ≤ taken.next) × (taken.next ≤ length tokens.now)) }
     ensures refused { IsStopBounded tokens.now from result }
     ensures pointers { PointersAnswer tokens.now from result }
 {

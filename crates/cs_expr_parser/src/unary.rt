@@ -41,7 +41,8 @@ pub enum Before {
 /// Whether an opening parenthesis and a type after it are at an index.
 fn opens_type(tokens: &[Token], names: &TypedefNames, at: usize) -> bool
     requires few { at < 2 ^ 33 }
-    ensures opens { result ≡ type_opens names.now (kind_or_end tokens.now at) (kind_or_end tokens.now (at + 1)) }
+    ensures opens { result ≡ type_opens names.now (kind_or_end tokens.now at)
+        (kind_or_end tokens.now (at + 1)) }
     ensures within { IsTrue result → at < length tokens.now }
 {
     is_punctuator(tokens, at, Punctuator::OpenParenthesis) && begins_type(tokens, names, at + 1)
@@ -87,7 +88,9 @@ fn converted(
 ) -> Result<Taken, AllocError>
     requires within { from < length tokens.now }
     requires low { (taken.height < 2 ^ 32 - 1) × (operand.height < 2 ^ 32 - 1) }
-    ensures node { IfOk result (IsNode (Cast taken.ty.words.items taken.ty.pointers.items (written_list taken.bounds.items) (written operand.tree)) (max taken.height operand.height + 1) operand.next operand.deep) }
+    ensures node { IfOk result
+        (IsNode (Cast taken.ty.words.items taken.ty.pointers.items (written_list taken.bounds.items)
+        (written operand.tree)) (max taken.height operand.height + 1) operand.next operand.deep) }
     ensures placed { IfOk result (IsTypeConverting tokens.now from taken operand) }
 {
     let place = place_at(tokens, from);
@@ -171,7 +174,9 @@ fn prefixed(
 ) -> Result<Taken, AllocError>
     requires within { from < length tokens.now }
     requires low { operand.height < 2 ^ 32 - 1 }
-    ensures node { IfOk result (IsNode (prefixed_tree before (written operand.tree)) (operand.height + 1) operand.next operand.deep) }
+    ensures node { IfOk result
+        (IsNode (prefixed_tree before (written operand.tree)) (operand.height + 1) operand.next
+        operand.deep) }
     ensures placed { IfOk result (IsBuiltBefore tokens.now from operand) }
 {
     let place = place_at(tokens, from);
@@ -232,7 +237,8 @@ fn sized(
 
 /// Whether an opening parenthesis is at an index, and the limit allows a type alone after it.
 fn is_narrow(tokens: &[Token], at: usize, limit: u32) -> bool
-    ensures { IsTrue result ↔ ((limit ≡ 2) × (kind_or_end tokens.now at ≡ token.Punctuator OpenParenthesis)) }
+    ensures { IsTrue result ↔ ((limit ≡ 2)
+        × (kind_or_end tokens.now at ≡ token.Punctuator OpenParenthesis)) }
 {
     limit == 2 && is_punctuator(tokens, at, Punctuator::OpenParenthesis)
 }
@@ -246,7 +252,9 @@ fn measured(
 ) -> Result<Taken, AllocError>
     requires within { from < length tokens.now }
     requires low { taken.height < 2 ^ 32 - 1 }
-    ensures node { IfOk result (IsNode (SizeOfType taken.ty.words.items taken.ty.pointers.items (written_list taken.bounds.items)) (max taken.height 1 + 1) taken.next false) }
+    ensures node { IfOk result
+        (IsNode (SizeOfType taken.ty.words.items taken.ty.pointers.items
+        (written_list taken.bounds.items)) (max taken.height 1 + 1) taken.next false) }
     ensures placed { IfOk result (IsTypeMeasured tokens.now from taken) }
 {
     let place = place_at(tokens, from);

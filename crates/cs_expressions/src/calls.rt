@@ -19,7 +19,8 @@ use std::alloc::{AllocError, Global};
 
 /// The function that is called: its name alone, in parentheses or not.
 pub fn called<'a>(scope: &'a Scope, function: &RawExpr) -> Option<&'a Function>
-    ensures { option_map signature_of (option_copied result) ≡ called scope.now.declarations function.now.kind.value }
+    ensures { option_map signature_of (option_copied result)
+        ≡ called scope.now.declarations function.now.kind.value }
 {
     match &*function.kind {
         RawExprKind::Name(name) => function_in(scope.declarations.newest(name)),
@@ -30,7 +31,8 @@ pub fn called<'a>(scope: &'a Scope, function: &RawExpr) -> Option<&'a Function>
 
 // The function that a name stands for.
 fn function_in(meaning: Option<&Meaning>) -> Option<&Function>
-    ensures { option_map signature_of (option_copied result) ≡ function_in (option_map meaning_of (option_copied meaning.entry)) }
+    ensures { option_map signature_of (option_copied result)
+        ≡ function_in (option_map meaning_of (option_copied meaning.entry)) }
 {
     match meaning {
         Some(Meaning::Function(function)) => Some(function),
@@ -66,7 +68,8 @@ pub fn admitted(
     count: usize,
     function: &Function,
 ) -> Result<(), TypeRefusal>
-    ensures { Answers (λ _. signature_of function.now) (admitted place (shape_in target.entry) count (signature_of function.now)) result }
+    ensures { Answers (λ _. signature_of function.now)
+        (admitted place (shape_in target.entry) count (signature_of function.now)) result }
 {
     if function.parameters.len() != count {
         return Err(TypeRefusal::Code(TypeCode::ArgumentCount, place));
@@ -107,7 +110,9 @@ pub fn converted_list(
     values: Vec<Expr>,
 ) -> Result<Vec<Expr>, TypeRefusal>
     requires { vec_len values ≡ length types.now }
-    ensures { Answers (λ list. typed_list list.items) (converted_list model place (map (λ ty. shape_of ty) types.now) (typed_list values.items)) result }
+    ensures { Answers (λ list. typed_list list.items)
+        (converted_list model place (map (λ ty. shape_of ty) types.now) (typed_list values.items))
+        result }
 {
     let mut left = values;
     let mut list = Vec::new(alloc);
@@ -144,7 +149,8 @@ fn allocated(
     arguments: Vec<Expr>,
     target: Option<&CType>,
 ) -> Result<Expr, TypeRefusal>
-    ensures { Yields (allocated place allocator (typed_list arguments.items) (shape_in target.entry)) result }
+    ensures { Yields (allocated place allocator (typed_list arguments.items)
+        (shape_in target.entry)) result }
 {
     let Some(ty) = target else {
         return Err(TypeRefusal::Code(TypeCode::NoTarget, place));
@@ -181,7 +187,8 @@ pub fn call_of(
     function: &Function,
     arguments: Vec<Expr>,
 ) -> Result<Expr, TypeRefusal>
-    ensures { Yields (call_of place (shape_in target.entry) (signature_of function.now) (typed_list arguments.items)) result }
+    ensures { Yields (call_of place (shape_in target.entry) (signature_of function.now)
+        (typed_list arguments.items)) result }
 {
     match function.callee {
         Callee::Numbered(number) => {

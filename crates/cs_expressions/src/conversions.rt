@@ -25,7 +25,8 @@ pub fn converted(
     value: Expr,
     target: &CType,
 ) -> Result<Expr, TypeRefusal>
-    ensures { Yields (converted model place (typed value) (shape_of target.now) (shape_of value.ty)) result }
+    ensures { Yields (converted model place (typed value) (shape_of target.now) (shape_of value.ty))
+        result }
 {
     let way = way(model, &value, target);
     go(alloc, place, value, way)
@@ -39,7 +40,8 @@ pub fn recast(
     value: Expr,
     target: &CType,
 ) -> Result<Expr, TypeRefusal>
-    ensures { Yields (recast model place (typed value) (shape_of target.now) (shape_of value.ty)) result }
+    ensures { Yields (recast model place (typed value) (shape_of target.now) (shape_of value.ty))
+        result }
 {
     let way = cast_way(model, &value, target);
     go(alloc, place, value, way)
@@ -71,7 +73,9 @@ fn go(alloc: Global, place: Place, value: Expr, way: Way) -> Result<Expr, TypeRe
 // How a value comes to a type as if by assignment.
 #[tactic(auto, unfolding(crate::specs::Conversions::converted))]
 fn way<'a>(model: DataModel, value: &Expr, target: &'a CType) -> Way<'a>
-    ensures { (at : AnyPlace) → converted model at (typed value.now) (shape_of target.now) (shape_of value.now.ty) ≡ by_way at (typed value.now) result }
+    ensures { (at : AnyPlace)
+        → converted model at (typed value.now) (shape_of target.now) (shape_of value.now.ty)
+        ≡ by_way at (typed value.now) result }
 {
     match (target, &value.ty) {
         (CType::Int(ty), CType::Int(_)) => Way::Integer(*ty),
@@ -85,7 +89,9 @@ fn way<'a>(model: DataModel, value: &Expr, target: &'a CType) -> Way<'a>
 
 // How an integer comes to a pointer type: only a null constant does.
 fn null_way<'a>(model: DataModel, value: &Expr, target: &'a CType) -> Way<'a>
-    ensures { (at : AnyPlace) (to : Shape) → shape_of target.now ≡ pointer to → pointed_from_integer model at (typed value.now) to ≡ by_way at (typed value.now) result }
+    ensures { (at : AnyPlace) (to : Shape) → shape_of target.now ≡ pointer to
+        → pointed_from_integer model at (typed value.now) to
+        ≡ by_way at (typed value.now) result }
 {
     if is_null(model, value) {
         Way::Null(target)
@@ -104,7 +110,9 @@ fn pointer_way<'a>(
     from: &CType,
 ) -> Way<'a>
     requires { shape_of target.now ≡ pointer (shape_of to.now) }
-    ensures { (at : AnyPlace) → pointed model at (typed value.now) (shape_of to.now) (shape_of from.now) ≡ by_way at (typed value.now) result }
+    ensures { (at : AnyPlace)
+        → pointed model at (typed value.now) (shape_of to.now) (shape_of from.now)
+        ≡ by_way at (typed value.now) result }
 {
     if *to == *from {
         Way::Kept
@@ -120,7 +128,9 @@ fn pointer_way<'a>(
 // How a value is cast to a type.
 #[tactic(auto, unfolding(crate::specs::Conversions::recast))]
 fn cast_way<'a>(model: DataModel, value: &Expr, target: &'a CType) -> Way<'a>
-    ensures { (at : AnyPlace) → recast model at (typed value.now) (shape_of target.now) (shape_of value.now.ty) ≡ by_way at (typed value.now) result }
+    ensures { (at : AnyPlace)
+        → recast model at (typed value.now) (shape_of target.now) (shape_of value.now.ty)
+        ≡ by_way at (typed value.now) result }
 {
     match (target, &value.ty) {
         (CType::Void, _) => Way::Convert(target),
@@ -144,7 +154,9 @@ fn pointer_cast_way<'a>(
     from: &CType,
 ) -> Way<'a>
     requires { shape_of target.now ≡ pointer (shape_of to.now) }
-    ensures { (at : AnyPlace) → pointer_cast model at (typed value.now) (shape_of to.now) (shape_of from.now) ≡ by_way at (typed value.now) result }
+    ensures { (at : AnyPlace)
+        → pointer_cast model at (typed value.now) (shape_of to.now) (shape_of from.now)
+        ≡ by_way at (typed value.now) result }
 {
     if is_null(model, value) {
         Way::Null(target)

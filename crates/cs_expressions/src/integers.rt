@@ -44,7 +44,8 @@ pub fn joined(
     left: Expr,
     right: Expr,
 ) -> Result<Expr, TypeRefusal>
-    ensures { Yields (joined model operator place (typed left) (typed right) (shape_of left.ty) (shape_of right.ty)) result }
+    ensures { Yields (joined model operator place (typed left) (typed right) (shape_of left.ty)
+        (shape_of right.ty)) result }
 {
     let (CType::Int(one), CType::Int(other)) = (&left.ty, &right.ty) else {
         return Err(TypeRefusal::Code(TypeCode::OperandTypes, place));
@@ -66,7 +67,8 @@ pub fn shifted(
     left: Expr,
     right: Expr,
 ) -> Result<Expr, TypeRefusal>
-    ensures { Yields (shifted model operator place (typed left) (typed right) (shape_of left.ty) (shape_of right.ty)) result }
+    ensures { Yields (shifted model operator place (typed left) (typed right) (shape_of left.ty)
+        (shape_of right.ty)) result }
 {
     let (CType::Int(one), CType::Int(other)) = (&left.ty, &right.ty) else {
         return Err(TypeRefusal::Code(TypeCode::OperandTypes, place));

@@ -44,7 +44,8 @@ pub fn pointer_to(alloc: Global, target: &CType) -> Result<CType, AllocError>
 
 /// A conversion to a type.
 pub fn convert(alloc: Global, place: Place, ty: CType, value: Expr) -> Result<Expr, AllocError>
-    ensures { IfOk result (λ made. typed made ≡ Of place (shape_of ty) (ConvertForm (typed value))) }
+    ensures { IfOk result (λ made.
+        typed made ≡ Of place (shape_of ty) (ConvertForm (typed value))) }
 {
     Ok(Expr {
         place,
@@ -55,7 +56,8 @@ pub fn convert(alloc: Global, place: Place, ty: CType, value: Expr) -> Result<Ex
 
 /// The value that an object holds.
 pub fn load(alloc: Global, place: Place, ty: CType, object: Expr) -> Result<Expr, AllocError>
-    ensures { IfOk result (λ made. typed made ≡ Of place (shape_of ty) (LoadForm (typed object))) }
+    ensures { IfOk result (λ made.
+        typed made ≡ Of place (shape_of ty) (LoadForm (typed object))) }
 {
     Ok(Expr {
         place,
@@ -66,7 +68,8 @@ pub fn load(alloc: Global, place: Place, ty: CType, object: Expr) -> Result<Expr
 
 /// The pointer to the first element of an array, of the type that is given.
 pub fn decay(alloc: Global, place: Place, ty: CType, array: Expr) -> Result<Expr, AllocError>
-    ensures { IfOk result (λ made. typed made ≡ Of place (shape_of ty) (DecayForm (typed array))) }
+    ensures { IfOk result (λ made.
+        typed made ≡ Of place (shape_of ty) (DecayForm (typed array))) }
 {
     Ok(Expr {
         place,
@@ -77,7 +80,8 @@ pub fn decay(alloc: Global, place: Place, ty: CType, array: Expr) -> Result<Expr
 
 /// The pointer to an object, of the type that is given.
 pub fn address(alloc: Global, place: Place, ty: CType, object: Expr) -> Result<Expr, AllocError>
-    ensures { IfOk result (λ made. typed made ≡ Of place (shape_of ty) (AddressForm (typed object))) }
+    ensures { IfOk result (λ made.
+        typed made ≡ Of place (shape_of ty) (AddressForm (typed object))) }
 {
     Ok(Expr {
         place,
@@ -88,7 +92,8 @@ pub fn address(alloc: Global, place: Place, ty: CType, object: Expr) -> Result<E
 
 /// The object that a pointer points to.
 pub fn through(alloc: Global, place: Place, ty: CType, target: Expr) -> Result<Expr, AllocError>
-    ensures { IfOk result (λ made. typed made ≡ Of place (shape_of ty) (ThroughForm (typed target))) }
+    ensures { IfOk result (λ made.
+        typed made ≡ Of place (shape_of ty) (ThroughForm (typed target))) }
 {
     Ok(Expr {
         place,
@@ -106,7 +111,8 @@ pub fn index(
     number: Expr,
     order: Order,
 ) -> Result<Expr, AllocError>
-    ensures { IfOk result (λ made. typed made ≡ Of place (shape_of ty) (IndexForm (typed array) (typed number) order)) }
+    ensures { IfOk result (λ made.
+        typed made ≡ Of place (shape_of ty) (IndexForm (typed array) (typed number) order)) }
 {
     Ok(Expr {
         place,
@@ -123,7 +129,8 @@ pub fn member(
     object: Expr,
     offset: u64,
 ) -> Result<Expr, AllocError>
-    ensures { IfOk result (λ made. typed made ≡ Of place (shape_of ty) (MemberForm (typed object) offset)) }
+    ensures { IfOk result (λ made.
+        typed made ≡ Of place (shape_of ty) (MemberForm (typed object) offset)) }
 {
     Ok(Expr {
         place,
@@ -140,7 +147,8 @@ pub fn arrow(
     object: Expr,
     offset: u64,
 ) -> Result<Expr, AllocError>
-    ensures { IfOk result (λ made. typed made ≡ Of place (shape_of ty) (ArrowForm (typed object) offset)) }
+    ensures { IfOk result (λ made.
+        typed made ≡ Of place (shape_of ty) (ArrowForm (typed object) offset)) }
 {
     Ok(Expr {
         place,
@@ -157,7 +165,8 @@ pub fn unary(
     ty: IntType,
     operand: Expr,
 ) -> Result<Expr, AllocError>
-    ensures { IfOk result (λ made. typed made ≡ Of place (integer ty) (UnaryForm operator (typed operand))) }
+    ensures { IfOk result (λ made.
+        typed made ≡ Of place (integer ty) (UnaryForm operator (typed operand))) }
 {
     Ok(Expr {
         place,
@@ -168,7 +177,8 @@ pub fn unary(
 
 /// Whether a value is 0 or null.
 pub fn not(alloc: Global, place: Place, operand: Expr) -> Result<Expr, AllocError>
-    ensures { IfOk result (λ made. typed made ≡ Of place (integer PlainInt) (NotForm (typed operand))) }
+    ensures { IfOk result (λ made.
+        typed made ≡ Of place (integer PlainInt) (NotForm (typed operand))) }
 {
     Ok(Expr {
         place,
@@ -186,7 +196,8 @@ pub fn binary(
     left: Expr,
     right: Expr,
 ) -> Result<Expr, AllocError>
-    ensures { IfOk result (λ made. typed made ≡ Of place (integer ty) (BinaryForm operator (typed left) (typed right))) }
+    ensures { IfOk result (λ made.
+        typed made ≡ Of place (integer ty) (BinaryForm operator (typed left) (typed right))) }
 {
     Ok(Expr {
         place,
@@ -203,7 +214,9 @@ pub fn compare(
     left: Expr,
     right: Expr,
 ) -> Result<Expr, AllocError>
-    ensures { IfOk result (λ made. typed made ≡ Of place (integer PlainInt) (CompareForm operator (typed left) (typed right))) }
+    ensures { IfOk result (λ made.
+        typed made ≡ Of place (integer PlainInt)
+        (CompareForm operator (typed left) (typed right))) }
 {
     Ok(Expr {
         place,
@@ -222,7 +235,9 @@ pub fn sum(
     direction: Direction,
     order: Order,
 ) -> Result<Expr, AllocError>
-    ensures { IfOk result (λ made. typed made ≡ Of place (shape_of ty) (SumForm (typed base) (typed amount) direction order)) }
+    ensures { IfOk result (λ made.
+        typed made ≡ Of place (shape_of ty)
+        (SumForm (typed base) (typed amount) direction order)) }
 {
     Ok(Expr {
         place,
@@ -239,7 +254,8 @@ pub fn difference(
     left: Expr,
     right: Expr,
 ) -> Result<Expr, AllocError>
-    ensures { IfOk result (λ made. typed made ≡ Of place (integer ty) (DifferenceForm (typed left) (typed right))) }
+    ensures { IfOk result (λ made.
+        typed made ≡ Of place (integer ty) (DifferenceForm (typed left) (typed right))) }
 {
     Ok(Expr {
         place,
@@ -250,7 +266,8 @@ pub fn difference(
 
 /// `&&`.
 pub fn and(alloc: Global, place: Place, left: Expr, right: Expr) -> Result<Expr, AllocError>
-    ensures { IfOk result (λ made. typed made ≡ Of place (integer PlainInt) (AndForm (typed left) (typed right))) }
+    ensures { IfOk result (λ made.
+        typed made ≡ Of place (integer PlainInt) (AndForm (typed left) (typed right))) }
 {
     Ok(Expr {
         place,
@@ -261,7 +278,8 @@ pub fn and(alloc: Global, place: Place, left: Expr, right: Expr) -> Result<Expr,
 
 /// `||`.
 pub fn or(alloc: Global, place: Place, left: Expr, right: Expr) -> Result<Expr, AllocError>
-    ensures { IfOk result (λ made. typed made ≡ Of place (integer PlainInt) (OrForm (typed left) (typed right))) }
+    ensures { IfOk result (λ made.
+        typed made ≡ Of place (integer PlainInt) (OrForm (typed left) (typed right))) }
 {
     Ok(Expr {
         place,
@@ -279,7 +297,8 @@ pub fn choice(
     one: Expr,
     other: Expr,
 ) -> Result<Expr, AllocError>
-    ensures { IfOk result (λ made. typed made ≡ Of place (shape_of ty) (ChoiceForm (typed test) (typed one) (typed other))) }
+    ensures { IfOk result (λ made.
+        typed made ≡ Of place (shape_of ty) (ChoiceForm (typed test) (typed one) (typed other))) }
 {
     Ok(Expr {
         place,
@@ -296,7 +315,8 @@ pub fn comma(
     first: Expr,
     second: Expr,
 ) -> Result<Expr, AllocError>
-    ensures { IfOk result (λ made. typed made ≡ Of place (shape_of ty) (CommaForm (typed first) (typed second))) }
+    ensures { IfOk result (λ made.
+        typed made ≡ Of place (shape_of ty) (CommaForm (typed first) (typed second))) }
 {
     Ok(Expr {
         place,
@@ -313,7 +333,8 @@ pub fn assign(
     object: Expr,
     value: Expr,
 ) -> Result<Expr, AllocError>
-    ensures { IfOk result (λ made. typed made ≡ Of place (shape_of ty) (AssignForm (typed object) (typed value))) }
+    ensures { IfOk result (λ made.
+        typed made ≡ Of place (shape_of ty) (AssignForm (typed object) (typed value))) }
 {
     Ok(Expr {
         place,
@@ -333,7 +354,9 @@ pub fn update(
     works_in: IntType,
     gives: Gives,
 ) -> Result<Expr, AllocError>
-    ensures { IfOk result (λ made. typed made ≡ Of place (integer ty) (UpdateForm operator (typed object) (typed value) works_in gives)) }
+    ensures { IfOk result (λ made.
+        typed made ≡ Of place (integer ty)
+        (UpdateForm operator (typed object) (typed value) works_in gives)) }
 {
     Ok(Expr {
         place,
@@ -355,7 +378,9 @@ pub fn shift(
     direction: Direction,
     gives: Gives,
 ) -> Result<Expr, AllocError>
-    ensures { IfOk result (λ made. typed made ≡ Of place (shape_of ty) (MoveForm (typed object) (typed amount) direction gives)) }
+    ensures { IfOk result (λ made.
+        typed made ≡ Of place (shape_of ty)
+        (MoveForm (typed object) (typed amount) direction gives)) }
 {
     Ok(Expr {
         place,
@@ -383,7 +408,8 @@ pub fn call(
     function: u32,
     arguments: Vec<Expr>,
 ) -> Result<Expr, AllocError>
-    ensures { IfOk result (λ made. typed made ≡ Of place (shape_of ty) (CallForm function (typed_list arguments.items))) }
+    ensures { IfOk result (λ made.
+        typed made ≡ Of place (shape_of ty) (CallForm function (typed_list arguments.items))) }
 {
     Ok(Expr {
         place,
@@ -401,7 +427,9 @@ pub fn allocate(
     arguments: Vec<Expr>,
     element: CType,
 ) -> Result<Expr, AllocError>
-    ensures { IfOk result (λ made. typed made ≡ Of place (shape_of ty) (AllocateForm allocator (typed_list arguments.items) (shape_of element))) }
+    ensures { IfOk result (λ made.
+        typed made ≡ Of place (shape_of ty)
+        (AllocateForm allocator (typed_list arguments.items) (shape_of element))) }
 {
     Ok(Expr {
         place,

@@ -35,7 +35,9 @@ pub struct Pair {
 // How two values come to one type.
 #[tactic(auto, unfolding(crate::specs::Operators::met))]
 fn meeting(model: DataModel, left: &Expr, right: &Expr) -> Meeting
-    ensures { (at : AnyPlace) → met model at (typed left.now) (typed right.now) (shape_of left.now.ty) (shape_of right.now.ty) ≡ by_meeting at (typed left.now) (typed right.now) result }
+    ensures { (at : AnyPlace)
+        → met model at (typed left.now) (typed right.now) (shape_of left.now.ty)
+        (shape_of right.now.ty) ≡ by_meeting at (typed left.now) (typed right.now) result }
 {
     match (&left.ty, &right.ty) {
         (CType::Int(one), CType::Int(other)) => Meeting::Integers(usual(model, *one, *other)),
@@ -59,7 +61,9 @@ fn pointer_meeting(
 ) -> Meeting
     requires left { shape_of left.now.ty ≡ pointer (shape_of one.now) }
     requires right { shape_of right.now.ty ≡ pointer (shape_of other.now) }
-    ensures { (at : AnyPlace) → pointers_met model at (typed left.now) (typed right.now) (shape_of one.now) (shape_of other.now) ≡ by_meeting at (typed left.now) (typed right.now) result }
+    ensures { (at : AnyPlace)
+        → pointers_met model at (typed left.now) (typed right.now) (shape_of one.now)
+        (shape_of other.now) ≡ by_meeting at (typed left.now) (typed right.now) result }
 {
     if *one == *other {
         Meeting::Kept
@@ -123,7 +127,8 @@ fn met(
     left: Expr,
     right: Expr,
 ) -> Result<Pair, TypeRefusal>
-    ensures { Answers pair_of (met model place (typed left) (typed right) (shape_of left.ty) (shape_of right.ty)) result }
+    ensures { Answers pair_of
+        (met model place (typed left) (typed right) (shape_of left.ty) (shape_of right.ty)) result }
 {
     let meeting = meeting(model, &left, &right);
     meet(alloc, place, left, right, meeting)
@@ -156,7 +161,8 @@ fn ordered(
     left: Expr,
     right: Expr,
 ) -> Result<Expr, TypeRefusal>
-    ensures { Yields (ordered model operator place (typed left) (typed right) (shape_of left.ty) (shape_of right.ty)) result }
+    ensures { Yields (ordered model operator place (typed left) (typed right) (shape_of left.ty)
+        (shape_of right.ty)) result }
 {
     match (&left.ty, &right.ty) {
         (CType::Int(one), CType::Int(other)) => {
@@ -181,7 +187,9 @@ fn compare_in(
     left: Expr,
     right: Expr,
 ) -> Result<Expr, AllocError>
-    ensures { IfOk result (λ made. typed made ≡ int_at place (CompareForm operator (in_type place ty (typed left)) (in_type place ty (typed right)))) }
+    ensures { IfOk result (λ made.
+        typed made ≡ int_at place
+        (CompareForm operator (in_type place ty (typed left)) (in_type place ty (typed right)))) }
 {
     let left = in_type(alloc, place, ty, left)?;
     let right = in_type(alloc, place, ty, right)?;
@@ -200,7 +208,9 @@ fn moved(
     direction: Direction,
     order: Order,
 ) -> Result<Expr, TypeRefusal>
-    ensures { (target : Shape) → shape_of base.ty ≡ pointer target → Yields (moved table.now.list place (typed base) (typed amount) target direction order) result }
+    ensures { (target : Shape) → shape_of base.ty ≡ pointer target
+        → Yields (moved table.now.list place (typed base) (typed amount) target direction order)
+        result }
 {
     let CType::Pointer(target) = &base.ty else {
         return Err(TypeRefusal::Code(TypeCode::OperandTypes, place));
@@ -223,7 +233,8 @@ fn added(
     left: Expr,
     right: Expr,
 ) -> Result<Expr, TypeRefusal>
-    ensures { Yields (added model table.now.list place (typed left) (typed right) (shape_of left.ty) (shape_of right.ty)) result }
+    ensures { Yields (added model table.now.list place (typed left) (typed right) (shape_of left.ty)
+        (shape_of right.ty)) result }
 {
     match (&left.ty, &right.ty) {
         (CType::Int(_), CType::Int(_)) => joined(alloc, model, BinOp::Add, place, left, right),
@@ -249,7 +260,10 @@ fn apart(
     left: Expr,
     right: Expr,
 ) -> Result<Expr, TypeRefusal>
-    ensures { (target source : Shape) → shape_of left.ty ≡ pointer target → shape_of right.ty ≡ pointer source → Yields (apart model table.now.list place (typed left) (typed right) target source) result }
+    ensures { (target source : Shape) → shape_of left.ty ≡ pointer target
+        → shape_of right.ty ≡ pointer source
+        → Yields (apart model table.now.list place (typed left) (typed right) target source)
+        result }
 {
     let (CType::Pointer(one), CType::Pointer(other)) = (&left.ty, &right.ty) else {
         return Err(TypeRefusal::Code(TypeCode::OperandTypes, place));
@@ -274,7 +288,8 @@ fn subtracted(
     left: Expr,
     right: Expr,
 ) -> Result<Expr, TypeRefusal>
-    ensures { Yields (subtracted model table.now.list place (typed left) (typed right) (shape_of left.ty) (shape_of right.ty)) result }
+    ensures { Yields (subtracted model table.now.list place (typed left) (typed right)
+        (shape_of left.ty) (shape_of right.ty)) result }
 {
     match (&left.ty, &right.ty) {
         (CType::Int(_), CType::Int(_)) => joined(alloc, model, BinOp::Sub, place, left, right),
@@ -314,7 +329,8 @@ pub fn denied(alloc: Global, place: Place, value: Expr) -> Result<Expr, TypeRefu
 // `&&`.
 #[tactic(auto, unfolding(crate::specs::Operators::both_tested))]
 fn both(alloc: Global, place: Place, left: Expr, right: Expr) -> Result<Expr, TypeRefusal>
-    ensures { Yields (both_tested place (typed left) (typed right) (AndForm (typed left) (typed right))) result }
+    ensures { Yields (both_tested place (typed left) (typed right)
+        (AndForm (typed left) (typed right))) result }
 {
     if !is_scalar(&left.ty) || !is_scalar(&right.ty) {
         return Err(TypeRefusal::Code(TypeCode::OperandTypes, place));
@@ -326,7 +342,8 @@ fn both(alloc: Global, place: Place, left: Expr, right: Expr) -> Result<Expr, Ty
 // `||`.
 #[tactic(auto, unfolding(crate::specs::Operators::both_tested))]
 fn either(alloc: Global, place: Place, left: Expr, right: Expr) -> Result<Expr, TypeRefusal>
-    ensures { Yields (both_tested place (typed left) (typed right) (OrForm (typed left) (typed right))) result }
+    ensures { Yields (both_tested place (typed left) (typed right)
+        (OrForm (typed left) (typed right))) result }
 {
     if !is_scalar(&left.ty) || !is_scalar(&right.ty) {
         return Err(TypeRefusal::Code(TypeCode::OperandTypes, place));
@@ -346,7 +363,8 @@ pub fn combined(
     left: Expr,
     right: Expr,
 ) -> Result<Expr, TypeRefusal>
-    ensures { Yields (combined model table.now.list operator place (typed left) (typed right)) result }
+    ensures { Yields (combined model table.now.list operator place (typed left) (typed right))
+        result }
 {
     match operator {
         InfixOp::Or => either(alloc, place, left, right),
@@ -380,7 +398,8 @@ pub fn chosen(
     one: Expr,
     other: Expr,
 ) -> Result<Expr, TypeRefusal>
-    ensures { Yields (chosen model place (typed test) (typed one) (typed other) (shape_of one.ty) (shape_of other.ty)) result }
+    ensures { Yields (chosen model place (typed test) (typed one) (typed other) (shape_of one.ty)
+        (shape_of other.ty)) result }
 {
     if alike(&one.ty, &other.ty) {
         let made = chosen_alike(alloc, place, test, one, other)?;
@@ -411,7 +430,8 @@ fn chosen_met(
     one: Expr,
     other: Expr,
 ) -> Result<Expr, TypeRefusal>
-    ensures { Yields (lift (chosen_pair place (typed test)) (met model place (typed one) (typed other) (shape_of one.ty) (shape_of other.ty))) result }
+    ensures { Yields (lift (chosen_pair place (typed test))
+        (met model place (typed one) (typed other) (shape_of one.ty) (shape_of other.ty))) result }
 {
     let pair = met(alloc, model, place, one, other)?;
     let made = chosen_pair(alloc, place, test, pair)?;
@@ -426,7 +446,9 @@ fn chosen_alike(
     one: Expr,
     other: Expr,
 ) -> Result<Expr, AllocError>
-    ensures { IfOk result (λ made. typed made ≡ Of place (shape_of one.ty) (ChoiceForm (typed test) (typed one) (typed other))) }
+    ensures { IfOk result (λ made.
+        typed made ≡ Of place (shape_of one.ty)
+        (ChoiceForm (typed test) (typed one) (typed other))) }
 {
     let ty = one.ty.copy(alloc)?;
     let made = choice(alloc, place, ty, test, one, other)?;
@@ -435,7 +457,8 @@ fn chosen_alike(
 
 // A choice between two values of one type.
 fn chosen_pair(alloc: Global, place: Place, test: Expr, pair: Pair) -> Result<Expr, AllocError>
-    ensures { IfOk result (λ made. chosen_pair place (typed test) (pair_of pair) ≡ Fine (typed made)) }
+    ensures { IfOk result (λ made.
+        chosen_pair place (typed test) (pair_of pair) ≡ Fine (typed made)) }
 {
     let ty = pair.left.ty.copy(alloc)?;
     let made = choice(alloc, place, ty, test, pair.left, pair.right)?;

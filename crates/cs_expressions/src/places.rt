@@ -56,7 +56,8 @@ fn element(
     number: Expr,
     order: Order,
 ) -> Result<Expr, TypeRefusal>
-    ensures { (target : Shape) → shape_of array.ty ≡ pointer target → Yields (element table.now.list place (typed array) (typed number) target order) result }
+    ensures { (target : Shape) → shape_of array.ty ≡ pointer target
+        → Yields (element table.now.list place (typed array) (typed number) target order) result }
 {
     let CType::Pointer(target) = &array.ty else {
         return Err(TypeRefusal::Code(TypeCode::OperandTypes, place));
@@ -78,7 +79,8 @@ pub fn indexed(
     left: Expr,
     right: Expr,
 ) -> Result<Expr, TypeRefusal>
-    ensures { Yields (indexed table.now.list place (typed left) (typed right) (shape_of left.ty) (shape_of right.ty)) result }
+    ensures { Yields (indexed table.now.list place (typed left) (typed right) (shape_of left.ty)
+        (shape_of right.ty)) result }
 {
     match (&left.ty, &right.ty) {
         (CType::Pointer(_), CType::Int(_)) => {
@@ -111,7 +113,8 @@ fn member_of<'a>(
     name: &Name,
     number: u32,
 ) -> Result<&'a Member, TypeRefusal>
-    ensures { Answers (λ found. found.now) (member_found place name.now (members_of table.now.list number)) result }
+    ensures { Answers (λ found. found.now)
+        (member_found place name.now (members_of table.now.list number)) result }
 {
     let Some(members) = members_of(table, number) else {
         return Err(TypeRefusal::Code(TypeCode::UnknownName, place));
@@ -131,7 +134,8 @@ pub fn selected(
     name: &RawName,
     object: Expr,
 ) -> Result<Expr, TypeRefusal>
-    ensures { Yields (selected table.now.list place name.now.place name.now.name (typed object)) result }
+    ensures { Yields (selected table.now.list place name.now.place name.now.name (typed object))
+        result }
 {
     if !is_object(&*object.kind) {
         return Err(TypeRefusal::Code(TypeCode::NotLvalue, place));
@@ -154,7 +158,8 @@ pub fn selected_through(
     name: &RawName,
     value: Expr,
 ) -> Result<Expr, TypeRefusal>
-    ensures { Yields (selected_through table.now.list place name.now.place name.now.name (typed value) (shape_of value.ty)) result }
+    ensures { Yields (selected_through table.now.list place name.now.place name.now.name
+        (typed value) (shape_of value.ty)) result }
 {
     let Some(number) = struct_after(&value.ty) else {
         return Err(TypeRefusal::Code(TypeCode::OperandTypes, place));

@@ -46,7 +46,8 @@ pub fn assignable(table: &StructTable, place: Place, object: Expr) -> Result<Exp
 
 /// `=`.
 pub fn assigned(alloc: Global, place: Place, object: Expr, value: Expr) -> Result<Expr, AllocError>
-    ensures { IfOk result (λ made. assigned place (typed object) (typed value) ≡ Fine (typed made)) }
+    ensures { IfOk result (λ made.
+        assigned place (typed object) (typed value) ≡ Fine (typed made)) }
 {
     let ty = object.ty.copy(alloc)?;
     let made = assign(alloc, place, ty, object, value)?;
@@ -139,7 +140,8 @@ pub fn updated(
     object: Expr,
     value: Expr,
 ) -> Result<Expr, TypeRefusal>
-    ensures { Yields (updated model operator place (typed object) (typed value) (shape_of object.ty) (shape_of value.ty)) result }
+    ensures { Yields (updated model operator place (typed object) (typed value) (shape_of object.ty)
+        (shape_of value.ty)) result }
 {
     match (&object.ty, &value.ty) {
         (CType::Int(one), CType::Int(other)) => {
@@ -168,7 +170,11 @@ fn update_by(
     one: IntType,
     other: IntType,
 ) -> Result<Expr, AllocError>
-    ensures { IfOk result (λ made. typed made ≡ Of place (integer one) (UpdateForm operator (typed object) (in_type place (taken_in model operator one other) (typed value)) (works_in model operator one other) New)) }
+    ensures { IfOk result (λ made.
+        typed made ≡ Of place (integer one)
+        (UpdateForm operator (typed object)
+        (in_type place (taken_in model operator one other) (typed value))
+        (works_in model operator one other) New)) }
 {
     let value = in_type(alloc, place, taken_in(model, operator, one, other), value)?;
     let ty = works_in(model, operator, one, other);
@@ -196,7 +202,8 @@ pub fn stepped(
     place: Place,
     object: Expr,
 ) -> Result<Expr, TypeRefusal>
-    ensures { Yields (stepped model operator gives place (typed object) (shape_of object.ty)) result }
+    ensures { Yields (stepped model operator gives place (typed object) (shape_of object.ty))
+        result }
 {
     match &object.ty {
         CType::Int(ty) => {

@@ -17,8 +17,11 @@ impl Points {
     /// Puts the control points of an expression before the others, which are met after it, and gives what is met first.
     #[cycle(expression)]
     pub(crate) fn expression(&mut self, e: &Expr, following: Next) -> Result<Next, AllocError>
-        ensures points { OnOk result (points_of self.new ≡ cfg.points (typed e.now) (next_of following) ++ points_of self.old) }
-        ensures first { IfOk result (λ first. next_of first ≡ cfg.first (typed e.now) (next_of following)) }
+        ensures points { OnOk result
+            (points_of self.new ≡ cfg.points (typed e.now) (next_of following)
+            ++ points_of self.old) }
+        ensures first { IfOk result (λ first.
+            next_of first ≡ cfg.first (typed e.now) (next_of following)) }
     {
         match &*e.kind {
             ExprKind::Number(_) | ExprKind::Null | ExprKind::Text(_) => Ok(following),
@@ -62,8 +65,13 @@ impl Points {
     /// The same of two expressions, of which the first is evaluated first.
     #[cycle(expression)]
     fn pair(&mut self, a: &Expr, b: &Expr, following: Next) -> Result<Next, AllocError>
-        ensures points { OnOk result (points_of self.new ≡ cfg.points (typed a.now) (cfg.first (typed b.now) (next_of following)) ++ cfg.points (typed b.now) (next_of following) ++ points_of self.old) }
-        ensures first { IfOk result (λ first. next_of first ≡ cfg.first (typed a.now) (cfg.first (typed b.now) (next_of following))) }
+        ensures points { OnOk result
+            (points_of self.new ≡ cfg.points (typed a.now)
+            (cfg.first (typed b.now) (next_of following))
+            ++ cfg.points (typed b.now) (next_of following) ++ points_of self.old) }
+        ensures first { IfOk result (λ first.
+            next_of first ≡ cfg.first (typed a.now)
+            (cfg.first (typed b.now) (next_of following))) }
     {
         let second = self.expression(b, following)?;
         self.expression(a, second)
@@ -78,8 +86,11 @@ impl Points {
         one: Next,
         other: Next,
     ) -> Result<Next, AllocError>
-        ensures points { OnOk result (points_of self.new ≡ cfg.points (typed test.now) (cfg.met kinds.Branch place) ++ cfg.tested place (next_of one) (next_of other) ∷ points_of self.old) }
-        ensures first { IfOk result (λ first. next_of first ≡ cfg.first (typed test.now) (cfg.met kinds.Branch place)) }
+        ensures points { OnOk result
+            (points_of self.new ≡ cfg.points (typed test.now) (cfg.met kinds.Branch place)
+            ++ cfg.tested place (next_of one) (next_of other) ∷ points_of self.old) }
+        ensures first { IfOk result (λ first.
+            next_of first ≡ cfg.first (typed test.now) (cfg.met kinds.Branch place)) }
     {
         self.put_tested(place, one, other)?;
         self.expression(test, meets(PointKind::Branch, place))
@@ -88,8 +99,11 @@ impl Points {
     /// The same of expressions one after another.
     #[cycle(expression)]
     fn expressions(&mut self, list: &[Expr], following: Next) -> Result<Next, AllocError>
-        ensures points { OnOk result (points_of self.new ≡ cfg.points_in (typed_list list.now) (next_of following) ++ points_of self.old) }
-        ensures first { IfOk result (λ first. next_of first ≡ cfg.first_in (typed_list list.now) (next_of following)) }
+        ensures points { OnOk result
+            (points_of self.new ≡ cfg.points_in (typed_list list.now) (next_of following)
+            ++ points_of self.old) }
+        ensures first { IfOk result (λ first.
+            next_of first ≡ cfg.first_in (typed_list list.now) (next_of following)) }
     {
         let mut next = following;
         for e in list.iter().rev() {
@@ -100,8 +114,11 @@ impl Points {
 
     /// The same of an expression that may be left out.
     pub(crate) fn optional(&mut self, e: &Option<Expr>, following: Next) -> Result<Next, AllocError>
-        ensures points { OnOk result (points_of self.new ≡ cfg.points_some (some_typed e.now) (next_of following) ++ points_of self.old) }
-        ensures first { IfOk result (λ first. next_of first ≡ cfg.first_some (some_typed e.now) (next_of following)) }
+        ensures points { OnOk result
+            (points_of self.new ≡ cfg.points_some (some_typed e.now) (next_of following)
+            ++ points_of self.old) }
+        ensures first { IfOk result (λ first.
+            next_of first ≡ cfg.first_some (some_typed e.now) (next_of following)) }
     {
         match e {
             Some(e) => self.expression(e, following),

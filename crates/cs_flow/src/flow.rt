@@ -16,8 +16,10 @@ use std::alloc::{AllocError, Global};
 ///
 /// Where memory is short, the flows of the first functions may have been appended.
 pub fn append_flow(out: &mut Vec<u8>, program: &Program) -> Result<(), AllocError>
-    ensures whole { OnOk result (out.new.items ≡ out.old.items ++ cfg.program_flow (typed_program program.now)) }
-    ensures beginning { OnErr result ((count : ℕ) × (out.new.items ≡ out.old.items ++ first_flows (typed_program program.now) count)) }
+    ensures whole { OnOk result (out.new.items
+        ≡ out.old.items ++ cfg.program_flow (typed_program program.now)) }
+    ensures beginning { OnErr result ((count : ℕ)
+        × (out.new.items ≡ out.old.items ++ first_flows (typed_program program.now) count)) }
 {
     for function in &program.functions {
         let text = function_text(*out.allocator(), &program.files, function)?;
@@ -28,7 +30,9 @@ pub fn append_flow(out: &mut Vec<u8>, program: &Program) -> Result<(), AllocErro
 
 /// The flow of a function: nothing where it has no body.
 fn function_text(alloc: Global, files: &[Name], function: &Function) -> Result<Vec<u8>, AllocError>
-    ensures { IfOk result (λ text. text.items ≡ cfg.routine_text files.now (routine function.now) (option_map statement function.now.body)) }
+    ensures { IfOk result (λ text.
+        text.items ≡ cfg.routine_text files.now (routine function.now)
+        (option_map statement function.now.body)) }
 {
     let mut text = Vec::new(alloc);
     let Some(body) = &function.body else {

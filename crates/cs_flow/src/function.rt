@@ -21,7 +21,8 @@ pub(crate) fn control_points(
     body: &Stmt,
 ) -> Result<Points, AllocError>
     requires { function.now.body ≡ Some body.now }
-    ensures { IfOk result (λ points. points_of points ≡ cfg.control_points (routine function.now)) }
+    ensures { IfOk result (λ points.
+        points_of points ≡ cfg.control_points (routine function.now)) }
 {
     let labels = Labels::of(alloc, body)?;
     let to = Targets {

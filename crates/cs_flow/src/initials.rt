@@ -13,8 +13,11 @@ impl Points {
     /// Puts the control points of an initializer before the others, which are met after it, and gives what is met first.
     #[cycle(initial)]
     pub(crate) fn initial(&mut self, first: &Initial, following: Next) -> Result<Next, AllocError>
-        ensures points { OnOk result (points_of self.new ≡ cfg.points_initial (initial first.now) (next_of following) ++ points_of self.old) }
-        ensures first { IfOk result (λ first_met. next_of first_met ≡ cfg.first_initial (initial first.now) (next_of following)) }
+        ensures points { OnOk result
+            (points_of self.new ≡ cfg.points_initial (initial first.now) (next_of following)
+            ++ points_of self.old) }
+        ensures first { IfOk result (λ first_met.
+            next_of first_met ≡ cfg.first_initial (initial first.now) (next_of following)) }
     {
         match first {
             Initial::Value(e) => self.expression(e, following),
@@ -26,8 +29,11 @@ impl Points {
     /// The same of the initializers of parts, which are stored one after another.
     #[cycle(initial)]
     fn parts(&mut self, list: &[Initial], following: Next) -> Result<Next, AllocError>
-        ensures points { OnOk result (points_of self.new ≡ cfg.points_parts (initial_list list.now) (next_of following) ++ points_of self.old) }
-        ensures first { IfOk result (λ first_met. next_of first_met ≡ cfg.first_parts (initial_list list.now) (next_of following)) }
+        ensures points { OnOk result
+            (points_of self.new ≡ cfg.points_parts (initial_list list.now) (next_of following)
+            ++ points_of self.old) }
+        ensures first { IfOk result (λ first_met.
+            next_of first_met ≡ cfg.first_parts (initial_list list.now) (next_of following)) }
     {
         let mut next = following;
         for part in list.iter().rev() {

@@ -21,7 +21,8 @@ pub(crate) struct Labels {
 impl Labels {
     /// The labels of a function's body.
     pub(crate) fn of(alloc: Global, body: &Stmt) -> Result<Labels, AllocError>
-        ensures { IfOk result (λ labels. (label : ℕ) → labels_of labels label ≡ label_in label (statement body.now)) }
+        ensures { IfOk result (λ labels.
+            (label : ℕ) → labels_of labels label ≡ label_in label (statement body.now)) }
     {
         let mut labels = Labels {
             places: HashMap::new(alloc),
@@ -43,7 +44,9 @@ impl Labels {
     /// Adds the labels of a statement that aren't known yet.
     #[cycle(labels)]
     fn find(&mut self, s: &Stmt) -> Result<(), AllocError>
-        ensures { OnOk result ((label : ℕ) → labels_of self.new label ≡ at_label (labels_of self.old label) (label_in label (statement s.now))) }
+        ensures { OnOk result ((label : ℕ)
+            → labels_of self.new label
+            ≡ at_label (labels_of self.old label) (label_in label (statement s.now))) }
     {
         match &*s.kind {
             StmtKind::Block(list) => self.find_in(list),
@@ -68,7 +71,10 @@ impl Labels {
     /// The same of statements one after another.
     #[cycle(labels)]
     fn find_in(&mut self, list: &[Stmt]) -> Result<(), AllocError>
-        ensures { OnOk result ((label : ℕ) → labels_of self.new label ≡ at_label (labels_of self.old label) (label_in_list label (statement_list list.now))) }
+        ensures { OnOk result ((label : ℕ)
+            → labels_of self.new label
+            ≡ at_label (labels_of self.old label)
+            (label_in_list label (statement_list list.now))) }
     {
         for s in list {
             self.find(s)?;
@@ -78,7 +84,9 @@ impl Labels {
 
     /// Adds a label at a place, if it isn't known yet.
     fn add(&mut self, label: u32, place: Place) -> Result<(), AllocError>
-        ensures { OnOk result ((wanted : ℕ) → labels_of self.new wanted ≡ at_label (labels_of self.old wanted) (one_label label place wanted)) }
+        ensures { OnOk result ((wanted : ℕ)
+            → labels_of self.new wanted
+            ≡ at_label (labels_of self.old wanted) (one_label label place wanted)) }
     {
         if self.places.get(&label).is_none() {
             self.places.insert(label, place)?;

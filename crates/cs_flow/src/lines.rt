@@ -17,7 +17,8 @@ pub(crate) fn append_points(
     files: &[Name],
     points: &Points,
 ) -> Result<(), AllocError>
-    ensures { OnOk result (text.new.items ≡ text.old.items ++ flat_map (cfg.point_lines files.now) (points_of points.now)) }
+    ensures { OnOk result (text.new.items
+        ≡ text.old.items ++ flat_map (cfg.point_lines files.now) (points_of points.now)) }
 {
     for point in points.list.iter() {
         append_point(text, files, point)?;
@@ -27,7 +28,8 @@ pub(crate) fn append_points(
 
 /// Appends the lines of a control point: one for each way on which another is met.
 fn append_point(text: &mut Vec<u8>, files: &[Name], point: &ControlPoint) -> Result<(), AllocError>
-    ensures { OnOk result (text.new.items ≡ text.old.items ++ cfg.point_lines files.now (point_of point.now)) }
+    ensures { OnOk result (text.new.items
+        ≡ text.old.items ++ cfg.point_lines files.now (point_of point.now)) }
 {
     let from = Met {
         kind: point.kind,
@@ -41,7 +43,9 @@ fn append_point(text: &mut Vec<u8>, files: &[Name], point: &ControlPoint) -> Res
 
 /// Appends `  KIND PLACE WAY -> KIND PLACE`, if a control point is met on the way.
 fn append_way(text: &mut Vec<u8>, files: &[Name], from: Met, way: Way) -> Result<(), AllocError>
-    ensures { OnOk result (text.new.items ≡ text.old.items ++ cfg.next_line files.now (from_of from) (exit_of way.exit) (next_of way.next)) }
+    ensures { OnOk result (text.new.items
+        ≡ text.old.items ++ cfg.next_line files.now (from_of from) (exit_of way.exit)
+        (next_of way.next)) }
 {
     let Some(next) = way.next else {
         return Ok(());
@@ -67,7 +71,8 @@ fn append_exit(text: &mut Vec<u8>, exit: Exit) -> Result<(), AllocError>
 
 /// Appends `KIND PLACE`.
 fn append_met(text: &mut Vec<u8>, files: &[Name], met: Met) -> Result<(), AllocError>
-    ensures { OnOk result (text.new.items ≡ text.old.items ++ cfg.point_text files.now met.kind met.place) }
+    ensures { OnOk result (text.new.items
+        ≡ text.old.items ++ cfg.point_text files.now met.kind met.place) }
 {
     append(text, kind_name(met.kind))?;
     append(text, " ")?;

@@ -26,8 +26,13 @@ impl Points {
         to: Targets<'_>,
         following: Next,
     ) -> Result<Next, AllocError>
-        ensures points { OnOk result (points_of self.new ≡ cfg.flows (targets_of to.entry) (While place (typed test.now) (statement body.now)) (next_of following) ++ points_of self.old) }
-        ensures first { IfOk result (λ first. next_of first ≡ cfg.starts (targets_of to.entry) (While place (typed test.now) (statement body.now)) (next_of following)) }
+        ensures points { OnOk result
+            (points_of self.new ≡ cfg.flows (targets_of to.entry)
+            (While place (typed test.now) (statement body.now)) (next_of following)
+            ++ points_of self.old) }
+        ensures first { IfOk result (λ first.
+            next_of first ≡ cfg.starts (targets_of to.entry)
+            (While place (typed test.now) (statement body.now)) (next_of following)) }
     {
         let head = meets(PointKind::Head, place);
         let one = self.statement(body, to.in_loop(following, head), head)?;
@@ -46,8 +51,13 @@ impl Points {
         to: Targets<'_>,
         following: Next,
     ) -> Result<Next, AllocError>
-        ensures points { OnOk result (points_of self.new ≡ cfg.flows (targets_of to.entry) (Do place (statement body.now) (typed test.now)) (next_of following) ++ points_of self.old) }
-        ensures first { IfOk result (λ first. next_of first ≡ cfg.starts (targets_of to.entry) (Do place (statement body.now) (typed test.now)) (next_of following)) }
+        ensures points { OnOk result
+            (points_of self.new ≡ cfg.flows (targets_of to.entry)
+            (Do place (statement body.now) (typed test.now)) (next_of following)
+            ++ points_of self.old) }
+        ensures first { IfOk result (λ first.
+            next_of first ≡ cfg.starts (targets_of to.entry)
+            (Do place (statement body.now) (typed test.now)) (next_of following)) }
     {
         let head = meets(PointKind::Head, place);
         let again = self.expression(test, meets(PointKind::Branch, place))?;
@@ -70,8 +80,14 @@ impl Points {
         to: Targets<'_>,
         following: Next,
     ) -> Result<Next, AllocError>
-        ensures points { OnOk result (points_of self.new ≡ cfg.flows (targets_of to.entry) (For place (statement_list first.now) (some_typed test.now) (some_typed last.now) (statement body.now)) (next_of following) ++ points_of self.old) }
-        ensures first { IfOk result (λ first_met. next_of first_met ≡ cfg.starts (targets_of to.entry) (For place (statement_list first.now) (some_typed test.now) (some_typed last.now) (statement body.now)) (next_of following)) }
+        ensures points { OnOk result
+            (points_of self.new ≡ cfg.flows (targets_of to.entry)
+            (For place (statement_list first.now) (some_typed test.now) (some_typed last.now)
+            (statement body.now)) (next_of following) ++ points_of self.old) }
+        ensures first { IfOk result (λ first_met.
+            next_of first_met ≡ cfg.starts (targets_of to.entry)
+            (For place (statement_list first.now) (some_typed test.now) (some_typed last.now)
+            (statement body.now)) (next_of following)) }
     {
         let head = meets(PointKind::Head, place);
         let mut last_points = Points::new(*self.list.allocator());
@@ -95,8 +111,11 @@ impl Points {
         test: &Option<Expr>,
         body: Next,
     ) -> Result<Next, AllocError>
-        ensures points { OnOk result (points_of self.new ≡ cfg.for_points place (some_typed test.now) ++ points_of self.old) }
-        ensures first { IfOk result (λ first. next_of first ≡ cfg.for_test place (some_typed test.now) (next_of body)) }
+        ensures points { OnOk result
+            (points_of self.new ≡ cfg.for_points place (some_typed test.now)
+            ++ points_of self.old) }
+        ensures first { IfOk result (λ first.
+            next_of first ≡ cfg.for_test place (some_typed test.now) (next_of body)) }
     {
         match test {
             Some(test) => self.expression(test, meets(PointKind::Branch, place)),

@@ -52,7 +52,8 @@ impl Points {
         place: Place,
         next: Next,
     ) -> Result<(), AllocError>
-        ensures { OnOk result (points_of self.new ≡ cfg.passed kind place (next_of next) ∷ points_of self.old) }
+        ensures { OnOk result (points_of self.new
+            ≡ cfg.passed kind place (next_of next) ∷ points_of self.old) }
     {
         let alloc = *self.list.allocator();
         let exit = Exit::Onward;
@@ -67,7 +68,8 @@ impl Points {
         one: Next,
         other: Next,
     ) -> Result<(), AllocError>
-        ensures { OnOk result (points_of self.new ≡ cfg.tested place (next_of one) (next_of other) ∷ points_of self.old) }
+        ensures { OnOk result (points_of self.new
+            ≡ cfg.tested place (next_of one) (next_of other) ∷ points_of self.old) }
     {
         let alloc = *self.list.allocator();
         let holds = Way {
@@ -85,7 +87,8 @@ impl Points {
 
     /// Puts a control point before the others, after which nothing of the function is met.
     pub(crate) fn put_last(&mut self, kind: PointKind, place: Place) -> Result<(), AllocError>
-        ensures { OnOk result (points_of self.new ≡ cfg.last_point kind place ∷ points_of self.old) }
+        ensures { OnOk result (points_of self.new
+            ≡ cfg.last_point kind place ∷ points_of self.old) }
     {
         let ways = Vec::new(*self.list.allocator());
         self.put(ControlPoint { kind, place, ways })

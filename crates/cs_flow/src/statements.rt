@@ -24,8 +24,12 @@ impl Points {
         to: Targets<'_>,
         following: Next,
     ) -> Result<Next, AllocError>
-        ensures points { OnOk result (points_of self.new ≡ cfg.flows (targets_of to.entry) (statement s.now) (next_of following) ++ points_of self.old) }
-        ensures first { IfOk result (λ first. next_of first ≡ cfg.starts (targets_of to.entry) (statement s.now) (next_of following)) }
+        ensures points { OnOk result
+            (points_of self.new ≡ cfg.flows (targets_of to.entry) (statement s.now)
+            (next_of following) ++ points_of self.old) }
+        ensures first { IfOk result (λ first.
+            next_of first ≡ cfg.starts (targets_of to.entry) (statement s.now)
+            (next_of following)) }
     {
         let place = s.place;
         match &*s.kind {
@@ -67,7 +71,11 @@ impl Points {
         to: Targets<'_>,
         following: Next,
     ) -> Result<Next, AllocError>
-        ensures points { OnOk result (points_of self.new ≡ cfg.passed kinds.Label place (cfg.starts (targets_of to.entry) (statement body.now) (next_of following)) ∷ (cfg.flows (targets_of to.entry) (statement body.now) (next_of following) ++ points_of self.old)) }
+        ensures points { OnOk result
+            (points_of self.new ≡ cfg.passed kinds.Label place
+            (cfg.starts (targets_of to.entry) (statement body.now) (next_of following))
+            ∷ (cfg.flows (targets_of to.entry) (statement body.now) (next_of following)
+            ++ points_of self.old)) }
         ensures first { IfOk result (λ first. next_of first ≡ cfg.met kinds.Label place) }
     {
         let first = self.statement(body, to, following)?;
@@ -83,8 +91,12 @@ impl Points {
         to: Targets<'_>,
         following: Next,
     ) -> Result<Next, AllocError>
-        ensures points { OnOk result (points_of self.new ≡ cfg.flows_in (targets_of to.entry) (statement_list list.now) (next_of following) ++ points_of self.old) }
-        ensures first { IfOk result (λ first. next_of first ≡ cfg.starts_in (targets_of to.entry) (statement_list list.now) (next_of following)) }
+        ensures points { OnOk result
+            (points_of self.new ≡ cfg.flows_in (targets_of to.entry) (statement_list list.now)
+            (next_of following) ++ points_of self.old) }
+        ensures first { IfOk result (λ first.
+            next_of first ≡ cfg.starts_in (targets_of to.entry) (statement_list list.now)
+            (next_of following)) }
     {
         let mut next = following;
         for s in list.iter().rev() {
@@ -102,8 +114,11 @@ impl Points {
         one: Next,
         other: Next,
     ) -> Result<Next, AllocError>
-        ensures points { OnOk result (points_of self.new ≡ cfg.tested place (next_of one) (next_of other) ∷ (cfg.points (typed test.now) (cfg.met kinds.Branch place) ++ points_of self.old)) }
-        ensures first { IfOk result (λ first. next_of first ≡ cfg.first (typed test.now) (cfg.met kinds.Branch place)) }
+        ensures points { OnOk result
+            (points_of self.new ≡ cfg.tested place (next_of one) (next_of other)
+            ∷ (cfg.points (typed test.now) (cfg.met kinds.Branch place) ++ points_of self.old)) }
+        ensures first { IfOk result (λ first.
+            next_of first ≡ cfg.first (typed test.now) (cfg.met kinds.Branch place)) }
     {
         let first = self.expression(test, meets(PointKind::Branch, place))?;
         self.put_tested(place, one, other)?;
@@ -112,8 +127,12 @@ impl Points {
 
     /// The same of a `return` (C11 6.8.6.4), after which nothing of the function is met.
     fn leave(&mut self, place: Place, value: &Option<Expr>) -> Result<Next, AllocError>
-        ensures points { OnOk result (points_of self.new ≡ cfg.last_point kinds.Return place ∷ (cfg.points_some (some_typed value.now) (cfg.met kinds.Return place) ++ points_of self.old)) }
-        ensures first { IfOk result (λ first. next_of first ≡ cfg.first_some (some_typed value.now) (cfg.met kinds.Return place)) }
+        ensures points { OnOk result
+            (points_of self.new ≡ cfg.last_point kinds.Return place
+            ∷ (cfg.points_some (some_typed value.now) (cfg.met kinds.Return place)
+            ++ points_of self.old)) }
+        ensures first { IfOk result (λ first.
+            next_of first ≡ cfg.first_some (some_typed value.now) (cfg.met kinds.Return place)) }
     {
         let first = self.optional(value, meets(PointKind::Return, place))?;
         self.put_last(PointKind::Return, place)?;

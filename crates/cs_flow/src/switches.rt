@@ -30,8 +30,14 @@ impl Points {
         to: Targets<'_>,
         following: Next,
     ) -> Result<Next, AllocError>
-        ensures points { OnOk result (points_of self.new ≡ cfg.flows (targets_of to.entry) (Switch place (typed value.now) cases.now (statement_list list.now)) (next_of following) ++ points_of self.old) }
-        ensures first { IfOk result (λ first. next_of first ≡ cfg.starts (targets_of to.entry) (Switch place (typed value.now) cases.now (statement_list list.now)) (next_of following)) }
+        ensures points { OnOk result
+            (points_of self.new ≡ cfg.flows (targets_of to.entry)
+            (Switch place (typed value.now) cases.now (statement_list list.now)) (next_of following)
+            ++ points_of self.old) }
+        ensures first { IfOk result (λ first.
+            next_of first ≡ cfg.starts (targets_of to.entry)
+            (Switch place (typed value.now) cases.now (statement_list list.now))
+            (next_of following)) }
     {
         let kind = PointKind::Switch;
         let starts = self.each_statement(list, to.in_switch(following), following)?;
@@ -49,8 +55,12 @@ impl Points {
         to: Targets<'_>,
         following: Next,
     ) -> Result<VecDeque<Next>, AllocError>
-        ensures points { OnOk result (points_of self.new ≡ cfg.flows_in (targets_of to.entry) (statement_list list.now) (next_of following) ++ points_of self.old) }
-        ensures starts { IfOk result (λ starts. map next_of starts.items ≡ all_starts (targets_of to.entry) (statement_list list.now) (next_of following)) }
+        ensures points { OnOk result
+            (points_of self.new ≡ cfg.flows_in (targets_of to.entry) (statement_list list.now)
+            (next_of following) ++ points_of self.old) }
+        ensures starts { IfOk result (λ starts.
+            map next_of starts.items ≡ all_starts (targets_of to.entry) (statement_list list.now)
+            (next_of following)) }
     {
         let mut starts = VecDeque::new(*self.list.allocator());
         let mut next = following;
@@ -69,7 +79,9 @@ fn case_ways(
     starts: &VecDeque<Next>,
     following: Next,
 ) -> Result<Vec<Way>, AllocError>
-    ensures { IfOk result (λ ways. map way_of ways.items ≡ ways_of_cases (map next_of starts.now.items) (next_of following) cases.now 0) }
+    ensures { IfOk result (λ ways.
+        map way_of ways.items ≡ ways_of_cases (map next_of starts.now.items) (next_of following)
+        cases.now 0) }
 {
     let mut ways = Vec::new(alloc);
     for case in cases {

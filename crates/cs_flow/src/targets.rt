@@ -20,7 +20,8 @@ pub(crate) struct Targets<'a> {
 impl<'a> Targets<'a> {
     /// The targets inside a loop: what is met after it, and what `continue` leads to.
     pub(crate) fn in_loop(self, out: Next, again: Next) -> Targets<'a>
-        ensures { targets_of result ≡ cfg.in_loop (targets_of self.entry) (next_of out) (next_of again) }
+        ensures { targets_of result
+            ≡ cfg.in_loop (targets_of self.entry) (next_of out) (next_of again) }
     {
         let labels = self.labels;
         Targets { out, again, labels }

@@ -1,5 +1,6 @@
 -- Numbers of integer types, and the quotients of their products: for the arithmetic of constants.
-use Rattle.std.proofs.Common.{◌≡◌, ℕ, ◌-◌, ◌^◌, ◌≤◌, Bool, true, false, cond, ◌&&◌, not, Option, Some, None, arith, refl, sym, ap, ◌∙◌}
+use Rattle.std.proofs.Common.{◌≡◌, ℕ, ◌-◌, ◌^◌, ◌≤◌, Bool, true, false, cond, ◌&&◌, not, Option, Some, None, arith, refl, sym, ap}
+use Rattle.std.proofs.Common.{◌∙◌}
 use Rattle.std.specs.Prelude.{ℤ, pos, negsuc, zero, suc, ◌-ℤ◌, ◌≤ℤ◌, FitsSigned}
 use Rattle.std.specs.Int.{w128}
 use Rattle.std.proofs.lemmas.Bool.Decides.{Decides-int_eq}
@@ -56,7 +57,10 @@ pub fits_in_c : (n : ℤ) → IsIntegerOfC n → FitsSigned w128 n
 fits_in_c n h = omega (arith, ints, h.from_least, h.to_greatest)
 
 not_zero : (z : ℤ) → (z ≡ pos 0 → ⊥) → int_eq z (pos 0) ≡ false
-not_zero z h = elim (int_eq z (pos 0)) as (λ t. int_eq z (pos 0) ≡ t → t ≡ false) [ true ↦ λ e. absurd (h ((Decides-int_eq z (pos 0)).0 e)) | false ↦ λ _. refl ] refl
+not_zero z h = elim (int_eq z (pos 0)) as (λ t. int_eq z (pos 0) ≡ t → t ≡ false) [
+  | true ↦ λ e. absurd (h ((Decides-int_eq z (pos 0)).0 e))
+  | false ↦ λ _. refl
+] refl
 
 -- a near quotient is 0 just where the quotient is
 pub near-zero : (q : ℤ) → is_zero (near_quotient q) ≡ int_eq q (pos 0)
@@ -69,12 +73,15 @@ near-zero (negsuc (suc n)) = refl
 pub ruleset products = (near-zero)
 
 -- an exact result that an unsigned type takes, and one that a signed type holds
-pub given_unsigned : (model : DataModel) (needed : Bool) (ty : IntType) (z : ℤ) → has_sign ty ≡ false → given model needed ty z ≡ Some (wrapped model ty z)
+pub given_unsigned : (model : DataModel) (needed : Bool) (ty : IntType) (z : ℤ) → has_sign ty ≡ false
+    → given model needed ty z ≡ Some (wrapped model ty z)
 unfolding given
 given_unsigned model needed ty z e = ap (λ t. cond (t && not (int_eq (wrap_quotient model ty z) (pos 0))) (without needed) (Some (wrapped model ty z))) e
 
-pub given_held : (model : DataModel) (needed : Bool) (ty : IntType) (z : ℤ) → int_eq (wrap_quotient model ty z) (pos 0) ≡ true → given model needed ty z ≡ Some (wrapped model ty z)
+pub given_held : (model : DataModel) (needed : Bool) (ty : IntType) (z : ℤ) → int_eq (wrap_quotient model ty z) (pos 0) ≡ true
+    → given model needed ty z ≡ Some (wrapped model ty z)
 unfolding given
 given_held model needed ty z e =
     ap (λ t. cond (has_sign ty && not t) (without needed) (Some (wrapped model ty z))) e
-    ∙ elim (has_sign ty) as (λ t. cond (t && false) (without needed) (Some (wrapped model ty z)) ≡ Some (wrapped model ty z)) [ true ↦ refl | false ↦ refl ]
+    ∙ elim (has_sign ty) as (λ t.
+    cond (t && false) (without needed) (Some (wrapped model ty z)) ≡ Some (wrapped model ty z)) [ true ↦ refl | false ↦ refl ]

@@ -14,7 +14,8 @@ use Rattle.cs_ast.specs.declared.raw.written_type.TypeWord.{TypeWord}
 use Rattle.cs_ast.specs.declared.raw.written_type.TypeWord.TheVariants as word
 use Rattle.cs_ast.specs.declared.raw.written_type.IntegerWord.{IntegerWord}
 use Rattle.cs_ast.specs.declared.raw.written_type.IntegerWord.TheVariants.{Char, Short, Int, Long, Signed, Unsigned}
-use Rattle.cs_ast.specs.RawTree.{Written, Named, Numeral, Character, Literal, Enclosed, Index, Call, Member, Arrow, StepAfter, StepBefore, Prefix, SizeOf, SizeOfType, Cast, Infix, Choice, Assign, Comma}
+use Rattle.cs_ast.specs.RawTree.{Written, Named, Numeral, Character, Literal, Enclosed, Index, Call, Member, Arrow, StepAfter, StepBefore, Prefix, SizeOf}
+use Rattle.cs_ast.specs.RawTree.{SizeOfType, Cast, Infix, Choice, Assign, Comma}
 use Rattle.cs_ast.specs.RawHeight.{height}
 use Rattle.cs_grammar.specs.TypeWords.{Names, is_among, is_type, names_type, named_by}
 use Rattle.cs_grammar.specs.Punctuators.{step_punctuator, prefix_punctuator, infix_punctuator, assign_punctuator}
@@ -44,23 +45,54 @@ prefix_begins names prefix.Not = refl
 
 -- the first token of an expression
 pub expression_begins : (names : Names) (e : Written) (after : Kinds) → IsWell names e → BeginsWith (begins_expression names) (text e after)
-expression_begins names (Named name) after well = record { first = token.Name name; others = after; are = refl; passes = not_from_false (is_among names name) well }
+expression_begins names (Named name) after well = record {
+  first = token.Name name;
+  others = after;
+  are = refl;
+  passes = not_from_false (is_among names name) well;
+}
 expression_begins names (Numeral n) after well = record { first = token.Number n; others = after; are = refl; passes = refl }
 expression_begins names (Character v) after well = record { first = token.Character v; others = after; are = refl; passes = refl }
 expression_begins names (Literal b) after well = record { first = token.Text b; others = after; are = refl; passes = refl }
-expression_begins names (Enclosed i) after well = record { first = token.Punctuator punctuator.OpenParenthesis; others = text i (token.Punctuator punctuator.CloseParenthesis ∷ after); are = refl; passes = refl }
-expression_begins names (Index a n) after well = expression_begins names a (token.Punctuator punctuator.OpenBracket ∷ text n (token.Punctuator punctuator.CloseBracket ∷ after)) well.1
-expression_begins names (Call f es) after well = expression_begins names f (token.Punctuator punctuator.OpenParenthesis ∷ listed es (token.Punctuator punctuator.CloseParenthesis ∷ after)) well.1
+expression_begins names (Enclosed i) after well = record {
+  first = token.Punctuator punctuator.OpenParenthesis;
+  others = text i (token.Punctuator punctuator.CloseParenthesis ∷ after);
+  are = refl;
+  passes = refl;
+}
+expression_begins names (Index a n) after well =
+    expression_begins names a (token.Punctuator punctuator.OpenBracket ∷ text n (token.Punctuator punctuator.CloseBracket ∷ after)) well.1
+expression_begins names (Call f es) after well =
+    expression_begins names f (token.Punctuator punctuator.OpenParenthesis ∷ listed es (token.Punctuator punctuator.CloseParenthesis ∷ after)) well.1
 expression_begins names (Member o n) after well = expression_begins names o (token.Punctuator punctuator.Dot ∷ token.Name n ∷ after) well.1
 expression_begins names (Arrow o n) after well = expression_begins names o (token.Punctuator punctuator.Arrow ∷ token.Name n ∷ after) well.1
 expression_begins names (StepAfter s o) after well = expression_begins names o (token.Punctuator (step_punctuator s) ∷ after) well.1
-expression_begins names (StepBefore s o) after well = record { first = token.Punctuator (step_punctuator s); others = text o after; are = refl; passes = step_begins names s }
-expression_begins names (Prefix op o) after well = record { first = token.Punctuator (prefix_punctuator op); others = text o after; are = refl; passes = prefix_begins names op }
+expression_begins names (StepBefore s o) after well =
+    record { first = token.Punctuator (step_punctuator s); others = text o after; are = refl; passes = step_begins names s }
+expression_begins names (Prefix op o) after well = record {
+  first = token.Punctuator (prefix_punctuator op);
+  others = text o after;
+  are = refl;
+  passes = prefix_begins names op;
+}
 expression_begins names (SizeOf o) after well = record { first = token.Keyword keyword.Sizeof; others = text o after; are = refl; passes = refl }
-expression_begins names (SizeOfType ws ps bs) after well = record { first = token.Keyword keyword.Sizeof; others = token.Punctuator punctuator.OpenParenthesis ∷ type_text ws ps bs (token.Punctuator punctuator.CloseParenthesis ∷ after); are = refl; passes = refl }
-expression_begins names (Cast ws ps bs o) after well = record { first = token.Punctuator punctuator.OpenParenthesis; others = type_text ws ps bs (token.Punctuator punctuator.CloseParenthesis ∷ text o after); are = refl; passes = refl }
+expression_begins names (SizeOfType ws ps bs) after well =
+    record {
+      first = token.Keyword keyword.Sizeof;
+      others = token.Punctuator punctuator.OpenParenthesis ∷ type_text ws ps bs (token.Punctuator punctuator.CloseParenthesis ∷ after);
+      are = refl;
+      passes = refl;
+    }
+expression_begins names (Cast ws ps bs o) after well =
+    record {
+      first = token.Punctuator punctuator.OpenParenthesis;
+      others = type_text ws ps bs (token.Punctuator punctuator.CloseParenthesis ∷ text o after);
+      are = refl;
+      passes = refl;
+    }
 expression_begins names (Infix op l r) after well = expression_begins names l (token.Punctuator (infix_punctuator op) ∷ text r after) well.1
-expression_begins names (Choice t o e) after well = expression_begins names t (token.Punctuator punctuator.Question ∷ text o (token.Punctuator punctuator.Colon ∷ text e after)) well.1
+expression_begins names (Choice t o e) after well =
+    expression_begins names t (token.Punctuator punctuator.Question ∷ text o (token.Punctuator punctuator.Colon ∷ text e after)) well.1
 expression_begins names (Assign op l r) after well = expression_begins names l (token.Punctuator (assign_punctuator op) ∷ text r after) well.1
 expression_begins names (Comma l r) after well = expression_begins names l (token.Punctuator punctuator.Comma ∷ text r after) well.0
 
@@ -70,9 +102,16 @@ postfix_begins names (Named name) after is = record { first = token.Name name; o
 postfix_begins names (Numeral n) after is = record { first = token.Number n; others = after; are = refl; passes = refl }
 postfix_begins names (Character v) after is = record { first = token.Character v; others = after; are = refl; passes = refl }
 postfix_begins names (Literal b) after is = record { first = token.Text b; others = after; are = refl; passes = refl }
-postfix_begins names (Enclosed i) after is = record { first = token.Punctuator punctuator.OpenParenthesis; others = text i (token.Punctuator punctuator.CloseParenthesis ∷ after); are = refl; passes = refl }
-postfix_begins names (Index a n) after is = postfix_begins names a (token.Punctuator punctuator.OpenBracket ∷ text n (token.Punctuator punctuator.CloseBracket ∷ after)) (is.1.0, is.1.1)
-postfix_begins names (Call f es) after is = postfix_begins names f (token.Punctuator punctuator.OpenParenthesis ∷ listed es (token.Punctuator punctuator.CloseParenthesis ∷ after)) (is.1.0, is.1.1)
+postfix_begins names (Enclosed i) after is = record {
+  first = token.Punctuator punctuator.OpenParenthesis;
+  others = text i (token.Punctuator punctuator.CloseParenthesis ∷ after);
+  are = refl;
+  passes = refl;
+}
+postfix_begins names (Index a n) after is =
+    postfix_begins names a (token.Punctuator punctuator.OpenBracket ∷ text n (token.Punctuator punctuator.CloseBracket ∷ after)) (is.1.0, is.1.1)
+postfix_begins names (Call f es) after is =
+    postfix_begins names f (token.Punctuator punctuator.OpenParenthesis ∷ listed es (token.Punctuator punctuator.CloseParenthesis ∷ after)) (is.1.0, is.1.1)
 postfix_begins names (Member o n) after is = postfix_begins names o (token.Punctuator punctuator.Dot ∷ token.Name n ∷ after) (is.1.0, is.1.1)
 postfix_begins names (Arrow o n) after is = postfix_begins names o (token.Punctuator punctuator.Arrow ∷ token.Name n ∷ after) (is.1.0, is.1.1)
 postfix_begins names (StepAfter s o) after is = postfix_begins names o (token.Punctuator (step_punctuator s) ∷ after) (is.1.0, is.1.1)
@@ -110,17 +149,30 @@ prefix_no_parenthesis prefix.Complement e = cc
 prefix_no_parenthesis prefix.Not e = cc
 
 -- what stands after the opening parenthesis that a unary expression begins with
-pub unary_inner : (names : Names) (e : Written) (after tokens : Kinds) → IsPhrase names 14 e → text e after ≡ token.Punctuator punctuator.OpenParenthesis ∷ tokens → Inner names tokens e
+pub unary_inner : (names : Names) (e : Written) (after tokens : Kinds) → IsPhrase names 14 e
+    → text e after ≡ token.Punctuator punctuator.OpenParenthesis ∷ tokens → Inner names tokens e
 unary_inner names (Named name) after tokens is same = absurd cc
 unary_inner names (Numeral n) after tokens is same = absurd cc
 unary_inner names (Character v) after tokens is same = absurd cc
 unary_inner names (Literal b) after tokens is same = absurd cc
 unary_inner names (Enclosed i) after tokens is same = record { inner = i; rest = after; is_well = is.1; are = cc; lower = omega arith }
-unary_inner names (Index a n) after tokens is same = inner_up names tokens a (Index a n) (omega arith) (unary_inner names a (token.Punctuator punctuator.OpenBracket ∷ text n (token.Punctuator punctuator.CloseBracket ∷ after)) tokens (omega (arith, is.1.0), is.1.1) same)
-unary_inner names (Call f es) after tokens is same = inner_up names tokens f (Call f es) (omega arith) (unary_inner names f (token.Punctuator punctuator.OpenParenthesis ∷ listed es (token.Punctuator punctuator.CloseParenthesis ∷ after)) tokens (omega (arith, is.1.0), is.1.1) same)
-unary_inner names (Member o n) after tokens is same = inner_up names tokens o (Member o n) (omega arith) (unary_inner names o (token.Punctuator punctuator.Dot ∷ token.Name n ∷ after) tokens (omega (arith, is.1.0), is.1.1) same)
-unary_inner names (Arrow o n) after tokens is same = inner_up names tokens o (Arrow o n) (omega arith) (unary_inner names o (token.Punctuator punctuator.Arrow ∷ token.Name n ∷ after) tokens (omega (arith, is.1.0), is.1.1) same)
-unary_inner names (StepAfter s o) after tokens is same = inner_up names tokens o (StepAfter s o) (omega arith) (unary_inner names o (token.Punctuator (step_punctuator s) ∷ after) tokens (omega (arith, is.1.0), is.1.1) same)
+unary_inner names (Index a n) after tokens is same =
+    inner_up names tokens a (Index a n) (omega arith)
+    (unary_inner names a (token.Punctuator punctuator.OpenBracket ∷ text n (token.Punctuator punctuator.CloseBracket ∷ after)) tokens
+    (omega (arith, is.1.0), is.1.1) same)
+unary_inner names (Call f es) after tokens is same =
+    inner_up names tokens f (Call f es) (omega arith)
+    (unary_inner names f (token.Punctuator punctuator.OpenParenthesis ∷ listed es (token.Punctuator punctuator.CloseParenthesis ∷ after)) tokens
+    (omega (arith, is.1.0), is.1.1) same)
+unary_inner names (Member o n) after tokens is same =
+    inner_up names tokens o (Member o n) (omega arith)
+    (unary_inner names o (token.Punctuator punctuator.Dot ∷ token.Name n ∷ after) tokens (omega (arith, is.1.0), is.1.1) same)
+unary_inner names (Arrow o n) after tokens is same =
+    inner_up names tokens o (Arrow o n) (omega arith)
+    (unary_inner names o (token.Punctuator punctuator.Arrow ∷ token.Name n ∷ after) tokens (omega (arith, is.1.0), is.1.1) same)
+unary_inner names (StepAfter s o) after tokens is same =
+    inner_up names tokens o (StepAfter s o) (omega arith)
+    (unary_inner names o (token.Punctuator (step_punctuator s) ∷ after) tokens (omega (arith, is.1.0), is.1.1) same)
 unary_inner names (StepBefore s o) after tokens is same = absurd (step_no_parenthesis s cc)
 unary_inner names (Prefix op o) after tokens is same = absurd (prefix_no_parenthesis op cc)
 unary_inner names (SizeOf o) after tokens is same = absurd cc
@@ -147,11 +199,27 @@ names_first names name (w ∷ ws) t = cc
 pub type_begins : (names : Names) (ws : List TypeWord) (rest : Kinds) → IsTrue (is_type names ws) → BeginsWith (begins_type names) (words_text ws rest)
 type_begins names [] rest is = absurd cc
 type_begins names (word.Const ∷ ws) rest is = record { first = token.Keyword keyword.Const; others = words_text ws rest; are = refl; passes = refl }
-type_begins names (word.Integer k ∷ ws) rest is = record { first = integer_word_text k; others = words_text ws rest; are = refl; passes = integer_begins names k }
+type_begins names (word.Integer k ∷ ws) rest is = record {
+  first = integer_word_text k;
+  others = words_text ws rest;
+  are = refl;
+  passes = integer_begins names k;
+}
 type_begins names (word.Void ∷ ws) rest is = record { first = token.Keyword keyword.Void; others = words_text ws rest; are = refl; passes = refl }
-type_begins names (word.Typedef name ∷ ws) rest is = record { first = token.Name name; others = words_text ws rest; are = refl; passes = names_first names name (named_by ws) is }
-type_begins names (word.Struct tag ∷ ws) rest is = record { first = token.Keyword keyword.Struct; others = token.Name tag ∷ words_text ws rest; are = refl; passes = refl }
-type_begins names (word.Enum tag ∷ ws) rest is = record { first = token.Keyword keyword.Enum; others = token.Name tag ∷ words_text ws rest; are = refl; passes = refl }
+type_begins names (word.Typedef name ∷ ws) rest is =
+    record { first = token.Name name; others = words_text ws rest; are = refl; passes = names_first names name (named_by ws) is }
+type_begins names (word.Struct tag ∷ ws) rest is = record {
+  first = token.Keyword keyword.Struct;
+  others = token.Name tag ∷ words_text ws rest;
+  are = refl;
+  passes = refl;
+}
+type_begins names (word.Enum tag ∷ ws) rest is = record {
+  first = token.Keyword keyword.Enum;
+  others = token.Name tag ∷ words_text ws rest;
+  are = refl;
+  passes = refl;
+}
 
 other_keyword : (k : Keyword) → is_sizeof k ≡ true → keyword_begins_type k ≡ true → ⊥
 other_keyword keyword.Sizeof e t = cc

@@ -1,5 +1,6 @@
 -- Declared objects: a declarator, and what stands after its `=`. For the contracts of every parser of declarations.
-use Rattle.std.proofs.Common.{◌≡◌, ℕ, ◌+◌, ◌<◌, ◌≤◌, ◌⊎◌, inl, inr, Bool, true, [], ◌∷◌, ◌++◌, Option, Some, None, MatchOption, refl, sym, ap, ◌∙◌, subst, arith}
+use Rattle.std.proofs.Common.{◌≡◌, ℕ, ◌+◌, ◌<◌, ◌≤◌, ◌⊎◌, inl, inr, Bool, true, [], ◌∷◌, ◌++◌, Option, Some, None}
+use Rattle.std.proofs.Common.{MatchOption, refl, sym, ap, ◌∙◌, subst, arith}
 use Rattle.std.proofs.lemmas.Bool.{false≢true}
 use Rattle.cs_ast.specs.declared.token.TokenKind.{TokenKind}
 use Rattle.cs_ast.specs.declared.token.TokenKind.TheVariants as token
@@ -53,7 +54,13 @@ semicolon_differs e = cc
 
 -- objects with commas between them and a semicolon after them
 abbrev pub object_row : (names : Names) → Separates (Objects names) semicolon
-object_row names = record { law = objects_law names; least = objects_least names; comma = λ d more. refl; closed = λ d more. refl; differs = semicolon_differs }
+object_row names = record {
+  law = objects_law names;
+  least = objects_least names;
+  comma = λ d more. refl;
+  closed = λ d more. refl;
+  differs = semicolon_differs;
+}
 
 -- what ends an object is no bracket
 pub ends_no_bracket : (after : Kinds) → Follows ends_declared after → HasNoBracket after
@@ -61,7 +68,9 @@ ends_no_bracket [] f = tt
 ends_no_bracket (token.Punctuator punctuator.OpenBracket ∷ x) f = absurd (false≢true f)
 ends_no_bracket _ f = tt
 
-declared_never : (names : Names) (limit : ℕ) (front : Kinds) (next : TokenKind) (deep : Bool) → Refused (ObjectDeclarators names) limit front next deep → (d : Declarator) (o : Option Initial) (after following : Kinds) → IsDeclarator names d → Follows ends_declared after → Near next following → declarator_text d (first_value_text o after) ≡ front ++ following → IsOver (Objects names) limit deep (declared_of d o) following
+declared_never : (names : Names) (limit : ℕ) (front : Kinds) (next : TokenKind) (deep : Bool) → Refused (ObjectDeclarators names) limit front next deep
+    → (d : Declarator) (o : Option Initial) (after following : Kinds) → IsDeclarator names d → Follows ends_declared after → Near next following
+    → declarator_text d (first_value_text o after) ≡ front ++ following → IsOver (Objects names) limit deep (declared_of d o) following
 declared_never names limit front next deep r d None after following is shut near same =
     let v = r.never d after following is (ends_no_bracket after shut) near same in
     record { reported = v.reported; high = v.high; onward = v.onward }
@@ -70,17 +79,29 @@ declared_never names limit front next deep r d (Some i) after following is shut 
     record { reported = v.reported; high = let h = v.high in omega (arith, h); onward = v.onward }
 
 -- the declarator was refused
-pub declared_refused : (names : Names) (limit : ℕ) (front : Kinds) (next : TokenKind) (deep : Bool) → Refused (ObjectDeclarators names) limit front next deep → Refused (Objects names) limit front next deep
+pub declared_refused : (names : Names) (limit : ℕ) (front : Kinds) (next : TokenKind) (deep : Bool)
+    → Refused (ObjectDeclarators names) limit front next deep → Refused (Objects names) limit front next deep
 declared_refused names limit front next deep r = record {
   begun = elim r.begun [
     | inl none ↦ inl none
-    | inr b ↦ inr (record { phrase = declared_of b.phrase None; more = b.more; is_phrase = record { declarator = b.is_phrase; initial = tt }; low = b.low; spelled = b.spelled })
+    | inr b ↦ inr (record {
+      phrase = declared_of b.phrase None;
+      more = b.more;
+      is_phrase = record { declarator = b.is_phrase; initial = tt };
+      low = b.low;
+      spelled = b.spelled;
+    })
   ];
-  never = λ other after following is shut near same. declared_never names limit front next deep r other.declarator other.initial after following is.declarator shut near same;
-  further = λ reported. let b = r.further reported in record { phrase = declared_of b.phrase None; more = b.more; is_phrase = record { declarator = b.is_phrase; initial = tt }; spelled = b.spelled };
+  never = λ other after following is shut near same. declared_never names limit front next deep r other.declarator other.initial after following is.declarator
+      shut near same;
+  further = λ reported. let b = r.further reported in
+      record { phrase = declared_of b.phrase None; more = b.more; is_phrase = record { declarator = b.is_phrase; initial = tt }; spelled = b.spelled };
 }
 
-declared_only : (names : Names) (limit : ℕ) (d : Declarator) (next : TokenKind) (deep : Bool) → Took (ObjectDeclarators names) limit d next deep → (next ≡ equal_token → ⊥) → (c : Declarator) (o : Option Initial) (after following : Kinds) → IsDeclarator names c → Follows ends_declared after → Near next following → declarator_text c (first_value_text o after) ≡ declarator_text d following → ((declared_of c o ≡ declared_of d None) × (after ≡ following)) ⊎ IsOver (Objects names) limit deep (declared_of c o) following
+declared_only : (names : Names) (limit : ℕ) (d : Declarator) (next : TokenKind) (deep : Bool) → Took (ObjectDeclarators names) limit d next deep
+    → (next ≡ equal_token → ⊥) → (c : Declarator) (o : Option Initial) (after following : Kinds) → IsDeclarator names c
+    → Follows ends_declared after → Near next following → declarator_text c (first_value_text o after) ≡ declarator_text d following
+    → ((declared_of c o ≡ declared_of d None) × (after ≡ following)) ⊎ IsOver (Objects names) limit deep (declared_of c o) following
 declared_only names limit d next deep t other c None after following is shut near same =
     elim (t.only c after following is (ends_no_bracket after shut) near same) [
       | inl e ↦ inl (ap (λ (x : Declarator). declared_of x None) e.0, e.1)
@@ -93,16 +114,22 @@ declared_only names limit d next deep t other c (Some i) after following is shut
     ]
 
 -- the declarator was taken, and no `=` stands after it
-pub declared_alone : (names : Names) (limit : ℕ) (d : Declarator) (next : TokenKind) (deep : Bool) → Took (ObjectDeclarators names) limit d next deep → (next ≡ equal_token → ⊥) → Took (Objects names) limit (declared_of d None) next deep
+pub declared_alone : (names : Names) (limit : ℕ) (d : Declarator) (next : TokenKind) (deep : Bool) → Took (ObjectDeclarators names) limit d next deep
+    → (next ≡ equal_token → ⊥) → Took (Objects names) limit (declared_of d None) next deep
 declared_alone names limit d next deep t other = record {
   is_phrase = record { declarator = t.is_phrase; initial = tt };
   low = t.low;
-  only = λ whole after following is shut near same. declared_only names limit d next deep t other whole.declarator whole.initial after following is.declarator shut near same;
-  further = λ reported. let b = t.further reported in record { phrase = declared_of b.phrase None; more = b.more; is_phrase = record { declarator = b.is_phrase; initial = tt }; spelled = b.spelled };
+  only = λ whole after following is shut near same. declared_only names limit d next deep t other whole.declarator whole.initial after following is.declarator
+      shut near same;
+  further = λ reported. let b = t.further reported in
+      record { phrase = declared_of b.phrase None; more = b.more; is_phrase = record { declarator = b.is_phrase; initial = tt }; spelled = b.spelled };
   joined = λ reported more shut. t.joined reported more (ends_no_bracket (next ∷ more) shut);
 }
 
-full_only : (names : Names) (limit : ℕ) (d : Declarator) (deep : Bool) → Took (ObjectDeclarators names) limit d equal_token deep → limit < 1 + declarator_height d → (c : Declarator) (o : Option Initial) (after following : Kinds) → IsDeclarator names c → Follows ends_declared after → Near equal_token following → declarator_text c (first_value_text o after) ≡ declarator_text d following → ((declared_of c o ≡ declared_of d None) × (after ≡ following)) ⊎ IsOver (Objects names) limit true (declared_of c o) following
+full_only : (names : Names) (limit : ℕ) (d : Declarator) (deep : Bool) → Took (ObjectDeclarators names) limit d equal_token deep
+    → limit < 1 + declarator_height d → (c : Declarator) (o : Option Initial) (after following : Kinds) → IsDeclarator names c
+    → Follows ends_declared after → Near equal_token following → declarator_text c (first_value_text o after) ≡ declarator_text d following
+    → ((declared_of c o ≡ declared_of d None) × (after ≡ following)) ⊎ IsOver (Objects names) limit true (declared_of c o) following
 full_only names limit d deep t full c None after following is shut near same =
     elim (t.only c after following is (ends_no_bracket after shut) near same) [
       | inl e ↦ inl (ap (λ (x : Declarator). declared_of x None) e.0, e.1)
@@ -118,11 +145,13 @@ full_only names limit d deep t full c (Some i) after following is shut near same
     ]
 
 -- the declarator was taken, an `=` stands after it, and the limit doesn't allow a value
-pub declared_full : (names : Names) (limit : ℕ) (d : Declarator) (deep : Bool) → Took (ObjectDeclarators names) limit d equal_token deep → limit < 1 + declarator_height d → Took (Objects names) limit (declared_of d None) equal_token true
+pub declared_full : (names : Names) (limit : ℕ) (d : Declarator) (deep : Bool) → Took (ObjectDeclarators names) limit d equal_token deep
+    → limit < 1 + declarator_height d → Took (Objects names) limit (declared_of d None) equal_token true
 declared_full names limit d deep t full = record {
   is_phrase = record { declarator = t.is_phrase; initial = tt };
   low = t.low;
-  only = λ whole after following is shut near same. full_only names limit d deep t full whole.declarator whole.initial after following is.declarator shut near same;
+  only = λ whole after following is shut near same. full_only names limit d deep t full whole.declarator whole.initial after following is.declarator shut near
+      same;
   further = λ reported. record {
     phrase = declared_of d (Some (One nought));
     more = text nought [];
@@ -138,7 +167,10 @@ follows_value (token.Punctuator punctuator.Comma ∷ x) f = refl
 follows_value (token.Punctuator punctuator.Semicolon ∷ x) f = refl
 follows_value _ f = absurd (false≢true f)
 
-value_invert : (names : Names) (limit : ℕ) (d : Declarator) (deep : Bool) → Took (ObjectDeclarators names) limit d equal_token deep → (c : Declarator) (o : Option Initial) (after following : Kinds) → IsDeclarator names c → MatchOption o (Unit {0}) (IsInitial names) → Follows ends_declared after → declarator_text c (first_value_text o after) ≡ declarator_text d (equal_token ∷ following) → (part : Initial) × (declared_of c o ≡ declared_of d (Some part)) × IsInitial names part × (following ≡ initial_text part after)
+value_invert : (names : Names) (limit : ℕ) (d : Declarator) (deep : Bool) → Took (ObjectDeclarators names) limit d equal_token deep
+    → (c : Declarator) (o : Option Initial) (after following : Kinds) → IsDeclarator names c → MatchOption o (Unit {0}) (IsInitial names)
+    → Follows ends_declared after → declarator_text c (first_value_text o after) ≡ declarator_text d (equal_token ∷ following)
+    → (part : Initial) × (declared_of c o ≡ declared_of d (Some part)) × IsInitial names part × (following ≡ initial_text part after)
 value_invert names limit d deep t c None after following is has shut same =
     absurd (elim (t.only c after (equal_token ∷ following) is (ends_no_bracket after shut) (inr (following, refl)) same) [
       | inl e ↦ false≢true (subst (Follows ends_declared) e.1 shut)
@@ -151,7 +183,9 @@ value_invert names limit d deep t c (Some i) after following is has shut same =
     ]
 
 -- the declarator was taken, and an `=` stands after it: what is left is the value
-pub value_tail : (names : Names) (limit inner : ℕ) → limit ≡ 1 + inner → (d : Declarator) (deep : Bool) → Took (ObjectDeclarators names) limit d equal_token deep → declarator_height d ≤ inner → Tail (Objects names) (Values names) limit inner (declarator_text d (equal_token ∷ [])) (λ i. declared_of d (Some i)) (λ rest. Unit {0})
+pub value_tail : (names : Names) (limit inner : ℕ) → limit ≡ 1 + inner
+    → (d : Declarator) (deep : Bool) → Took (ObjectDeclarators names) limit d equal_token deep → declarator_height d ≤ inner
+    → Tail (Objects names) (Values names) limit inner (declarator_text d (equal_token ∷ [])) (λ i. declared_of d (Some i)) (λ rest. Unit {0})
 value_tail names limit inner less d deep t fits = record {
   started = inr (record {
     phrase = declared_of d (Some (One nought));
@@ -160,7 +194,8 @@ value_tail names limit inner less d deep t fits = record {
     low = omega (arith, fits, less);
     spelled = sym (declarator_append d (equal_token ∷ []) (text nought []));
   });
-  invert = λ whole after following is shut fit same. value_invert names limit d deep t whole.declarator whole.initial after following is.declarator is.initial shut (same ∙ declarator_append d (equal_token ∷ []) following);
+  invert = λ whole after following is shut fit same. value_invert names limit d deep t whole.declarator whole.initial after following is.declarator is.initial
+      shut (same ∙ declarator_append d (equal_token ∷ []) following);
   shut = λ part after shut. follows_value after shut;
   spelled = λ part after. sym (declarator_append d (equal_token ∷ []) (initial_text part after));
   is_phrase = λ part is. record { declarator = t.is_phrase; initial = is };
@@ -169,11 +204,19 @@ value_tail names limit inner less d deep t fits = record {
 }
 
 -- the value was refused
-pub declared_value_refused : (names : Names) (limit inner : ℕ) → limit ≡ 1 + inner → (d : Declarator) (deep : Bool) → Took (ObjectDeclarators names) limit d equal_token deep → declarator_height d ≤ inner → (front : Kinds) (next : TokenKind) (deep' : Bool) → Refused (Values names) inner front next deep' → Refused (Objects names) limit (declarator_text d (equal_token ∷ []) ++ front) next deep'
+pub declared_value_refused : (names : Names) (limit inner : ℕ) → limit ≡ 1 + inner
+    → (d : Declarator) (deep : Bool) → Took (ObjectDeclarators names) limit d equal_token deep → declarator_height d ≤ inner
+    → (front : Kinds) (next : TokenKind) (deep' : Bool) → Refused (Values names) inner front next deep'
+    → Refused (Objects names) limit (declarator_text d (equal_token ∷ []) ++ front) next deep'
 declared_value_refused names limit inner less d deep t fits front next deep' r =
-    tail_refused (Objects names) (Values names) limit inner (declarator_text d (equal_token ∷ [])) (λ i. declared_of d (Some i)) (λ rest. Unit {0}) (values_law names) (value_tail names limit inner less d deep t fits) front next deep' (λ following near. tt) r
+    tail_refused (Objects names) (Values names) limit inner (declarator_text d (equal_token ∷ [])) (λ i. declared_of d (Some i)) (λ rest. Unit {0})
+    (values_law names) (value_tail names limit inner less d deep t fits) front next deep' (λ following near. tt) r
 
 -- the value was taken
-pub declared_value_took : (names : Names) (limit inner : ℕ) → limit ≡ 1 + inner → (d : Declarator) (deep : Bool) → Took (ObjectDeclarators names) limit d equal_token deep → declarator_height d ≤ inner → (i : Initial) (next : TokenKind) (deep' : Bool) → Took (Values names) inner i next deep' → Took (Objects names) limit (declared_of d (Some i)) next deep'
+pub declared_value_took : (names : Names) (limit inner : ℕ) → limit ≡ 1 + inner
+    → (d : Declarator) (deep : Bool) → Took (ObjectDeclarators names) limit d equal_token deep → declarator_height d ≤ inner
+    → (i : Initial) (next : TokenKind) (deep' : Bool) → Took (Values names) inner i next deep'
+    → Took (Objects names) limit (declared_of d (Some i)) next deep'
 declared_value_took names limit inner less d deep t fits i next deep' t' =
-    tail_took (Objects names) (Values names) limit inner (declarator_text d (equal_token ∷ [])) (λ i. declared_of d (Some i)) (λ rest. Unit {0}) (values_law names) (value_tail names limit inner less d deep t fits) i next deep' (λ following near. tt) t'
+    tail_took (Objects names) (Values names) limit inner (declarator_text d (equal_token ∷ [])) (λ i. declared_of d (Some i)) (λ rest. Unit {0})
+    (values_law names) (value_tail names limit inner less d deep t fits) i next deep' (λ following near. tt) t'

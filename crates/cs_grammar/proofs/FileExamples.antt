@@ -7,7 +7,8 @@ use Rattle.cs_ast.specs.declared.token.Keyword.TheVariants as keyword
 use Rattle.cs_ast.specs.declared.token.Punctuator.TheVariants as punctuator
 use Rattle.cs_ast.specs.declared.raw.written_type.TypeWord.TheVariants as word
 use Rattle.cs_ast.specs.declared.raw.written_type.IntegerWord.TheVariants.{Int}
-use Rattle.cs_ast.specs.RawDeclarations.{Declarator, Declared, Static, Plain, StructBody, MoreMembers, NoMember, Single, Listed, MoreItems, NoItem as NoMore, Specs, NoSpec, MoreSpecs, Parameter, ParameterList, Head, VoidAlone}
+use Rattle.cs_ast.specs.RawDeclarations.{Declarator, Declared, Static, Plain, StructBody, MoreMembers, NoMember, Single, Listed, MoreItems, NoItem as NoMore}
+use Rattle.cs_ast.specs.RawDeclarations.{Specs, NoSpec, MoreSpecs, Parameter, ParameterList, Head, VoidAlone}
 use Rattle.cs_ast.specs.RawStatements.{Sentence, Nothing, If, IfElse, NoItem, External, TypeAlone, Typedef, Objects, Function, Definition}
 use Rattle.cs_grammar.specs.Text.{Kinds, text}
 use Rattle.cs_grammar.specs.FileText.{sentence_text, file_text}
@@ -44,7 +45,8 @@ grown_is = (
   (((refl, (tt, tt)), (tt, (record { declarator = record { pointers = refl; named = refl; bounds = tt }; initial = tt }, tt))), tt),
 )
 
-grown_text : file_text grown ≡ token.Keyword keyword.Typedef ∷ token.Keyword keyword.Int ∷ token.Name T ∷ token.Punctuator punctuator.Semicolon ∷ token.Name T ∷ token.Name x ∷ token.Punctuator punctuator.Semicolon ∷ []
+grown_text : file_text grown ≡ token.Keyword keyword.Typedef ∷ token.Keyword keyword.Int ∷ token.Name T ∷ token.Punctuator punctuator.Semicolon
+    ∷ token.Name T ∷ token.Name x ∷ token.Punctuator punctuator.Semicolon ∷ []
 grown_text = refl
 
 grown_roles : file_roles grown ≡ another ∷ another ∷ declared_name ∷ another ∷ another ∷ declared_name ∷ another ∷ []
@@ -61,7 +63,8 @@ nearest = ((omega arith, tt), ((omega arith, tt), refl, tt, tt))
 farther : IsSentence [] (IfElse nought (If nought Nothing) Nothing) → ⊥
 farther is = false≢true (sym is.1)
 
-same_tokens : (rest : Kinds) → sentence_text (IfElse nought (If nought Nothing) Nothing) rest ≡ sentence_text (If nought (IfElse nought Nothing Nothing)) rest
+same_tokens : (rest : Kinds) → sentence_text (IfElse nought (If nought Nothing) Nothing) rest
+    ≡ sentence_text (If nought (IfElse nought Nothing Nothing)) rest
 same_tokens rest = refl
 
 -- `void` alone is no parameter
@@ -90,17 +93,30 @@ plain_is : IsFile [] plain_x
 plain_is = (((refl, (tt, tt)), (tt, (record { declarator = record { pointers = refl; named = refl; bounds = tt }; initial = tt }, tt))), tt)
 
 parenthesis_out : IsUnsupportedOfFile (token.Keyword keyword.Int ∷ []) (token.Punctuator punctuator.OpenParenthesis)
-parenthesis_out = record { file = plain_x; more = token.Name x ∷ token.Punctuator punctuator.Semicolon ∷ []; is_file = plain_is; spelled = refl; there = refl }
+parenthesis_out = record {
+  file = plain_x;
+  more = token.Name x ∷ token.Punctuator punctuator.Semicolon ∷ [];
+  is_file = plain_is;
+  spelled = refl;
+  there = refl;
+}
 
 -- `int x = .`: where an initial value may begin, a dot is unsupported
 abbrev listed_x : List External
 listed_x = Objects int (declared_of (declarator_of [] x []) (Some (Listed (MoreItems (Single nought) NoMore) false)) ∷ []) ∷ []
 
 listed_is : IsFile [] listed_x
-listed_is = (((refl, (tt, tt)), (tt, (record { declarator = record { pointers = refl; named = refl; bounds = tt }; initial = ((omega arith, tt), tt) }, tt))), tt)
+listed_is =
+    (((refl, (tt, tt)), (tt, (record { declarator = record { pointers = refl; named = refl; bounds = tt }; initial = ((omega arith, tt), tt) }, tt))), tt)
 
 dot_out : IsUnsupportedOfFile (token.Keyword keyword.Int ∷ token.Name x ∷ token.Punctuator punctuator.Equal ∷ []) (token.Punctuator punctuator.Dot)
-dot_out = record { file = listed_x; more = token.Punctuator punctuator.OpenBrace ∷ text nought (token.Punctuator punctuator.CloseBrace ∷ token.Punctuator punctuator.Semicolon ∷ []); is_file = listed_is; spelled = refl; there = refl }
+dot_out = record {
+  file = listed_x;
+  more = token.Punctuator punctuator.OpenBrace ∷ text nought (token.Punctuator punctuator.CloseBrace ∷ token.Punctuator punctuator.Semicolon ∷ []);
+  is_file = listed_is;
+  spelled = refl;
+  there = refl;
+}
 
 -- `struct { int x :`: after a member's declarator a colon is unsupported
 abbrev struct_x : List External
@@ -109,5 +125,12 @@ struct_x = TypeAlone (MoreSpecs (StructBody None (MoreMembers int (declarator_of
 struct_is : IsFile [] struct_x
 struct_is = ((refl, ((refl, (tt, tt), tt, (record { pointers = refl; named = tt; bounds = tt }, tt), tt), tt)), tt)
 
-colon_out : IsUnsupportedOfFile (token.Keyword keyword.Struct ∷ token.Punctuator punctuator.OpenBrace ∷ token.Keyword keyword.Int ∷ token.Name x ∷ []) (token.Punctuator punctuator.Colon)
-colon_out = record { file = struct_x; more = token.Punctuator punctuator.Semicolon ∷ token.Punctuator punctuator.CloseBrace ∷ token.Punctuator punctuator.Semicolon ∷ []; is_file = struct_is; spelled = refl; there = refl }
+colon_out : IsUnsupportedOfFile (token.Keyword keyword.Struct ∷ token.Punctuator punctuator.OpenBrace ∷ token.Keyword keyword.Int ∷ token.Name x ∷ [])
+    (token.Punctuator punctuator.Colon)
+colon_out = record {
+  file = struct_x;
+  more = token.Punctuator punctuator.Semicolon ∷ token.Punctuator punctuator.CloseBrace ∷ token.Punctuator punctuator.Semicolon ∷ [];
+  is_file = struct_is;
+  spelled = refl;
+  there = refl;
+}

@@ -1,5 +1,6 @@
 -- Why a token of a file is refused, where that doesn't depend on what stands before it: for the contract of the parser of files.
-use Rattle.std.proofs.Common.{◌≡◌, ℕ, ◌⊎◌, inl, inr, Bool, true, false, List, [], ◌∷◌, ◌++◌, Option, Some, None, refl, sym, ap, ◌∙◌}
+use Rattle.std.proofs.Common.{◌≡◌, ℕ, ◌⊎◌, inl, inr, Bool, true, false, List, [], ◌∷◌, ◌++◌, Option, Some, None, refl, sym, ap}
+use Rattle.std.proofs.Common.{◌∙◌}
 use Rattle.std.proofs.lemmas.Bool.{false≢true}
 use Rattle.cs_ast.specs.declared.token.TokenKind.{TokenKind}
 use Rattle.cs_ast.specs.declared.token.TokenKind.TheVariants as token
@@ -69,22 +70,27 @@ pub deep_reason : (limit : ℕ) (front : Kinds) (next : TokenKind) → FileRefus
 deep_reason limit front next r = r.further refl
 
 -- none does, and the token is unsupported there
-pub unsupported_reason : (limit : ℕ) (front : Kinds) (next : TokenKind) → FileRefused limit front next false → IsUnsupportedOfFile front next → IsFileReason front (Some next) reason.Unsupported
+pub unsupported_reason : (limit : ℕ) (front : Kinds) (next : TokenKind) → FileRefused limit front next false → IsUnsupportedOfFile front next
+    → IsFileReason front (Some next) reason.Unsupported
 unsupported_reason limit front next r out = (r.nothing refl, out)
 
 -- none does, and the token isn't unsupported there
-pub syntax_reason : (limit : ℕ) (front : Kinds) (next : TokenKind) → FileRefused limit front next false → (IsUnsupportedOfFile front next → ⊥) → IsFileReason front (Some next) reason.Syntax
+pub syntax_reason : (limit : ℕ) (front : Kinds) (next : TokenKind) → FileRefused limit front next false → (IsUnsupportedOfFile front next → ⊥)
+    → IsFileReason front (Some next) reason.Syntax
 syntax_reason limit front next r kept = (r.nothing refl, kept)
 
 -- none does, and the token is unsupported nowhere
-pub plain_reason : (limit : ℕ) (front : Kinds) (next : TokenKind) → FileRefused limit front next false → is_placed next ≡ false → IsFileReason front (Some next) reason.Syntax
+pub plain_reason : (limit : ℕ) (front : Kinds) (next : TokenKind) → FileRefused limit front next false → is_placed next ≡ false
+    → IsFileReason front (Some next) reason.Syntax
 plain_reason limit front next r e = syntax_reason limit front next r (not_placed front next e)
 
 -- an unsupported word, or the punctuator of three dots
-pub word_reason : (limit : ℕ) (front : Kinds) (w : Unsupported) → FileRefused limit front (token.Unsupported w) false → IsFileReason front (Some (token.Unsupported w)) reason.Unsupported
+pub word_reason : (limit : ℕ) (front : Kinds) (w : Unsupported) → FileRefused limit front (token.Unsupported w) false
+    → IsFileReason front (Some (token.Unsupported w)) reason.Unsupported
 word_reason limit front w r = unsupported_reason limit front (token.Unsupported w) r tt
 
-pub dots_reason : (limit : ℕ) (front : Kinds) → FileRefused limit front (token.Punctuator punctuator.Ellipsis) false → IsFileReason front (Some (token.Punctuator punctuator.Ellipsis)) reason.Unsupported
+pub dots_reason : (limit : ℕ) (front : Kinds) → FileRefused limit front (token.Punctuator punctuator.Ellipsis) false
+    → IsFileReason front (Some (token.Punctuator punctuator.Ellipsis)) reason.Unsupported
 dots_reason limit front r = unsupported_reason limit front (token.Punctuator punctuator.Ellipsis) r tt
 
 -- the tokens end, and no file has them alone

@@ -33,4 +33,5 @@ abbrev pub fresh : Names → List ℕ
 fresh names = zeros (suc (all_lengths names))
 
 pub fresh_free : (names : Names) → is_among names (fresh names) ≡ false
-fresh_free names = false_from_ne_true (is_among names (fresh names)) (λ e. longer_is_new names (fresh names) (let l = zeros_length (suc (all_lengths names)) in omega (arith, l)) e)
+fresh_free names = false_from_ne_true (is_among names (fresh names))
+    (λ e. longer_is_new names (fresh names) (let l = zeros_length (suc (all_lengths names)) in omega (arith, l)) e)

@@ -27,27 +27,43 @@ GrownSoFar {L} grow limit done Fit = Tail L L limit limit (grow.row_text done []
 -- nothing was taken so far
 pub grown_none : {L C : Class} {all : Listing L C} (grow : Growing L C all) (limit : ℕ) → GrownSoFar grow limit all.none (λ rest. Unit {0})
 grown_none {L} {C} {all} grow limit =
-    tail_as L L limit limit [] (grow.row_text all.none []) (λ rest. rest) (grow.append all.none) (λ rest. Unit {0}) (λ rest. Unit {0}) (tail_start L limit) (sym (grow.none_text [])) (λ rest. sym (grow.none_append rest)) (λ following fit. tt)
+    tail_as L L limit limit [] (grow.row_text all.none []) (λ rest. rest) (grow.append all.none) (λ rest. Unit {0}) (λ rest. Unit {0}) (tail_start L limit)
+    (sym (grow.none_text [])) (λ rest. sym (grow.none_append rest)) (λ following fit. tt)
 
 -- one phrase more was taken
-pub grown_more : {L C : Class} {all : Listing L C} (grow : Growing L C all) (limit : ℕ) (done : L.Tree) (Fit : Kinds → Type 0) → GrownSoFar grow limit done Fit → (c : C.Tree) (next : TokenKind) (deep : Bool) → Took C limit c next deep → (deep ≡ true → C.Shut c (next ∷ [])) → ((following : Kinds) → Near next following → Fit (C.spell c following)) → GrownSoFar grow limit (grow.append done (all.more c all.none)) (Near next)
+pub grown_more : {L C : Class} {all : Listing L C} (grow : Growing L C all) (limit : ℕ) (done : L.Tree) (Fit : Kinds → Type 0)
+    → GrownSoFar grow limit done Fit → (c : C.Tree) (next : TokenKind) (deep : Bool) → Took C limit c next deep
+    → (deep ≡ true → C.Shut c (next ∷ [])) → ((following : Kinds) → Near next following → Fit (C.spell c following))
+    → GrownSoFar grow limit (grow.append done (all.more c all.none)) (Near next)
 grown_more {L} {C} {all} grow limit done Fit so_far c next deep t settled fits =
-    tail_as L L limit limit (grow.row_text done [] ++ C.spell c []) (grow.row_text (grow.append done (all.more c all.none)) []) (λ rest. grow.append done (all.more c rest)) (grow.append (grow.append done (all.more c all.none))) (Near next) (Near next)
-    (tail_then L L L limit limit limit (grow.row_text done []) (C.spell c []) (grow.append done) (all.more c) Fit (Near next) grow.law so_far (row_tail L C limit all c next deep t settled) (λ following near. subst Fit (splits C all.law c following) (fits following near)))
+    tail_as L L limit limit (grow.row_text done [] ++ C.spell c []) (grow.row_text (grow.append done (all.more c all.none)) [])
+    (λ rest. grow.append done (all.more c rest)) (grow.append (grow.append done (all.more c all.none))) (Near next) (Near next)
+    (tail_then L L L limit limit limit (grow.row_text done []) (C.spell c []) (grow.append done) (all.more c) Fit (Near next) grow.law so_far
+    (row_tail L C limit all c next deep t settled) (λ following near. subst Fit (splits C all.law c following) (fits following near)))
     (grow.row_append done [] (C.spell c []) ∙ sym (grow.text_more done c []))
     (λ rest. sym (grow.append_more done c rest)) (λ following fit. fit)
 
 -- a phrase of the row was refused, and not at what ends the row
-pub grown_refused : {L C : Class} {all : Listing L C} (grow : Growing L C all) (limit : ℕ) (done : L.Tree) (Fit : Kinds → Type 0) → GrownSoFar grow limit done Fit → (front : Kinds) (next : TokenKind) (deep : Bool) → ((following : Kinds) → Near next following → Fit (front ++ following)) → ((after following : Kinds) → L.Shut all.none after → Near next following → L.spell all.none after ≡ front ++ following → ⊥) → Refused C limit front next deep → Refused L limit (grow.row_text done [] ++ front) next deep
+pub grown_refused : {L C : Class} {all : Listing L C} (grow : Growing L C all) (limit : ℕ) (done : L.Tree) (Fit : Kinds → Type 0)
+    → GrownSoFar grow limit done Fit → (front : Kinds) (next : TokenKind) (deep : Bool)
+    → ((following : Kinds) → Near next following → Fit (front ++ following))
+    → ((after following : Kinds) → L.Shut all.none after → Near next following → L.spell all.none after ≡ front ++ following → ⊥)
+    → Refused C limit front next deep → Refused L limit (grow.row_text done [] ++ front) next deep
 grown_refused {L} {C} {all} grow limit done Fit so_far front next deep fits unended r =
-    tail_refused L L limit limit (grow.row_text done []) (grow.append done) Fit grow.law so_far front next deep fits (row_refused L C limit all front next deep unended r)
+    tail_refused L L limit limit (grow.row_text done []) (grow.append done) Fit grow.law so_far front next deep fits
+    (row_refused L C limit all front next deep unended r)
 
 -- the row ends
-pub grown_took : {L C : Class} {all : Listing L C} (grow : Growing L C all) (limit : ℕ) (done : L.Tree) (Fit : Kinds → Type 0) → GrownSoFar grow limit done Fit → ((following : Kinds) → Fit (L.spell all.none following)) → Exactly L limit all.none → (next : TokenKind) → Took L limit done next false
+pub grown_took : {L C : Class} {all : Listing L C} (grow : Growing L C all) (limit : ℕ) (done : L.Tree) (Fit : Kinds → Type 0)
+    → GrownSoFar grow limit done Fit → ((following : Kinds) → Fit (L.spell all.none following)) → Exactly L limit all.none
+    → (next : TokenKind) → Took L limit done next false
 grown_took {L} {C} {all} grow limit done Fit so_far fits x next =
     subst (λ (w : L.Tree). Took L limit w next false) (grow.append_none done)
-    (tail_took L L limit limit (grow.row_text done []) (grow.append done) Fit grow.law so_far all.none next false (λ following near. fits following) (exact_took L limit all.none x next))
+    (tail_took L L limit limit (grow.row_text done []) (grow.append done) Fit grow.law so_far all.none next false (λ following near. fits following)
+    (exact_took L limit all.none x next))
 
 -- the same, whatever stands after, where anything may
-pub grown_exact : {L C : Class} {all : Listing L C} (grow : Growing L C all) (limit : ℕ) (done : L.Tree) (Fit : Kinds → Type 0) → GrownSoFar grow limit done Fit → ((following : Kinds) → Fit (L.spell all.none following)) → Exactly L limit all.none → ((other : L.Tree) (after : Kinds) → L.Shut other after) → (some : TokenKind) → Exactly L limit done
+pub grown_exact : {L C : Class} {all : Listing L C} (grow : Growing L C all) (limit : ℕ) (done : L.Tree) (Fit : Kinds → Type 0)
+    → GrownSoFar grow limit done Fit → ((following : Kinds) → Fit (L.spell all.none following)) → Exactly L limit all.none
+    → ((other : L.Tree) (after : Kinds) → L.Shut other after) → (some : TokenKind) → Exactly L limit done
 grown_exact {L} grow limit done Fit so_far fits x shut some = took_exact L limit done (grown_took grow limit done Fit so_far fits x) shut some

@@ -1,5 +1,6 @@
 -- What stands between a function's parentheses, and the heads of functions: for the contracts of every parser of declarations.
-use Rattle.std.proofs.Common.{◌≡◌, ◌≢◌, ℕ, ◌≤◌, ◌⊎◌, inl, inr, Bool, true, false, IsTrue, List, [], ◌∷◌, ◌++◌, Option, Some, None, refl, sym, ap, ◌∙◌, arith}
+use Rattle.std.proofs.Common.{◌≡◌, ◌≢◌, ℕ, ◌≤◌, ◌⊎◌, inl, inr, Bool, true, false, IsTrue, List, [], ◌∷◌, ◌++◌, Option, Some}
+use Rattle.std.proofs.Common.{None, refl, sym, ap, ◌∙◌, arith}
 use Rattle.std.proofs.lemmas.Bool.{false≢true}
 use Rattle.cs_ast.specs.declared.token.TokenKind.{TokenKind}
 use Rattle.cs_ast.specs.declared.token.TokenKind.TheVariants as token
@@ -11,11 +12,13 @@ use Rattle.cs_ast.specs.declared.raw.written_type.IntegerWord.TheVariants.{Char,
 use Rattle.cs_ast.specs.declared.raw.written_type.PointerWord.{PointerWord}
 use Rattle.cs_ast.specs.declared.raw.written_type.PointerWord.TheVariants as pointer
 use Rattle.cs_ast.specs.RawTree.{Written}
-use Rattle.cs_ast.specs.RawDeclarations.{Spec, Static, Plain, StructBody, EnumBody, Specs, NoSpec, MoreSpecs, Parameter, Parameters, NoParameter, VoidAlone, ParameterList, Head}
+use Rattle.cs_ast.specs.RawDeclarations.{Spec, Static, Plain, StructBody, EnumBody, Specs, NoSpec, MoreSpecs, Parameter, Parameters, NoParameter, VoidAlone}
+use Rattle.cs_ast.specs.RawDeclarations.{ParameterList, Head}
 use Rattle.cs_ast.specs.RawFileHeight.{highest_by, parameter_height, parameters_height}
 use Rattle.cs_grammar.specs.TypeWords.{Names, is_pointer}
 use Rattle.cs_grammar.specs.Text.{Kinds, pointers_text}
-use Rattle.cs_grammar.specs.FileText.{name_text, brackets_text, each_after_comma, with_commas, spec_text, specs_text, parameter_text, parameters_text, head_text}
+use Rattle.cs_grammar.specs.FileText.{name_text, brackets_text, each_after_comma, with_commas, spec_text, specs_text, parameter_text, parameters_text}
+use Rattle.cs_grammar.specs.FileText.{head_text}
 use Rattle.cs_grammar.specs.FilePhrases.{AreAll, IsSomeList, IsFree, IsParameter, lone_void, AreParameters, IsHead}
 use Rattle.cs_grammar.specs.DeclarationClasses.{ParameterTail, ParameterClass, ParameterRows, ParameterLists, Heads}
 use Rattle.cs_grammar.specs.Parsing.{Begins, BeginsLow, Took, Refused, Exactly}
@@ -32,16 +35,20 @@ use Rattle.cs_grammar.proofs.Bodies.{specs_no_punctuator}
 use Rattle.cs_grammar.proofs.ParameterRules.{tail_of, parameter_of, int_parameter, int_is, parameter_high}
 
 -- no parameter list begins with a punctuator
-pub rows_no_punctuator : (names : Names) (list : List Parameter) (rest : Kinds) (m : Punctuator) (more : Kinds) → IsSomeList list → AreAll (IsParameter names) list → with_commas parameter_text list rest ≡ token.Punctuator m ∷ more → ⊥
+pub rows_no_punctuator : (names : Names) (list : List Parameter) (rest : Kinds) (m : Punctuator) (more : Kinds) → IsSomeList list
+    → AreAll (IsParameter names) list → with_commas parameter_text list rest ≡ token.Punctuator m ∷ more → ⊥
 rows_no_punctuator names [] rest m more some are same = some
 rows_no_punctuator names (p ∷ ps) rest m more some are same =
     let i = are.0 in
-    specs_no_punctuator names p.specs (pointers_text p.pointers (name_text p.name (brackets_text p.bounds (each_after_comma parameter_text ps rest)))) m more i.specs same
+    specs_no_punctuator names p.specs (pointers_text p.pointers (name_text p.name (brackets_text p.bounds (each_after_comma parameter_text ps rest)))) m more
+    i.specs same
 
-none_is : (names : Names) (other : Parameters) (after following : Kinds) → AreParameters names other → parameters_text other (close_parenthesis ∷ after) ≡ close_parenthesis ∷ following → (other ≡ NoParameter) × (after ≡ following)
+none_is : (names : Names) (other : Parameters) (after following : Kinds) → AreParameters names other
+    → parameters_text other (close_parenthesis ∷ after) ≡ close_parenthesis ∷ following → (other ≡ NoParameter) × (after ≡ following)
 none_is names NoParameter after following are same = (refl, cc)
 none_is names VoidAlone after following are same = absurd cc
-none_is names (ParameterList list) after following are same = absurd (rows_no_punctuator names list (close_parenthesis ∷ after) punctuator.CloseParenthesis following are.0 are.2 same)
+none_is names (ParameterList list) after following are same =
+    absurd (rows_no_punctuator names list (close_parenthesis ∷ after) punctuator.CloseParenthesis following are.0 are.2 same)
 
 -- the closing parenthesis stands there
 pub lists_none : (names : Names) (limit : ℕ) → 1 ≤ limit → Exactly (ParameterLists names) limit NoParameter
@@ -82,7 +89,9 @@ closing_specs (MoreSpecs (StructBody tag members) others) x more same = absurd c
 closing_specs (MoreSpecs (EnumBody tag constants comma) others) x more same = absurd cc
 
 -- nothing of a parameter but its first words stands before a closing parenthesis
-closing_tail : (ps : List PointerWord) (o : Option (List ℕ)) (bs : List (Option Written)) (list : List Parameter) (after more : Kinds) → pointers_text ps (name_text o (brackets_text bs (each_after_comma parameter_text list (close_parenthesis ∷ after)))) ≡ close_parenthesis ∷ more → (tail_of ps o bs ≡ tail_of [] None []) × (list ≡ []) × (after ≡ more)
+closing_tail : (ps : List PointerWord) (o : Option (List ℕ)) (bs : List (Option Written)) (list : List Parameter) (after more : Kinds)
+    → pointers_text ps (name_text o (brackets_text bs (each_after_comma parameter_text list (close_parenthesis ∷ after)))) ≡ close_parenthesis ∷ more
+    → (tail_of ps o bs ≡ tail_of [] None []) × (list ≡ []) × (after ≡ more)
 closing_tail [] None [] [] after more same = (refl, refl, cc)
 closing_tail [] None [] (p ∷ list) after more same = absurd cc
 closing_tail [] None (b ∷ bs) list after more same = absurd cc
@@ -90,7 +99,9 @@ closing_tail [] (Some n) bs list after more same = absurd cc
 closing_tail (pointer.Star ∷ ps) o bs list after more same = absurd cc
 closing_tail (pointer.Const ∷ ps) o bs list after more same = absurd cc
 
-no_void : (ps : List PointerWord) (o : Option (List ℕ)) (bs : List (Option Written)) (list : List Parameter) (after more : Kinds) → pointers_text ps (name_text o (brackets_text bs (each_after_comma parameter_text list (close_parenthesis ∷ after)))) ≡ token.Keyword keyword.Void ∷ more → ⊥
+no_void : (ps : List PointerWord) (o : Option (List ℕ)) (bs : List (Option Written)) (list : List Parameter) (after more : Kinds)
+    → pointers_text ps (name_text o (brackets_text bs (each_after_comma parameter_text list (close_parenthesis ∷ after))))
+    ≡ token.Keyword keyword.Void ∷ more → ⊥
 no_void [] None [] [] after more same = cc
 no_void [] None [] (p ∷ list) after more same = cc
 no_void [] None (b ∷ bs) list after more same = cc
@@ -98,7 +109,10 @@ no_void [] (Some n) bs list after more same = cc
 no_void (pointer.Star ∷ ps) o bs list after more same = cc
 no_void (pointer.Const ∷ ps) o bs list after more same = cc
 
-lone_specs : (specs : Specs) (ps : List PointerWord) (o : Option (List ℕ)) (bs : List (Option Written)) (list : List Parameter) (after more : Kinds) → specs_text specs (pointers_text ps (name_text o (brackets_text bs (each_after_comma parameter_text list (close_parenthesis ∷ after))))) ≡ token.Keyword keyword.Void ∷ close_parenthesis ∷ more → (specs ≡ MoreSpecs (Plain word.Void) NoSpec) × (tail_of ps o bs ≡ tail_of [] None []) × (list ≡ [])
+lone_specs : (specs : Specs) (ps : List PointerWord) (o : Option (List ℕ)) (bs : List (Option Written)) (list : List Parameter) (after more : Kinds)
+    → specs_text specs (pointers_text ps (name_text o (brackets_text bs (each_after_comma parameter_text list (close_parenthesis ∷ after)))))
+    ≡ token.Keyword keyword.Void ∷ close_parenthesis ∷ more
+    → (specs ≡ MoreSpecs (Plain word.Void) NoSpec) × (tail_of ps o bs ≡ tail_of [] None []) × (list ≡ [])
 lone_specs NoSpec ps o bs list after more same = absurd (no_void ps o bs list after (close_parenthesis ∷ more) same)
 lone_specs (MoreSpecs s others) ps o bs list after more same =
     let rest = pointers_text ps (name_text o (brackets_text bs (each_after_comma parameter_text list (close_parenthesis ∷ after)))) in
@@ -108,13 +122,18 @@ lone_specs (MoreSpecs s others) ps o bs list after more same =
     (ap (λ (x : Spec). MoreSpecs x others) k.0 ∙ ap (MoreSpecs (Plain word.Void)) e, t.0, t.1)
 
 -- a parameter list whose tokens are `void` and a closing parenthesis
-lone_list : (list : List Parameter) (after more : Kinds) → IsSomeList list → with_commas parameter_text list (close_parenthesis ∷ after) ≡ token.Keyword keyword.Void ∷ close_parenthesis ∷ more → list ≡ lone_void ∷ []
+lone_list : (list : List Parameter) (after more : Kinds) → IsSomeList list
+    → with_commas parameter_text list (close_parenthesis ∷ after) ≡ token.Keyword keyword.Void ∷ close_parenthesis ∷ more
+    → list ≡ lone_void ∷ []
 lone_list [] after more some same = absurd some
 lone_list (p ∷ list) after more some same =
     let k = lone_specs p.specs p.pointers p.name p.bounds list after more same in
-    ap (λ (x : List Parameter). p ∷ x) k.2 ∙ ap (λ (x : Specs). parameter_of x (tail_of p.pointers p.name p.bounds) ∷ []) k.0 ∙ ap (λ (x : ParameterTail). parameter_of (MoreSpecs (Plain word.Void) NoSpec) x ∷ []) k.1
+    ap (λ (x : List Parameter). p ∷ x) k.2 ∙ ap (λ (x : Specs). parameter_of x (tail_of p.pointers p.name p.bounds) ∷ []) k.0
+    ∙ ap (λ (x : ParameterTail). parameter_of (MoreSpecs (Plain word.Void) NoSpec) x ∷ []) k.1
 
-void_is : (names : Names) (other : Parameters) (after following : Kinds) → AreParameters names other → parameters_text other (close_parenthesis ∷ after) ≡ token.Keyword keyword.Void ∷ close_parenthesis ∷ following → (other ≡ VoidAlone) × (after ≡ following)
+void_is : (names : Names) (other : Parameters) (after following : Kinds) → AreParameters names other
+    → parameters_text other (close_parenthesis ∷ after) ≡ token.Keyword keyword.Void ∷ close_parenthesis ∷ following
+    → (other ≡ VoidAlone) × (after ≡ following)
 void_is names VoidAlone after following are same = (refl, cc)
 void_is names NoParameter after following are same = absurd cc
 void_is names (ParameterList list) after following are same = absurd (are.1 (lone_list list after following are.0 same))
@@ -128,7 +147,10 @@ pub record IsRow (tokens : Kinds) : Type 0 where
   pub unclosed : (more : Kinds) → tokens ≡ close_parenthesis ∷ more → ⊥
   pub no_void : (more : Kinds) → tokens ≡ token.Keyword keyword.Void ∷ close_parenthesis ∷ more → ⊥
 
-pub list_invert : (names : Names) (whole : Parameters) (after following : Kinds) → AreParameters names whole → IsRow following → parameters_text whole (close_parenthesis ∷ after) ≡ following → (part : List Parameter) × (whole ≡ ParameterList part) × (ParameterRows names).Is part × (following ≡ with_commas parameter_text part (close_parenthesis ∷ after))
+pub list_invert : (names : Names) (whole : Parameters) (after following : Kinds) → AreParameters names whole → IsRow following
+    → parameters_text whole (close_parenthesis ∷ after) ≡ following
+    → (part : List Parameter) × (whole ≡ ParameterList part) × (ParameterRows names).Is part
+    × (following ≡ with_commas parameter_text part (close_parenthesis ∷ after))
 list_invert names (ParameterList list) after following are row same = (list, refl, (are.0, (are.1, are.2)), sym same)
 list_invert names NoParameter after following are row same = absurd (row.unclosed after (sym same))
 list_invert names VoidAlone after following are row same = absurd (row.no_void after (sym same))
@@ -152,7 +174,11 @@ pub int_not_alone : int_parameter ∷ [] ≢ lone_void ∷ []
 int_not_alone = λ e. false≢true (ap begins_void e)
 
 abbrev pub parameter_rows_least : (names : Names) → Least (ParameterRows names)
-parameter_rows_least names = record { tree = int_parameter ∷ []; is_phrase = (tt, (int_not_alone, (int_is names, tt))); below = λ other is. let h = rows_below names other is.0 is.1.1 in omega (arith, h) }
+parameter_rows_least names = record {
+  tree = int_parameter ∷ [];
+  is_phrase = (tt, (int_not_alone, (int_is names, tt)));
+  below = λ other is. let h = rows_below names other is.0 is.1.1 in omega (arith, h);
+}
 
 -- parameters as what stands between parentheses
 abbrev pub list_single : (names : Names) → Single (ParameterLists names) (ParameterRows names) 1 [] ParameterList IsRow
@@ -169,7 +195,8 @@ list_single names = record {
 }
 
 -- parameters that were taken and aren't `void` alone
-pub rows_took : (names : Names) (limit : ℕ) (list : List Parameter) (next : TokenKind) → list ≢ lone_void ∷ [] → Took (Separated (ParameterClass names) close_parenthesis) limit list next false → Took (ParameterRows names) limit list next false
+pub rows_took : (names : Names) (limit : ℕ) (list : List Parameter) (next : TokenKind) → list ≢ lone_void ∷ []
+    → Took (Separated (ParameterClass names) close_parenthesis) limit list next false → Took (ParameterRows names) limit list next false
 rows_took names limit list next other t = record {
   is_phrase = (t.is_phrase.0, (other, t.is_phrase.1));
   low = t.low;
@@ -180,7 +207,9 @@ rows_took names limit list next other t = record {
 }
 
 -- parameters that are refused: the tokens before may continue with another list than `void` alone
-pub rows_refused : (names : Names) (limit : ℕ) (front : Kinds) (next : TokenKind) (deep : Bool) → ((front ≡ []) ⊎ BeginsLow (ParameterRows names) limit front) → (deep ≡ true → Begins (ParameterRows names) (front ++ next ∷ [])) → Refused (Separated (ParameterClass names) close_parenthesis) limit front next deep → Refused (ParameterRows names) limit front next deep
+pub rows_refused : (names : Names) (limit : ℕ) (front : Kinds) (next : TokenKind) (deep : Bool)
+    → ((front ≡ []) ⊎ BeginsLow (ParameterRows names) limit front) → (deep ≡ true → Begins (ParameterRows names) (front ++ next ∷ []))
+    → Refused (Separated (ParameterClass names) close_parenthesis) limit front next deep → Refused (ParameterRows names) limit front next deep
 rows_refused names limit front next deep begun further r = record {
   begun = begun;
   never = λ other after following is shut near same.
@@ -204,13 +233,22 @@ parameter_lists_least names = record { tree = NoParameter; is_phrase = tt; below
 abbrev pub head_of : List PointerWord → List ℕ → Parameters → Head
 head_of ps n parameters = record { pointers = ps; name = n; parameters = parameters }
 
-pub head_invert : (names : Names) (ps : List PointerWord) (n : List ℕ) (whole : Head) (after following : Kinds) → IsHead names whole → head_text whole after ≡ pointers_text ps (token.Name n ∷ []) ++ following → (part : Parameters) × (whole ≡ head_of ps n part) × AreParameters names part × (following ≡ open_parenthesis ∷ parameters_text part (close_parenthesis ∷ after))
+pub head_invert : (names : Names) (ps : List PointerWord) (n : List ℕ) (whole : Head) (after following : Kinds) → IsHead names whole
+    → head_text whole after ≡ pointers_text ps (token.Name n ∷ []) ++ following
+    → (part : Parameters) × (whole ≡ head_of ps n part) × AreParameters names part
+    × (following ≡ open_parenthesis ∷ parameters_text part (close_parenthesis ∷ after))
 head_invert names ps n whole after following is same =
-    let f = pointers_name whole.pointers ps whole.name n (open_parenthesis ∷ parameters_text whole.parameters (close_parenthesis ∷ after)) following (same ∙ pointers_append ps (token.Name n ∷ []) following) in
-    (whole.parameters, ap (λ (q : List PointerWord). head_of q whole.name whole.parameters) f.0 ∙ ap (λ (m : List ℕ). head_of ps m whole.parameters) f.1, is.parameters, sym f.2)
+    let f = pointers_name whole.pointers ps whole.name n (open_parenthesis ∷ parameters_text whole.parameters (close_parenthesis ∷ after)) following (same
+    ∙ pointers_append ps (token.Name n ∷ []) following) in (
+      whole.parameters,
+      ap (λ (q : List PointerWord). head_of q whole.name whole.parameters) f.0 ∙ ap (λ (m : List ℕ). head_of ps m whole.parameters) f.1,
+      is.parameters,
+      sym f.2,
+    )
 
 -- the pointers and the name of a function were taken: what is left is what stands between its parentheses
-abbrev pub head_single : (names : Names) (ps : List PointerWord) (n : List ℕ) → IsTrue (is_pointer ps) → IsFree names n → Single (Heads names) (Following open_parenthesis (ParameterLists names)) 1 (pointers_text ps (token.Name n ∷ [])) (head_of ps n) (λ rest. Unit {0})
+abbrev pub head_single : (names : Names) (ps : List PointerWord) (n : List ℕ) → IsTrue (is_pointer ps) → IsFree names n
+    → Single (Heads names) (Following open_parenthesis (ParameterLists names)) 1 (pointers_text ps (token.Name n ∷ [])) (head_of ps n) (λ rest. Unit {0})
 head_single names ps n p free = record {
   production = record {
     invert = λ whole after following is fit same. head_invert names ps n whole after following is same;

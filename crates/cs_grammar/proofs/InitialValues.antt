@@ -1,5 +1,6 @@
 -- What objects hold at first: expressions and lists between braces. For the contracts of every parser of declarations.
-use Rattle.std.proofs.Common.{◌≡◌, ℕ, ◌+◌, ◌<◌, ◌≤◌, max, inl, inr, Bool, true, false, List, [], ◌∷◌, ◌++◌, refl, sym, ap, ◌∙◌, arith}
+use Rattle.std.proofs.Common.{◌≡◌, ℕ, ◌+◌, ◌<◌, ◌≤◌, max, inl, inr, Bool, true, false, List, [], ◌∷◌, ◌++◌, refl, sym, ap}
+use Rattle.std.proofs.Common.{◌∙◌, arith}
 use Rattle.std.proofs.lemmas.Bool.{false≢true}
 use Rattle.cs_ast.specs.declared.token.TokenKind.{TokenKind}
 use Rattle.cs_ast.specs.declared.token.TokenKind.TheVariants as token
@@ -74,8 +75,10 @@ abbrev pub values_least : (names : Names) → Least (Values names)
 values_least names = record { tree = One nought; is_phrase = (omega arith, tt); below = λ other is. let h = value_height other in omega (arith, h) }
 
 -- no value begins with a token that begins neither an expression nor a list
-pub value_first : (names : Names) (i : Initial) (after : Kinds) (t : TokenKind) (more : Kinds) → IsInitial names i → begins_expression names t ≡ false → (t ≡ open_brace → ⊥) → initial_text i after ≡ t ∷ more → ⊥
-value_first names (One e) after t more is none brace same = false≢true (sym none ∙ first_passes (begins_expression names) (text e after) t more (expression_begins names e after is.1) same)
+pub value_first : (names : Names) (i : Initial) (after : Kinds) (t : TokenKind) (more : Kinds) → IsInitial names i → begins_expression names t ≡ false
+    → (t ≡ open_brace → ⊥) → initial_text i after ≡ t ∷ more → ⊥
+value_first names (One e) after t more is none brace same =
+    false≢true (sym none ∙ first_passes (begins_expression names) (text e after) t more (expression_begins names e after is.1) same)
 value_first names (Listed items comma) after t more is none brace same = brace cc
 
 pub value_has : (names : Names) (i : Initial) (after : Kinds) → IsInitial names i → initial_text i after ≡ [] → ⊥
@@ -103,7 +106,8 @@ value_shut _ f = absurd (false≢true f)
 abbrev pub HasNoBrace : Kinds → Type 0
 HasNoBrace following = (more : Kinds) → following ≡ open_brace ∷ more → ⊥
 
-pub one_invert : (names : Names) (whole : Initial) (after following : Kinds) → IsInitial names whole → HasNoBrace following → initial_text whole after ≡ following → (part : Written) × (whole ≡ One part) × IsPhrase names 1 part × (following ≡ text part after)
+pub one_invert : (names : Names) (whole : Initial) (after following : Kinds) → IsInitial names whole → HasNoBrace following
+    → initial_text whole after ≡ following → (part : Written) × (whole ≡ One part) × IsPhrase names 1 part × (following ≡ text part after)
 one_invert names (One e) after following is fit same = (e, refl, is, sym same)
 one_invert names (Listed items comma) after following is fit same = absurd (fit (initials_text items (comma_text comma (close_brace ∷ after))) (sym same))
 
@@ -124,7 +128,8 @@ value_single names = record {
 no_brace_text : (names : Names) (e : Written) (x : Kinds) → IsPhrase names 1 e → HasNoBrace (text e x)
 no_brace_text names e x is more same = false≢true (first_passes (begins_expression names) (text e x) open_brace more (expression_begins names e x is.1) same)
 
-front_no_brace : (names : Names) (limit : ℕ) (front : Kinds) (next : TokenKind) (deep : Bool) → (front ≡ [] → next ≡ open_brace → ⊥) → Refused (Expressions names 1) limit front next deep → (following : Kinds) → Near next following → HasNoBrace (front ++ following)
+front_no_brace : (names : Names) (limit : ℕ) (front : Kinds) (next : TokenKind) (deep : Bool) → (front ≡ [] → next ≡ open_brace → ⊥)
+    → Refused (Expressions names 1) limit front next deep → (following : Kinds) → Near next following → HasNoBrace (front ++ following)
 front_no_brace names limit [] next deep other r following near more same =
     elim near [ inl e ↦ let z = sym same ∙ e in cc | inr m ↦ let z : open_brace ∷ more ≡ next ∷ m.0 = sym same ∙ m.1 in other refl cc ]
 front_no_brace names limit (f ∷ fs) next deep other r following near more same =
@@ -136,12 +141,17 @@ front_no_brace names limit (f ∷ fs) next deep other r following near more same
     ]
 
 -- the expression was refused
-pub value_refused : (names : Names) (limit : ℕ) → 1 ≤ limit → (front : Kinds) (next : TokenKind) (deep : Bool) → (front ≡ [] → next ≡ open_brace → ⊥) → Refused (Expressions names 1) limit front next deep → Refused (Values names) limit front next deep
-value_refused names limit some front next deep other r = single_refused (value_single names) limit limit (omega arith, some) front next deep (front_no_brace names limit front next deep other r) r
+pub value_refused : (names : Names) (limit : ℕ) → 1 ≤ limit
+    → (front : Kinds) (next : TokenKind) (deep : Bool) → (front ≡ [] → next ≡ open_brace → ⊥)
+    → Refused (Expressions names 1) limit front next deep → Refused (Values names) limit front next deep
+value_refused names limit some front next deep other r =
+    single_refused (value_single names) limit limit (omega arith, some) front next deep (front_no_brace names limit front next deep other r) r
 
 -- the expression was taken
-pub value_took : (names : Names) (limit : ℕ) → 1 ≤ limit → (e : Written) (next : TokenKind) (deep : Bool) → Took (Expressions names 1) limit e next deep → Took (Values names) limit (One e) next deep
-value_took names limit some e next deep t = single_took (value_single names) limit limit (omega arith, some) e next deep (λ following near. no_brace_text names e following t.is_phrase) t
+pub value_took : (names : Names) (limit : ℕ) → 1 ≤ limit
+    → (e : Written) (next : TokenKind) (deep : Bool) → Took (Expressions names 1) limit e next deep → Took (Values names) limit (One e) next deep
+value_took names limit some e next deep t =
+    single_took (value_single names) limit limit (omega arith, some) e next deep (λ following near. no_brace_text names e following t.is_phrase) t
 
 -- a list of its items
 abbrev pub listed_of : List Initial × Bool → Initial
@@ -150,11 +160,15 @@ listed_of row = Listed (items_of row.0) row.1
 abbrev pub ListRow : Type 0
 ListRow = List Initial × Bool
 
-pub listed_is : (names : Names) (list : List Initial) (comma : Bool) → IsSomeList list → AreAll (IsInitial names) list → IsInitial names (Listed (items_of list) comma)
+pub listed_is : (names : Names) (list : List Initial) (comma : Bool) → IsSomeList list → AreAll (IsInitial names) list
+    → IsInitial names (Listed (items_of list) comma)
 listed_is names [] comma some are = absurd some
 listed_is names (i ∷ list) comma some are = (are.0, items_are names list are.1)
 
-pub list_invert : (names : Names) (whole : Initial) (after following : Kinds) → IsInitial names whole → initial_text whole after ≡ open_brace ∷ following → (part : ListRow) × (whole ≡ listed_of part) × (IsSomeList part.0 × AreAll (IsInitial names) part.0) × (following ≡ with_commas initial_text part.0 (comma_text part.1 (close_brace ∷ after)))
+pub list_invert : (names : Names) (whole : Initial) (after following : Kinds) → IsInitial names whole
+    → initial_text whole after ≡ open_brace ∷ following
+    → (part : ListRow) × (whole ≡ listed_of part) × (IsSomeList part.0 × AreAll (IsInitial names) part.0)
+    × (following ≡ with_commas initial_text part.0 (comma_text part.1 (close_brace ∷ after)))
 list_invert names (One e) after following is same = absurd (no_brace_text names e after is following same)
 list_invert names (Listed NoItem comma) after following is same = absurd is
 list_invert names (Listed (MoreItems i items) comma) after following is same = (
@@ -162,7 +176,8 @@ list_invert names (Listed (MoreItems i items) comma) after following is same = (
   ap (λ (x : Initials). Listed (MoreItems i x) comma) (sym (items_again items)),
   (tt, (is.0, list_is names items is.1)),
   let k : following ≡ initial_text i (further_initials_text items (comma_text comma (close_brace ∷ after))) = cc in
-      k ∙ ap (λ (x : Initials). initial_text i (further_initials_text x (comma_text comma (close_brace ∷ after)))) (sym (items_again items)) ∙ ap (initial_text i) (further_text (list_of items) (comma_text comma (close_brace ∷ after))),
+      k ∙ ap (λ (x : Initials). initial_text i (further_initials_text x (comma_text comma (close_brace ∷ after)))) (sym (items_again items))
+      ∙ ap (initial_text i) (further_text (list_of items) (comma_text comma (close_brace ∷ after))),
 )
 
 -- items between braces
@@ -183,7 +198,8 @@ items_height : (names : Names) (items : Initials) (comma : Bool) → IsInitial n
 items_height names NoItem comma is = absurd is
 items_height names (MoreItems i items) comma is = let h = value_height i in omega (arith, h)
 
-brace_high : (names : Names) (limit : ℕ) → limit < 2 → (i : Initial) (after more : Kinds) → IsInitial names i → initial_text i after ≡ open_brace ∷ more → limit < initial_height i
+brace_high : (names : Names) (limit : ℕ) → limit < 2 → (i : Initial) (after more : Kinds) → IsInitial names i
+    → initial_text i after ≡ open_brace ∷ more → limit < initial_height i
 brace_high names limit full (One e) after more is same = absurd (no_brace_text names e after is more same)
 brace_high names limit full (Listed items comma) after more is same = let h = items_height names items comma is in omega (arith, h, full)
 
@@ -191,4 +207,9 @@ brace_high names limit full (Listed items comma) after more is same = let h = it
 pub list_full : (names : Names) (limit : ℕ) → limit < 2 → Refused (Values names) limit [] open_brace true
 list_full names limit full =
     full_refused (Values names) limit open_brace (value_has names) (λ i after more is same. brace_high names limit full i after more is same)
-    (record { phrase = Listed (MoreItems (One nought) NoItem) false; more = text nought (close_brace ∷ []); is_phrase = ((omega arith, tt), tt); spelled = refl })
+    (record {
+      phrase = Listed (MoreItems (One nought) NoItem) false;
+      more = text nought (close_brace ∷ []);
+      is_phrase = ((omega arith, tt), tt);
+      spelled = refl;
+    })

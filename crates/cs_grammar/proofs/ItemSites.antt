@@ -1,5 +1,6 @@
 -- Returns of functions that read what stands in a block or in a `switch`: for the contracts of every parser of statements.
-use Rattle.std.proofs.Common.{◌≡◌, ℕ, ◌+◌, ◌<◌, ◌≤◌, ◌⊎◌, inl, inr, Bool, true, false, List, [], ◌∷◌, ◌++◌, refl, sym, ap, ◌∙◌, arith}
+use Rattle.std.proofs.Common.{◌≡◌, ℕ, ◌+◌, ◌<◌, ◌≤◌, ◌⊎◌, inl, inr, Bool, true, false, List, [], ◌∷◌, ◌++◌, refl, sym, ap}
+use Rattle.std.proofs.Common.{◌∙◌, arith}
 use Rattle.std.proofs.lemmas.Bool.{false≢true, both_ways, or_cases}
 use Rattle.cs_ast.specs.declared.token.TokenKind.{TokenKind}
 use Rattle.cs_ast.specs.declared.token.TokenKind.TheVariants as token
@@ -19,14 +20,16 @@ use Rattle.cs_grammar.specs.FileText.{declared_text, with_commas, specs_text, de
 use Rattle.cs_grammar.specs.FilePhrases.{AreAll, IsSomeList, IsDeclared, AreBlockSpecs, IsSentence, IsItem, IsSwitchItem}
 use Rattle.cs_grammar.specs.FileClasses.{Sentences, BlockItems, SwitchParts}
 use Rattle.cs_grammar.specs.Parsing.{Near, Begins, BeginsLow, Took, Refused}
-use Rattle.cs_grammar.proofs.FileBeginnings.{specs_of, plain_text, block_words, plain_are, block_specs_begin, sentence_begins, item_begins, switch_part_begins, some_first, first_passes}
+use Rattle.cs_grammar.proofs.FileBeginnings.{specs_of, plain_text, block_words, plain_are, block_specs_begin, sentence_begins, item_begins, switch_part_begins}
+use Rattle.cs_grammar.proofs.FileBeginnings.{some_first, first_passes}
 use Rattle.cs_grammar.proofs.Tails.{first_or, full_refused, none_refused, near_other}
 use Rattle.cs_grammar.proofs.Pairs.{single_refused, single_took}
 use Rattle.cs_grammar.proofs.Statements.{semicolon, colon, word}
 use Rattle.cs_grammar.proofs.StatementParts.{nought, expression_height}
 use Rattle.cs_grammar.proofs.StatementFirsts.{begins_low, two_high, sentence_example}
 use Rattle.cs_grammar.proofs.DeclaredObjects.{least_object, least_is}
-use Rattle.cs_grammar.proofs.BlockItems.{IsDeclaration, IsStatement, HasNoCase, BlockDeclarations, Declaration, declares_single, does_single, inside_single, both_begin, name_sentence, objects_start, declared_no_colon, block_specs_height, item_some}
+use Rattle.cs_grammar.proofs.BlockItems.{IsDeclaration, IsStatement, HasNoCase, BlockDeclarations, Declaration, declares_single, does_single, inside_single}
+use Rattle.cs_grammar.proofs.BlockItems.{both_begin, name_sentence, objects_start, declared_no_colon, block_specs_height, item_some}
 
 -- a type that begins with a token
 pub record TypeExample (names : Names) (t : TokenKind) : Type 0 where
@@ -36,11 +39,18 @@ pub record TypeExample (names : Names) (t : TokenKind) : Type 0 where
   pub more : Kinds
   pub spelled : (rest : Kinds) → words_text (first ∷ others) rest ≡ t ∷ (more ++ rest)
 
-one_word : (names : Names) (t : TokenKind) (w : TypeWord) → is_type names (w ∷ []) ≡ true → ((rest : Kinds) → type_word_text w rest ≡ t ∷ rest) → TypeExample names t
+one_word : (names : Names) (t : TokenKind) (w : TypeWord) → is_type names (w ∷ []) ≡ true → ((rest : Kinds) → type_word_text w rest ≡ t ∷ rest)
+    → TypeExample names t
 one_word names t w type same = record { first = w; others = []; type = type; more = []; spelled = same }
 
 keyword_type : (names : Names) (k : Keyword) → keyword_begins_type k ≡ true → TypeExample names (token.Keyword k)
-keyword_type names keyword.Const e = record { first = word_of.Const; others = word_of.Void ∷ []; type = refl; more = word keyword.Void ∷ []; spelled = λ rest. refl }
+keyword_type names keyword.Const e = record {
+  first = word_of.Const;
+  others = word_of.Void ∷ [];
+  type = refl;
+  more = word keyword.Void ∷ [];
+  spelled = λ rest. refl;
+}
 keyword_type names keyword.Void e = one_word names (word keyword.Void) word_of.Void refl (λ rest. refl)
 keyword_type names keyword.Struct e = record { first = word_of.Struct []; others = []; type = refl; more = token.Name [] ∷ []; spelled = λ rest. refl }
 keyword_type names keyword.Enum e = record { first = word_of.Enum []; others = []; type = refl; more = token.Name [] ∷ []; spelled = λ rest. refl }
@@ -69,7 +79,8 @@ declaration_example names t e =
       phrase = Declares (specs_of (x.first ∷ x.others)) (least_object names ∷ []);
       more = x.more ++ with_commas declared_text (least_object names ∷ []) (semicolon ∷ []);
       is_phrase = (plain_are names (x.first ∷ x.others) x.type, (tt, (least_is names, tt)));
-      spelled = plain_text (x.first ∷ x.others) (with_commas declared_text (least_object names ∷ []) (semicolon ∷ [])) ∙ x.spelled (with_commas declared_text (least_object names ∷ []) (semicolon ∷ []));
+      spelled = plain_text (x.first ∷ x.others) (with_commas declared_text (least_object names ∷ []) (semicolon ∷ []))
+          ∙ x.spelled (with_commas declared_text (least_object names ∷ []) (semicolon ∷ []));
     }
 
 -- what stands in a block that begins with this token
@@ -86,26 +97,37 @@ item_has names i after is same = some_first (begins_item names) (item_text i aft
 -- nothing that may stand in a block begins with the token
 pub item_not : (names : Names) (limit : ℕ) (next : TokenKind) → begins_item names next ≡ false → Refused (BlockItems names) limit [] next false
 item_not names limit next e =
-    none_refused (BlockItems names) limit next (item_has names) (λ i after more is same. false≢true (sym e ∙ first_passes (begins_item names) (item_text i after) next more (item_begins names i after is) same))
+    none_refused (BlockItems names) limit next (item_has names)
+    (λ i after more is same. false≢true (sym e ∙ first_passes (begins_item names) (item_text i after) next more (item_begins names i after is) same))
 
 -- the limit doesn't allow anything
-pub item_none : (names : Names) (limit : ℕ) (next : TokenKind) → limit < 1 → begins_item names next ≡ true → Refused (BlockItems names) limit [] next true
-item_none names limit next full e = full_refused (BlockItems names) limit next (item_has names) (λ i after more is same. let h = item_some names i is in omega (arith, h, full)) (item_example names next e)
+pub item_none : (names : Names) (limit : ℕ) (next : TokenKind) → limit < 1 → begins_item names next ≡ true
+    → Refused (BlockItems names) limit [] next true
+item_none names limit next full e =
+    full_refused (BlockItems names) limit next (item_has names) (λ i after more is same. let h = item_some names i is in omega (arith, h, full))
+    (item_example names next e)
 
-item_two : (names : Names) (i : Item) (after : Kinds) (t : TokenKind) (more : Kinds) → IsItem names i → item_text i after ≡ t ∷ more → begins_low t ≡ false → 2 ≤ item_height i
+item_two : (names : Names) (i : Item) (after : Kinds) (t : TokenKind) (more : Kinds) → IsItem names i → item_text i after ≡ t ∷ more
+    → begins_low t ≡ false → 2 ≤ item_height i
 item_two names (Does s) after t more is same l = two_high names s after t more same l
 item_two names (Declares specs objects) after t more is same l = let h = block_specs_height names specs is.0 in omega (arith, h)
 
 -- the limit allows a statement without parts alone, and the token begins none
-pub item_low : (names : Names) (limit : ℕ) (next : TokenKind) → limit < 2 → begins_item names next ≡ true → begins_low next ≡ false → Refused (BlockItems names) limit [] next true
-item_low names limit next full e l = full_refused (BlockItems names) limit next (item_has names) (λ i after more is same. let h = item_two names i after next more is same l in omega (arith, h, full)) (item_example names next e)
+pub item_low : (names : Names) (limit : ℕ) (next : TokenKind) → limit < 2 → begins_item names next ≡ true → begins_low next ≡ false
+    → Refused (BlockItems names) limit [] next true
+item_low names limit next full e l =
+    full_refused (BlockItems names) limit next (item_has names)
+    (λ i after more is same. let h = item_two names i after next more is same l in omega (arith, h, full)) (item_example names next e)
 
-second_near : (fs following more : Kinds) (next : TokenKind) → (first_or fs next ≡ colon → ⊥) → Near next following → fs ++ following ≡ colon ∷ more → ⊥
+second_near : (fs following more : Kinds) (next : TokenKind) → (first_or fs next ≡ colon → ⊥) → Near next following
+    → fs ++ following ≡ colon ∷ more → ⊥
 second_near [] following more next other near same = near_other colon next following more other near (sym same)
 second_near (g ∷ gs) following more next other near same = other cc
 
 -- tokens of a declaration that was refused
-pub declaration_fits : (names : Names) (f : TokenKind) (fs : Kinds) (next : TokenKind) → begins_type names f ≡ true → ((n : List ℕ) → f ≡ token.Name n → first_or fs next ≡ colon → ⊥) → (following : Kinds) → Near next following → IsDeclaration names ((f ∷ fs) ++ following)
+pub declaration_fits : (names : Names) (f : TokenKind) (fs : Kinds) (next : TokenKind) → begins_type names f ≡ true
+    → ((n : List ℕ) → f ≡ token.Name n → first_or fs next ≡ colon → ⊥) → (following : Kinds) → Near next following
+    → IsDeclaration names ((f ∷ fs) ++ following)
 declaration_fits names f fs next e other following near = record {
   typed = λ first more same. let k : f ≡ first = cc in ap (begins_type names) (sym k) ∙ e;
   unlabelled = λ n more same. let k : f ≡ token.Name n = cc in second_near fs following more next (other n k) near cc;
@@ -113,11 +135,15 @@ declaration_fits names f fs next e other following near = record {
 }
 
 -- a declaration was refused
-pub declares_refused : (names : Names) (limit inner : ℕ) → limit ≡ 1 + inner → 1 ≤ inner → (f : TokenKind) (fs : Kinds) (next : TokenKind) (deep : Bool) → begins_type names f ≡ true → ((n : List ℕ) → f ≡ token.Name n → first_or fs next ≡ colon → ⊥) → Refused (BlockDeclarations names) inner (f ∷ fs) next deep → Refused (BlockItems names) limit (f ∷ fs) next deep
+pub declares_refused : (names : Names) (limit inner : ℕ) → limit ≡ 1 + inner → 1 ≤ inner
+    → (f : TokenKind) (fs : Kinds) (next : TokenKind) (deep : Bool) → begins_type names f ≡ true
+    → ((n : List ℕ) → f ≡ token.Name n → first_or fs next ≡ colon → ⊥) → Refused (BlockDeclarations names) inner (f ∷ fs) next deep
+    → Refused (BlockItems names) limit (f ∷ fs) next deep
 declares_refused names limit inner less some f fs next deep e other r =
     single_refused (declares_single names) limit inner (less, omega (arith, some)) (f ∷ fs) next deep (declaration_fits names f fs next e other) r
 
-declaration_is : (names : Names) (specs : Specs) (objects : List Declared) (x : Kinds) → AreBlockSpecs names specs → IsSomeList objects → AreAll (IsDeclared names) objects → IsDeclaration names (declaration_text specs objects x)
+declaration_is : (names : Names) (specs : Specs) (objects : List Declared) (x : Kinds) → AreBlockSpecs names specs → IsSomeList objects
+    → AreAll (IsDeclared names) objects → IsDeclaration names (declaration_text specs objects x)
 declaration_is names specs objects x is some are =
     let rest = with_commas declared_text objects (semicolon ∷ x) in
     let b = block_specs_begin names specs rest is in
@@ -125,14 +151,18 @@ declaration_is names specs objects x is some are =
     record {
       typed = λ first more same. first_passes (begins_type names) (declaration_text specs objects x) first more b same;
       unlabelled = λ n more same.
-          declared_no_colon names w.words rest (token.Name n) more w.type (objects_start names objects (semicolon ∷ x) some are) (sym (plain_text w.words rest) ∙ ap (λ (y : Specs). specs_text y rest) (sym w.are) ∙ same);
+          declared_no_colon names w.words rest (token.Name n) more w.type (objects_start names objects (semicolon ∷ x) some are)
+          (sym (plain_text w.words rest) ∙ ap (λ (y : Specs). specs_text y rest) (sym w.are) ∙ same);
       some = λ none. some_first (begins_type names) (declaration_text specs objects x) b none;
     }
 
 -- a declaration was taken
-pub declares_took : (names : Names) (limit inner : ℕ) → limit ≡ 1 + inner → 1 ≤ inner → (part : Declaration) (next : TokenKind) (deep : Bool) → Took (BlockDeclarations names) inner part next deep → Took (BlockItems names) limit (Declares part.0 part.1) next deep
+pub declares_took : (names : Names) (limit inner : ℕ) → limit ≡ 1 + inner → 1 ≤ inner
+    → (part : Declaration) (next : TokenKind) (deep : Bool) → Took (BlockDeclarations names) inner part next deep
+    → Took (BlockItems names) limit (Declares part.0 part.1) next deep
 declares_took names limit inner less some part next deep t =
-    single_took (declares_single names) limit inner (less, omega (arith, some)) part next deep (λ following near. declaration_is names part.0 part.1 following t.is_phrase.0 t.is_phrase.1.0 t.is_phrase.1.1) t
+    single_took (declares_single names) limit inner (less, omega (arith, some)) part next deep
+    (λ following near. declaration_is names part.0 part.1 following t.is_phrase.0 t.is_phrase.1.0 t.is_phrase.1.1) t
 
 either_type : (b : Bool) → (b ≡ false) ⊎ (b ≡ true)
 either_type false = inl refl
@@ -148,18 +178,26 @@ statement_is names s x is first more same =
           inr (name_sentence names s x n.0 more is n.2 (same ∙ ap (λ (t : TokenKind). t ∷ more) n.1))
     ]
 
-statement_front : (names : Names) (limit : ℕ) (f : TokenKind) (fs following : Kinds) → BeginsLow (Sentences names) limit (f ∷ fs) → ((n : List ℕ) → f ∷ fs ≡ token.Name n ∷ [] → is_among names n ≡ false) → begins_type names f ≡ true → (m : Kinds) × (fs ++ following ≡ colon ∷ m)
+statement_front : (names : Names) (limit : ℕ) (f : TokenKind) (fs following : Kinds) → BeginsLow (Sentences names) limit (f ∷ fs)
+    → ((n : List ℕ) → f ∷ fs ≡ token.Name n ∷ [] → is_among names n ≡ false) → begins_type names f ≡ true
+    → (m : Kinds) × (fs ++ following ≡ colon ∷ m)
 statement_front names limit f [] following b lone typed =
-    let n = both_begin names f (first_passes begins_sentence (sentence_text b.phrase []) f b.more (sentence_begins names b.phrase [] b.is_phrase) b.spelled) typed in
+    let n = both_begin names f (first_passes begins_sentence (sentence_text b.phrase []) f b.more (sentence_begins names b.phrase [] b.is_phrase) b.spelled)
+    typed in
     absurd (both_ways (is_among names n.0) (lone n.0 (ap (λ (t : TokenKind). t ∷ []) n.1)) n.2)
 statement_front names limit f (g ∷ gs) following b lone typed =
-    let n = both_begin names f (first_passes begins_sentence (sentence_text b.phrase []) f ((g ∷ gs) ++ b.more) (sentence_begins names b.phrase [] b.is_phrase) b.spelled) typed in
-    let m = name_sentence names b.phrase [] n.0 ((g ∷ gs) ++ b.more) b.is_phrase n.2 (b.spelled ∙ ap (λ (t : TokenKind). t ∷ ((g ∷ gs) ++ b.more)) n.1) in
+    let n =
+    both_begin names f (first_passes begins_sentence (sentence_text b.phrase []) f ((g ∷ gs) ++ b.more) (sentence_begins names b.phrase [] b.is_phrase)
+    b.spelled) typed in
+    let m = name_sentence names b.phrase [] n.0 ((g ∷ gs) ++ b.more) b.is_phrase n.2 (b.spelled
+    ∙ ap (λ (t : TokenKind). t ∷ ((g ∷ gs) ++ b.more)) n.1) in
     let s : g ∷ (gs ++ b.more) ≡ colon ∷ m.0 = m.1 in
     let k : g ≡ colon = cc in
     (gs ++ following, ap (λ (t : TokenKind). t ∷ (gs ++ following)) k)
 
-statement_fits : (names : Names) (limit : ℕ) (front : Kinds) (next : TokenKind) (deep : Bool) → (front ≡ [] → begins_type names next ≡ false) → ((n : List ℕ) → front ≡ token.Name n ∷ [] → is_among names n ≡ false) → Refused (Sentences names) limit front next deep → (following : Kinds) → Near next following → IsStatement names (front ++ following)
+statement_fits : (names : Names) (limit : ℕ) (front : Kinds) (next : TokenKind) (deep : Bool) → (front ≡ [] → begins_type names next ≡ false)
+    → ((n : List ℕ) → front ≡ token.Name n ∷ [] → is_among names n ≡ false) → Refused (Sentences names) limit front next deep
+    → (following : Kinds) → Near next following → IsStatement names (front ++ following)
 statement_fits names limit [] next deep first lone r following near t more same =
     elim near [
       | inl none ↦ let z = sym same ∙ none in absurd cc
@@ -183,12 +221,18 @@ statement_fits names limit (f ∷ fs) next deep first lone r following near t mo
     ]
 
 -- a statement was refused; a typedef name without a colon begins no statement in a block
-pub does_refused : (names : Names) (limit : ℕ) → 1 ≤ limit → (front : Kinds) (next : TokenKind) (deep : Bool) → (front ≡ [] → begins_type names next ≡ false) → ((n : List ℕ) → front ≡ token.Name n ∷ [] → is_among names n ≡ false) → Refused (Sentences names) limit front next deep → Refused (BlockItems names) limit front next deep
-does_refused names limit some front next deep first lone r = single_refused (does_single names) limit limit (omega arith, some) front next deep (statement_fits names limit front next deep first lone r) r
+pub does_refused : (names : Names) (limit : ℕ) → 1 ≤ limit
+    → (front : Kinds) (next : TokenKind) (deep : Bool) → (front ≡ [] → begins_type names next ≡ false)
+    → ((n : List ℕ) → front ≡ token.Name n ∷ [] → is_among names n ≡ false) → Refused (Sentences names) limit front next deep
+    → Refused (BlockItems names) limit front next deep
+does_refused names limit some front next deep first lone r =
+    single_refused (does_single names) limit limit (omega arith, some) front next deep (statement_fits names limit front next deep first lone r) r
 
 -- a statement was taken
-pub does_took : (names : Names) (limit : ℕ) → 1 ≤ limit → (s : Sentence) (next : TokenKind) (deep : Bool) → Took (Sentences names) limit s next deep → Took (BlockItems names) limit (Does s) next deep
-does_took names limit some s next deep t = single_took (does_single names) limit limit (omega arith, some) s next deep (λ following near. statement_is names s following t.is_phrase) t
+pub does_took : (names : Names) (limit : ℕ) → 1 ≤ limit → (s : Sentence) (next : TokenKind) (deep : Bool) → Took (Sentences names) limit s next deep
+    → Took (BlockItems names) limit (Does s) next deep
+does_took names limit some s next deep t =
+    single_took (does_single names) limit limit (omega arith, some) s next deep (λ following near. statement_is names s following t.is_phrase) t
 
 keyword_no_case : (names : Names) (k : Keyword) → begins_item names (token.Keyword k) ≡ true → is_case (token.Keyword k) ≡ false
 keyword_no_case names keyword.Case e = absurd cc
@@ -202,7 +246,8 @@ no_case names _ e = refl
 item_no_case : (names : Names) (i : Item) (x : Kinds) → IsItem names i → HasNoCase (item_text i x)
 item_no_case names i x is first more same = no_case names first (first_passes (begins_item names) (item_text i x) first more (item_begins names i x is) same)
 
-case_fits : (names : Names) (limit : ℕ) (front : Kinds) (next : TokenKind) (deep : Bool) → (front ≡ [] → is_case next ≡ false) → Refused (BlockItems names) limit front next deep → (following : Kinds) → Near next following → HasNoCase (front ++ following)
+case_fits : (names : Names) (limit : ℕ) (front : Kinds) (next : TokenKind) (deep : Bool) → (front ≡ [] → is_case next ≡ false)
+    → Refused (BlockItems names) limit front next deep → (following : Kinds) → Near next following → HasNoCase (front ++ following)
 case_fits names limit [] next deep first r following near t more same =
     elim near [
       | inl none ↦ let z = sym same ∙ none in absurd cc
@@ -219,12 +264,17 @@ case_fits names limit (f ∷ fs) next deep first r following near t more same =
     ]
 
 -- what any block may have was refused in a `switch`
-pub inside_refused : (names : Names) (limit : ℕ) → 1 ≤ limit → (front : Kinds) (next : TokenKind) (deep : Bool) → (front ≡ [] → is_case next ≡ false) → Refused (BlockItems names) limit front next deep → Refused (SwitchParts names) limit front next deep
-inside_refused names limit some front next deep first r = single_refused (inside_single names) limit limit (omega arith, some) front next deep (case_fits names limit front next deep first r) r
+pub inside_refused : (names : Names) (limit : ℕ) → 1 ≤ limit
+    → (front : Kinds) (next : TokenKind) (deep : Bool) → (front ≡ [] → is_case next ≡ false) → Refused (BlockItems names) limit front next deep
+    → Refused (SwitchParts names) limit front next deep
+inside_refused names limit some front next deep first r =
+    single_refused (inside_single names) limit limit (omega arith, some) front next deep (case_fits names limit front next deep first r) r
 
 -- it was taken
-pub inside_took : (names : Names) (limit : ℕ) → 1 ≤ limit → (i : Item) (next : TokenKind) (deep : Bool) → Took (BlockItems names) limit i next deep → Took (SwitchParts names) limit (Inside i) next deep
-inside_took names limit some i next deep t = single_took (inside_single names) limit limit (omega arith, some) i next deep (λ following near. item_no_case names i following t.is_phrase) t
+pub inside_took : (names : Names) (limit : ℕ) → 1 ≤ limit → (i : Item) (next : TokenKind) (deep : Bool) → Took (BlockItems names) limit i next deep
+    → Took (SwitchParts names) limit (Inside i) next deep
+inside_took names limit some i next deep t =
+    single_took (inside_single names) limit limit (omega arith, some) i next deep (λ following near. item_no_case names i following t.is_phrase) t
 
 part_has : (names : Names) (i : SwitchItem) (after : Kinds) → IsSwitchItem names i → switch_item_text i after ≡ [] → ⊥
 part_has names i after is same = some_first (begins_switch_part names) (switch_item_text i after) (switch_part_begins names i after is) same
@@ -232,9 +282,12 @@ part_has names i after is same = some_first (begins_switch_part names) (switch_i
 -- nothing that may stand in a `switch` begins with the token
 pub part_not : (names : Names) (limit : ℕ) (next : TokenKind) → begins_switch_part names next ≡ false → Refused (SwitchParts names) limit [] next false
 part_not names limit next e =
-    none_refused (SwitchParts names) limit next (part_has names) (λ i after more is same. false≢true (sym e ∙ first_passes (begins_switch_part names) (switch_item_text i after) next more (switch_part_begins names i after is) same))
+    none_refused (SwitchParts names) limit next (part_has names)
+    (λ i after more is same.
+    false≢true (sym e ∙ first_passes (begins_switch_part names) (switch_item_text i after) next more (switch_part_begins names i after is) same))
 
-part_some : (names : Names) (i : SwitchItem) (after : Kinds) (t : TokenKind) (more : Kinds) → IsSwitchItem names i → (t ≡ word keyword.Default → ⊥) → switch_item_text i after ≡ t ∷ more → 1 ≤ switch_item_height i
+part_some : (names : Names) (i : SwitchItem) (after : Kinds) (t : TokenKind) (more : Kinds) → IsSwitchItem names i → (t ≡ word keyword.Default → ⊥)
+    → switch_item_text i after ≡ t ∷ more → 1 ≤ switch_item_height i
 part_some names (Case e) after t more is other same = expression_height e
 part_some names Default after t more is other same = absurd (other cc)
 part_some names (Inside i) after t more is other same = item_some names i is
@@ -242,12 +295,15 @@ part_some names (Inside i) after t more is other same = item_some names i is
 -- the limit doesn't allow a `case`
 pub case_none : (names : Names) (limit : ℕ) → limit < 1 → Refused (SwitchParts names) limit [] (word keyword.Case) true
 case_none names limit full =
-    full_refused (SwitchParts names) limit (word keyword.Case) (part_has names) (λ i after more is same. let h = part_some names i after (word keyword.Case) more is (λ e. cc) same in omega (arith, h, full))
+    full_refused (SwitchParts names) limit (word keyword.Case) (part_has names)
+    (λ i after more is same. let h = part_some names i after (word keyword.Case) more is (λ e. cc) same in omega (arith, h, full))
     (record { phrase = Case nought; more = text nought (colon ∷ []); is_phrase = (omega arith, tt); spelled = refl })
 
 -- the limit doesn't allow anything but `default`
-pub inside_none : (names : Names) (limit : ℕ) (next : TokenKind) → limit < 1 → begins_item names next ≡ true → (next ≡ word keyword.Default → ⊥) → Refused (SwitchParts names) limit [] next true
+pub inside_none : (names : Names) (limit : ℕ) (next : TokenKind) → limit < 1 → begins_item names next ≡ true → (next ≡ word keyword.Default → ⊥)
+    → Refused (SwitchParts names) limit [] next true
 inside_none names limit next full e other =
     let b = item_example names next e in
-    full_refused (SwitchParts names) limit next (part_has names) (λ i after more is same. let h = part_some names i after next more is other same in omega (arith, h, full))
+    full_refused (SwitchParts names) limit next (part_has names)
+    (λ i after more is same. let h = part_some names i after next more is other same in omega (arith, h, full))
     (record { phrase = Inside b.phrase; more = b.more; is_phrase = b.is_phrase; spelled = b.spelled })

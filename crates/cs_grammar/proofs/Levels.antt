@@ -84,14 +84,25 @@ step_join Down = refl
 pub looser : (names : Names) (level tight : ℕ) (e : Written) → level ≤ tight → IsPhrase names tight e → IsPhrase names level e
 looser names level tight e less is = (omega (arith, is.0), is.1)
 
-over_level : (names : Names) (level tight limit : ℕ) (deep : Bool) (e : Written) (following : Kinds) → IsOver (Expressions names tight) limit deep e following → IsOver (Expressions names level) limit deep e following
+over_level : (names : Names) (level tight limit : ℕ) (deep : Bool) (e : Written) (following : Kinds)
+    → IsOver (Expressions names tight) limit deep e following → IsOver (Expressions names level) limit deep e following
 over_level names level tight limit deep e following over = record { reported = over.reported; high = over.high; onward = over.onward }
 
-begins_level : (names : Names) (level tight : ℕ) (front : Kinds) → level ≤ tight → Begins (Expressions names tight) front → Begins (Expressions names level) front
-begins_level names level tight front less b = record { phrase = b.phrase; more = b.more; is_phrase = looser names level tight b.phrase less b.is_phrase; spelled = b.spelled }
+begins_level : (names : Names) (level tight : ℕ) (front : Kinds) → level ≤ tight → Begins (Expressions names tight) front
+    → Begins (Expressions names level) front
+begins_level names level tight front less b = record {
+  phrase = b.phrase;
+  more = b.more;
+  is_phrase = looser names level tight b.phrase less b.is_phrase;
+  spelled = b.spelled;
+}
 
 -- what was taken on a tighter level is taken on a looser one too, if nothing looser begins so
-pub pass_took : (names : Names) (level tight limit : ℕ) (e : Written) (next : TokenKind) (deep : Bool) → level ≤ tight → Took (Expressions names tight) limit e next deep → ((other : Written) (after following : Kinds) → IsPhrase names level other → level_of other < tight → join_of after ≤ level → Near next following → text other after ≡ text e following → IsOver (Expressions names level) limit deep other following) → Took (Expressions names level) limit e next deep
+pub pass_took : (names : Names) (level tight limit : ℕ) (e : Written) (next : TokenKind) (deep : Bool) → level ≤ tight
+    → Took (Expressions names tight) limit e next deep
+    → ((other : Written) (after following : Kinds) → IsPhrase names level other → level_of other < tight → join_of after ≤ level
+    → Near next following → text other after ≡ text e following → IsOver (Expressions names level) limit deep other following)
+    → Took (Expressions names level) limit e next deep
 pass_took names level tight limit e next deep less t none = record {
   is_phrase = looser names level tight e less t.is_phrase;
   low = t.low;
@@ -108,11 +119,21 @@ pass_took names level tight limit e next deep less t none = record {
   joined = λ reported more shut. t.joined reported more (omega arith);
 }
 
-pub pass_refused : (names : Names) (level tight limit : ℕ) (front : Kinds) (next : TokenKind) (deep : Bool) → level ≤ tight → Refused (Expressions names tight) limit front next deep → ((other : Written) (after following : Kinds) → IsPhrase names level other → level_of other < tight → join_of after ≤ level → Near next following → text other after ≡ front ++ following → IsOver (Expressions names level) limit deep other following) → Refused (Expressions names level) limit front next deep
+pub pass_refused : (names : Names) (level tight limit : ℕ) (front : Kinds) (next : TokenKind) (deep : Bool) → level ≤ tight
+    → Refused (Expressions names tight) limit front next deep
+    → ((other : Written) (after following : Kinds) → IsPhrase names level other → level_of other < tight → join_of after ≤ level
+    → Near next following → text other after ≡ front ++ following → IsOver (Expressions names level) limit deep other following)
+    → Refused (Expressions names level) limit front next deep
 pass_refused names level tight limit front next deep less r none = record {
   begun = elim r.begun [
     | inl empty ↦ inl empty
-    | inr b ↦ inr (record { phrase = b.phrase; more = b.more; is_phrase = looser names level tight b.phrase less b.is_phrase; low = b.low; spelled = b.spelled })
+    | inr b ↦ inr (record {
+      phrase = b.phrase;
+      more = b.more;
+      is_phrase = looser names level tight b.phrase less b.is_phrase;
+      low = b.low;
+      spelled = b.spelled;
+    })
   ];
   never = λ other after following is shut near same.
       elim (cases_lt (level_of other) tight) [
@@ -123,7 +144,11 @@ pass_refused names level tight limit front next deep less r none = record {
 }
 
 -- what was taken on a tighter level is taken on a looser one, where the looser phrases that begin so are too high
-pub deepen : (names : Names) (level tight limit : ℕ) (e : Written) (next : TokenKind) (deep : Bool) → level ≤ tight → Took (Expressions names tight) limit e next deep → ((more : Kinds) → join_of (next ∷ more) ≤ tight) → level < join next → ((other : Written) (after following : Kinds) → IsPhrase names level other → level_of other < tight → join_of after ≤ level → Near next following → text other after ≡ text e following → (limit < height other) × (following ≡ [] → ⊥)) → Begins (Expressions names level) (text e (next ∷ [])) → Took (Expressions names level) limit e next true
+pub deepen : (names : Names) (level tight limit : ℕ) (e : Written) (next : TokenKind) (deep : Bool) → level ≤ tight
+    → Took (Expressions names tight) limit e next deep → ((more : Kinds) → join_of (next ∷ more) ≤ tight) → level < join next
+    → ((other : Written) (after following : Kinds) → IsPhrase names level other → level_of other < tight → join_of after ≤ level
+    → Near next following → text other after ≡ text e following → (limit < height other) × (following ≡ [] → ⊥))
+    → Begins (Expressions names level) (text e (next ∷ [])) → Took (Expressions names level) limit e next true
 deepen names level tight limit e next deep less t shut joins high further = record {
   is_phrase = looser names level tight e less t.is_phrase;
   low = t.low;

@@ -1,5 +1,6 @@
 -- One phrase after another, and a token before or after: for the contracts of every parser of declarations, statements and files.
-use Rattle.std.proofs.Common.{◌≡◌, ℕ, ◌+◌, ◌≤◌, inl, inr, Bool, true, false, [], ◌∷◌, ◌++◌, refl, sym, ap, ◌∙◌, subst, arith, append_assoc}
+use Rattle.std.proofs.Common.{◌≡◌, ℕ, ◌+◌, ◌≤◌, inl, inr, Bool, true, false, [], ◌∷◌, ◌++◌, refl, sym, ap, ◌∙◌, subst, arith}
+use Rattle.std.proofs.Common.{append_assoc}
 use Rattle.std.proofs.lemmas.Bool.{false≢true}
 use Rattle.cs_ast.specs.declared.token.TokenKind.{TokenKind}
 use Rattle.cs_grammar.specs.Text.{Kinds}
@@ -22,11 +23,14 @@ sequence_least C D lc ld = record {
   below = λ other is. let c = lc.below other.0 is.0 in let d = ld.below other.1 is.1 in omega (arith, c, d);
 }
 
-front_text : (C D : Class) → Lawful C → (c : C.Tree) (d : D.Tree) (front more : Kinds) → C.spell c [] ≡ front ++ more → C.spell c (D.spell d []) ≡ front ++ (more ++ D.spell d [])
-front_text C D law c d front more same = splits C law c (D.spell d []) ∙ ap (λ (x : Kinds). x ++ D.spell d []) same ∙ append_assoc front more (D.spell d [])
+front_text : (C D : Class) → Lawful C → (c : C.Tree) (d : D.Tree) (front more : Kinds) → C.spell c [] ≡ front ++ more
+    → C.spell c (D.spell d []) ≡ front ++ (more ++ D.spell d [])
+front_text C D law c d front more same = splits C law c (D.spell d []) ∙ ap (λ (x : Kinds). x ++ D.spell d []) same
+    ∙ append_assoc front more (D.spell d [])
 
 -- the first of two was refused
-pub first_refused : (C D : Class) (limit : ℕ) → Lawful C → Joins C D → (least : Least D) → D.tall least.tree ≤ limit → (front : Kinds) (next : TokenKind) (deep : Bool) → Refused C limit front next deep → Refused (Sequence C D) limit front next deep
+pub first_refused : (C D : Class) (limit : ℕ) → Lawful C → Joins C D → (least : Least D) → D.tall least.tree ≤ limit
+    → (front : Kinds) (next : TokenKind) (deep : Bool) → Refused C limit front next deep → Refused (Sequence C D) limit front next deep
 first_refused C D limit law joins least fits front next deep r = record {
   begun = elim r.begun [
     | inl none ↦ inl none
@@ -52,7 +56,9 @@ first_refused C D limit law joins least fits front next deep r = record {
 }
 
 -- the first of two was taken before a token that may stand after it: what is left is the second
-pub second_tail : (C D : Class) (limit : ℕ) → Lawful C → Joins C D → (least : Least D) → D.tall least.tree ≤ limit → (c : C.Tree) (next : TokenKind) (deep : Bool) → Took C limit c next deep → (deep ≡ true → C.Shut c (next ∷ [])) → Tail (Sequence C D) D limit limit (C.spell c []) (λ d. (c, d)) (Near next)
+pub second_tail : (C D : Class) (limit : ℕ) → Lawful C → Joins C D → (least : Least D) → D.tall least.tree ≤ limit
+    → (c : C.Tree) (next : TokenKind) (deep : Bool) → Took C limit c next deep → (deep ≡ true → C.Shut c (next ∷ []))
+    → Tail (Sequence C D) D limit limit (C.spell c []) (λ d. (c, d)) (Near next)
 second_tail C D limit law joins least fits c next deep t settled =
     let low' = t.low in
     record {
@@ -64,7 +70,8 @@ second_tail C D limit law joins least fits c next deep t settled =
         spelled = splits C law c (D.spell least.tree []);
       });
       invert = λ whole after following is shut near same.
-          elim (t.only whole.0 (D.spell whole.1 after) following is.0 (joins whole.0 whole.1 after is.0 is.1 shut) near (same ∙ sym (splits C law c following))) [
+          elim (t.only whole.0 (D.spell whole.1 after) following is.0 (joins whole.0 whole.1 after is.0 is.1 shut) near (same
+          ∙ sym (splits C law c following))) [
             | inl e ↦ (whole.1, ap (λ (x : C.Tree). (x, whole.1)) e.0, is.1, sym e.1)
             | inr over ↦ absurd (t.joined over.reported [] (settled over.reported))
           ];
@@ -76,7 +83,10 @@ second_tail C D limit law joins least fits c next deep t settled =
     }
 
 -- the first of two was taken, and a token came with which none of the second begins
-pub second_wrong : (C D : Class) (limit : ℕ) → Lawful C → Joins C D → (least : Least D) → D.tall least.tree ≤ limit → (c : C.Tree) (next : TokenKind) (deep : Bool) → Took C limit c next deep → ((d : D.Tree) (after : Kinds) → D.Is d → D.spell d after ≡ [] → ⊥) → ((d : D.Tree) (after more : Kinds) → D.Is d → D.spell d after ≡ next ∷ more → ⊥) → Refused (Sequence C D) limit (C.spell c []) next deep
+pub second_wrong : (C D : Class) (limit : ℕ) → Lawful C → Joins C D → (least : Least D) → D.tall least.tree ≤ limit
+    → (c : C.Tree) (next : TokenKind) (deep : Bool) → Took C limit c next deep
+    → ((d : D.Tree) (after : Kinds) → D.Is d → D.spell d after ≡ [] → ⊥)
+    → ((d : D.Tree) (after more : Kinds) → D.Is d → D.spell d after ≡ next ∷ more → ⊥) → Refused (Sequence C D) limit (C.spell c []) next deep
 second_wrong C D limit law joins least fits c next deep t some none = record {
   begun = inr (record {
     phrase = (c, least.tree);
@@ -96,7 +106,8 @@ second_wrong C D limit law joins least fits c next deep t some none = record {
         phrase = (b.phrase, least.tree);
         more = b.more ++ D.spell least.tree [];
         is_phrase = (b.is_phrase, least.is_phrase);
-        spelled = front_text C D law b.phrase least.tree (C.spell c [] ++ next ∷ []) b.more (b.spelled ∙ ap (λ (x : Kinds). x ++ b.more) (splits C law c (next ∷ [])));
+        spelled = front_text C D law b.phrase least.tree (C.spell c [] ++ next ∷ []) b.more (b.spelled
+            ∙ ap (λ (x : Kinds). x ++ b.more) (splits C law c (next ∷ [])));
       };
 }
 
@@ -113,7 +124,8 @@ abbrev pub ended_least : Least Ended
 ended_least = record { tree = tt; is_phrase = tt; below = λ other is. omega arith }
 
 -- the token stands there: what is left is the phrase after it
-pub after_tail : (t : TokenKind) (D : Class) (limit : ℕ) → (least : Least D) → D.tall least.tree ≤ limit → Tail (Following t D) D limit limit (t ∷ []) (λ d. d) (λ rest. Unit {0})
+pub after_tail : (t : TokenKind) (D : Class) (limit : ℕ) → (least : Least D) → D.tall least.tree ≤ limit
+    → Tail (Following t D) D limit limit (t ∷ []) (λ d. d) (λ rest. Unit {0})
 after_tail t D limit least fits = record {
   started = inr (record { phrase = least.tree; more = D.spell least.tree []; is_phrase = least.is_phrase; low = fits; spelled = refl });
   invert = λ whole after following is shut fit same. (whole, refl, is, cc);
@@ -129,7 +141,8 @@ pub after_wrong : (t : TokenKind) (D : Class) (limit : ℕ) (next : TokenKind) �
 after_wrong t D limit next other = none_refused (Following t D) limit next (λ o after is same. cc) (λ o after more is same. other cc)
 
 -- the first of two was taken, whatever stands after it: what is left is the second
-pub exact_tail : (C D : Class) (limit : ℕ) → Lawful C → (least : Least D) → D.tall least.tree ≤ limit → (c : C.Tree) → Exactly C limit c → Tail (Sequence C D) D limit limit (C.spell c []) (λ d. (c, d)) (λ rest. Unit {0})
+pub exact_tail : (C D : Class) (limit : ℕ) → Lawful C → (least : Least D) → D.tall least.tree ≤ limit → (c : C.Tree) → Exactly C limit c
+    → Tail (Sequence C D) D limit limit (C.spell c []) (λ d. (c, d)) (λ rest. Unit {0})
 exact_tail C D limit law least fits c e =
     let low' = e.low in
     record {
@@ -151,14 +164,20 @@ exact_tail C D limit law least fits c e =
     }
 
 -- the first of two was taken, the second refused
-pub exact_then_refused : (C D : Class) (limit : ℕ) → Lawful C → Lawful D → (least : Least D) → D.tall least.tree ≤ limit → (c : C.Tree) → Exactly C limit c → (front : Kinds) (next : TokenKind) (deep : Bool) → Refused D limit front next deep → Refused (Sequence C D) limit (C.spell c [] ++ front) next deep
+pub exact_then_refused : (C D : Class) (limit : ℕ) → Lawful C → Lawful D → (least : Least D) → D.tall least.tree ≤ limit
+    → (c : C.Tree) → Exactly C limit c → (front : Kinds) (next : TokenKind) (deep : Bool) → Refused D limit front next deep
+    → Refused (Sequence C D) limit (C.spell c [] ++ front) next deep
 exact_then_refused C D limit lc ld least fits c e front next deep r =
-    tail_refused (Sequence C D) D limit limit (C.spell c []) (λ d. (c, d)) (λ rest. Unit {0}) ld (exact_tail C D limit lc least fits c e) front next deep (λ following near. tt) r
+    tail_refused (Sequence C D) D limit limit (C.spell c []) (λ d. (c, d)) (λ rest. Unit {0}) ld (exact_tail C D limit lc least fits c e) front next deep
+    (λ following near. tt) r
 
 -- both were taken
-pub exact_then_took : (C D : Class) (limit : ℕ) → Lawful C → Lawful D → (least : Least D) → D.tall least.tree ≤ limit → (c : C.Tree) → Exactly C limit c → (d : D.Tree) (next : TokenKind) (deep : Bool) → Took D limit d next deep → Took (Sequence C D) limit (c, d) next deep
+pub exact_then_took : (C D : Class) (limit : ℕ) → Lawful C → Lawful D → (least : Least D) → D.tall least.tree ≤ limit
+    → (c : C.Tree) → Exactly C limit c → (d : D.Tree) (next : TokenKind) (deep : Bool) → Took D limit d next deep
+    → Took (Sequence C D) limit (c, d) next deep
 exact_then_took C D limit lc ld least fits c e d next deep t =
-    tail_took (Sequence C D) D limit limit (C.spell c []) (λ d. (c, d)) (λ rest. Unit {0}) ld (exact_tail C D limit lc least fits c e) d next deep (λ following near. tt) t
+    tail_took (Sequence C D) D limit limit (C.spell c []) (λ d. (c, d)) (λ rest. Unit {0}) ld (exact_tail C D limit lc least fits c e) d next deep
+    (λ following near. tt) t
 
 -- both were taken, whatever stands after them
 pub exact_both : (C D : Class) (limit : ℕ) → (c : C.Tree) (d : D.Tree) → Exactly C limit c → Exactly D limit d → Exactly (Sequence C D) limit (c, d)
@@ -175,26 +194,41 @@ exact_both C D limit c d ec ed =
     }
 
 -- the same where the first of two was taken before a token that may stand after it
-pub then_refused : (C D : Class) (limit : ℕ) → Lawful C → Lawful D → Joins C D → (least : Least D) → D.tall least.tree ≤ limit → (c : C.Tree) (first : TokenKind) (deep : Bool) → Took C limit c first deep → (deep ≡ true → C.Shut c (first ∷ [])) → (front : Kinds) (next : TokenKind) (deep' : Bool) → first_or front next ≡ first → Refused D limit front next deep' → Refused (Sequence C D) limit (C.spell c [] ++ front) next deep'
+pub then_refused : (C D : Class) (limit : ℕ) → Lawful C → Lawful D → Joins C D → (least : Least D) → D.tall least.tree ≤ limit
+    → (c : C.Tree) (first : TokenKind) (deep : Bool) → Took C limit c first deep → (deep ≡ true → C.Shut c (first ∷ []))
+    → (front : Kinds) (next : TokenKind) (deep' : Bool) → first_or front next ≡ first → Refused D limit front next deep'
+    → Refused (Sequence C D) limit (C.spell c [] ++ front) next deep'
 then_refused C D limit lc ld joins least fits c first deep t settled front next deep' starts r =
-    tail_refused (Sequence C D) D limit limit (C.spell c []) (λ d. (c, d)) (Near first) ld (second_tail C D limit lc joins least fits c first deep t settled) front next deep' (near_first front next first starts) r
+    tail_refused (Sequence C D) D limit limit (C.spell c []) (λ d. (c, d)) (Near first) ld (second_tail C D limit lc joins least fits c first deep t settled)
+    front next deep' (near_first front next first starts) r
 
-pub then_took : (C D : Class) (limit : ℕ) → Lawful C → Lawful D → Joins C D → (least : Least D) → D.tall least.tree ≤ limit → (c : C.Tree) (first : TokenKind) (deep : Bool) → Took C limit c first deep → (deep ≡ true → C.Shut c (first ∷ [])) → (d : D.Tree) (next : TokenKind) (deep' : Bool) → first_or (D.spell d []) next ≡ first → Took D limit d next deep' → Took (Sequence C D) limit (c, d) next deep'
+pub then_took : (C D : Class) (limit : ℕ) → Lawful C → Lawful D → Joins C D → (least : Least D) → D.tall least.tree ≤ limit
+    → (c : C.Tree) (first : TokenKind) (deep : Bool) → Took C limit c first deep → (deep ≡ true → C.Shut c (first ∷ []))
+    → (d : D.Tree) (next : TokenKind) (deep' : Bool) → first_or (D.spell d []) next ≡ first → Took D limit d next deep'
+    → Took (Sequence C D) limit (c, d) next deep'
 then_took C D limit lc ld joins least fits c first deep t settled d next deep' starts t' =
-    tail_took (Sequence C D) D limit limit (C.spell c []) (λ d. (c, d)) (Near first) ld (second_tail C D limit lc joins least fits c first deep t settled) d next deep'
+    tail_took (Sequence C D) D limit limit (C.spell c []) (λ d. (c, d)) (Near first) ld (second_tail C D limit lc joins least fits c first deep t settled) d
+    next deep'
     (λ following near. subst (λ (x : Kinds). Near first x) (ld d [] following) (near_first (D.spell d []) next first starts following near)) t'
 
 -- a phrase of D was taken, and nothing of C but D begins so: for productions
-pub made_refused : (C D : Class) (plus : ℕ) (before : Kinds) (build : D.Tree → C.Tree) (Fit : Kinds → Type 0) (limit inner : ℕ) → limit ≡ plus + inner → Production C D plus before build Fit → (least : Least D) → D.tall least.tree ≤ inner → Lawful D → (front : Kinds) (next : TokenKind) (deep : Bool) → ((following : Kinds) → Near next following → Fit (front ++ following)) → Refused D inner front next deep → Refused C limit (before ++ front) next deep
+pub made_refused : (C D : Class) (plus : ℕ) (before : Kinds) (build : D.Tree → C.Tree) (Fit : Kinds → Type 0) (limit inner : ℕ)
+    → limit ≡ plus + inner → Production C D plus before build Fit → (least : Least D) → D.tall least.tree ≤ inner → Lawful D
+    → (front : Kinds) (next : TokenKind) (deep : Bool) → ((following : Kinds) → Near next following → Fit (front ++ following))
+    → Refused D inner front next deep → Refused C limit (before ++ front) next deep
 made_refused C D plus before build Fit limit inner less p least fits law front next deep fit r =
     tail_refused C D limit inner before build Fit law (production_tail C D plus before build Fit limit inner less p least fits) front next deep fit r
 
-pub made_took : (C D : Class) (plus : ℕ) (before : Kinds) (build : D.Tree → C.Tree) (Fit : Kinds → Type 0) (limit inner : ℕ) → limit ≡ plus + inner → Production C D plus before build Fit → (least : Least D) → D.tall least.tree ≤ inner → Lawful D → (part : D.Tree) (next : TokenKind) (deep : Bool) → ((following : Kinds) → Near next following → Fit (D.spell part following)) → Took D inner part next deep → Took C limit (build part) next deep
+pub made_took : (C D : Class) (plus : ℕ) (before : Kinds) (build : D.Tree → C.Tree) (Fit : Kinds → Type 0) (limit inner : ℕ) → limit ≡ plus + inner
+    → Production C D plus before build Fit → (least : Least D) → D.tall least.tree ≤ inner → Lawful D
+    → (part : D.Tree) (next : TokenKind) (deep : Bool) → ((following : Kinds) → Near next following → Fit (D.spell part following))
+    → Took D inner part next deep → Took C limit (build part) next deep
 made_took C D plus before build Fit limit inner less p least fits law part next deep fit t =
     tail_took C D limit inner before build Fit law (production_tail C D plus before build Fit limit inner less p least fits) part next deep fit t
 
 -- what was taken before a token that may stand after it was taken within a smaller limit too, if it fits
-pub took_lower : (C : Class) (limit inner : ℕ) (c : C.Tree) (next : TokenKind) (deep : Bool) → Took C limit c next deep → (deep ≡ true → C.Shut c (next ∷ [])) → C.tall c ≤ inner → Took C inner c next false
+pub took_lower : (C : Class) (limit inner : ℕ) (c : C.Tree) (next : TokenKind) (deep : Bool) → Took C limit c next deep
+    → (deep ≡ true → C.Shut c (next ∷ [])) → C.tall c ≤ inner → Took C inner c next false
 took_lower C limit inner c next deep t settled fits = record {
   is_phrase = t.is_phrase;
   low = fits;
@@ -207,14 +241,20 @@ took_lower C limit inner c next deep t settled fits = record {
   joined = λ reported more shut. false≢true reported;
 }
 
-each_took : (C : Class) (limit : ℕ) (c : C.Tree) → ((next : TokenKind) → Took C limit c next false) → ((other : C.Tree) (after : Kinds) → C.Shut other after) → (some : TokenKind) → (other : C.Tree) (after following : Kinds) → C.Is other → C.spell other after ≡ C.spell c following → (other ≡ c) × (after ≡ following)
+each_took : (C : Class) (limit : ℕ) (c : C.Tree) → ((next : TokenKind) → Took C limit c next false)
+    → ((other : C.Tree) (after : Kinds) → C.Shut other after) → (some : TokenKind) → (other : C.Tree) (after following : Kinds) → C.Is other
+    → C.spell other after ≡ C.spell c following → (other ≡ c) × (after ≡ following)
 each_took C limit c took shut some other after [] is same =
     elim ((took some).only other after [] is (shut other after) (inl refl) same) [ inl e ↦ e | inr over ↦ absurd (false≢true over.reported) ]
 each_took C limit c took shut some other after (t ∷ following) is same =
-    elim ((took t).only other after (t ∷ following) is (shut other after) (inr (following, refl)) same) [ inl e ↦ e | inr over ↦ absurd (false≢true over.reported) ]
+    elim ((took t).only other after (t ∷ following) is (shut other after) (inr (following, refl)) same) [
+      | inl e ↦ e
+      | inr over ↦ absurd (false≢true over.reported)
+    ]
 
 -- what was taken before every token, and may stand before any, is determined by its tokens
-pub took_exact : (C : Class) (limit : ℕ) (c : C.Tree) → ((next : TokenKind) → Took C limit c next false) → ((other : C.Tree) (after : Kinds) → C.Shut other after) → (some : TokenKind) → Exactly C limit c
+pub took_exact : (C : Class) (limit : ℕ) (c : C.Tree) → ((next : TokenKind) → Took C limit c next false)
+    → ((other : C.Tree) (after : Kinds) → C.Shut other after) → (some : TokenKind) → Exactly C limit c
 took_exact C limit c took shut some = record {
   is_phrase = (took some).is_phrase;
   low = (took some).low;

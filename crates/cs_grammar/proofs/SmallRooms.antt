@@ -1,5 +1,6 @@
 -- Types with bodies that the limit doesn't allow, and words that continue no further: for the contracts of every parser of declarations.
-use Rattle.std.proofs.Common.{◌≡◌, ℕ, ◌<◌, ◌≤◌, ◌⊎◌, inl, inr, Bool, true, false, List, [], ◌∷◌, ◌++◌, Option, Some, None, refl, sym, ap, ◌∙◌, subst, arith, append-nil}
+use Rattle.std.proofs.Common.{◌≡◌, ℕ, ◌<◌, ◌≤◌, ◌⊎◌, inl, inr, Bool, true, false, List, [], ◌∷◌, ◌++◌, Option, Some, None}
+use Rattle.std.proofs.Common.{refl, sym, ap, ◌∙◌, subst, arith, append-nil}
 use Rattle.std.proofs.lemmas.Bool.{false≢true}
 use Rattle.cs_ast.specs.declared.token.TokenKind.{TokenKind}
 use Rattle.cs_ast.specs.declared.token.TokenKind.TheVariants as token
@@ -26,13 +27,16 @@ use Rattle.cs_grammar.proofs.Declarators.{declarator_of}
 use Rattle.cs_grammar.proofs.ItemSites.{type_example}
 use Rattle.cs_grammar.proofs.FileTexts.{specs_append}
 use Rattle.cs_grammar.proofs.TypeNames.{MayGoOn, tag_word, IsStuckAt}
-use Rattle.cs_grammar.proofs.SpecRows.{first_of, spec_starts, IsStuckAfter, joined_specs, joined_text, joined_words, joined_tall, specs_joined_none, rest_bodies, AreExact, exact_more, plain_exact, specs_go_on, quiet_plain, quiet_end, specs_no_brace, with_spec, with_is, tag_quiet, tag_spec_type}
+use Rattle.cs_grammar.proofs.SpecRows.{first_of, spec_starts, IsStuckAfter, joined_specs, joined_text, joined_words, joined_tall, specs_joined_none}
+use Rattle.cs_grammar.proofs.SpecRows.{rest_bodies, AreExact, exact_more, plain_exact, specs_go_on, quiet_plain, quiet_end, specs_no_brace, with_spec, with_is}
+use Rattle.cs_grammar.proofs.SpecRows.{tag_quiet, tag_spec_type}
 use Rattle.cs_grammar.proofs.Bodies.{MemberGroup, constant_of, constant_some, file_specs_height, member_listing, enum_is}
 use Rattle.cs_grammar.proofs.ExternalSites.{begins_spec, first_begins, specs_first}
 use Rattle.cs_grammar.proofs.FileRules.{specs_has}
 
 -- where no word continues with others, none with a body and no `static` does, if the next token is no `static`
-pub stuck_after : (names : Names) (ws : List TypeWord) (next : TokenKind) → IsStuckAt names ws next → (next ≡ token.Keyword keyword.Static → ⊥) → IsStuckAfter names ws next
+pub stuck_after : (names : Names) (ws : List TypeWord) (next : TokenKind) → IsStuckAt names ws next → (next ≡ token.Keyword keyword.Static → ⊥)
+    → IsStuckAfter names ws next
 stuck_after names ws next stuck none Static more e = absurd (none (sym e))
 stuck_after names ws next stuck none (Plain w) more e = stuck w more e
 stuck_after names ws next stuck none (StructBody tag members) more e = stuck (word.Struct []) more e
@@ -69,7 +73,12 @@ typed_example names t e =
     }
 
 keyword_example : (names : Names) (k : Keyword) → begins_file_spec names (token.Keyword k) ≡ true → SpecsExample names (token.Keyword k)
-keyword_example names keyword.Static e = record { specs = MoreSpecs Static (MoreSpecs (Plain (word.Integer Int)) NoSpec); are = (refl, (tt, (tt, tt))); more = token.Keyword keyword.Int ∷ []; spelled = λ rest. refl }
+keyword_example names keyword.Static e = record {
+  specs = MoreSpecs Static (MoreSpecs (Plain (word.Integer Int)) NoSpec);
+  are = (refl, (tt, (tt, tt)));
+  more = token.Keyword keyword.Int ∷ [];
+  spelled = λ rest. refl;
+}
 keyword_example names keyword.Break e = absurd cc
 keyword_example names keyword.Case e = absurd cc
 keyword_example names keyword.Continue e = absurd cc
@@ -113,7 +122,8 @@ abbrev any_member : Declarator
 any_member = declarator_of [] [] []
 
 -- the limit doesn't allow a member
-pub group_full : (names : Names) (limit : ℕ) (next : TokenKind) → limit < 2 → begins_file_spec names next ≡ true → Refused (MemberGroups names) limit [] next true
+pub group_full : (names : Names) (limit : ℕ) (next : TokenKind) → limit < 2 → begins_file_spec names next ≡ true
+    → Refused (MemberGroups names) limit [] next true
 group_full names limit next full e =
     let x = specs_example names next e in
     full_refused (MemberGroups names) limit next (group_has names) (λ g after more is same. let h = file_specs_height names g.0 is.0 in omega (arith, h, full))
@@ -125,23 +135,29 @@ group_full names limit next full e =
     })
 
 -- the first token of a member was refused
-pub members_first_refused : (names : Names) (limit : ℕ) (next : TokenKind) (deep : Bool) → (next ≡ close_brace → ⊥) → Refused (MemberGroups names) limit [] next deep → Refused (MemberRows names) limit [] next deep
-members_first_refused names limit next deep other r = row_refused (MemberRows names) (MemberGroups names) limit (member_listing names) [] next deep (λ after following shut near same. near_other close_brace next following after other near same) r
+pub members_first_refused : (names : Names) (limit : ℕ) (next : TokenKind) (deep : Bool) → (next ≡ close_brace → ⊥)
+    → Refused (MemberGroups names) limit [] next deep → Refused (MemberRows names) limit [] next deep
+members_first_refused names limit next deep other r =
+    row_refused (MemberRows names) (MemberGroups names) limit (member_listing names) [] next deep
+    (λ after following shut near same. near_other close_brace next following after other near same) r
 
 -- no member begins with the token
 pub group_not : (names : Names) (limit : ℕ) (next : TokenKind) → begins_spec next ≡ false → Refused (MemberGroups names) limit [] next false
 group_not names limit next none =
-    none_refused (MemberGroups names) limit next (group_has names) (λ g after more is same. false≢true (sym none ∙ specs_first names g.0 (with_commas declarator_text g.1 (semicolon ∷ after)) next more is.0 same))
+    none_refused (MemberGroups names) limit next (group_has names)
+    (λ g after more is same. false≢true (sym none ∙ specs_first names g.0 (with_commas declarator_text g.1 (semicolon ∷ after)) next more is.0 same))
 
 enum_high : (names : Names) (list : List Constant) → IsSomeList list → 1 ≤ highest_by constant_height list
 enum_high names [] some = absurd some
 enum_high names (c ∷ cs) some = let h = constant_some c in omega (arith, h)
 
-enum_begun : (names : Names) (limit : ℕ) → 1 ≤ limit → (tag : Option (List ℕ)) → BeginsLow (SpecElements names) limit (tag_word false ∷ name_text tag [])
+enum_begun : (names : Names) (limit : ℕ) → 1 ≤ limit → (tag : Option (List ℕ))
+    → BeginsLow (SpecElements names) limit (tag_word false ∷ name_text tag [])
 enum_begun names limit some None = record { phrase = Plain (word.Enum []); more = token.Name [] ∷ []; is_phrase = tt; low = some; spelled = refl }
 enum_begun names limit some (Some t) = record { phrase = Plain (word.Enum t); more = []; is_phrase = tt; low = some; spelled = refl }
 
-enum_over : (names : Names) (limit : ℕ) (tag : Option (List ℕ)) → limit < 2 → (s : Spec) (after more : Kinds) → HasBody names s → IsQuiet s after → spec_text s after ≡ tag_word false ∷ name_text tag (open_brace ∷ more) → limit < spec_height s
+enum_over : (names : Names) (limit : ℕ) (tag : Option (List ℕ)) → limit < 2 → (s : Spec) (after more : Kinds) → HasBody names s → IsQuiet s after
+    → spec_text s after ≡ tag_word false ∷ name_text tag (open_brace ∷ more) → limit < spec_height s
 enum_over names limit tag full s after more has quiet same =
     let f = enum_is names tag s after more has quiet same in
     let h = enum_high names f.0.0 f.2.0 in
@@ -194,32 +210,46 @@ nothing_more (MoreSpecs s more) after same = let b = spec_starts s (specs_text m
 abbrev pub with_enum : Specs → List ℕ → Specs
 with_enum before tag = with_spec before (Plain (word.Enum tag))
 
-enum_rest : (names : Names) (limit : ℕ) (before : Specs) (tag : List ℕ) → limit < 2 → (more : Specs) (after following : Kinds) → HaveBodies names more → Follows ends_specs after → specs_text more after ≡ tag_word false ∷ token.Name tag ∷ open_brace ∷ following → limit < specs_height (joined_specs before more)
+enum_rest : (names : Names) (limit : ℕ) (before : Specs) (tag : List ℕ) → limit < 2 → (more : Specs) (after following : Kinds) → HaveBodies names more
+    → Follows ends_specs after → specs_text more after ≡ tag_word false ∷ token.Name tag ∷ open_brace ∷ following
+    → limit < specs_height (joined_specs before more)
 enum_rest names limit before tag full NoSpec after following has f same = absurd (false≢true (subst (Follows ends_specs) same f))
 enum_rest names limit before tag full (MoreSpecs s more) after following has f same =
-    let h = enum_over names limit (Some tag) full s (specs_text more after) following has.0 (quiet_plain s (specs_text more after) (specs_no_brace more after f)) same in
+    let h = enum_over names limit (Some tag) full s (specs_text more after) following has.0
+    (quiet_plain s (specs_text more after) (specs_no_brace more after f)) same in
     let t = joined_tall before (MoreSpecs s more) in
     omega (arith, h, t)
 
-enum_only : (names : Names) (limit : ℕ) (before : Specs) (tag : List ℕ) → limit < 2 → named_by (words_of before) ≡ [] → AreExact names before → (other : Specs) (after following : Kinds) → AreSpecs names other → Follows ends_specs after → Near open_brace following → specs_text other after ≡ specs_text (with_enum before tag) following → ((other ≡ with_enum before tag) × (after ≡ following)) ⊎ IsOver (FileSpecs names) limit true other following
+enum_only : (names : Names) (limit : ℕ) (before : Specs) (tag : List ℕ) → limit < 2 → named_by (words_of before) ≡ [] → AreExact names before
+    → (other : Specs) (after following : Kinds) → AreSpecs names other → Follows ends_specs after → Near open_brace following
+    → specs_text other after ≡ specs_text (with_enum before tag) following
+    → ((other ≡ with_enum before tag) × (after ≡ following)) ⊎ IsOver (FileSpecs names) limit true other following
 enum_only names limit before tag full none exact other after [] is f near same =
     let done = with_enum before tag in
     let exact' = exact_more names before (Plain (word.Enum tag)) exact tt (plain_exact names (word.Enum tag)) in
-    let go : MayGoOn names (words_of done) = ([], ap (is_type names) (append-nil (words_of done) ∙ joined_words before (MoreSpecs (Plain (word.Enum tag)) NoSpec)) ∙ tag_spec_type names (words_of before) (Plain (word.Enum tag)) false none refl) in
+    let go : MayGoOn names (words_of done) = (
+      [],
+      ap (is_type names) (append-nil (words_of done) ∙ joined_words before (MoreSpecs (Plain (word.Enum tag)) NoSpec))
+          ∙ tag_spec_type names (words_of before) (Plain (word.Enum tag)) false none refl,
+    ) in
     let r = specs_go_on names [] done other after [] go is.0 is.1 exact' f (quiet_end done [] tt) same in
     let e = nothing_more r.0 after r.2 in
     inl (r.1 ∙ ap (joined_specs done) e.0 ∙ specs_joined_none done, e.1)
 enum_only names limit before tag full none exact other after (t ∷ following) is f near same =
     let k : t ≡ open_brace = elim near [ inl z ↦ absurd cc | inr m ↦ let z = m.1 in cc ] in
-    let s : specs_text other after ≡ specs_text before (tag_word false ∷ token.Name tag ∷ open_brace ∷ following) = same ∙ joined_text before (MoreSpecs (Plain (word.Enum tag)) NoSpec) (t ∷ following) ∙ ap (λ (x : TokenKind). specs_text before (tag_word false ∷ token.Name tag ∷ x ∷ following)) k in
+    let s : specs_text other after ≡ specs_text before (tag_word false ∷ token.Name tag ∷ open_brace ∷ following) = same
+    ∙ joined_text before (MoreSpecs (Plain (word.Enum tag)) NoSpec) (t ∷ following)
+    ∙ ap (λ (x : TokenKind). specs_text before (tag_word false ∷ token.Name tag ∷ x ∷ following)) k in
     let go : MayGoOn names (words_of before) = (word.Enum [] ∷ [], tag_spec_type names (words_of before) (EnumBody None [] false) false none refl) in
-    let r = specs_go_on names [] before other after (tag_word false ∷ token.Name tag ∷ open_brace ∷ following) go is.0 is.1 exact f (tag_quiet before (token.Name tag ∷ open_brace ∷ following) false) s in
+    let r = specs_go_on names [] before other after (tag_word false ∷ token.Name tag ∷ open_brace ∷ following) go is.0 is.1 exact f
+    (tag_quiet before (token.Name tag ∷ open_brace ∷ following) false) s in
     let has = rest_bodies names before r.0 (subst (HaveBodies names) r.1 is.1) in
     let h = enum_rest names limit before tag full r.0 after following has f r.2 in
     inr (record { reported = refl; high = subst (λ (x : Specs). limit < specs_height x) (sym r.1) h; onward = λ z. cc })
 
 -- an `enum` with a tag, and a brace that the limit doesn't allow: it is taken without a body, and a higher one goes on
-pub enum_tag_full : (names : Names) (limit : ℕ) (before : Specs) (tag : List ℕ) → limit < 2 → specs_height (with_enum before tag) ≤ limit → named_by (words_of before) ≡ [] → AreExact names before → Took (FileSpecs names) limit (with_enum before tag) open_brace true
+pub enum_tag_full : (names : Names) (limit : ℕ) (before : Specs) (tag : List ℕ) → limit < 2 → specs_height (with_enum before tag) ≤ limit
+    → named_by (words_of before) ≡ [] → AreExact names before → Took (FileSpecs names) limit (with_enum before tag) open_brace true
 enum_tag_full names limit before tag full low none exact = record {
   is_phrase = with_is names before (Plain (word.Enum tag)) false exact none tt refl;
   low = low;
@@ -233,7 +263,8 @@ enum_tag_full names limit before tag full low none exact = record {
         spelled =
             joined_text before (MoreSpecs body NoSpec) []
             ∙ sym (specs_append before (tag_word false ∷ token.Name tag ∷ open_brace ∷ []) (token.Name (fresh names) ∷ close_brace ∷ []))
-            ∙ ap (λ (x : Kinds). x ++ (token.Name (fresh names) ∷ close_brace ∷ [])) (sym (joined_text before (MoreSpecs (Plain (word.Enum tag)) NoSpec) (open_brace ∷ [])));
+            ∙ ap (λ (x : Kinds). x ++ (token.Name (fresh names) ∷ close_brace ∷ []))
+            (sym (joined_text before (MoreSpecs (Plain (word.Enum tag)) NoSpec) (open_brace ∷ [])));
       };
   joined = λ reported more shut. false≢true shut;
 }

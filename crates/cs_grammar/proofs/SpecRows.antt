@@ -1,5 +1,6 @@
 -- What stands before declarators outside blocks, word by word: for the contracts of every parser of declarations.
-use Rattle.std.proofs.Common.{◌≡◌, ℕ, ◌<◌, ◌≤◌, max, inl, inr, Bool, true, false, List, [], ◌∷◌, ◌++◌, Option, Some, None, refl, sym, ap, ◌∙◌, subst, arith, append_assoc, append-nil}
+use Rattle.std.proofs.Common.{◌≡◌, ℕ, ◌<◌, ◌≤◌, max, inl, inr, Bool, true, false, List, [], ◌∷◌, ◌++◌, Option, Some, None, refl}
+use Rattle.std.proofs.Common.{sym, ap, ◌∙◌, subst, arith, append_assoc, append-nil}
 use Rattle.std.proofs.lemmas.Bool.{false≢true, both_ways}
 use Rattle.cs_ast.specs.declared.token.TokenKind.{TokenKind}
 use Rattle.cs_ast.specs.declared.token.TokenKind.TheVariants as token
@@ -37,7 +38,8 @@ abbrev pub joined_specs : Specs → Specs → Specs
 joined_specs NoSpec rest = rest
 joined_specs (MoreSpecs s others) rest = MoreSpecs s (joined_specs others rest)
 
-pub specs_joined : (done : Specs) (s : Spec) (rest : Specs) → joined_specs (joined_specs done (MoreSpecs s NoSpec)) rest ≡ joined_specs done (MoreSpecs s rest)
+pub specs_joined : (done : Specs) (s : Spec) (rest : Specs)
+    → joined_specs (joined_specs done (MoreSpecs s NoSpec)) rest ≡ joined_specs done (MoreSpecs s rest)
 specs_joined NoSpec s rest = refl
 specs_joined (MoreSpecs d ds) s rest = ap (MoreSpecs d) (specs_joined ds s rest)
 
@@ -83,9 +85,13 @@ spec_starts (Plain word.Void) x = (x, refl)
 spec_starts (Plain (word.Typedef name)) x = (x, refl)
 spec_starts (Plain (word.Struct tag)) x = (token.Name tag ∷ x, refl)
 spec_starts (Plain (word.Enum tag)) x = (token.Name tag ∷ x, refl)
-spec_starts (StructBody tag members) x = (name_text tag (token.Punctuator punctuator.OpenBrace ∷ members_text members (token.Punctuator punctuator.CloseBrace ∷ x)), refl)
-spec_starts (EnumBody tag constants comma) x =
-    (name_text tag (token.Punctuator punctuator.OpenBrace ∷ with_commas constant_text constants (comma_text comma (token.Punctuator punctuator.CloseBrace ∷ x))), refl)
+spec_starts (StructBody tag members) x =
+    (name_text tag (token.Punctuator punctuator.OpenBrace ∷ members_text members (token.Punctuator punctuator.CloseBrace ∷ x)), refl)
+spec_starts (EnumBody tag constants comma) x = (
+  name_text tag (token.Punctuator punctuator.OpenBrace
+      ∷ with_commas constant_text constants (comma_text comma (token.Punctuator punctuator.CloseBrace ∷ x))),
+  refl,
+)
 
 -- the first word or `static` of some tokens, and what stands after it, where no type with a body stands there
 abbrev read_spec : Kinds → Option (Spec × Kinds)
@@ -105,11 +111,13 @@ read_spec (token.Keyword keyword.Enum ∷ token.Name tag ∷ rest) = Some (Plain
 read_spec (token.Name name ∷ rest) = Some (Plain (word.Typedef name), rest)
 read_spec other = None
 
-read_struct : (tag : List ℕ) (x : Kinds) → HasNoOpenBrace x → read_spec (token.Keyword keyword.Struct ∷ token.Name tag ∷ x) ≡ Some (Plain (word.Struct tag), x)
+read_struct : (tag : List ℕ) (x : Kinds) → HasNoOpenBrace x
+    → read_spec (token.Keyword keyword.Struct ∷ token.Name tag ∷ x) ≡ Some (Plain (word.Struct tag), x)
 read_struct tag (token.Punctuator punctuator.OpenBrace ∷ x) quiet = absurd quiet
 read_struct tag _ quiet = refl
 
-read_enum : (tag : List ℕ) (x : Kinds) → HasNoOpenBrace x → read_spec (token.Keyword keyword.Enum ∷ token.Name tag ∷ x) ≡ Some (Plain (word.Enum tag), x)
+read_enum : (tag : List ℕ) (x : Kinds) → HasNoOpenBrace x
+    → read_spec (token.Keyword keyword.Enum ∷ token.Name tag ∷ x) ≡ Some (Plain (word.Enum tag), x)
 read_enum tag (token.Punctuator punctuator.OpenBrace ∷ x) quiet = absurd quiet
 read_enum tag _ quiet = refl
 
@@ -130,7 +138,8 @@ read_struct_body : (tag : Option (List ℕ)) (members : Members) (x : Kinds) →
 read_struct_body None members x = refl
 read_struct_body (Some tag) members x = refl
 
-read_enum_body : (tag : Option (List ℕ)) (constants : List Constant) (comma : Bool) (x : Kinds) → read_spec (spec_text (EnumBody tag constants comma) x) ≡ None
+read_enum_body : (tag : Option (List ℕ)) (constants : List Constant) (comma : Bool) (x : Kinds)
+    → read_spec (spec_text (EnumBody tag constants comma) x) ≡ None
 read_enum_body None constants comma x = refl
 read_enum_body (Some tag) constants comma x = refl
 
@@ -144,22 +153,27 @@ second_read (Some both) = both.1
 
 -- one is determined by its tokens
 abbrev pub IsExactSpec : Names → Spec → Type 0
-IsExactSpec names s = (t : Spec) (x y : Kinds) → HasBody names t → IsQuiet t x → IsQuiet s y → spec_text t x ≡ spec_text s y → (t ≡ s) × (x ≡ y)
+IsExactSpec names s = (t : Spec) (x y : Kinds) → HasBody names t → IsQuiet t x → IsQuiet s y → spec_text t x ≡ spec_text s y
+    → (t ≡ s) × (x ≡ y)
 
-read_same : (s : Spec) (y : Kinds) → read_spec (spec_text s y) ≡ Some (s, y) → (t : Spec) (x : Kinds) → read_spec (spec_text t x) ≡ Some (t, x) → spec_text t x ≡ spec_text s y → (t ≡ s) × (x ≡ y)
+read_same : (s : Spec) (y : Kinds) → read_spec (spec_text s y) ≡ Some (s, y) → (t : Spec) (x : Kinds) → read_spec (spec_text t x) ≡ Some (t, x)
+    → spec_text t x ≡ spec_text s y → (t ≡ s) × (x ≡ y)
 read_same s y rs t x rt same =
     let e = sym rt ∙ ap read_spec same ∙ rs in
     (ap first_read e, ap second_read e)
 
-read_apart : (s : Spec) (y : Kinds) → read_spec (spec_text s y) ≡ Some (s, y) → (t : Spec) (x : Kinds) → read_spec (spec_text t x) ≡ None → spec_text t x ≡ spec_text s y → ⊥
+read_apart : (s : Spec) (y : Kinds) → read_spec (spec_text s y) ≡ Some (s, y) → (t : Spec) (x : Kinds) → read_spec (spec_text t x) ≡ None
+    → spec_text t x ≡ spec_text s y → ⊥
 read_apart s y rs t x rt same = let e = sym rt ∙ ap read_spec same ∙ rs in cc
 
 -- a word or `static`, which can be read
 simple_exact : (names : Names) (s : Spec) → ((y : Kinds) → IsQuiet s y → read_spec (spec_text s y) ≡ Some (s, y)) → IsExactSpec names s
 simple_exact names s rs Static x y has quiet quiet' same = read_same s y (rs y quiet') Static x refl same
 simple_exact names s rs (Plain w) x y has quiet quiet' same = read_same s y (rs y quiet') (Plain w) x (read_plain w x quiet) same
-simple_exact names s rs (StructBody tag members) x y has quiet quiet' same = absurd (read_apart s y (rs y quiet') (StructBody tag members) x (read_struct_body tag members x) same)
-simple_exact names s rs (EnumBody tag constants comma) x y has quiet quiet' same = absurd (read_apart s y (rs y quiet') (EnumBody tag constants comma) x (read_enum_body tag constants comma x) same)
+simple_exact names s rs (StructBody tag members) x y has quiet quiet' same =
+    absurd (read_apart s y (rs y quiet') (StructBody tag members) x (read_struct_body tag members x) same)
+simple_exact names s rs (EnumBody tag constants comma) x y has quiet quiet' same =
+    absurd (read_apart s y (rs y quiet') (EnumBody tag constants comma) x (read_enum_body tag constants comma x) same)
 
 pub static_exact : (names : Names) → IsExactSpec names Static
 static_exact names = simple_exact names Static (λ y quiet. refl)
@@ -172,7 +186,8 @@ abbrev pub AreExact : Names → Specs → Type 0
 AreExact names NoSpec = Unit {0}
 AreExact names (MoreSpecs s others) = HasBody names s × IsExactSpec names s × AreExact names others
 
-pub exact_more : (names : Names) (done : Specs) (s : Spec) → AreExact names done → HasBody names s → IsExactSpec names s → AreExact names (joined_specs done (MoreSpecs s NoSpec))
+pub exact_more : (names : Names) (done : Specs) (s : Spec) → AreExact names done → HasBody names s → IsExactSpec names s
+    → AreExact names (joined_specs done (MoreSpecs s NoSpec))
 exact_more names NoSpec s a has x = (has, x, tt)
 exact_more names (MoreSpecs d ds) s a has x = (a.0, a.1, exact_more names ds s a.2 has x)
 
@@ -253,18 +268,30 @@ spec_ends (StructBody tag members) e = absurd (false≢true e)
 spec_ends (EnumBody tag constants comma) e = absurd (false≢true e)
 
 -- what stands before declarators and begins as these continues with more of them
-pub specs_go_on : (names : Names) (before : List TypeWord) (done other : Specs) (after following : Kinds) → MayGoOn names (before ++ words_of done) → is_type names (before ++ words_of other) ≡ true → HaveBodies names other → AreExact names done → Follows ends_specs after → EndsQuiet done following → specs_text other after ≡ specs_text done following → (more : Specs) × (other ≡ joined_specs done more) × (specs_text more after ≡ following)
+pub specs_go_on : (names : Names) (before : List TypeWord) (done other : Specs) (after following : Kinds) → MayGoOn names (before ++ words_of done)
+    → is_type names (before ++ words_of other) ≡ true → HaveBodies names other → AreExact names done → Follows ends_specs after
+    → EndsQuiet done following → specs_text other after ≡ specs_text done following
+    → (more : Specs) × (other ≡ joined_specs done more) × (specs_text more after ≡ following)
 specs_go_on names before NoSpec other after following go type has exact f quiet same = (other, refl, same)
 specs_go_on names before (MoreSpecs s ds) NoSpec after following go type has exact f quiet same =
     let b = spec_starts s (specs_text ds following) in
     let n = spec_ends s (subst (Follows ends_specs) (same ∙ b.1) f) in
     let t : is_type names before ≡ true = ap (is_type names) (sym (append-nil before)) ∙ type in
-    let w : before ++ words_of (MoreSpecs s ds) ≡ before ++ word.Typedef n.0 ∷ words_of ds = ap (λ (x : List TypeWord). before ++ x) (words_more s ds ∙ ap (λ (x : List TypeWord). x ++ words_of ds) n.1) in
-    absurd (type_and_name names before n.0 (words_of ds ++ go.0) t (ap (is_type names) (sym (append_assoc before (word.Typedef n.0 ∷ words_of ds) go.0) ∙ ap (λ (x : List TypeWord). x ++ go.0) (sym w)) ∙ go.1))
+    let w : before ++ words_of (MoreSpecs s ds) ≡ before ++ word.Typedef n.0 ∷ words_of ds =
+    ap (λ (x : List TypeWord). before ++ x) (words_more s ds ∙ ap (λ (x : List TypeWord). x ++ words_of ds) n.1) in
+    absurd (type_and_name names before n.0 (words_of ds ++ go.0) t
+    (ap (is_type names) (sym (append_assoc before (word.Typedef n.0 ∷ words_of ds) go.0) ∙ ap (λ (x : List TypeWord). x ++ go.0) (sym w)) ∙ go.1))
 specs_go_on names before (MoreSpecs s ds) (MoreSpecs t ts) after following go type has exact f quiet same =
-    let k = exact.1 t (specs_text ts after) (specs_text ds following) has.0 (quiet_plain t (specs_text ts after) (specs_no_brace ts after f)) (quiet_inner s ds following quiet) same in
-    let go' : MayGoOn names ((before ++ spec_words s) ++ words_of ds) = (go.0, ap (λ (x : List TypeWord). is_type names (x ++ go.0)) (append_assoc before (spec_words s) (words_of ds) ∙ ap (λ (x : List TypeWord). before ++ x) (sym (words_more s ds))) ∙ go.1) in
-    let type' : is_type names ((before ++ spec_words s) ++ words_of ts) ≡ true = ap (is_type names) (append_assoc before (spec_words s) (words_of ts) ∙ ap (λ (x : Spec). before ++ (spec_words x ++ words_of ts)) (sym k.0) ∙ ap (λ (x : List TypeWord). before ++ x) (sym (words_more t ts))) ∙ type in
+    let k = exact.1 t (specs_text ts after) (specs_text ds following) has.0 (quiet_plain t (specs_text ts after) (specs_no_brace ts after f))
+    (quiet_inner s ds following quiet) same in
+    let go' : MayGoOn names ((before ++ spec_words s) ++ words_of ds) = (
+      go.0,
+      ap (λ (x : List TypeWord). is_type names (x ++ go.0)) (append_assoc before (spec_words s) (words_of ds)
+          ∙ ap (λ (x : List TypeWord). before ++ x) (sym (words_more s ds))) ∙ go.1,
+    ) in
+    let type' : is_type names ((before ++ spec_words s) ++ words_of ts) ≡ true =
+    ap (is_type names) (append_assoc before (spec_words s) (words_of ts) ∙ ap (λ (x : Spec). before ++ (spec_words x ++ words_of ts)) (sym k.0)
+    ∙ ap (λ (x : List TypeWord). before ++ x) (sym (words_more t ts))) ∙ type in
     let r = specs_go_on names (before ++ spec_words s) ds ts after following go' type' has.1 exact.2 f (quiet_rest s ds following quiet) k.1 in
     (r.0, ap (λ (x : Spec). MoreSpecs x ts) k.0 ∙ ap (MoreSpecs s) r.1, r.2)
 
@@ -272,7 +299,9 @@ specs_go_on names before (MoreSpecs s ds) (MoreSpecs t ts) after following go ty
 abbrev pub IsStuckAfter : Names → List TypeWord → TokenKind → Type 0
 IsStuckAfter names ws next = (one : Spec) (more : List TypeWord) → first_of one ≡ next → is_type names (ws ++ (spec_words one ++ more)) ≡ false
 
-pub no_more : (names : Names) (done : Specs) (next : TokenKind) (more : Specs) (after following : Kinds) → IsStuckAfter names (words_of done) next → is_type names (words_of (joined_specs done more)) ≡ true → Near next following → specs_text more after ≡ following → (more ≡ NoSpec) × (after ≡ following)
+pub no_more : (names : Names) (done : Specs) (next : TokenKind) (more : Specs) (after following : Kinds) → IsStuckAfter names (words_of done) next
+    → is_type names (words_of (joined_specs done more)) ≡ true → Near next following → specs_text more after ≡ following
+    → (more ≡ NoSpec) × (after ≡ following)
 no_more names done next NoSpec after following stuck type near same = (refl, same)
 no_more names done next (MoreSpecs s more) after following stuck type near same =
     let b = spec_starts s (specs_text more after) in
@@ -281,30 +310,41 @@ no_more names done next (MoreSpecs s more) after following stuck type near same 
       | inr m ↦
           let z : first_of s ∷ b.0 ≡ next ∷ m.0 = sym b.1 ∙ same ∙ m.1 in
           let k : first_of s ≡ next = cc in
-          both_ways (is_type names (words_of (joined_specs done (MoreSpecs s more)))) (ap (is_type names) (joined_words done (MoreSpecs s more) ∙ ap (λ (x : List TypeWord). words_of done ++ x) (words_more s more)) ∙ stuck s (words_of more) k) type
+          both_ways (is_type names (words_of (joined_specs done (MoreSpecs s more))))
+          (ap (is_type names) (joined_words done (MoreSpecs s more) ∙ ap (λ (x : List TypeWord). words_of done ++ x) (words_more s more))
+          ∙ stuck s (words_of more) k) type
     ])
 
-pub specs_only : (names : Names) (done : Specs) (next : TokenKind) → MayGoOn names (words_of done) → AreExact names done → IsStuckAfter names (words_of done) next → ((following : Kinds) → Near next following → EndsQuiet done following) → (other : Specs) (after following : Kinds) → AreSpecs names other → Follows ends_specs after → Near next following → specs_text other after ≡ specs_text done following → (other ≡ done) × (after ≡ following)
+pub specs_only : (names : Names) (done : Specs) (next : TokenKind) → MayGoOn names (words_of done) → AreExact names done
+    → IsStuckAfter names (words_of done) next → ((following : Kinds) → Near next following → EndsQuiet done following)
+    → (other : Specs) (after following : Kinds) → AreSpecs names other → Follows ends_specs after → Near next following
+    → specs_text other after ≡ specs_text done following → (other ≡ done) × (after ≡ following)
 specs_only names done next go exact stuck quiet other after following is f near same =
     let r = specs_go_on names [] done other after following go is.0 is.1 exact f (quiet following near) same in
     let e = no_more names done next r.0 after following stuck (ap (λ (x : Specs). is_type names (words_of x)) (sym r.1) ∙ is.0) near r.2 in
     (r.1 ∙ ap (joined_specs done) e.0 ∙ specs_joined_none done, e.1)
 
 -- what stands before declarators outside blocks was taken, as many words as there are
-pub specs_took : (names : Names) (limit : ℕ) (done : Specs) (next : TokenKind) → specs_height done ≤ limit → is_type names (words_of done) ≡ true → AreExact names done → IsStuckAfter names (words_of done) next → ((following : Kinds) → Near next following → EndsQuiet done following) → Took (FileSpecs names) limit done next false
+pub specs_took : (names : Names) (limit : ℕ) (done : Specs) (next : TokenKind) → specs_height done ≤ limit → is_type names (words_of done) ≡ true
+    → AreExact names done → IsStuckAfter names (words_of done) next → ((following : Kinds) → Near next following → EndsQuiet done following)
+    → Took (FileSpecs names) limit done next false
 specs_took names limit done next low type exact stuck quiet = record {
   is_phrase = (type, exact_bodies names done exact);
   low = low;
-  only = λ other after following is shut near same. inl (specs_only names done next ([], ap (is_type names) (append-nil (words_of done)) ∙ type) exact stuck quiet other after following is shut near same);
+  only = λ other after following is shut near same. inl
+      (specs_only names done next ([], ap (is_type names) (append-nil (words_of done)) ∙ type) exact stuck quiet other after following is shut near same);
   further = λ reported. absurd (false≢true reported);
   joined = λ reported more shut. false≢true reported;
 }
 
 -- words that name no type yet, and none that continues with them
-pub specs_refused : (names : Names) (limit : ℕ) (done : Specs) (next : TokenKind) → specs_height done ≤ limit → 1 ≤ limit → is_type names (words_of done) ≡ false → named_by (words_of done) ≡ [] → AreExact names done → IsStuckAfter names (words_of done) next → ((following : Kinds) → Near next following → EndsQuiet done following) → Refused (FileSpecs names) limit (specs_text done []) next false
+pub specs_refused : (names : Names) (limit : ℕ) (done : Specs) (next : TokenKind) → specs_height done ≤ limit → 1 ≤ limit
+    → is_type names (words_of done) ≡ false → named_by (words_of done) ≡ [] → AreExact names done → IsStuckAfter names (words_of done) next
+    → ((following : Kinds) → Near next following → EndsQuiet done following) → Refused (FileSpecs names) limit (specs_text done []) next false
 specs_refused names limit done next low some none unnamed exact stuck quiet =
     let void : Specs = MoreSpecs (Plain word.Void) NoSpec in
-    let type : is_type names (words_of done ++ word.Void ∷ []) ≡ true = ap (names_type names) (named_more (words_of done) (word.Void ∷ []) ∙ ap (λ (x : List TypeWord). x ++ word.Void ∷ []) unnamed) in
+    let type : is_type names (words_of done ++ word.Void ∷ []) ≡ true =
+    ap (names_type names) (named_more (words_of done) (word.Void ∷ []) ∙ ap (λ (x : List TypeWord). x ++ word.Void ∷ []) unnamed) in
     let tall = joined_tall done void in
     record {
       begun = inr (record {
@@ -315,7 +355,8 @@ specs_refused names limit done next low some none unnamed exact stuck quiet =
         spelled = joined_text done void [] ∙ sym (specs_append done [] (token.Keyword keyword.Void ∷ []));
       });
       never = λ other after following is shut near same.
-          let e = specs_only names done next (word.Void ∷ [], type) exact stuck quiet other after following is shut near (same ∙ specs_append done [] following) in
+          let e = specs_only names done next (word.Void ∷ [], type) exact stuck quiet other after following is shut near (same
+          ∙ specs_append done [] following) in
           absurd (both_ways (is_type names (words_of done)) none (ap (λ (x : Specs). is_type names (words_of x)) (sym e.0) ∙ is.0));
       further = λ reported. absurd (false≢true reported);
     }
@@ -347,9 +388,11 @@ tag_names names (Plain (word.Integer Unsigned)) true e = absurd cc
 tag_names names (Plain (word.Integer Unsigned)) false e = absurd cc
 
 -- `struct` or `enum` after words that name nothing names a type
-pub tag_spec_type : (names : Names) (ws : List TypeWord) (s : Spec) (is_struct : Bool) → named_by ws ≡ [] → first_of s ≡ tag_word is_struct → is_type names (ws ++ spec_words s) ≡ true
+pub tag_spec_type : (names : Names) (ws : List TypeWord) (s : Spec) (is_struct : Bool) → named_by ws ≡ [] → first_of s ≡ tag_word is_struct
+    → is_type names (ws ++ spec_words s) ≡ true
 tag_spec_type names ws s is_struct none first =
-    ap (names_type names) (named_more ws (spec_words s) ∙ ap (λ (x : List TypeWord). x ++ named_by (spec_words s)) none) ∙ tag_names names s is_struct first
+    ap (names_type names) (named_more ws (spec_words s) ∙ ap (λ (x : List TypeWord). x ++ named_by (spec_words s)) none)
+    ∙ tag_names names s is_struct first
 
 pub tag_ends : (is_struct : Bool) → ends_specs (tag_word is_struct) ≡ false
 tag_ends true = refl
@@ -359,20 +402,28 @@ tag_ends false = refl
 abbrev pub with_spec : Specs → Spec → Specs
 with_spec done s = joined_specs done (MoreSpecs s NoSpec)
 
-pub with_is : (names : Names) (done : Specs) (s : Spec) (is_struct : Bool) → AreExact names done → named_by (words_of done) ≡ [] → HasBody names s → first_of s ≡ tag_word is_struct → AreSpecs names (with_spec done s)
+pub with_is : (names : Names) (done : Specs) (s : Spec) (is_struct : Bool) → AreExact names done → named_by (words_of done) ≡ [] → HasBody names s
+    → first_of s ≡ tag_word is_struct → AreSpecs names (with_spec done s)
 with_is names done s is_struct exact none has first = (
-  ap (is_type names) (joined_words done (MoreSpecs s NoSpec) ∙ ap (λ (x : List TypeWord). words_of done ++ x) (words_more s NoSpec ∙ append-nil (spec_words s))) ∙ tag_spec_type names (words_of done) s is_struct none first,
+  ap (is_type names) (joined_words done (MoreSpecs s NoSpec)
+      ∙ ap (λ (x : List TypeWord). words_of done ++ x) (words_more s NoSpec ∙ append-nil (spec_words s)))
+      ∙ tag_spec_type names (words_of done) s is_struct none first,
   joined_bodies names done (MoreSpecs s NoSpec) (exact_bodies names done exact) (has, tt),
 )
 
-pub with_text : (done : Specs) (s : Spec) (front more : Kinds) → spec_text s [] ≡ front ++ more → specs_text (with_spec done s) [] ≡ (specs_text done [] ++ front) ++ more
+pub with_text : (done : Specs) (s : Spec) (front more : Kinds) → spec_text s [] ≡ front ++ more
+    → specs_text (with_spec done s) [] ≡ (specs_text done [] ++ front) ++ more
 with_text done s front more same =
-    joined_text done (MoreSpecs s NoSpec) [] ∙ ap (specs_text done) same ∙ sym (specs_append done [] (front ++ more)) ∙ sym (append_assoc (specs_text done []) front more)
+    joined_text done (MoreSpecs s NoSpec) [] ∙ ap (specs_text done) same ∙ sym (specs_append done [] (front ++ more))
+    ∙ sym (append_assoc (specs_text done []) front more)
 
 pub spec_first : (s : Spec) (x : Kinds) (f : TokenKind) (more : Kinds) → spec_text s x ≡ f ∷ more → first_of s ≡ f
 spec_first s x f more same = let b = spec_starts s x in let z : first_of s ∷ b.0 ≡ f ∷ more = sym b.1 ∙ same in cc
 
-element_never : (names : Names) (limit : ℕ) (done : Specs) (is_struct : Bool) (fs : Kinds) (next : TokenKind) (deep : Bool) → Refused (SpecElements names) limit (tag_word is_struct ∷ fs) next deep → (more : Specs) (after following : Kinds) → HaveBodies names more → Follows ends_specs after → Near next following → specs_text more after ≡ tag_word is_struct ∷ (fs ++ following) → IsOver (FileSpecs names) limit deep (joined_specs done more) following
+element_never : (names : Names) (limit : ℕ) (done : Specs) (is_struct : Bool) (fs : Kinds) (next : TokenKind) (deep : Bool)
+    → Refused (SpecElements names) limit (tag_word is_struct ∷ fs) next deep → (more : Specs) (after following : Kinds) → HaveBodies names more
+    → Follows ends_specs after → Near next following → specs_text more after ≡ tag_word is_struct ∷ (fs ++ following)
+    → IsOver (FileSpecs names) limit deep (joined_specs done more) following
 element_never names limit done is_struct fs next deep r NoSpec after following has f near same =
     absurd (false≢true (sym (tag_ends is_struct) ∙ subst (Follows ends_specs) same f))
 element_never names limit done is_struct fs next deep r (MoreSpecs s more) after following has f near same =
@@ -385,7 +436,9 @@ tag_quiet done x true = quiet_end done (tag_word true ∷ x) tt
 tag_quiet done x false = quiet_end done (tag_word false ∷ x) tt
 
 -- a type with `struct` or `enum` was refused after words that name nothing
-pub element_refused : (names : Names) (limit : ℕ) (done : Specs) → specs_height done ≤ limit → named_by (words_of done) ≡ [] → AreExact names done → (is_struct : Bool) (fs : Kinds) (next : TokenKind) (deep : Bool) → Refused (SpecElements names) limit (tag_word is_struct ∷ fs) next deep → Refused (FileSpecs names) limit (specs_text done [] ++ (tag_word is_struct ∷ fs)) next deep
+pub element_refused : (names : Names) (limit : ℕ) (done : Specs) → specs_height done ≤ limit → named_by (words_of done) ≡ [] → AreExact names done
+    → (is_struct : Bool) (fs : Kinds) (next : TokenKind) (deep : Bool) → Refused (SpecElements names) limit (tag_word is_struct ∷ fs) next deep
+    → Refused (FileSpecs names) limit (specs_text done [] ++ (tag_word is_struct ∷ fs)) next deep
 element_refused names limit done low none exact is_struct fs next deep r = record {
   begun = elim r.begun [
     | inl empty ↦ absurd cc
@@ -401,8 +454,11 @@ element_refused names limit done low none exact is_struct fs next deep r = recor
         })
   ];
   never = λ other after following is shut near same.
-      let go : MayGoOn names (words_of done) = (spec_words (StructBody None NoMember), tag_spec_type names (words_of done) (StructBody None NoMember) true none refl) in
-      let r' = specs_go_on names [] done other after (tag_word is_struct ∷ (fs ++ following)) go is.0 is.1 exact shut (tag_quiet done (fs ++ following) is_struct) (same ∙ append_assoc (specs_text done []) (tag_word is_struct ∷ fs) following ∙ specs_append done [] (tag_word is_struct ∷ (fs ++ following))) in
+      let go : MayGoOn names (words_of done) =
+      (spec_words (StructBody None NoMember), tag_spec_type names (words_of done) (StructBody None NoMember) true none refl) in
+      let r' = specs_go_on names [] done other after (tag_word is_struct ∷ (fs ++ following)) go is.0 is.1 exact shut
+      (tag_quiet done (fs ++ following) is_struct) (same ∙ append_assoc (specs_text done []) (tag_word is_struct ∷ fs) following
+      ∙ specs_append done [] (tag_word is_struct ∷ (fs ++ following))) in
       let has = rest_bodies names done r'.0 (subst (HaveBodies names) r'.1 is.1) in
       let v = element_never names limit done is_struct fs next deep r r'.0 after following has shut near r'.2 in
       record { reported = v.reported; high = subst (λ (x : Specs). limit < specs_height x) (sym r'.1) v.high; onward = v.onward };
@@ -413,6 +469,7 @@ element_refused names limit done low none exact is_struct fs next deep r = recor
         phrase = with_spec done b.phrase;
         more = b.more;
         is_phrase = with_is names done b.phrase is_struct exact none b.is_phrase first;
-        spelled = with_text done b.phrase (tag_word is_struct ∷ (fs ++ next ∷ [])) b.more b.spelled ∙ ap (λ (x : Kinds). x ++ b.more) (sym (append_assoc (specs_text done []) (tag_word is_struct ∷ fs) (next ∷ [])));
+        spelled = with_text done b.phrase (tag_word is_struct ∷ (fs ++ next ∷ [])) b.more b.spelled
+            ∙ ap (λ (x : Kinds). x ++ b.more) (sym (append_assoc (specs_text done []) (tag_word is_struct ∷ fs) (next ∷ [])));
       };
 }

@@ -4,9 +4,11 @@ use Rattle.std.proofs.Common.{ℕ, ◌≤◌, true, false, List, [], ◌∷◌, 
 use Rattle.cs_ast.specs.declared.token.TokenKind.TheVariants as token
 use Rattle.cs_ast.specs.declared.token.Keyword.TheVariants as keyword
 use Rattle.cs_ast.specs.declared.token.Length.TheVariants.{Plain as plain_length}
-use Rattle.cs_ast.specs.RawTree.{Written, Named, Numeral, Character, Literal, Enclosed, Index, Call, Member, Arrow, StepAfter, StepBefore, Prefix, SizeOf, SizeOfType, Cast, Infix, Choice, Assign, Comma}
+use Rattle.cs_ast.specs.RawTree.{Written, Named, Numeral, Character, Literal, Enclosed, Index, Call, Member, Arrow, StepAfter, StepBefore, Prefix, SizeOf}
+use Rattle.cs_ast.specs.RawTree.{SizeOfType, Cast, Infix, Choice, Assign, Comma}
 use Rattle.cs_ast.specs.RawHeight.{height}
-use Rattle.cs_ast.specs.RawStatements.{NoFirst, Sentence, Block, Nothing, Runs, If, IfElse, While, Do, For, Switch, Goto, Continue, Break, Return, Label, NoItem, NoSwitchItem}
+use Rattle.cs_ast.specs.RawStatements.{NoFirst, Sentence, Block, Nothing, Runs, If, IfElse, While, Do, For, Switch, Goto, Continue, Break, Return, Label}
+use Rattle.cs_ast.specs.RawStatements.{NoItem, NoSwitchItem}
 use Rattle.cs_ast.specs.RawFileHeight.{sentence_height}
 use Rattle.cs_grammar.specs.TypeWords.{Names}
 use Rattle.cs_grammar.specs.Text.{Kinds}
@@ -19,7 +21,9 @@ use Rattle.cs_grammar.proofs.Tails.{Least}
 use Rattle.cs_grammar.proofs.Sequences.{closed_least, ended_least}
 use Rattle.cs_grammar.proofs.Optional.{some_law, some_least}
 use Rattle.cs_grammar.proofs.Pairs.{Pair, Single}
-use Rattle.cs_grammar.proofs.Statements.{open_brace, close_brace, semicolon, colon, word, if_of, SomeBefore, while_production, if_production, do_production, switch_production, switch_body_production, block_production, nothing_production, goto_production, continue_production, break_production, return_production, IsRun, runs_production, label_production}
+use Rattle.cs_grammar.proofs.Statements.{open_brace, close_brace, semicolon, colon, word, if_of, SomeBefore, while_production, if_production, do_production}
+use Rattle.cs_grammar.proofs.Statements.{switch_production, switch_body_production, block_production, nothing_production, goto_production, continue_production}
+use Rattle.cs_grammar.proofs.Statements.{break_production, return_production, IsRun, runs_production, label_production}
 
 -- the lowest expression
 abbrev pub nought : Written
@@ -122,7 +126,8 @@ while_pair names = record {
   least_second = sentences_least names;
 }
 
-abbrev pub if_pair : (names : Names) → Pair (Sentences names) (Tests names) (Branches names) 1 (word keyword.If ∷ []) (λ part. if_of part.0 part.1.0 part.1.1)
+abbrev pub if_pair : (names : Names)
+    → Pair (Sentences names) (Tests names) (Branches names) 1 (word keyword.If ∷ []) (λ part. if_of part.0 part.1.0 part.1.1)
 if_pair names = record {
   production = if_production names;
   law_first = tests_law names;
@@ -132,7 +137,9 @@ if_pair names = record {
   least_second = branches_least names;
 }
 
-abbrev pub do_pair : (names : Names) → Pair (Sentences names) (ClosedBy (Sentences names) (word keyword.While)) (ClosedBy (Tests names) semicolon) 1 (word keyword.Do ∷ []) (λ part. Do part.0 part.1)
+abbrev pub do_pair : (names : Names)
+    → Pair (Sentences names) (ClosedBy (Sentences names) (word keyword.While)) (ClosedBy (Tests names) semicolon) 1 (word keyword.Do ∷ [])
+    (λ part. Do part.0 part.1)
 do_pair names = record {
   production = do_production names;
   law_first = closed_law (Sentences names) (word keyword.While) (sentences_law names);
@@ -142,7 +149,8 @@ do_pair names = record {
   least_second = closed_least (Tests names) semicolon (tests_least names);
 }
 
-abbrev pub switch_pair : (names : Names) → Pair (Sentences names) (Tests names) (SwitchBodies names) 1 (word keyword.Switch ∷ []) (λ part. Switch part.0 part.1)
+abbrev pub switch_pair : (names : Names)
+    → Pair (Sentences names) (Tests names) (SwitchBodies names) 1 (word keyword.Switch ∷ []) (λ part. Switch part.0 part.1)
 switch_pair names = record {
   production = switch_production names;
   law_first = tests_law names;
@@ -162,19 +170,42 @@ abbrev pub nothing_single : (names : Names) → Single (Sentences names) Ended 1
 nothing_single names = record { production = nothing_production names; law = ended_law; least = ended_least }
 
 abbrev pub goto_single : (names : Names) → Single (Sentences names) (ClosedBy AnyName semicolon) 1 (word keyword.Goto ∷ []) Goto (λ rest. Unit {0})
-goto_single names = record { production = goto_production names; law = closed_law AnyName semicolon name_law; least = record { tree = []; is_phrase = tt; below = λ other is. omega arith } }
+goto_single names = record {
+  production = goto_production names;
+  law = closed_law AnyName semicolon name_law;
+  least = record { tree = []; is_phrase = tt; below = λ other is. omega arith };
+}
 
-abbrev pub continue_single : (names : Names) → Single (Sentences names) (ClosedBy Ended semicolon) 1 (word keyword.Continue ∷ []) (λ part. Continue) (λ rest. Unit {0})
-continue_single names = record { production = continue_production names; law = closed_law Ended semicolon ended_law; least = closed_least Ended semicolon ended_least }
+abbrev pub continue_single : (names : Names)
+    → Single (Sentences names) (ClosedBy Ended semicolon) 1 (word keyword.Continue ∷ []) (λ part. Continue) (λ rest. Unit {0})
+continue_single names = record {
+  production = continue_production names;
+  law = closed_law Ended semicolon ended_law;
+  least = closed_least Ended semicolon ended_least;
+}
 
-abbrev pub break_single : (names : Names) → Single (Sentences names) (ClosedBy Ended semicolon) 1 (word keyword.Break ∷ []) (λ part. Break) (λ rest. Unit {0})
-break_single names = record { production = break_production names; law = closed_law Ended semicolon ended_law; least = closed_least Ended semicolon ended_least }
+abbrev pub break_single : (names : Names)
+    → Single (Sentences names) (ClosedBy Ended semicolon) 1 (word keyword.Break ∷ []) (λ part. Break) (λ rest. Unit {0})
+break_single names = record {
+  production = break_production names;
+  law = closed_law Ended semicolon ended_law;
+  least = closed_least Ended semicolon ended_least;
+}
 
 abbrev pub return_single : (names : Names) → Single (Sentences names) (SomeBefore names semicolon) 1 (word keyword.Return ∷ []) Return (λ rest. Unit {0})
-return_single names = record { production = return_production names; law = some_law names 0 (Unit {0}) semicolon; least = some_least names 0 (Unit {0}) semicolon tt }
+return_single names = record {
+  production = return_production names;
+  law = some_law names 0 (Unit {0}) semicolon;
+  least = some_least names 0 (Unit {0}) semicolon tt;
+}
 
 abbrev pub runs_single : (names : Names) → Single (Sentences names) (ClosedBy (Expressions names 0) semicolon) 1 [] Runs IsRun
-runs_single names = record { production = runs_production names; law = closed_law (Expressions names 0) semicolon (text_law names 0); least = closed_least (Expressions names 0) semicolon (expression_least names 0 (omega arith)) }
+runs_single names = record {
+  production = runs_production names;
+  law = closed_law (Expressions names 0) semicolon (text_law names 0);
+  least = closed_least (Expressions names 0) semicolon (expression_least names 0 (omega arith));
+}
 
-abbrev pub label_single : (names : Names) (n : List ℕ) → Single (Sentences names) (Sentences names) 1 (token.Name n ∷ colon ∷ []) (Label n) (λ rest. Unit {0})
+abbrev pub label_single : (names : Names) (n : List ℕ)
+    → Single (Sentences names) (Sentences names) 1 (token.Name n ∷ colon ∷ []) (Label n) (λ rest. Unit {0})
 label_single names n = record { production = label_production names n; law = sentences_law names; least = sentences_least names }

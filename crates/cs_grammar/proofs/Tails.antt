@@ -1,7 +1,8 @@
 -- What is left of a phrase after its first tokens: for the contracts of every parser of declarations, statements and files. A `Tail`
 -- says that the phrases of C that begin with some tokens are made of those of D; tails are put one after another, and at each
 -- return a refusal or a phrase of D gives one of C (`tail_refused`, `tail_took`).
-use Rattle.std.proofs.Common.{◌≡◌, ℕ, ◌+◌, ◌<◌, ◌≤◌, inl, inr, true, false, [], ◌∷◌, ◌++◌, refl, sym, ap, ◌∙◌, subst, arith, append_assoc, append-nil}
+use Rattle.std.proofs.Common.{◌≡◌, ℕ, ◌+◌, ◌<◌, ◌≤◌, inl, inr, true, false, [], ◌∷◌, ◌++◌, refl, sym, ap, ◌∙◌, subst}
+use Rattle.std.proofs.Common.{arith, append_assoc, append-nil}
 use Rattle.std.proofs.lemmas.Bool.{false≢true}
 use Rattle.cs_ast.specs.declared.token.TokenKind.{TokenKind}
 use Rattle.cs_grammar.specs.Text.{Kinds}
@@ -14,7 +15,8 @@ first_or [] next = next
 first_or (t ∷ tokens) next = t
 
 -- what is near to the next token is near to the first one
-pub near_first : (front : Kinds) (next first : TokenKind) → first_or front next ≡ first → (following : Kinds) → Near next following → Near first (front ++ following)
+pub near_first : (front : Kinds) (next first : TokenKind) → first_or front next ≡ first → (following : Kinds) → Near next following
+    → Near first (front ++ following)
 near_first [] next first e following near = elim near [ inl none ↦ inl none | inr m ↦ inr (m.0, m.1 ∙ ap (λ (t : TokenKind). t ∷ m.0) e) ]
 near_first (t ∷ tokens) next first e following near = inr (tokens ++ following, ap (λ (x : TokenKind). x ∷ (tokens ++ following)) e)
 
@@ -24,7 +26,9 @@ near_other t next following more other near same =
     elim near [ inl none ↦ let z = same ∙ none in cc | inr m ↦ let z : t ∷ more ≡ next ∷ m.0 = same ∙ m.1 in other cc ]
 
 -- a tail of a tail
-pub tail_then : (C D E : Class) (limit mid inner : ℕ) (before next : Kinds) (build : D.Tree → C.Tree) (build' : E.Tree → D.Tree) (Fit Fit' : Kinds → Type 0) → Lawful D → Tail C D limit mid before build Fit → Tail D E mid inner next build' Fit' → ((following : Kinds) → Fit' following → Fit (next ++ following)) → Tail C E limit inner (before ++ next) (λ part. build (build' part)) Fit'
+pub tail_then : (C D E : Class) (limit mid inner : ℕ) (before next : Kinds) (build : D.Tree → C.Tree) (build' : E.Tree → D.Tree) (Fit Fit' : Kinds
+    → Type 0) → Lawful D → Tail C D limit mid before build Fit → Tail D E mid inner next build' Fit'
+    → ((following : Kinds) → Fit' following → Fit (next ++ following)) → Tail C E limit inner (before ++ next) (λ part. build (build' part)) Fit'
 tail_then C D E limit mid inner before next build build' Fit Fit' law t t' fits = record {
   started = elim t'.started [
     | inl none ↦ elim t.started [
@@ -50,18 +54,27 @@ tail_then C D E limit mid inner before next build build' Fit Fit' law t t' fits 
       let g = t'.invert f.0 after following f.2 (t.shut f.0 after (subst (λ (w : C.Tree). C.Shut w after) f.1 shut)) fit (sym f.3) in
       (g.0, f.1 ∙ ap build g.1, g.2, g.3);
   shut = λ part after shut. t'.shut part after (t.shut (build' part) after shut);
-  spelled = λ part after. t.spelled (build' part) after ∙ ap (λ (x : Kinds). before ++ x) (t'.spelled part after) ∙ sym (append_assoc before next (E.spell part after));
+  spelled = λ part after. t.spelled (build' part) after ∙ ap (λ (x : Kinds). before ++ x) (t'.spelled part after)
+      ∙ sym (append_assoc before next (E.spell part after));
   is_phrase = λ part is. t.is_phrase (build' part) (t'.is_phrase part is);
   low = λ part is low. t.low (build' part) (t'.is_phrase part is) (t'.low part is low);
   rises = λ part high. t.rises (build' part) (t'.rises part high);
 }
 
 -- the same tail in other words
-pub tail_as : (C D : Class) (limit inner : ℕ) (before before' : Kinds) (build build' : D.Tree → C.Tree) (Fit Fit' : Kinds → Type 0) → Tail C D limit inner before build Fit → before ≡ before' → ((part : D.Tree) → build part ≡ build' part) → ((following : Kinds) → Fit' following → Fit following) → Tail C D limit inner before' build' Fit'
+pub tail_as : (C D : Class) (limit inner : ℕ) (before before' : Kinds) (build build' : D.Tree → C.Tree) (Fit Fit' : Kinds → Type 0)
+    → Tail C D limit inner before build Fit → before ≡ before' → ((part : D.Tree) → build part ≡ build' part)
+    → ((following : Kinds) → Fit' following → Fit following) → Tail C D limit inner before' build' Fit'
 tail_as C D limit inner before before' build build' Fit Fit' t b same fits = record {
   started = elim t.started [
     | inl none ↦ inl (sym b ∙ none)
-    | inr l ↦ inr (record { phrase = l.phrase; more = l.more; is_phrase = l.is_phrase; low = l.low; spelled = l.spelled ∙ ap (λ (x : Kinds). x ++ l.more) b })
+    | inr l ↦ inr (record {
+      phrase = l.phrase;
+      more = l.more;
+      is_phrase = l.is_phrase;
+      low = l.low;
+      spelled = l.spelled ∙ ap (λ (x : Kinds). x ++ l.more) b;
+    })
   ];
   invert = λ whole after following is shut fit eq.
       let f = t.invert whole after following is shut (fits following fit) (eq ∙ ap (λ (x : Kinds). x ++ following) (sym b)) in
@@ -93,14 +106,17 @@ pub record Least (C : Class) : Type 0 where
 
 -- the phrases of C that begin with these tokens are made of phrases of D, and so much higher than these
 pub record Production (C D : Class) (plus : ℕ) (before : Kinds) (build : D.Tree → C.Tree) (Fit : Kinds → Type 0) : Type 0 where
-  pub invert : (whole : C.Tree) (after following : Kinds) → C.Is whole → Fit following → C.spell whole after ≡ before ++ following → (part : D.Tree) × (whole ≡ build part) × D.Is part × (following ≡ D.spell part after)
+  pub invert : (whole : C.Tree) (after following : Kinds) → C.Is whole → Fit following → C.spell whole after ≡ before ++ following
+      → (part : D.Tree) × (whole ≡ build part) × D.Is part × (following ≡ D.spell part after)
   pub shut : (part : D.Tree) (after : Kinds) → C.Shut (build part) after → D.Shut part after
   pub spelled : (part : D.Tree) (after : Kinds) → C.spell (build part) after ≡ before ++ D.spell part after
   pub is_phrase : (part : D.Tree) → D.Is part → C.Is (build part)
   pub taller : (part : D.Tree) → C.tall (build part) ≡ plus + D.tall part
 
 -- where the limit allows the least of them, they are a tail
-pub production_tail : (C D : Class) (plus : ℕ) (before : Kinds) (build : D.Tree → C.Tree) (Fit : Kinds → Type 0) (limit inner : ℕ) → limit ≡ plus + inner → Production C D plus before build Fit → (least : Least D) → D.tall least.tree ≤ inner → Tail C D limit inner before build Fit
+pub production_tail : (C D : Class) (plus : ℕ) (before : Kinds) (build : D.Tree → C.Tree) (Fit : Kinds → Type 0) (limit inner : ℕ)
+    → limit ≡ plus + inner → Production C D plus before build Fit → (least : Least D) → D.tall least.tree ≤ inner
+    → Tail C D limit inner before build Fit
 production_tail C D plus before build Fit limit inner less p least fits = record {
   started = inr (record {
     phrase = build least.tree;
@@ -118,19 +134,26 @@ production_tail C D plus before build Fit limit inner less p least fits = record
 }
 
 -- where there is none, the first of the tokens is refused, if all phrases that begin with it are at least so high
-pub full_refused : (C : Class) (limit : ℕ) (next : TokenKind) → ((other : C.Tree) (after : Kinds) → C.Is other → C.spell other after ≡ [] → ⊥) → ((other : C.Tree) (after more : Kinds) → C.Is other → C.spell other after ≡ next ∷ more → limit < C.tall other) → Begins C (next ∷ []) → Refused C limit [] next true
+pub full_refused : (C : Class) (limit : ℕ) (next : TokenKind) → ((other : C.Tree) (after : Kinds) → C.Is other → C.spell other after ≡ [] → ⊥)
+    → ((other : C.Tree) (after more : Kinds) → C.Is other → C.spell other after ≡ next ∷ more → limit < C.tall other) → Begins C (next ∷ [])
+    → Refused C limit [] next true
 full_refused C limit next some high begins = record {
   begun = inl refl;
   never = λ other after following is shut near same.
       elim near [
         | inl none ↦ absurd (some other after is (same ∙ none))
-        | inr m ↦ record { reported = refl; high = high other after m.0 is (same ∙ m.1); onward = λ none. let e : next ∷ m.0 ≡ [] = sym m.1 ∙ none in cc }
+        | inr m ↦ record {
+          reported = refl;
+          high = high other after m.0 is (same ∙ m.1);
+          onward = λ none. let e : next ∷ m.0 ≡ [] = sym m.1 ∙ none in cc;
+        }
       ];
   further = λ reported. begins;
 }
 
 -- no phrase begins with the token
-pub none_refused : (C : Class) (limit : ℕ) (next : TokenKind) → ((other : C.Tree) (after : Kinds) → C.Is other → C.spell other after ≡ [] → ⊥) → ((other : C.Tree) (after more : Kinds) → C.Is other → C.spell other after ≡ next ∷ more → ⊥) → Refused C limit [] next false
+pub none_refused : (C : Class) (limit : ℕ) (next : TokenKind) → ((other : C.Tree) (after : Kinds) → C.Is other → C.spell other after ≡ [] → ⊥)
+    → ((other : C.Tree) (after more : Kinds) → C.Is other → C.spell other after ≡ next ∷ more → ⊥) → Refused C limit [] next false
 none_refused C limit next some none = record {
   begun = inl refl;
   never = λ other after following is shut near same.

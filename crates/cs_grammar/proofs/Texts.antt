@@ -7,7 +7,8 @@ use Rattle.cs_ast.specs.declared.token.Punctuator.TheVariants as punctuator
 use Rattle.cs_ast.specs.declared.raw.written_type.TypeWord.{TypeWord}
 use Rattle.cs_ast.specs.declared.raw.written_type.TypeWord.TheVariants as word
 use Rattle.cs_ast.specs.declared.raw.written_type.PointerWord.{PointerWord}
-use Rattle.cs_ast.specs.RawTree.{Written, WrittenList, Named, Numeral, Character, Literal, Enclosed, Index, Call, Member, Arrow, StepAfter, StepBefore, Prefix, SizeOf, SizeOfType, Cast, Infix, Choice, Assign, Comma, End, More}
+use Rattle.cs_ast.specs.RawTree.{Written, WrittenList, Named, Numeral, Character, Literal, Enclosed, Index, Call, Member, Arrow, StepAfter, StepBefore, Prefix}
+use Rattle.cs_ast.specs.RawTree.{SizeOf, SizeOfType, Cast, Infix, Choice, Assign, Comma, End, More}
 use Rattle.cs_grammar.specs.Punctuators.{step_punctuator, prefix_punctuator, infix_punctuator, assign_punctuator}
 use Rattle.cs_grammar.specs.Text.{Kinds, text, listed, after_commas, bounds_text, words_text, type_word_text, pointers_text, pointer_word_text, type_text, size}
 
@@ -34,7 +35,8 @@ mutual
   text_append (Numeral constant) x y = refl
   text_append (Character value) x y = refl
   text_append (Literal bytes) x y = refl
-  text_append (Enclosed e) x y = ap (λ r. token.Punctuator punctuator.OpenParenthesis ∷ r) (text_append e (token.Punctuator punctuator.CloseParenthesis ∷ x) y)
+  text_append (Enclosed e) x y =
+      ap (λ r. token.Punctuator punctuator.OpenParenthesis ∷ r) (text_append e (token.Punctuator punctuator.CloseParenthesis ∷ x) y)
   text_append (Index a n) x y =
       text_append a (token.Punctuator punctuator.OpenBracket ∷ text n (token.Punctuator punctuator.CloseBracket ∷ x)) y
       ∙ ap (λ r. text a (token.Punctuator punctuator.OpenBracket ∷ r)) (text_append n (token.Punctuator punctuator.CloseBracket ∷ x) y)
@@ -48,21 +50,26 @@ mutual
   text_append (Prefix op e) x y = ap (λ r. token.Punctuator (prefix_punctuator op) ∷ r) (text_append e x y)
   text_append (SizeOf e) x y = ap (λ r. token.Keyword keyword.Sizeof ∷ r) (text_append e x y)
   text_append (SizeOfType ws ps es) x y =
-      ap (λ r. token.Keyword keyword.Sizeof ∷ token.Punctuator punctuator.OpenParenthesis ∷ r) ((words_append ws (pointers_text ps (bounds_text es (token.Punctuator punctuator.CloseParenthesis ∷ x))) y
-      ∙ ap (words_text ws) (pointers_append ps (bounds_text es (token.Punctuator punctuator.CloseParenthesis ∷ x)) y ∙ ap (pointers_text ps) (bounds_append es (token.Punctuator punctuator.CloseParenthesis ∷ x) y))))
+      ap (λ r. token.Keyword keyword.Sizeof ∷ token.Punctuator punctuator.OpenParenthesis ∷ r)
+      ((words_append ws (pointers_text ps (bounds_text es (token.Punctuator punctuator.CloseParenthesis ∷ x))) y
+      ∙ ap (words_text ws) (pointers_append ps (bounds_text es (token.Punctuator punctuator.CloseParenthesis ∷ x)) y
+      ∙ ap (pointers_text ps) (bounds_append es (token.Punctuator punctuator.CloseParenthesis ∷ x) y))))
   text_append (Cast ws ps es e) x y =
       ap (λ r. token.Punctuator punctuator.OpenParenthesis ∷ r)
       (words_append ws (pointers_text ps (bounds_text es (token.Punctuator punctuator.CloseParenthesis ∷ text e x))) y
-      ∙ ap (words_text ws) (pointers_append ps (bounds_text es (token.Punctuator punctuator.CloseParenthesis ∷ text e x)) y ∙ ap (pointers_text ps) (bounds_append es (token.Punctuator punctuator.CloseParenthesis ∷ text e x) y))
+      ∙ ap (words_text ws) (pointers_append ps (bounds_text es (token.Punctuator punctuator.CloseParenthesis ∷ text e x)) y
+      ∙ ap (pointers_text ps) (bounds_append es (token.Punctuator punctuator.CloseParenthesis ∷ text e x) y))
       ∙ ap (λ r. type_text ws ps es (token.Punctuator punctuator.CloseParenthesis ∷ r)) (text_append e x y))
   text_append (Infix op l r) x y =
-      text_append l (token.Punctuator (infix_punctuator op) ∷ text r x) y ∙ ap (λ z. text l (token.Punctuator (infix_punctuator op) ∷ z)) (text_append r x y)
+      text_append l (token.Punctuator (infix_punctuator op) ∷ text r x) y
+      ∙ ap (λ z. text l (token.Punctuator (infix_punctuator op) ∷ z)) (text_append r x y)
   text_append (Choice e l r) x y =
       text_append e (token.Punctuator punctuator.Question ∷ text l (token.Punctuator punctuator.Colon ∷ text r x)) y
       ∙ ap (λ z. text e (token.Punctuator punctuator.Question ∷ z))
       (text_append l (token.Punctuator punctuator.Colon ∷ text r x) y ∙ ap (λ z. text l (token.Punctuator punctuator.Colon ∷ z)) (text_append r x y))
   text_append (Assign op l r) x y =
-      text_append l (token.Punctuator (assign_punctuator op) ∷ text r x) y ∙ ap (λ z. text l (token.Punctuator (assign_punctuator op) ∷ z)) (text_append r x y)
+      text_append l (token.Punctuator (assign_punctuator op) ∷ text r x) y
+      ∙ ap (λ z. text l (token.Punctuator (assign_punctuator op) ∷ z)) (text_append r x y)
   text_append (Comma l r) x y =
       text_append l (token.Punctuator punctuator.Comma ∷ text r x) y ∙ ap (λ z. text l (token.Punctuator punctuator.Comma ∷ z)) (text_append r x y)
 

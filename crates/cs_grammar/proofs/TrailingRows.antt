@@ -1,5 +1,6 @@
 -- Phrases in a row with commas between them and perhaps one after them: for lists of initial values and of enumeration constants.
-use Rattle.std.proofs.Common.{◌≡◌, ℕ, ◌+◌, ◌≤◌, max, inl, inr, Bool, true, false, List, [], ◌∷◌, ◌++◌, Option, Some, None, refl, sym, ap, ◌∙◌, subst, arith, append_assoc, append-nil}
+use Rattle.std.proofs.Common.{◌≡◌, ℕ, ◌+◌, ◌≤◌, max, inl, inr, Bool, true, false, List, [], ◌∷◌, ◌++◌, Option, Some, None, refl}
+use Rattle.std.proofs.Common.{sym, ap, ◌∙◌, subst, arith, append_assoc, append-nil}
 use Rattle.cs_ast.specs.declared.token.TokenKind.{TokenKind}
 use Rattle.cs_ast.specs.RawFileHeight.{highest_by}
 use Rattle.cs_grammar.specs.Text.{Kinds}
@@ -40,16 +41,19 @@ pub trailing_law : (D : Class) (close : TokenKind) → Lawful D → Lawful (Trai
 trailing_law D close law ([], comma) x y = comma_append comma (close ∷ x) y
 trailing_law D close law (d ∷ ds, comma) x y =
     law d (each_after_comma D.spell ds (comma_text comma (close ∷ x))) y
-    ∙ ap (λ (r : Kinds). D.spell d r) (each_append D.spell law ds (comma_text comma (close ∷ x)) y ∙ ap (λ (r : Kinds). each_after_comma D.spell ds r) (comma_append comma (close ∷ x) y))
+    ∙ ap (λ (r : Kinds). D.spell d r) (each_append D.spell law ds (comma_text comma (close ∷ x)) y
+    ∙ ap (λ (r : Kinds). each_after_comma D.spell ds r) (comma_append comma (close ∷ x) y))
 
 pub further_trailing_law : (D : Class) (close : TokenKind) → Lawful D → Lawful (FurtherTrailing D close)
 further_trailing_law D close law row x y =
-    each_append D.spell law row.0 (comma_text row.1 (close ∷ x)) y ∙ ap (λ (r : Kinds). each_after_comma D.spell row.0 r) (comma_append row.1 (close ∷ x) y)
+    each_append D.spell law row.0 (comma_text row.1 (close ∷ x)) y
+    ∙ ap (λ (r : Kinds). each_after_comma D.spell row.0 r) (comma_append row.1 (close ∷ x) y)
 
 rest_law : (D : Class) (close : TokenKind) → Lawful D → Lawful (AfterComma D close)
 rest_law D close law None x y = refl
 rest_law D close law (Some row) x y =
-    law row.0 (each_after_comma D.spell row.1.0 (comma_text row.1.1 (close ∷ x))) y ∙ ap (λ (r : Kinds). D.spell row.0 r) (further_trailing_law D close law row.1 x y)
+    law row.0 (each_after_comma D.spell row.1.0 (comma_text row.1.1 (close ∷ x))) y
+    ∙ ap (λ (r : Kinds). D.spell row.0 r) (further_trailing_law D close law row.1 x y)
 
 abbrev pub further_trailing_least : (D : Class) (close : TokenKind) → Least (FurtherTrailing D close)
 further_trailing_least D close = record { tree = ([], false); is_phrase = tt; below = λ other is. omega arith }
@@ -67,7 +71,8 @@ trailing_least D close least = record {
 further_trailing_joins : (D : Class) (close : TokenKind) → Separates D close → Joins D (FurtherTrailing D close)
 further_trailing_joins D close s d ([], false) after is all shut = s.closed d after
 further_trailing_joins D close s d ([], true) after is all shut = s.comma d (close ∷ after)
-further_trailing_joins D close s d (e ∷ es, comma) after is all shut = s.comma d (D.spell e (each_after_comma D.spell es (comma_text comma (close ∷ after))))
+further_trailing_joins D close s d (e ∷ es, comma) after is all shut =
+    s.comma d (D.spell e (each_after_comma D.spell es (comma_text comma (close ∷ after))))
 
 -- a phrase, others, and perhaps a comma
 abbrev row_of : (D : Class) → D.Tree × (List D.Tree × Bool) → List D.Tree × Bool
@@ -76,11 +81,15 @@ row_of D part = (part.0 ∷ part.1.0, part.1.1)
 abbrev Made : (D : Class) → (whole : List D.Tree × Bool) → (part : D.Tree × (List D.Tree × Bool)) → Type 0
 Made D whole part = whole ≡ row_of D part
 
-trailing_invert : (D : Class) (close : TokenKind) (list : List D.Tree) (comma : Bool) (after following : Kinds) → IsSomeList list → AreAll D.Is list → with_commas D.spell list (comma_text comma (close ∷ after)) ≡ following → (part : D.Tree × (List D.Tree × Bool)) × Made D (list, comma) part × (D.Is part.0 × AreAll D.Is part.1.0) × (following ≡ D.spell part.0 (each_after_comma D.spell part.1.0 (comma_text part.1.1 (close ∷ after))))
+trailing_invert : (D : Class) (close : TokenKind) (list : List D.Tree) (comma : Bool) (after following : Kinds) → IsSomeList list → AreAll D.Is list
+    → with_commas D.spell list (comma_text comma (close ∷ after)) ≡ following
+    → (part : D.Tree × (List D.Tree × Bool)) × Made D (list, comma) part × (D.Is part.0 × AreAll D.Is part.1.0)
+    × (following ≡ D.spell part.0 (each_after_comma D.spell part.1.0 (comma_text part.1.1 (close ∷ after))))
 trailing_invert D close [] comma after following some is same = absurd some
 trailing_invert D close (d ∷ ds) comma after following some is same = ((d, (ds, comma)), refl, is, sym same)
 
-trailing_production : (D : Class) (close : TokenKind) → Production (Trailing D close) (Sequence D (FurtherTrailing D close)) 0 [] (row_of D) (λ rest. Unit {0})
+trailing_production : (D : Class) (close : TokenKind)
+    → Production (Trailing D close) (Sequence D (FurtherTrailing D close)) 0 [] (row_of D) (λ rest. Unit {0})
 trailing_production D close = record {
   invert = λ whole after following is fit same. trailing_invert D close whole.0 whole.1 after following is.0 is.1 same;
   shut = λ part after shut. tt;
@@ -97,12 +106,16 @@ after_comma D (Some row) = row_of D row
 abbrev MadeRest : (D : Class) → (whole : List D.Tree × Bool) → Rest D → Type 0
 MadeRest D whole part = whole ≡ after_comma D part
 
-further_trailing_invert : (D : Class) (close : TokenKind) → (close ≡ comma_token → ⊥) → (list : List D.Tree) (comma : Bool) (after following : Kinds) → AreAll D.Is list → each_after_comma D.spell list (comma_text comma (close ∷ after)) ≡ comma_token ∷ following → (part : Rest D) × MadeRest D (list, comma) part × IsRest D part × (following ≡ rest_text D close part after)
+further_trailing_invert : (D : Class) (close : TokenKind) → (close ≡ comma_token → ⊥)
+    → (list : List D.Tree) (comma : Bool) (after following : Kinds) → AreAll D.Is list
+    → each_after_comma D.spell list (comma_text comma (close ∷ after)) ≡ comma_token ∷ following
+    → (part : Rest D) × MadeRest D (list, comma) part × IsRest D part × (following ≡ rest_text D close part after)
 further_trailing_invert D close differs [] false after following is same = absurd (differs cc)
 further_trailing_invert D close differs [] true after following is same = (None, refl, tt, cc)
 further_trailing_invert D close differs (d ∷ ds) comma after following is same = (Some (d, (ds, comma)), refl, is, cc)
 
-rest_spelled : (D : Class) (close : TokenKind) (part : Rest D) (after : Kinds) → (FurtherTrailing D close).spell (after_comma D part) after ≡ comma_token ∷ rest_text D close part after
+rest_spelled : (D : Class) (close : TokenKind) (part : Rest D) (after : Kinds)
+    → (FurtherTrailing D close).spell (after_comma D part) after ≡ comma_token ∷ rest_text D close part after
 rest_spelled D close None after = refl
 rest_spelled D close (Some row) after = refl
 
@@ -114,7 +127,8 @@ rest_taller : (D : Class) (part : Rest D) → highest_by D.tall (after_comma D p
 rest_taller D None = refl
 rest_taller D (Some row) = omega arith
 
-comma_production : (D : Class) (close : TokenKind) → (close ≡ comma_token → ⊥) → Production (FurtherTrailing D close) (AfterComma D close) 0 (comma_token ∷ []) (after_comma D) (λ rest. Unit {0})
+comma_production : (D : Class) (close : TokenKind) → (close ≡ comma_token → ⊥)
+    → Production (FurtherTrailing D close) (AfterComma D close) 0 (comma_token ∷ []) (after_comma D) (λ rest. Unit {0})
 comma_production D close differs = record {
   invert = λ whole after following is fit same. further_trailing_invert D close differs whole.0 whole.1 after following is same;
   shut = λ part after shut. tt;
@@ -127,7 +141,9 @@ comma_production D close differs = record {
 abbrev pub NotClosed : TokenKind → Kinds → Type 0
 NotClosed close following = (more : Kinds) → following ≡ close ∷ more → ⊥
 
-rest_invert : (D : Class) (close : TokenKind) (whole : Rest D) (after following : Kinds) → IsRest D whole → NotClosed close following → rest_text D close whole after ≡ following → (part : D.Tree × (List D.Tree × Bool)) × (whole ≡ Some part) × (D.Is part.0 × AreAll D.Is part.1.0) × (following ≡ D.spell part.0 (each_after_comma D.spell part.1.0 (comma_text part.1.1 (close ∷ after))))
+rest_invert : (D : Class) (close : TokenKind) (whole : Rest D) (after following : Kinds) → IsRest D whole → NotClosed close following
+    → rest_text D close whole after ≡ following → (part : D.Tree × (List D.Tree × Bool)) × (whole ≡ Some part)
+    × (D.Is part.0 × AreAll D.Is part.1.0) × (following ≡ D.spell part.0 (each_after_comma D.spell part.1.0 (comma_text part.1.1 (close ∷ after))))
 rest_invert D close None after following is open_here same = absurd (open_here after (sym same))
 rest_invert D close (Some row) after following is open_here same = (row, refl, is, sym same)
 
@@ -156,7 +172,8 @@ commas_of D done rest = (done ++ (after_comma D rest).0, (after_comma D rest).1)
 
 -- so many phrases were taken, each with a comma after it, and another one is awaited where the next tokens fit
 abbrev pub TrailingSoFar : (D : Class) → TokenKind → ℕ → List D.Tree → (Kinds → Type 0) → Type 0
-TrailingSoFar D close limit done Fit = Tail (Trailing D close) (Sequence D (FurtherTrailing D close)) limit limit (before_commas D.spell done []) (rows_of D done) Fit
+TrailingSoFar D close limit done Fit =
+    Tail (Trailing D close) (Sequence D (FurtherTrailing D close)) limit limit (before_commas D.spell done []) (rows_of D done) Fit
 
 -- the same, where the row may end too
 abbrev pub CommaSoFar : (D : Class) → TokenKind → ℕ → List D.Tree → Type 0
@@ -167,39 +184,58 @@ abbrev pub Opens : (D : Class) → (Kinds → Type 0) → Type 0
 Opens D Fit = (d : D.Tree) (following : Kinds) → D.Is d → Fit (D.spell d following)
 
 -- at the beginning of a row
-pub trailing_start : (D : Class) (close : TokenKind) (limit : ℕ) → (s : Separates D close) → D.tall s.least.tree ≤ limit → TrailingSoFar D close limit [] (λ rest. Unit {0})
+pub trailing_start : (D : Class) (close : TokenKind) (limit : ℕ) → (s : Separates D close) → D.tall s.least.tree ≤ limit
+    → TrailingSoFar D close limit [] (λ rest. Unit {0})
 trailing_start D close limit s fits =
-    production_tail (Trailing D close) (Sequence D (FurtherTrailing D close)) 0 [] (row_of D) (λ rest. Unit {0}) limit limit (omega arith) (trailing_production D close) (pair_least D close s.least) (omega (arith, fits))
+    production_tail (Trailing D close) (Sequence D (FurtherTrailing D close)) 0 [] (row_of D) (λ rest. Unit {0}) limit limit (omega arith)
+    (trailing_production D close) (pair_least D close s.least) (omega (arith, fits))
 
 -- a phrase of the row was refused
-pub trailing_refused : (D : Class) (close : TokenKind) (limit : ℕ) → (s : Separates D close) → (done : List D.Tree) (Fit : Kinds → Type 0) → TrailingSoFar D close limit done Fit → (front : Kinds) (next : TokenKind) (deep : Bool) → ((following : Kinds) → Near next following → Fit (front ++ following)) → Refused D limit front next deep → Refused (Trailing D close) limit (before_commas D.spell done [] ++ front) next deep
+pub trailing_refused : (D : Class) (close : TokenKind) (limit : ℕ) → (s : Separates D close) → (done : List D.Tree) (Fit : Kinds → Type 0)
+    → TrailingSoFar D close limit done Fit → (front : Kinds) (next : TokenKind) (deep : Bool)
+    → ((following : Kinds) → Near next following → Fit (front ++ following)) → Refused D limit front next deep
+    → Refused (Trailing D close) limit (before_commas D.spell done [] ++ front) next deep
 trailing_refused D close limit s done Fit so_far front next deep fit r =
-    tail_refused (Trailing D close) (Sequence D (FurtherTrailing D close)) limit limit (before_commas D.spell done []) (rows_of D done) Fit (pair_law D close s.law) so_far front next deep fit
+    tail_refused (Trailing D close) (Sequence D (FurtherTrailing D close)) limit limit (before_commas D.spell done []) (rows_of D done) Fit
+    (pair_law D close s.law) so_far front next deep fit
     (first_refused D (FurtherTrailing D close) limit s.law (further_trailing_joins D close s) (further_trailing_least D close) (omega arith) front next deep r)
 
-trailing_some : (D : Class) (close : TokenKind) (list : List D.Tree) (comma : Bool) (after : Kinds) → each_after_comma D.spell list (comma_text comma (close ∷ after)) ≡ [] → ⊥
+trailing_some : (D : Class) (close : TokenKind) (list : List D.Tree) (comma : Bool) (after : Kinds)
+    → each_after_comma D.spell list (comma_text comma (close ∷ after)) ≡ [] → ⊥
 trailing_some D close [] false after same = cc
 trailing_some D close [] true after same = cc
 trailing_some D close (d ∷ ds) comma after same = cc
 
-trailing_first : (D : Class) (close next : TokenKind) → (next ≡ comma_token → ⊥) → (next ≡ close → ⊥) → (list : List D.Tree) (comma : Bool) (after more : Kinds) → each_after_comma D.spell list (comma_text comma (close ∷ after)) ≡ next ∷ more → ⊥
+trailing_first : (D : Class) (close next : TokenKind) → (next ≡ comma_token → ⊥) → (next ≡ close → ⊥)
+    → (list : List D.Tree) (comma : Bool) (after more : Kinds) → each_after_comma D.spell list (comma_text comma (close ∷ after)) ≡ next ∷ more
+    → ⊥
 trailing_first D close next no_comma no_close [] false after more same = no_close cc
 trailing_first D close next no_comma no_close [] true after more same = no_comma cc
 trailing_first D close next no_comma no_close (d ∷ ds) comma after more same = no_comma cc
 
 -- a phrase was taken, and neither a comma nor what closes the row stands after it
-pub trailing_wrong : (D : Class) (close : TokenKind) (limit : ℕ) → (s : Separates D close) → (done : List D.Tree) (Fit : Kinds → Type 0) → Opens D Fit → TrailingSoFar D close limit done Fit → (last : D.Tree) (next : TokenKind) (deep : Bool) → Took D limit last next deep → (next ≡ comma_token → ⊥) → (next ≡ close → ⊥) → Refused (Trailing D close) limit (before_commas D.spell done [] ++ D.spell last []) next deep
+pub trailing_wrong : (D : Class) (close : TokenKind) (limit : ℕ) → (s : Separates D close) → (done : List D.Tree) (Fit : Kinds → Type 0) → Opens D Fit
+    → TrailingSoFar D close limit done Fit → (last : D.Tree) (next : TokenKind) (deep : Bool) → Took D limit last next deep
+    → (next ≡ comma_token → ⊥) → (next ≡ close → ⊥)
+    → Refused (Trailing D close) limit (before_commas D.spell done [] ++ D.spell last []) next deep
 trailing_wrong D close limit s done Fit opens so_far last next deep t no_comma no_close =
-    tail_refused (Trailing D close) (Sequence D (FurtherTrailing D close)) limit limit (before_commas D.spell done []) (rows_of D done) Fit (pair_law D close s.law) so_far (D.spell last []) next deep
+    tail_refused (Trailing D close) (Sequence D (FurtherTrailing D close)) limit limit (before_commas D.spell done []) (rows_of D done) Fit
+    (pair_law D close s.law) so_far (D.spell last []) next deep
     (λ following near. subst Fit (splits D s.law last following) (opens last following t.is_phrase))
     (second_wrong D (FurtherTrailing D close) limit s.law (further_trailing_joins D close s) (further_trailing_least D close) (omega arith) last next deep t
-    (λ d after is same. trailing_some D close d.0 d.1 after same) (λ d after more is same. trailing_first D close next no_comma no_close d.0 d.1 after more same))
+    (λ d after is same. trailing_some D close d.0 d.1 after same)
+    (λ d after more is same. trailing_first D close next no_comma no_close d.0 d.1 after more same))
 
 -- a phrase was taken: what is left is the rest of the row
-last_tail : (D : Class) (close : TokenKind) (limit : ℕ) → (s : Separates D close) → (done : List D.Tree) (Fit : Kinds → Type 0) → Opens D Fit → TrailingSoFar D close limit done Fit → (last : D.Tree) (next : TokenKind) (deep : Bool) → Took D limit last next deep → D.Shut last (next ∷ []) → Tail (Trailing D close) (FurtherTrailing D close) limit limit (before_commas D.spell done [] ++ D.spell last []) (λ d. rows_of D done (last, d)) (Near next)
+last_tail : (D : Class) (close : TokenKind) (limit : ℕ) → (s : Separates D close) → (done : List D.Tree) (Fit : Kinds → Type 0) → Opens D Fit
+    → TrailingSoFar D close limit done Fit → (last : D.Tree) (next : TokenKind) (deep : Bool) → Took D limit last next deep → D.Shut last (next ∷ [])
+    → Tail (Trailing D close) (FurtherTrailing D close) limit limit (before_commas D.spell done [] ++ D.spell last []) (λ d. rows_of D done (last, d))
+    (Near next)
 last_tail D close limit s done Fit opens so_far last next deep t shut =
-    tail_then (Trailing D close) (Sequence D (FurtherTrailing D close)) (FurtherTrailing D close) limit limit limit (before_commas D.spell done []) (D.spell last []) (rows_of D done) (λ d. (last, d)) Fit (Near next) (pair_law D close s.law) so_far
-    (second_tail D (FurtherTrailing D close) limit s.law (further_trailing_joins D close s) (further_trailing_least D close) (omega arith) last next deep t (λ reported. shut))
+    tail_then (Trailing D close) (Sequence D (FurtherTrailing D close)) (FurtherTrailing D close) limit limit limit (before_commas D.spell done [])
+    (D.spell last []) (rows_of D done) (λ d. (last, d)) Fit (Near next) (pair_law D close s.law) so_far
+    (second_tail D (FurtherTrailing D close) limit s.law (further_trailing_joins D close s) (further_trailing_least D close) (omega arith) last next deep t
+    (λ reported. shut))
     (λ following near. subst Fit (splits D s.law last following) (opens last following t.is_phrase))
 
 abbrev pair : (D : Class) → List D.Tree → Bool → List D.Tree × Bool
@@ -208,18 +244,26 @@ pair D list comma = (list, comma)
 abbrev Same : (D : Class) → List D.Tree × Bool → List D.Tree × Bool → Type 0
 Same D one other = one ≡ other
 
-more_rows : (D : Class) (done : List D.Tree) (last : D.Tree) (list : List D.Tree) (comma : Bool) → Same D (done ++ last ∷ list, comma) ((done ++ last ∷ []) ++ list, comma)
+more_rows : (D : Class) (done : List D.Tree) (last : D.Tree) (list : List D.Tree) (comma : Bool)
+    → Same D (done ++ last ∷ list, comma) ((done ++ last ∷ []) ++ list, comma)
 more_rows D done last list comma = ap (λ (r : List D.Tree). pair D r comma) (sym (append_assoc done (last ∷ []) list))
 
-end_is : (D : Class) (close : TokenKind) → (close ≡ comma_token → ⊥) → (list : List D.Tree) (comma : Bool) (after following : Kinds) → each_after_comma D.spell list (comma_text comma (close ∷ after)) ≡ close ∷ following → (Same D (list, comma) ([], false)) × (after ≡ following)
+end_is : (D : Class) (close : TokenKind) → (close ≡ comma_token → ⊥)
+    → (list : List D.Tree) (comma : Bool) (after following : Kinds)
+    → each_after_comma D.spell list (comma_text comma (close ∷ after)) ≡ close ∷ following
+    → (Same D (list, comma) ([], false)) × (after ≡ following)
 end_is D close differs [] false after following same = (refl, cc)
 end_is D close differs [] true after following same = absurd (differs cc)
 end_is D close differs (d ∷ ds) comma after following same = absurd (differs cc)
 
 -- a phrase was taken, and what closes the row stands after it
-pub trailing_took : (D : Class) (close : TokenKind) (limit : ℕ) → (s : Separates D close) → (done : List D.Tree) (Fit : Kinds → Type 0) → Opens D Fit → TrailingSoFar D close limit done Fit → (last : D.Tree) (deep : Bool) → Took D limit last close deep → (next : TokenKind) → Took (Trailing D close) limit (done ++ last ∷ [], false) next false
+pub trailing_took : (D : Class) (close : TokenKind) (limit : ℕ) → (s : Separates D close) → (done : List D.Tree) (Fit : Kinds → Type 0) → Opens D Fit
+    → TrailingSoFar D close limit done Fit → (last : D.Tree) (deep : Bool) → Took D limit last close deep
+    → (next : TokenKind) → Took (Trailing D close) limit (done ++ last ∷ [], false) next false
 trailing_took D close limit s done Fit opens so_far last deep t next =
-    tail_took (Trailing D close) (FurtherTrailing D close) limit limit (before_commas D.spell done [] ++ D.spell last []) (λ d. rows_of D done (last, d)) (Near close) (further_trailing_law D close s.law) (last_tail D close limit s done Fit opens so_far last close deep t (s.closed last [])) ([], false) next false (λ following near. inr (following, refl))
+    tail_took (Trailing D close) (FurtherTrailing D close) limit limit (before_commas D.spell done [] ++ D.spell last []) (λ d. rows_of D done (last, d))
+    (Near close) (further_trailing_law D close s.law) (last_tail D close limit s done Fit opens so_far last close deep t (s.closed last [])) ([], false)
+    next false (λ following near. inr (following, refl))
     (exact_took (FurtherTrailing D close) limit ([], false) (record {
       is_phrase = tt;
       low = omega arith;
@@ -227,24 +271,37 @@ trailing_took D close limit s done Fit opens so_far last deep t next =
     }) next)
 
 -- a phrase was taken, and a comma stands after it
-pub trailing_comma : (D : Class) (close : TokenKind) (limit : ℕ) → (s : Separates D close) → (done : List D.Tree) (Fit : Kinds → Type 0) → Opens D Fit → TrailingSoFar D close limit done Fit → (last : D.Tree) (deep : Bool) → Took D limit last comma_token deep → CommaSoFar D close limit (done ++ last ∷ [])
+pub trailing_comma : (D : Class) (close : TokenKind) (limit : ℕ) → (s : Separates D close) → (done : List D.Tree) (Fit : Kinds → Type 0) → Opens D Fit
+    → TrailingSoFar D close limit done Fit → (last : D.Tree) (deep : Bool) → Took D limit last comma_token deep
+    → CommaSoFar D close limit (done ++ last ∷ [])
 trailing_comma D close limit s done Fit opens so_far last deep t =
     let rest = last_tail D close limit s done Fit opens so_far last comma_token deep t (s.comma last []) in
-    let more = production_tail (FurtherTrailing D close) (AfterComma D close) 0 (comma_token ∷ []) (after_comma D) (λ rest. Unit {0}) limit limit (omega arith) (comma_production D close s.differs) (rest_least D close) (omega arith) in
-    tail_as (Trailing D close) (AfterComma D close) limit limit ((before_commas D.spell done [] ++ D.spell last []) ++ comma_token ∷ []) (before_commas D.spell (done ++ last ∷ []) []) (λ part. rows_of D done (last, after_comma D part)) (commas_of D (done ++ last ∷ [])) (λ rest. Unit {0}) (λ rest. Unit {0})
-    (tail_then (Trailing D close) (FurtherTrailing D close) (AfterComma D close) limit limit limit (before_commas D.spell done [] ++ D.spell last []) (comma_token ∷ []) (λ d. rows_of D done (last, d)) (after_comma D) (Near comma_token) (λ rest. Unit {0}) (further_trailing_law D close s.law) rest more (λ following fit. inr (following, refl)))
-    (append_assoc (before_commas D.spell done []) (D.spell last []) (comma_token ∷ []) ∙ before_append D s.law done [] (D.spell last [] ++ comma_token ∷ []) ∙ ap (λ (x : Kinds). before_commas D.spell done x) (s.law last [] (comma_token ∷ [])) ∙ sym (before_more D done last []))
+    let more = production_tail (FurtherTrailing D close) (AfterComma D close) 0 (comma_token ∷ []) (after_comma D) (λ rest. Unit {0}) limit limit
+    (omega arith) (comma_production D close s.differs) (rest_least D close) (omega arith) in
+    tail_as (Trailing D close) (AfterComma D close) limit limit ((before_commas D.spell done [] ++ D.spell last []) ++ comma_token ∷ [])
+    (before_commas D.spell (done ++ last ∷ []) []) (λ part. rows_of D done (last, after_comma D part)) (commas_of D (done ++ last ∷ []))
+    (λ rest. Unit {0}) (λ rest. Unit {0})
+    (tail_then (Trailing D close) (FurtherTrailing D close) (AfterComma D close) limit limit limit (before_commas D.spell done [] ++ D.spell last [])
+    (comma_token ∷ []) (λ d. rows_of D done (last, d)) (after_comma D) (Near comma_token) (λ rest. Unit {0}) (further_trailing_law D close s.law) rest
+    more (λ following fit. inr (following, refl)))
+    (append_assoc (before_commas D.spell done []) (D.spell last []) (comma_token ∷ [])
+    ∙ before_append D s.law done [] (D.spell last [] ++ comma_token ∷ [])
+    ∙ ap (λ (x : Kinds). before_commas D.spell done x) (s.law last [] (comma_token ∷ [])) ∙ sym (before_more D done last []))
     (λ part. more_rows D done last (after_comma D part).0 (after_comma D part).1) (λ following fit. tt)
 
-closed_is : (D : Class) (close : TokenKind) → NoneCloses D close → (whole : Rest D) (after following : Kinds) → IsRest D whole → rest_text D close whole after ≡ close ∷ following → (whole ≡ None) × (after ≡ following)
+closed_is : (D : Class) (close : TokenKind) → NoneCloses D close → (whole : Rest D) (after following : Kinds) → IsRest D whole
+    → rest_text D close whole after ≡ close ∷ following → (whole ≡ None) × (after ≡ following)
 closed_is D close none None after following is same = (refl, cc)
-closed_is D close none (Some row) after following is same = absurd (none row.0 (each_after_comma D.spell row.1.0 (comma_text row.1.1 (close ∷ after))) following is.0 same)
+closed_is D close none (Some row) after following is same =
+    absurd (none row.0 (each_after_comma D.spell row.1.0 (comma_text row.1.1 (close ∷ after))) following is.0 same)
 
 -- what closes the row stands after a comma
-pub comma_took : (D : Class) (close : TokenKind) (limit : ℕ) → (s : Separates D close) → NoneCloses D close → (done : List D.Tree) → CommaSoFar D close limit done → (next : TokenKind) → Took (Trailing D close) limit (done, true) next false
+pub comma_took : (D : Class) (close : TokenKind) (limit : ℕ) → (s : Separates D close) → NoneCloses D close
+    → (done : List D.Tree) → CommaSoFar D close limit done → (next : TokenKind) → Took (Trailing D close) limit (done, true) next false
 comma_took D close limit s none done so_far next =
     subst (λ (list : List D.Tree). Took (Trailing D close) limit (list, true) next false) (append-nil done)
-    (tail_took (Trailing D close) (AfterComma D close) limit limit (before_commas D.spell done []) (commas_of D done) (λ rest. Unit {0}) (rest_law D close s.law) so_far None next false (λ following near. tt)
+    (tail_took (Trailing D close) (AfterComma D close) limit limit (before_commas D.spell done []) (commas_of D done) (λ rest. Unit {0})
+    (rest_law D close s.law) so_far None next false (λ following near. tt)
     (exact_took (AfterComma D close) limit None (record {
       is_phrase = tt;
       low = omega arith;
@@ -252,18 +309,24 @@ comma_took D close limit s none done so_far next =
     }) next))
 
 -- after a comma another phrase is awaited, where what closes the row doesn't stand there
-pub comma_more : (D : Class) (close : TokenKind) (limit : ℕ) → (s : Separates D close) → D.tall s.least.tree ≤ limit → (done : List D.Tree) → CommaSoFar D close limit done → TrailingSoFar D close limit done (NotClosed close)
+pub comma_more : (D : Class) (close : TokenKind) (limit : ℕ) → (s : Separates D close) → D.tall s.least.tree ≤ limit
+    → (done : List D.Tree) → CommaSoFar D close limit done → TrailingSoFar D close limit done (NotClosed close)
 comma_more D close limit s fits done so_far =
-    tail_as (Trailing D close) (Sequence D (FurtherTrailing D close)) limit limit (before_commas D.spell done [] ++ []) (before_commas D.spell done []) (λ part. commas_of D done (Some part)) (rows_of D done) (NotClosed close) (NotClosed close)
-    (tail_then (Trailing D close) (AfterComma D close) (Sequence D (FurtherTrailing D close)) limit limit limit (before_commas D.spell done []) [] (commas_of D done) Some (λ rest. Unit {0}) (NotClosed close) (rest_law D close s.law) so_far
-    (production_tail (AfterComma D close) (Sequence D (FurtherTrailing D close)) 0 [] Some (NotClosed close) limit limit (omega arith) (rest_production D close) (pair_least D close s.least) (omega (arith, fits))) (λ following fit. tt))
+    tail_as (Trailing D close) (Sequence D (FurtherTrailing D close)) limit limit (before_commas D.spell done [] ++ []) (before_commas D.spell done [])
+    (λ part. commas_of D done (Some part)) (rows_of D done) (NotClosed close) (NotClosed close)
+    (tail_then (Trailing D close) (AfterComma D close) (Sequence D (FurtherTrailing D close)) limit limit limit (before_commas D.spell done []) []
+    (commas_of D done) Some (λ rest. Unit {0}) (NotClosed close) (rest_law D close s.law) so_far
+    (production_tail (AfterComma D close) (Sequence D (FurtherTrailing D close)) 0 [] Some (NotClosed close) limit limit (omega arith) (rest_production D close)
+    (pair_least D close s.least) (omega (arith, fits))) (λ following fit. tt))
     (append-nil (before_commas D.spell done [])) (λ part. refl) (λ following fit. fit)
 
 -- phrases don't begin with what closes the row
 pub opens_not_closed : (D : Class) (close : TokenKind) → NoneCloses D close → Opens D (NotClosed close)
 opens_not_closed D close none d following is more same = none d following more is same
 
-front_not_closed : (D : Class) (close : TokenKind) (limit : ℕ) → NoneCloses D close → (front : Kinds) (next : TokenKind) (deep : Bool) → (front ≡ [] → next ≡ close → ⊥) → Refused D limit front next deep → (following : Kinds) → Near next following → NotClosed close (front ++ following)
+front_not_closed : (D : Class) (close : TokenKind) (limit : ℕ) → NoneCloses D close
+    → (front : Kinds) (next : TokenKind) (deep : Bool) → (front ≡ [] → next ≡ close → ⊥) → Refused D limit front next deep
+    → (following : Kinds) → Near next following → NotClosed close (front ++ following)
 front_not_closed D close limit none [] next deep other r following near more same =
     elim near [ inl e ↦ let z = sym same ∙ e in cc | inr m ↦ let z : close ∷ more ≡ next ∷ m.0 = sym same ∙ m.1 in other refl cc ]
 front_not_closed D close limit none (f ∷ fs) next deep other r following near more same =
@@ -275,13 +338,22 @@ front_not_closed D close limit none (f ∷ fs) next deep other r following near 
     ]
 
 -- a phrase after a comma was refused
-pub comma_refused : (D : Class) (close : TokenKind) (limit : ℕ) → (s : Separates D close) → NoneCloses D close → (done : List D.Tree) → TrailingSoFar D close limit done (NotClosed close) → (front : Kinds) (next : TokenKind) (deep : Bool) → (front ≡ [] → next ≡ close → ⊥) → Refused D limit front next deep → Refused (Trailing D close) limit (before_commas D.spell done [] ++ front) next deep
+pub comma_refused : (D : Class) (close : TokenKind) (limit : ℕ) → (s : Separates D close) → NoneCloses D close
+    → (done : List D.Tree) → TrailingSoFar D close limit done (NotClosed close)
+    → (front : Kinds) (next : TokenKind) (deep : Bool) → (front ≡ [] → next ≡ close → ⊥) → Refused D limit front next deep
+    → Refused (Trailing D close) limit (before_commas D.spell done [] ++ front) next deep
 comma_refused D close limit s none done so_far front next deep other r =
     trailing_refused D close limit s done (NotClosed close) so_far front next deep (front_not_closed D close limit none front next deep other r) r
 
 -- rows that were taken, whatever stands after them
-pub trailing_exact : (D : Class) (close : TokenKind) (limit : ℕ) → (s : Separates D close) → (done : List D.Tree) (Fit : Kinds → Type 0) → Opens D Fit → TrailingSoFar D close limit done Fit → (last : D.Tree) (deep : Bool) → Took D limit last close deep → Exactly (Trailing D close) limit (done ++ last ∷ [], false)
-trailing_exact D close limit s done Fit opens so_far last deep t = took_exact (Trailing D close) limit (done ++ last ∷ [], false) (trailing_took D close limit s done Fit opens so_far last deep t) (λ other after. tt) close
+pub trailing_exact : (D : Class) (close : TokenKind) (limit : ℕ) → (s : Separates D close) → (done : List D.Tree) (Fit : Kinds → Type 0) → Opens D Fit
+    → TrailingSoFar D close limit done Fit → (last : D.Tree) (deep : Bool) → Took D limit last close deep
+    → Exactly (Trailing D close) limit (done ++ last ∷ [], false)
+trailing_exact D close limit s done Fit opens so_far last deep t =
+    took_exact (Trailing D close) limit (done ++ last ∷ [], false) (trailing_took D close limit s done Fit opens so_far last deep t) (λ other after. tt)
+    close
 
-pub comma_exact : (D : Class) (close : TokenKind) (limit : ℕ) → (s : Separates D close) → NoneCloses D close → (done : List D.Tree) → CommaSoFar D close limit done → Exactly (Trailing D close) limit (done, true)
-comma_exact D close limit s none done so_far = took_exact (Trailing D close) limit (done, true) (comma_took D close limit s none done so_far) (λ other after. tt) close
+pub comma_exact : (D : Class) (close : TokenKind) (limit : ℕ) → (s : Separates D close) → NoneCloses D close
+    → (done : List D.Tree) → CommaSoFar D close limit done → Exactly (Trailing D close) limit (done, true)
+comma_exact D close limit s none done so_far =
+    took_exact (Trailing D close) limit (done, true) (comma_took D close limit s none done so_far) (λ other after. tt) close

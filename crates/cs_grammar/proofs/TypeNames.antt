@@ -1,5 +1,6 @@
 -- The words of a type before declarators: for the contracts of every parser of declarations.
-use Rattle.std.proofs.Common.{◌≡◌, ℕ, ◌≤◌, inl, inr, Bool, true, false, ◌&&◌, List, [], ◌∷◌, ◌++◌, Option, Some, None, refl, sym, ap, ◌∙◌, subst, arith, append_assoc, append-nil}
+use Rattle.std.proofs.Common.{◌≡◌, ℕ, ◌≤◌, inl, inr, Bool, true, false, ◌&&◌, List, [], ◌∷◌, ◌++◌, Option, Some, None, refl, sym}
+use Rattle.std.proofs.Common.{ap, ◌∙◌, subst, arith, append_assoc, append-nil}
 use Rattle.std.proofs.lemmas.Bool.{false≢true, both_ways, and_left, and_right}
 use Rattle.std.proofs.lemmas.List.Folds.{list_all-append}
 use Rattle.std.specs.List.{list_all}
@@ -83,12 +84,15 @@ starts_word (word.Struct tag) x = (token.Name tag ∷ x, refl)
 starts_word (word.Enum tag) x = (token.Name tag ∷ x, refl)
 
 -- words of a type, and a name: none of a type begins so
-whole_and_name : (names : Names) (first : TypeWord) (others : List TypeWord) (n : List ℕ) (more : List TypeWord) → names_type names ((first ∷ others) ++ word.Typedef n ∷ more) ≡ false
+whole_and_name : (names : Names) (first : TypeWord) (others : List TypeWord) (n : List ℕ) (more : List TypeWord)
+    → names_type names ((first ∷ others) ++ word.Typedef n ∷ more) ≡ false
 whole_and_name names word.Const others n more = and_left false (fit_together ((word.Const ∷ others) ++ word.Typedef n ∷ more)) refl
 whole_and_name names (word.Integer k) others n more =
-    and_left (list_all is_integer_word ((word.Integer k ∷ others) ++ word.Typedef n ∷ more)) (fit_together ((word.Integer k ∷ others) ++ word.Typedef n ∷ more))
+    and_left (list_all is_integer_word ((word.Integer k ∷ others) ++ word.Typedef n ∷ more))
+    (fit_together ((word.Integer k ∷ others) ++ word.Typedef n ∷ more))
     (list_all-append is_integer_word (word.Integer k ∷ others) (word.Typedef n ∷ more)
-    ∙ and_right (list_all is_integer_word (word.Integer k ∷ others)) (false && list_all is_integer_word more) (and_left false (list_all is_integer_word more) refl))
+    ∙ and_right (list_all is_integer_word (word.Integer k ∷ others)) (false && list_all is_integer_word more)
+    (and_left false (list_all is_integer_word more) refl))
 whole_and_name names word.Void [] n more = refl
 whole_and_name names word.Void (o ∷ os) n more = refl
 whole_and_name names (word.Typedef name) [] n more = refl
@@ -98,14 +102,17 @@ whole_and_name names (word.Struct tag) (o ∷ os) n more = refl
 whole_and_name names (word.Enum tag) [] n more = refl
 whole_and_name names (word.Enum tag) (o ∷ os) n more = refl
 
-named_and_name : (names : Names) (named : List TypeWord) (n : List ℕ) (more : List TypeWord) → names_type names named ≡ true → names_type names (named ++ word.Typedef n ∷ more) ≡ false
+named_and_name : (names : Names) (named : List TypeWord) (n : List ℕ) (more : List TypeWord) → names_type names named ≡ true
+    → names_type names (named ++ word.Typedef n ∷ more) ≡ false
 named_and_name names [] n more e = absurd (false≢true e)
 named_and_name names (w ∷ ws) n more e = whole_and_name names w ws n more
 
 -- a type and a name make no type
-pub type_and_name : (names : Names) (ws : List TypeWord) (n : List ℕ) (more : List TypeWord) → is_type names ws ≡ true → is_type names (ws ++ word.Typedef n ∷ more) ≡ true → ⊥
+pub type_and_name : (names : Names) (ws : List TypeWord) (n : List ℕ) (more : List TypeWord) → is_type names ws ≡ true
+    → is_type names (ws ++ word.Typedef n ∷ more) ≡ true → ⊥
 type_and_name names ws n more type both =
-    both_ways (is_type names (ws ++ word.Typedef n ∷ more)) (ap (names_type names) (named_more ws (word.Typedef n ∷ more)) ∙ named_and_name names (named_by ws) n (named_by more) type) both
+    both_ways (is_type names (ws ++ word.Typedef n ∷ more)) (ap (names_type names) (named_more ws (word.Typedef n ∷ more))
+    ∙ named_and_name names (named_by ws) n (named_by more) type) both
 
 -- only a name is both a word and what may stand after a type
 word_ends : (w : TypeWord) → ends_specs (first_token w) ≡ true → (n : List ℕ) × (w ≡ word.Typedef n)
@@ -129,17 +136,22 @@ follows_first : (after : Kinds) (t : TokenKind) (more : Kinds) → Follows ends_
 follows_first after t more f same = subst (Follows ends_specs) same f
 
 -- words of a type that begin as others continue with more
-words_go_on : (names : Names) (before ws other : List TypeWord) (after following : Kinds) → MayGoOn names (before ++ ws) → is_type names (before ++ other) ≡ true → Follows ends_specs after → words_text other after ≡ words_text ws following → (more : List TypeWord) × (other ≡ ws ++ more) × (words_text more after ≡ following)
+words_go_on : (names : Names) (before ws other : List TypeWord) (after following : Kinds) → MayGoOn names (before ++ ws)
+    → is_type names (before ++ other) ≡ true → Follows ends_specs after → words_text other after ≡ words_text ws following
+    → (more : List TypeWord) × (other ≡ ws ++ more) × (words_text more after ≡ following)
 words_go_on names before [] other after following go type f same = (other, refl, same)
 words_go_on names before (w ∷ ws) [] after following go type f same =
     let s = starts_word w (words_text ws following) in
     let n = word_ends w (follows_first after (first_token w) s.0 f (same ∙ s.1)) in
     let t : is_type names before ≡ true = ap (is_type names) (sym (append-nil before)) ∙ type in
-    absurd (type_and_name names before n.0 (ws ++ go.0) t (ap (is_type names) (ap (λ (x : TypeWord). before ++ x ∷ (ws ++ go.0)) (sym n.1) ∙ sym (append_assoc before (w ∷ ws) go.0)) ∙ go.1))
+    absurd (type_and_name names before n.0 (ws ++ go.0) t
+    (ap (is_type names) (ap (λ (x : TypeWord). before ++ x ∷ (ws ++ go.0)) (sym n.1) ∙ sym (append_assoc before (w ∷ ws) go.0)) ∙ go.1))
 words_go_on names before (w ∷ ws) (v ∷ vs) after following go type f same =
     let k = same_word v w (words_text vs after) (words_text ws following) same in
-    let go' : MayGoOn names ((before ++ w ∷ []) ++ ws) = (go.0, ap (λ (x : List TypeWord). is_type names (x ++ go.0)) (append_assoc before (w ∷ []) ws) ∙ go.1) in
-    let type' : is_type names ((before ++ w ∷ []) ++ vs) ≡ true = ap (is_type names) (append_assoc before (w ∷ []) vs ∙ ap (λ (x : TypeWord). before ++ x ∷ vs) (sym k.0)) ∙ type in
+    let go' : MayGoOn names ((before ++ w ∷ []) ++ ws) =
+    (go.0, ap (λ (x : List TypeWord). is_type names (x ++ go.0)) (append_assoc before (w ∷ []) ws) ∙ go.1) in
+    let type' : is_type names ((before ++ w ∷ []) ++ vs) ≡ true =
+    ap (is_type names) (append_assoc before (w ∷ []) vs ∙ ap (λ (x : TypeWord). before ++ x ∷ vs) (sym k.0)) ∙ type in
     let r = words_go_on names (before ++ w ∷ []) ws vs after following go' type' f k.1 in
     (r.0, ap (λ (x : TypeWord). x ∷ vs) k.0 ∙ ap (λ (x : List TypeWord). w ∷ x) r.1, r.2)
 
@@ -147,7 +159,8 @@ words_go_on names before (w ∷ ws) (v ∷ vs) after following go type f same =
 abbrev pub IsStuckAt : Names → List TypeWord → TokenKind → Type 0
 IsStuckAt names ws next = (one : TypeWord) (more : List TypeWord) → first_token one ≡ next → is_type names (ws ++ one ∷ more) ≡ false
 
-stuck_near : (names : Names) (ws : List TypeWord) (next : TokenKind) (more : List TypeWord) (after following : Kinds) → IsStuckAt names ws next → is_type names (ws ++ more) ≡ true → Near next following → words_text more after ≡ following → (more ≡ []) × (after ≡ following)
+stuck_near : (names : Names) (ws : List TypeWord) (next : TokenKind) (more : List TypeWord) (after following : Kinds) → IsStuckAt names ws next
+    → is_type names (ws ++ more) ≡ true → Near next following → words_text more after ≡ following → (more ≡ []) × (after ≡ following)
 stuck_near names ws next [] after following stuck type near same = (refl, same)
 stuck_near names ws next (w ∷ more) after following stuck type near same =
     let s = starts_word w (words_text more after) in
@@ -159,10 +172,13 @@ stuck_near names ws next (w ∷ more) after following stuck type near same =
           both_ways (is_type names (ws ++ w ∷ more)) (stuck w more k) type
     ])
 
-block_only : (names : Names) (ws : List TypeWord) (next : TokenKind) → is_type names ws ≡ true → IsStuckAt names ws next → (other : Specs) (after following : Kinds) → AreBlockSpecs names other → Follows ends_specs after → Near next following → specs_text other after ≡ specs_text (specs_of ws) following → (other ≡ specs_of ws) × (after ≡ following)
+block_only : (names : Names) (ws : List TypeWord) (next : TokenKind) → is_type names ws ≡ true → IsStuckAt names ws next
+    → (other : Specs) (after following : Kinds) → AreBlockSpecs names other → Follows ends_specs after → Near next following
+    → specs_text other after ≡ specs_text (specs_of ws) following → (other ≡ specs_of ws) × (after ≡ following)
 block_only names ws next type stuck other after following is f near same =
     let o = block_words names other is in
-    let s : words_text o.words after ≡ words_text ws following = sym (plain_text o.words after) ∙ ap (λ (x : Specs). specs_text x after) (sym o.are) ∙ same ∙ plain_text ws following in
+    let s : words_text o.words after ≡ words_text ws following = sym (plain_text o.words after) ∙ ap (λ (x : Specs). specs_text x after) (sym o.are)
+    ∙ same ∙ plain_text ws following in
     let go : MayGoOn names ws = ([], ap (is_type names) (append-nil ws) ∙ type) in
     let r = words_go_on names [] ws o.words after following go o.type f s in
     let e = stuck_near names ws next r.0 after following stuck (ap (is_type names) (sym r.1) ∙ o.type) near r.2 in
@@ -173,7 +189,8 @@ words_height [] = omega arith
 words_height (w ∷ ws) = let h = plain_height w ws in omega (arith, h)
 
 -- the words of a type were taken inside a block, as many as there are
-pub block_specs_took : (names : Names) (limit : ℕ) (ws : List TypeWord) (next : TokenKind) → 1 ≤ limit → is_type names ws ≡ true → IsStuckAt names ws next → Took (BlockSpecs names) limit (specs_of ws) next false
+pub block_specs_took : (names : Names) (limit : ℕ) (ws : List TypeWord) (next : TokenKind) → 1 ≤ limit → is_type names ws ≡ true
+    → IsStuckAt names ws next → Took (BlockSpecs names) limit (specs_of ws) next false
 block_specs_took names limit ws next some type stuck = record {
   is_phrase = plain_are names ws type;
   low = let h = words_height ws in omega (arith, h, some);
@@ -202,21 +219,27 @@ tagged_names : (names : Names) (is_struct : Bool) (tag : List ℕ) → names_typ
 tagged_names names true tag = refl
 tagged_names names false tag = refl
 
-tag_type : (names : Names) (ws : List TypeWord) (is_struct : Bool) (tag : List ℕ) → named_by ws ≡ [] → is_type names (ws ++ tagged is_struct tag ∷ []) ≡ true
+tag_type : (names : Names) (ws : List TypeWord) (is_struct : Bool) (tag : List ℕ) → named_by ws ≡ []
+    → is_type names (ws ++ tagged is_struct tag ∷ []) ≡ true
 tag_type names ws is_struct tag none =
-    ap (names_type names) (named_more ws (tagged is_struct tag ∷ []) ∙ ap (λ (x : List TypeWord). x ++ named_by (tagged is_struct tag ∷ [])) none) ∙ tagged_names names is_struct tag
+    ap (names_type names) (named_more ws (tagged is_struct tag ∷ []) ∙ ap (λ (x : List TypeWord). x ++ named_by (tagged is_struct tag ∷ [])) none)
+    ∙ tagged_names names is_struct tag
 
 -- words so far, and tokens with which no word begins
-pub block_words_never : (names : Names) (ws : List TypeWord) (next : TokenKind) → is_type names ws ≡ false → MayGoOn names ws → IsStuckAt names ws next → (other : Specs) (after following : Kinds) → AreBlockSpecs names other → Follows ends_specs after → Near next following → specs_text other after ≡ words_text ws [] ++ following → ⊥
+pub block_words_never : (names : Names) (ws : List TypeWord) (next : TokenKind) → is_type names ws ≡ false → MayGoOn names ws → IsStuckAt names ws next
+    → (other : Specs) (after following : Kinds) → AreBlockSpecs names other → Follows ends_specs after → Near next following
+    → specs_text other after ≡ words_text ws [] ++ following → ⊥
 block_words_never names ws next none go stuck other after following is f near same =
     let o = block_words names other is in
-    let s : words_text o.words after ≡ words_text ws following = sym (plain_text o.words after) ∙ ap (λ (x : Specs). specs_text x after) (sym o.are) ∙ same ∙ words_append ws [] following in
+    let s : words_text o.words after ≡ words_text ws following = sym (plain_text o.words after) ∙ ap (λ (x : Specs). specs_text x after) (sym o.are)
+    ∙ same ∙ words_append ws [] following in
     let r = words_go_on names [] ws o.words after following go o.type f s in
     let e = stuck_near names ws next r.0 after following stuck (ap (is_type names) (sym r.1) ∙ o.type) near r.2 in
     both_ways (is_type names ws) none (ap (is_type names) (sym (r.1 ∙ ap (λ (x : List TypeWord). ws ++ x) e.0 ∙ append-nil ws)) ∙ o.type)
 
 -- words that name no type yet, and no word that continues with them
-pub block_specs_refused : (names : Names) (limit : ℕ) (ws : List TypeWord) (next : TokenKind) → 1 ≤ limit → is_type names ws ≡ false → MayGoOn names ws → IsStuckAt names ws next → Refused (BlockSpecs names) limit (words_text ws []) next false
+pub block_specs_refused : (names : Names) (limit : ℕ) (ws : List TypeWord) (next : TokenKind) → 1 ≤ limit → is_type names ws ≡ false
+    → MayGoOn names ws → IsStuckAt names ws next → Refused (BlockSpecs names) limit (words_text ws []) next false
 block_specs_refused names limit ws next some none go stuck = record {
   begun = inr (record {
     phrase = specs_of (ws ++ go.0);
@@ -230,11 +253,14 @@ block_specs_refused names limit ws next some none go stuck = record {
 }
 
 -- the token after `struct` or `enum` is no tag
-tag_near : (is_struct : Bool) (next : TokenKind) (ws more : List TypeWord) (after following : Kinds) → ((n : List ℕ) → next ≡ token.Name n → ⊥) → Follows ends_specs after → Near next following → words_text more after ≡ tag_word is_struct ∷ following → ⊥
+tag_near : (is_struct : Bool) (next : TokenKind) (ws more : List TypeWord) (after following : Kinds) → ((n : List ℕ) → next ≡ token.Name n → ⊥)
+    → Follows ends_specs after → Near next following → words_text more after ≡ tag_word is_struct ∷ following → ⊥
 tag_near true next ws [] after following no_name f near same = false≢true (follows_first after (tag_word true) following f same)
 tag_near false next ws [] after following no_name f near same = false≢true (follows_first after (tag_word false) following f same)
-tag_near true next ws (word.Struct t ∷ more) after following no_name f near same = near_other (token.Name t) next following (words_text more after) (no_name t) near cc
-tag_near false next ws (word.Enum t ∷ more) after following no_name f near same = near_other (token.Name t) next following (words_text more after) (no_name t) near cc
+tag_near true next ws (word.Struct t ∷ more) after following no_name f near same =
+    near_other (token.Name t) next following (words_text more after) (no_name t) near cc
+tag_near false next ws (word.Enum t ∷ more) after following no_name f near same =
+    near_other (token.Name t) next following (words_text more after) (no_name t) near cc
 tag_near true next ws (word.Const ∷ more) after following no_name f near same = cc
 tag_near true next ws (word.Void ∷ more) after following no_name f near same = cc
 tag_near true next ws (word.Typedef n ∷ more) after following no_name f near same = cc
@@ -257,7 +283,8 @@ tag_near false next ws (word.Integer Signed ∷ more) after following no_name f 
 tag_near false next ws (word.Integer Unsigned ∷ more) after following no_name f near same = cc
 
 -- `struct` or `enum` after words that name nothing, and no tag after it, inside a block
-pub block_tag_refused : (names : Names) (limit : ℕ) (ws : List TypeWord) (is_struct : Bool) (next : TokenKind) → 1 ≤ limit → named_by ws ≡ [] → ((n : List ℕ) → next ≡ token.Name n → ⊥) → Refused (BlockSpecs names) limit (words_text ws (tag_word is_struct ∷ [])) next false
+pub block_tag_refused : (names : Names) (limit : ℕ) (ws : List TypeWord) (is_struct : Bool) (next : TokenKind) → 1 ≤ limit → named_by ws ≡ []
+    → ((n : List ℕ) → next ≡ token.Name n → ⊥) → Refused (BlockSpecs names) limit (words_text ws (tag_word is_struct ∷ [])) next false
 block_tag_refused names limit ws is_struct next some none no_name =
     let go : MayGoOn names ws = (tagged is_struct [] ∷ [], tag_type names ws is_struct [] none) in
     record {
@@ -266,11 +293,13 @@ block_tag_refused names limit ws is_struct next some none no_name =
         more = token.Name [] ∷ [];
         is_phrase = plain_are names (ws ++ tagged is_struct [] ∷ []) go.1;
         low = let h = words_height (ws ++ tagged is_struct [] ∷ []) in omega (arith, h, some);
-        spelled = plain_text (ws ++ tagged is_struct [] ∷ []) [] ∙ words_split ws (tagged is_struct [] ∷ []) [] ∙ ap (words_text ws) (tagged_text is_struct [] []) ∙ sym (words_append ws (tag_word is_struct ∷ []) (token.Name [] ∷ []));
+        spelled = plain_text (ws ++ tagged is_struct [] ∷ []) [] ∙ words_split ws (tagged is_struct [] ∷ []) []
+            ∙ ap (words_text ws) (tagged_text is_struct [] []) ∙ sym (words_append ws (tag_word is_struct ∷ []) (token.Name [] ∷ []));
       });
       never = λ other after following is shut near same.
           let o = block_words names other is in
-          let s : words_text o.words after ≡ words_text ws (tag_word is_struct ∷ following) = sym (plain_text o.words after) ∙ ap (λ (x : Specs). specs_text x after) (sym o.are) ∙ same ∙ words_append ws (tag_word is_struct ∷ []) following in
+          let s : words_text o.words after ≡ words_text ws (tag_word is_struct ∷ following) = sym (plain_text o.words after)
+          ∙ ap (λ (x : Specs). specs_text x after) (sym o.are) ∙ same ∙ words_append ws (tag_word is_struct ∷ []) following in
           let r = words_go_on names [] ws o.words after (tag_word is_struct ∷ following) go o.type shut s in
           absurd (tag_near is_struct next ws r.0 after following no_name shut near r.2);
       further = λ reported. absurd (false≢true reported);

@@ -1,10 +1,12 @@
 -- One more word of a type: for the contract of `TypeSoFar::with`, and for parsers of types.
-use Rattle.std.proofs.Common.{◌≡◌, ℕ, ◌+◌, ◌≤◌, true, false, ◌&&◌, ◌||◌, not, ◌==◌, nat_le, List, [], ◌∷◌, ◌++◌, refl, sym, ap, ◌∙◌, arith, append_assoc, subst, cond, inl, inr}
+use Rattle.std.proofs.Common.{◌≡◌, ℕ, ◌+◌, ◌≤◌, true, false, ◌&&◌, ◌||◌, not, ◌==◌, nat_le, List, [], ◌∷◌, ◌++◌, refl}
+use Rattle.std.proofs.Common.{sym, ap, ◌∙◌, arith, append_assoc, subst, cond, inl, inr}
 use Rattle.std.specs.List.{list_all}
 use Rattle.std.proofs.lemmas.List.Sums.{sum_by-append}
 use Rattle.std.proofs.lemmas.List.Elements.{filter-append}
 use Rattle.std.proofs.lemmas.List.Folds.{list_all-append}
-use Rattle.std.proofs.lemmas.Bool.{and_parts, and_from, and_right, leb-true, le-leb, false_from_ne_true, both_ways, or_cases, or_left, or_right, eqb-true, eq-eqb}
+use Rattle.std.proofs.lemmas.Bool.{and_parts, and_from, and_right, leb-true, le-leb, false_from_ne_true, both_ways, or_cases, or_left, or_right, eqb-true}
+use Rattle.std.proofs.lemmas.Bool.{eq-eqb}
 use Rattle.cs_ast.specs.declared.raw.written_type.TypeWord.{TypeWord}
 use Rattle.cs_ast.specs.declared.raw.written_type.TypeWord.TheVariants as word
 use Rattle.cs_ast.specs.declared.raw.written_type.IntegerWord.{IntegerWord}
@@ -88,7 +90,8 @@ either_test a b a' b' p q h =
     ]
 
 -- fewer words fit together too
-pub fewer_fit : (a b c d e f a' b' c' d' e' f' : ℕ) → a ≤ a' → b ≤ b' → c ≤ c' → d ≤ d' → e ≤ e' → f ≤ f' → fit_numbers a' b' c' d' e' f' ≡ true → fit_numbers a b c d e f ≡ true
+pub fewer_fit : (a b c d e f a' b' c' d' e' f' : ℕ) → a ≤ a' → b ≤ b' → c ≤ c' → d ≤ d' → e ≤ e' → f ≤ f'
+    → fit_numbers a' b' c' d' e' f' ≡ true → fit_numbers a b c d e f ≡ true
 fewer_fit a b c d e f a' b' c' d' e' f' pa pb pc pd pe pf h =
     let h5 = and_parts (nat_le (e' + f') 1 && nat_le c' 1 && nat_le (a' + b') 1 && nat_le d' 2 && ((a' == 0) || (c' + d' == 0))) ((b' == 0) || (d' == 0)) h in
     let h4 = and_parts (nat_le (e' + f') 1 && nat_le c' 1 && nat_le (a' + b') 1 && nat_le d' 2) ((a' == 0) || (c' + d' == 0)) h5.0 in
@@ -117,7 +120,9 @@ part_fits all ws us c h =
     h
 
 -- words of an integer type and one more that doesn't fit name no type, whatever follows
-pub misfit : (names : Names) (first : TypeWord) (others us : List TypeWord) (k : IntegerWord) (all : IntegerWords) → Counts all (first ∷ others) → list_all is_integer_word (first ∷ others) ≡ true → fit (counted k all) ≡ false → names_type names ((first ∷ others) ++ word.Integer k ∷ us) ≡ false
+pub misfit : (names : Names) (first : TypeWord) (others us : List TypeWord) (k : IntegerWord) (all : IntegerWords) → Counts all (first ∷ others)
+    → list_all is_integer_word (first ∷ others) ≡ true → fit (counted k all) ≡ false
+    → names_type names ((first ∷ others) ++ word.Integer k ∷ us) ≡ false
 misfit names word.Const others us k all c a h = cc
 misfit names word.Void others us k all c a h = cc
 misfit names (word.Typedef name) others us k all c a h = cc
@@ -130,9 +135,11 @@ misfit names (word.Integer i) others us k all c a h =
     and_right (list_all is_integer_word (ws ++ more)) (fit_together (ws ++ more))
     (false_from_ne_true (fit_together (ws ++ more)) (λ t.
     both_ways (fit (counted k all)) h
-    (part_fits (counted k all) (ws ++ word.Integer k ∷ []) us (counts_more k all ws c) (subst (λ (x : List TypeWord). fit_together x ≡ true) (sym step) t))))
+    (part_fits (counted k all) (ws ++ word.Integer k ∷ []) us (counts_more k all ws c)
+    (subst (λ (x : List TypeWord). fit_together x ≡ true) (sym step) t))))
 
-known_whole : (names : Names) (next : TypeWord) → is_const next ≡ false → is_integer_word next ≡ false → is_known names next ≡ true → is_whole names next ≡ true
+known_whole : (names : Names) (next : TypeWord) → is_const next ≡ false → is_integer_word next ≡ false → is_known names next ≡ true
+    → is_whole names next ≡ true
 known_whole names word.Const c i k = cc
 known_whole names word.Void c i k = refl
 known_whole names (word.Typedef name) c i k = k
@@ -149,10 +156,14 @@ named_one (word.Enum tag) us c = refl
 named_one (word.Integer kind) us c = refl
 
 -- words that name nothing, and one that names a type
-pub extends_nothing : (names : Names) (so_far : TypeSoFar) (words : List TypeWord) (next : TypeWord) → so_far ≡ Nothing → is_const next ≡ false → is_integer_word next ≡ false → Describes names so_far words → is_known names next ≡ true → Describes names Whole (words ++ next ∷ [])
+pub extends_nothing : (names : Names) (so_far : TypeSoFar) (words : List TypeWord) (next : TypeWord) → so_far ≡ Nothing → is_const next ≡ false
+    → is_integer_word next ≡ false → Describes names so_far words → is_known names next ≡ true → Describes names Whole (words ++ next ∷ [])
 extends_nothing names so_far words next e c i d k =
-    let none : named_by words ≡ [] = subst (λ (s : TypeSoFar). Describes names s words) e d in
-    (next, named_more words (next ∷ []) ∙ ap (λ (x : List TypeWord). x ++ named_by (next ∷ [])) none ∙ named_one next [] c, known_whole names next c i k)
+    let none : named_by words ≡ [] = subst (λ (s : TypeSoFar). Describes names s words) e d in (
+      next,
+      named_more words (next ∷ []) ∙ ap (λ (x : List TypeWord). x ++ named_by (next ∷ [])) none ∙ named_one next [] c,
+      known_whole names next c i k,
+    )
 
 one_fits : (kind : IntegerWord) → fit (counted kind (record { char = 0; short = 0; int = 0; long = 0; signed = 0; unsigned = 0 })) ≡ true
 one_fits Char = refl
@@ -167,15 +178,18 @@ abbrev pub AfterJoin : Names → List TypeWord → TypeWord → Option IntegerWo
 AfterJoin names words next (Some all) = Describes names (Integers all) (words ++ next ∷ [])
 AfterJoin names words next None = IsExtended names words next None
 
-joins : (names : Names) (words : List TypeWord) (kind : IntegerWord) (all : IntegerWords) (joined : Option IntegerWords) → Describes names (Integers all) words → (fit all ≡ true → IsJoined all kind joined) → AfterJoin names words (word.Integer kind) joined
+joins : (names : Names) (words : List TypeWord) (kind : IntegerWord) (all : IntegerWords) (joined : Option IntegerWords)
+    → Describes names (Integers all) words → (fit all ≡ true → IsJoined all kind joined) → AfterJoin names words (word.Integer kind) joined
 joins names words kind all (Some more) (first, others, named, are) j =
     let done = j are.fitting in (
       first,
       others ++ word.Integer kind ∷ [],
       named_more words (word.Integer kind ∷ []) ∙ ap (λ (x : List TypeWord). x ++ word.Integer kind ∷ []) named,
       record {
-        counts = subst (λ (x : IntegerWords). Counts x ((first ∷ others) ++ word.Integer kind ∷ [])) (sym done.0) (counts_more kind all (first ∷ others) are.counts);
-        integers = list_all-append is_integer_word (first ∷ others) (word.Integer kind ∷ []) ∙ and_from (list_all is_integer_word (first ∷ others)) true are.integers refl;
+        counts = subst (λ (x : IntegerWords). Counts x ((first ∷ others) ++ word.Integer kind ∷ [])) (sym done.0)
+            (counts_more kind all (first ∷ others) are.counts);
+        integers = list_all-append is_integer_word (first ∷ others) (word.Integer kind ∷ [])
+            ∙ and_from (list_all is_integer_word (first ∷ others)) true are.integers refl;
         fitting = done.1;
       },
     )
@@ -185,12 +199,15 @@ joins names words kind all None (first, others, named, are) j =
     ∙ misfit names first others (named_by more) kind all are.counts are.integers (j are.fitting)
 
 -- words that name nothing, and one of an integer type
-pub extends_by_integer : (names : Names) (so_far : TypeSoFar) (words : List TypeWord) (next : TypeWord) (kind : IntegerWord) (all : IntegerWords) → so_far ≡ Nothing → next ≡ word.Integer kind → all ≡ counted kind (record { char = 0; short = 0; int = 0; long = 0; signed = 0; unsigned = 0 }) → Describes names so_far words → Describes names (Integers all) (words ++ next ∷ [])
+pub extends_by_integer : (names : Names) (so_far : TypeSoFar) (words : List TypeWord) (next : TypeWord) (kind : IntegerWord) (all : IntegerWords)
+    → so_far ≡ Nothing → next ≡ word.Integer kind → all ≡ counted kind (record { char = 0; short = 0; int = 0; long = 0; signed = 0; unsigned = 0 })
+    → Describes names so_far words → Describes names (Integers all) (words ++ next ∷ [])
 extends_by_integer names so_far words next kind all e n a d =
     let none : named_by words ≡ [] = subst (λ (s : TypeSoFar). Describes names s words) e d in
     let zero : IntegerWords = record { char = 0; short = 0; int = 0; long = 0; signed = 0; unsigned = 0 } in
     let start : Counts zero [] = record { char = refl; short = refl; int = refl; long = refl; signed = refl; unsigned = refl } in
-    let named : named_by (words ++ word.Integer kind ∷ []) ≡ word.Integer kind ∷ [] = named_more words (word.Integer kind ∷ []) ∙ ap (λ (x : List TypeWord). x ++ word.Integer kind ∷ []) none in
+    let named : named_by (words ++ word.Integer kind ∷ []) ≡ word.Integer kind ∷ [] = named_more words (word.Integer kind ∷ [])
+    ∙ ap (λ (x : List TypeWord). x ++ word.Integer kind ∷ []) none in
     subst (λ (w : TypeWord). Describes names (Integers all) (words ++ w ∷ [])) (sym n) (
       word.Integer kind,
       [],
@@ -203,7 +220,9 @@ extends_by_integer names so_far words next kind all e n a d =
     )
 
 -- words of an integer type and one more of them
-pub extends_integers : (names : Names) (so_far : TypeSoFar) (words : List TypeWord) (next : TypeWord) (kind : IntegerWord) (all : IntegerWords) (joined : Option IntegerWords) → so_far ≡ Integers all → next ≡ word.Integer kind → (fit all ≡ true → IsJoined all kind joined) → Describes names so_far words → AfterJoin names words next joined
+pub extends_integers : (names : Names) (so_far : TypeSoFar) (words : List TypeWord) (next : TypeWord) (kind : IntegerWord) (all : IntegerWords)
+    (joined : Option IntegerWords) → so_far ≡ Integers all → next ≡ word.Integer kind → (fit all ≡ true → IsJoined all kind joined)
+    → Describes names so_far words → AfterJoin names words next joined
 extends_integers names so_far words next kind all joined e n j d =
     subst (λ (w : TypeWord). AfterJoin names words w joined) (sym n)
     (joins names words kind all joined (subst (λ (s : TypeSoFar). Describes names s words) e d) j)

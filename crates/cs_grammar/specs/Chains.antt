@@ -17,23 +17,34 @@ use Rattle.cs_grammar.specs.Parsing.{Expressions, Near, IsOver, Begins}
 
 -- a tree before some tokens is a smaller one of its level with one more suffix
 pub data Suffix (level : ℕ) (whole : Written) (after : Kinds) (left : Written) (following : Kinds) : Type 0 where
-  indexed : (number : Written) → level ≡ 15 → whole ≡ Index left number → following ≡ token.Punctuator punctuator.OpenBracket ∷ text number (token.Punctuator punctuator.CloseBracket ∷ after) → Suffix level whole after left following
-  called : (arguments : WrittenList) → level ≡ 15 → whole ≡ Call left arguments → following ≡ token.Punctuator punctuator.OpenParenthesis ∷ listed arguments (token.Punctuator punctuator.CloseParenthesis ∷ after) → Suffix level whole after left following
-  selected : (name : List ℕ) → level ≡ 15 → whole ≡ Member left name → following ≡ token.Punctuator punctuator.Dot ∷ token.Name name ∷ after → Suffix level whole after left following
-  followed_by : (name : List ℕ) → level ≡ 15 → whole ≡ Arrow left name → following ≡ token.Punctuator punctuator.Arrow ∷ token.Name name ∷ after → Suffix level whole after left following
-  stepped : (step : Step) → level ≡ 15 → whole ≡ StepAfter step left → following ≡ token.Punctuator (step_punctuator step) ∷ after → Suffix level whole after left following
-  joined : (operator : InfixOp) (right : Written) → level ≡ infix_level operator → whole ≡ Infix operator left right → following ≡ token.Punctuator (infix_punctuator operator) ∷ text right after → Suffix level whole after left following
-  continued : (second : Written) → level ≡ 0 → whole ≡ Comma left second → following ≡ token.Punctuator punctuator.Comma ∷ text second after → Suffix level whole after left following
+  indexed : (number : Written) → level ≡ 15 → whole ≡ Index left number
+      → following ≡ token.Punctuator punctuator.OpenBracket ∷ text number (token.Punctuator punctuator.CloseBracket ∷ after)
+      → Suffix level whole after left following
+  called : (arguments : WrittenList) → level ≡ 15 → whole ≡ Call left arguments
+      → following ≡ token.Punctuator punctuator.OpenParenthesis ∷ listed arguments (token.Punctuator punctuator.CloseParenthesis ∷ after)
+      → Suffix level whole after left following
+  selected : (name : List ℕ) → level ≡ 15 → whole ≡ Member left name → following ≡ token.Punctuator punctuator.Dot ∷ token.Name name ∷ after
+      → Suffix level whole after left following
+  followed_by : (name : List ℕ) → level ≡ 15 → whole ≡ Arrow left name
+      → following ≡ token.Punctuator punctuator.Arrow ∷ token.Name name ∷ after → Suffix level whole after left following
+  stepped : (step : Step) → level ≡ 15 → whole ≡ StepAfter step left → following ≡ token.Punctuator (step_punctuator step) ∷ after
+      → Suffix level whole after left following
+  joined : (operator : InfixOp) (right : Written) → level ≡ infix_level operator → whole ≡ Infix operator left right
+      → following ≡ token.Punctuator (infix_punctuator operator) ∷ text right after → Suffix level whole after left following
+  continued : (second : Written) → level ≡ 0 → whole ≡ Comma left second → following ≡ token.Punctuator punctuator.Comma ∷ text second after
+      → Suffix level whole after left following
 
 -- a tree before some tokens is a smaller one, before others, with some suffixes, or none
 pub data Stem (level : ℕ) (left : Written) (following : Kinds) : Written → Kinds → Type 0 where
   bare : {whole : Written} {after : Kinds} → whole ≡ left → after ≡ following → Stem level left following whole after
-  grown : {whole : Written} {after : Kinds} (smaller : Written) (rest : Kinds) → Suffix level whole after smaller rest → Stem level left following smaller rest → Stem level left following whole after
+  grown : {whole : Written} {after : Kinds} (smaller : Written) (rest : Kinds) → Suffix level whole after smaller rest
+      → Stem level left following smaller rest → Stem level left following whole after
 
 -- a chain so far: any phrase of the level that begins so has it at its left, but for those that are too high
 pub record Grows (names : Names) (level limit : ℕ) (left : Written) (next : TokenKind) (deep : Bool) : Type 0 where
   pub is_phrase : IsPhrase names level left
   pub low : height left ≤ limit
-  pub stems : (other : Written) (after following : Kinds) → IsPhrase names level other → join_of after ≤ level → Near next following → text other after ≡ text left following → Stem level left following other after ⊎ IsOver (Expressions names level) limit deep other following
+  pub stems : (other : Written) (after following : Kinds) → IsPhrase names level other → join_of after ≤ level → Near next following
+      → text other after ≡ text left following → Stem level left following other after ⊎ IsOver (Expressions names level) limit deep other following
   pub further : deep ≡ true → Begins (Expressions names level) (text left (next ∷ []))
   pub joined : deep ≡ true → suc level < join next

@@ -8,13 +8,16 @@ use Rattle.cs_ast.specs.declared.raw.written_type.PointerWord.{PointerWord}
 use Rattle.cs_ast.specs.RawTree.{Written}
 use Rattle.cs_ast.specs.RawDeclarations.{Declarator, Constant, Spec, Plain, Specs, Members, Initial, Declared, Parameter, Parameters, Head}
 use Rattle.cs_ast.specs.RawStatements.{External}
-use Rattle.cs_ast.specs.RawFileHeight.{height_of_some, highest_by, declarator_height, constant_height, spec_height, specs_height, members_height, initial_height, declared_height, parameter_height, parameters_height, head_height, external_height}
+use Rattle.cs_ast.specs.RawFileHeight.{height_of_some, highest_by, declarator_height, constant_height, spec_height, specs_height, members_height}
+use Rattle.cs_ast.specs.RawFileHeight.{initial_height, declared_height, parameter_height, parameters_height, head_height, external_height}
 use Rattle.cs_grammar.specs.TypeWords.{Names, is_pointer}
 use Rattle.cs_grammar.specs.Levels.{CHOICE}
 use Rattle.cs_grammar.specs.Text.{Kinds, pointers_text}
 use Rattle.cs_grammar.specs.Phrases.{IsPhrase}
-use Rattle.cs_grammar.specs.FileText.{name_text, with_commas, brackets_text, declarator_text, constant_text, spec_text, specs_text, members_text, initial_text, declared_text, parameter_text, parameters_text, head_text, external_text}
-use Rattle.cs_grammar.specs.FilePhrases.{AreAll, IsSomeList, HasBody, IsMember, IsFree, IsBound, lone_void, IsDeclaratorOf, IsConstant, AreMembers, AreSpecs, AreBlockSpecs, IsInitial, IsDeclared, IsParameter, AreParameters, IsHead, IsExternal}
+use Rattle.cs_grammar.specs.FileText.{name_text, with_commas, brackets_text, declarator_text, constant_text, spec_text, specs_text, members_text, initial_text}
+use Rattle.cs_grammar.specs.FileText.{declared_text, parameter_text, parameters_text, head_text, external_text}
+use Rattle.cs_grammar.specs.FilePhrases.{AreAll, IsSomeList, HasBody, IsMember, IsFree, IsBound, lone_void, IsDeclaratorOf, IsConstant, AreMembers, AreSpecs}
+use Rattle.cs_grammar.specs.FilePhrases.{AreBlockSpecs, IsInitial, IsDeclared, IsParameter, AreParameters, IsHead, IsExternal}
 use Rattle.cs_grammar.specs.Parsing.{Class}
 use Rattle.cs_grammar.specs.Composed.{Following, ClosedSome}
 
@@ -68,7 +71,13 @@ ends_declared other = false
 
 -- declared objects
 abbrev pub Objects : Names → Class
-Objects names = record { Tree = Declared; spell = declared_text; tall = declared_height; Is = IsDeclared names; Shut = λ tree after. Follows ends_declared after }
+Objects names = record {
+  Tree = Declared;
+  spell = declared_text;
+  tall = declared_height;
+  Is = IsDeclared names;
+  Shut = λ tree after. Follows ends_declared after;
+}
 
 -- a comma, a semicolon or a closing brace
 abbrev pub ends_value : TokenKind → Bool
@@ -83,7 +92,13 @@ Values names = record { Tree = Initial; spell = initial_text; tall = initial_hei
 
 -- enumeration constants
 abbrev pub Constants : Names → Class
-Constants names = record { Tree = Constant; spell = constant_text; tall = constant_height; Is = IsConstant names; Shut = λ tree after. Follows ends_value after }
+Constants names = record {
+  Tree = Constant;
+  spell = constant_text;
+  tall = constant_height;
+  Is = IsConstant names;
+  Shut = λ tree after. Follows ends_value after;
+}
 
 -- a name or a punctuator other than an opening brace
 abbrev pub ends_specs : TokenKind → Bool
@@ -133,7 +148,13 @@ ends_parameter other = false
 
 -- parameters
 abbrev pub ParameterClass : Names → Class
-ParameterClass names = record { Tree = Parameter; spell = parameter_text; tall = parameter_height; Is = IsParameter names; Shut = λ tree after. Follows ends_parameter after }
+ParameterClass names = record {
+  Tree = Parameter;
+  spell = parameter_text;
+  tall = parameter_height;
+  Is = IsParameter names;
+  Shut = λ tree after. Follows ends_parameter after;
+}
 
 -- the pointers, the name if there is one, and the bounds of a parameter
 abbrev pub ParameterTail : Type 0

@@ -23,7 +23,8 @@ abbrev pub rest_text : ExternalRest → Kinds → Kinds
 rest_text no_name rest = token.Punctuator punctuator.Semicolon ∷ rest
 rest_text (objects list) rest = with_commas declared_text list (token.Punctuator punctuator.Semicolon ∷ rest)
 rest_text (function head) rest = head_text head (token.Punctuator punctuator.Semicolon ∷ rest)
-rest_text (definition head body) rest = head_text head (token.Punctuator punctuator.OpenBrace ∷ items_text body (token.Punctuator punctuator.CloseBrace ∷ rest))
+rest_text (definition head body) rest =
+    head_text head (token.Punctuator punctuator.OpenBrace ∷ items_text body (token.Punctuator punctuator.CloseBrace ∷ rest))
 
 abbrev pub rest_height : ExternalRest → ℕ
 rest_height no_name = 0
@@ -65,4 +66,10 @@ FunctionEnds names head = record { Tree = Option Items; spell = end_text; tall =
 
 -- the parts of a file after others, where these are the typedef names so far: nothing stands after them
 abbrev pub FilesFrom : Names → Class
-FilesFrom names = record { Tree = List External; spell = externals_text; tall = highest_by external_height; Is = IsFile names; Shut = λ tree after. after ≡ [] }
+FilesFrom names = record {
+  Tree = List External;
+  spell = externals_text;
+  tall = highest_by external_height;
+  Is = IsFile names;
+  Shut = λ tree after. after ≡ [];
+}

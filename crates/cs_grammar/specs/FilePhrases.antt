@@ -1,11 +1,16 @@
 -- Which written declarations, statements and files the grammar has (C11 6.7, 6.8, 6.9), and which tokens begin a file.
-use Rattle.std.specs.Prelude.{◌≡◌, ◌≢◌, ◌≤◌, ℕ, Bool, true, false, IsTrue, IsFalse, List, [], ◌∷◌, ◌++◌, Option, Some, None, IsSome, MatchOption, if◌then◌else◌}
+use Rattle.std.specs.Prelude.{◌≡◌, ◌≢◌, ◌≤◌, ℕ, Bool, true, false, IsTrue, IsFalse, List, [], ◌∷◌, ◌++◌, Option, Some, None}
+use Rattle.std.specs.Prelude.{IsSome, MatchOption, if◌then◌else◌}
 use Rattle.std.specs.Option.{option_map}
 use Rattle.cs_ast.specs.declared.raw.written_type.TypeWord.{TypeWord}
 use Rattle.cs_ast.specs.declared.raw.written_type.TypeWord.TheVariants.{Void, Struct, Enum}
 use Rattle.cs_ast.specs.RawTree.{Written}
-use Rattle.cs_ast.specs.RawDeclarations.{Declarator, Constant, Spec, Static, Plain, StructBody, EnumBody, Specs, NoSpec, MoreSpecs, Members, NoMember, MoreMembers, Initial, Single, Listed, Initials, NoItem as NoInitial, MoreItems as MoreInitials, Declared, Parameter, Parameters, NoParameter, VoidAlone, ParameterList, Head}
-use Rattle.cs_ast.specs.RawStatements.{First, NoFirst, FirstRuns, FirstDeclares, Sentence, Block, Nothing, Runs, If, IfElse, While, Do, For, Switch, Goto, Continue, Break, Return, Label, Item, Declares, Does, Items, NoItem, MoreItems, SwitchItem, Case, Default, Inside, SwitchItems, NoSwitchItem, MoreSwitchItems, External, TypeAlone, Typedef, Objects, Function, Definition}
+use Rattle.cs_ast.specs.RawDeclarations.{Declarator, Constant, Spec, Static, Plain, StructBody, EnumBody, Specs, NoSpec, MoreSpecs, Members, NoMember}
+use Rattle.cs_ast.specs.RawDeclarations.{MoreMembers, Initial, Single, Listed, Initials, NoItem as NoInitial, MoreItems as MoreInitials, Declared, Parameter}
+use Rattle.cs_ast.specs.RawDeclarations.{Parameters, NoParameter, VoidAlone, ParameterList, Head}
+use Rattle.cs_ast.specs.RawStatements.{First, NoFirst, FirstRuns, FirstDeclares, Sentence, Block, Nothing, Runs, If, IfElse, While, Do, For, Switch, Goto}
+use Rattle.cs_ast.specs.RawStatements.{Continue, Break, Return, Label, Item, Declares, Does, Items, NoItem, MoreItems, SwitchItem, Case, Default, Inside}
+use Rattle.cs_ast.specs.RawStatements.{SwitchItems, NoSwitchItem, MoreSwitchItems, External, TypeAlone, Typedef, Objects, Function, Definition}
 use Rattle.cs_ast.specs.RawFileHeight.{external_height}
 use Rattle.cs_grammar.specs.TypeWords.{Names, is_among, is_type, is_pointer}
 use Rattle.cs_grammar.specs.Levels.{COMMA, ASSIGN, CHOICE}
@@ -84,7 +89,8 @@ abbrev mutual
   pub AreMembers : Names → Members → Type 0
   AreMembers names NoMember = Unit {0}
   AreMembers names (MoreMembers specs declarators others) =
-      IsTrue (is_type names (words_of specs)) × HaveBodies names specs × IsSomeList declarators × AreAll (IsMember names) declarators × AreMembers names others
+      IsTrue (is_type names (words_of specs)) × HaveBodies names specs × IsSomeList declarators × AreAll (IsMember names) declarators
+      × AreMembers names others
 
 -- what stands before declarators outside blocks
 abbrev pub AreSpecs : Names → Specs → Type 0

@@ -6,8 +6,12 @@ use Rattle.cs_ast.specs.declared.token.Keyword.TheVariants as keyword
 use Rattle.cs_ast.specs.declared.token.Punctuator.{Punctuator}
 use Rattle.cs_ast.specs.declared.token.Punctuator.TheVariants as punctuator
 use Rattle.cs_ast.specs.RawTree.{Written}
-use Rattle.cs_ast.specs.RawDeclarations.{Declarator, Constant, Spec, Static, Plain, StructBody, EnumBody, Specs, NoSpec, MoreSpecs, Members, NoMember, MoreMembers, Initial, Single, Listed, Initials, NoItem as NoInitial, MoreItems as MoreInitials, Declared, Parameter, Parameters, NoParameter, VoidAlone, ParameterList, Head}
-use Rattle.cs_ast.specs.RawStatements.{First, NoFirst, FirstRuns, FirstDeclares, Sentence, Block, Nothing, Runs, If, IfElse, While, Do, For, Switch, Goto, Continue, Break, Return, Label, Item, Declares, Does, Items, NoItem, MoreItems, SwitchItem, Case, Default, Inside, SwitchItems, NoSwitchItem, MoreSwitchItems, External, TypeAlone, Typedef, Objects, Function, Definition}
+use Rattle.cs_ast.specs.RawDeclarations.{Declarator, Constant, Spec, Static, Plain, StructBody, EnumBody, Specs, NoSpec, MoreSpecs, Members, NoMember}
+use Rattle.cs_ast.specs.RawDeclarations.{MoreMembers, Initial, Single, Listed, Initials, NoItem as NoInitial, MoreItems as MoreInitials, Declared, Parameter}
+use Rattle.cs_ast.specs.RawDeclarations.{Parameters, NoParameter, VoidAlone, ParameterList, Head}
+use Rattle.cs_ast.specs.RawStatements.{First, NoFirst, FirstRuns, FirstDeclares, Sentence, Block, Nothing, Runs, If, IfElse, While, Do, For, Switch, Goto}
+use Rattle.cs_ast.specs.RawStatements.{Continue, Break, Return, Label, Item, Declares, Does, Items, NoItem, MoreItems, SwitchItem, Case, Default, Inside}
+use Rattle.cs_ast.specs.RawStatements.{SwitchItems, NoSwitchItem, MoreSwitchItems, External, TypeAlone, Typedef, Objects, Function, Definition}
 use Rattle.cs_grammar.specs.Text.{Kinds, text, type_word_text, pointers_text}
 
 -- a punctuator before the tokens after it
@@ -44,7 +48,8 @@ with_commas of (a ∷ all) rest = of a (each_after_comma of all rest)
 -- bounds between brackets, which may be empty
 abbrev pub brackets_text : List (Option Written) → Kinds → Kinds
 brackets_text [] rest = rest
-brackets_text (bound ∷ bounds) rest = punctuator_text punctuator.OpenBracket (some_text bound (punctuator_text punctuator.CloseBracket (brackets_text bounds rest)))
+brackets_text (bound ∷ bounds) rest =
+    punctuator_text punctuator.OpenBracket (some_text bound (punctuator_text punctuator.CloseBracket (brackets_text bounds rest)))
 
 abbrev pub declarator_text : Declarator → Kinds → Kinds
 declarator_text d rest = pointers_text d.pointers (token.Name d.name ∷ brackets_text d.bounds rest)
@@ -65,7 +70,8 @@ abbrev mutual
   spec_text (StructBody tag members) rest =
       word_text keyword.Struct (name_text tag (punctuator_text punctuator.OpenBrace (members_text members (punctuator_text punctuator.CloseBrace rest))))
   spec_text (EnumBody tag constants comma) rest =
-      word_text keyword.Enum (name_text tag (punctuator_text punctuator.OpenBrace (with_commas constant_text constants (comma_text comma (punctuator_text punctuator.CloseBrace rest)))))
+      word_text keyword.Enum (name_text tag
+      (punctuator_text punctuator.OpenBrace (with_commas constant_text constants (comma_text comma (punctuator_text punctuator.CloseBrace rest)))))
 
   pub specs_text : Specs → Kinds → Kinds
   specs_text NoSpec rest = rest
@@ -79,7 +85,8 @@ abbrev mutual
 abbrev mutual
   pub initial_text : Initial → Kinds → Kinds
   initial_text (Single value) rest = text value rest
-  initial_text (Listed items comma) rest = punctuator_text punctuator.OpenBrace (initials_text items (comma_text comma (punctuator_text punctuator.CloseBrace rest)))
+  initial_text (Listed items comma) rest =
+      punctuator_text punctuator.OpenBrace (initials_text items (comma_text comma (punctuator_text punctuator.CloseBrace rest)))
 
   pub initials_text : Initials → Kinds → Kinds
   initials_text NoInitial rest = rest
@@ -112,7 +119,8 @@ parameters_text (ParameterList parameters) rest = with_commas parameter_text par
 -- a function's declared name, with its parameters between parentheses
 abbrev pub head_text : Head → Kinds → Kinds
 head_text h rest =
-    pointers_text h.pointers (token.Name h.name ∷ punctuator_text punctuator.OpenParenthesis (parameters_text h.parameters (punctuator_text punctuator.CloseParenthesis rest)))
+    pointers_text h.pointers (token.Name h.name ∷ punctuator_text punctuator.OpenParenthesis
+    (parameters_text h.parameters (punctuator_text punctuator.CloseParenthesis rest)))
 
 -- the first part of a `for`, with its semicolon
 abbrev pub first_text : First → Kinds → Kinds
@@ -136,7 +144,9 @@ abbrev mutual
   sentence_text (Do body test) rest =
       word_text keyword.Do (sentence_text body (word_text keyword.While (test_text test (punctuator_text punctuator.Semicolon rest))))
   sentence_text (For first test last body) rest =
-      word_text keyword.For (punctuator_text punctuator.OpenParenthesis (first_text first (some_text test (punctuator_text punctuator.Semicolon (some_text last (punctuator_text punctuator.CloseParenthesis (sentence_text body rest)))))))
+      word_text keyword.For (punctuator_text punctuator.OpenParenthesis
+      (first_text first
+      (some_text test (punctuator_text punctuator.Semicolon (some_text last (punctuator_text punctuator.CloseParenthesis (sentence_text body rest)))))))
   sentence_text (Switch value items) rest =
       word_text keyword.Switch (test_text value (punctuator_text punctuator.OpenBrace (switch_text items (punctuator_text punctuator.CloseBrace rest))))
   sentence_text (Goto label) rest = word_text keyword.Goto (token.Name label ∷ punctuator_text punctuator.Semicolon rest)

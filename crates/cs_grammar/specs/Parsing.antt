@@ -19,7 +19,13 @@ pub record Class : Type 1 where
 
 -- the expressions of a level: none that continues with it stands after
 abbrev pub Expressions : Names → ℕ → Class
-Expressions names level = record { Tree = Written; spell = text; tall = height; Is = IsPhrase names level; Shut = λ tree following. join_of following ≤ level }
+Expressions names level = record {
+  Tree = Written;
+  spell = text;
+  tall = height;
+  Is = IsPhrase names level;
+  Shut = λ tree following. join_of following ≤ level;
+}
 
 -- the tokens are at an end, or continue with this one
 abbrev pub Near : TokenKind → Kinds → Type 0
@@ -51,7 +57,8 @@ pub record BeginsLow (C : Class) (limit : ℕ) (front : Kinds) : Type 0 where
 pub record Took (C : Class) (limit : ℕ) (phrase : C.Tree) (next : TokenKind) (deep : Bool) : Type 0 where
   pub is_phrase : C.Is phrase
   pub low : C.tall phrase ≤ limit
-  pub only : (other : C.Tree) (after following : Kinds) → C.Is other → C.Shut other after → Near next following → C.spell other after ≡ C.spell phrase following → ((other ≡ phrase) × (after ≡ following)) ⊎ IsOver C limit deep other following
+  pub only : (other : C.Tree) (after following : Kinds) → C.Is other → C.Shut other after → Near next following
+      → C.spell other after ≡ C.spell phrase following → ((other ≡ phrase) × (after ≡ following)) ⊎ IsOver C limit deep other following
   pub further : deep ≡ true → Begins C (C.spell phrase (next ∷ []))
   pub joined : deep ≡ true → (more : Kinds) → C.Shut phrase (next ∷ more) → ⊥
 
@@ -59,11 +66,13 @@ pub record Took (C : Class) (limit : ℕ) (phrase : C.Tree) (next : TokenKind) (
 -- exactly where that is reported
 pub record Refused (C : Class) (limit : ℕ) (front : Kinds) (next : TokenKind) (deep : Bool) : Type 0 where
   pub begun : (front ≡ []) ⊎ BeginsLow C limit front
-  pub never : (other : C.Tree) (after following : Kinds) → C.Is other → C.Shut other after → Near next following → C.spell other after ≡ front ++ following → IsOver C limit deep other following
+  pub never : (other : C.Tree) (after following : Kinds) → C.Is other → C.Shut other after → Near next following
+      → C.spell other after ≡ front ++ following → IsOver C limit deep other following
   pub further : deep ≡ true → Begins C (front ++ next ∷ [])
 
 -- a phrase that is low enough, and the only one that begins so, whatever stands after it
 pub record Exactly (C : Class) (limit : ℕ) (phrase : C.Tree) : Type 0 where
   pub is_phrase : C.Is phrase
   pub low : C.tall phrase ≤ limit
-  pub exact : (other : C.Tree) (after following : Kinds) → C.Is other → C.spell other after ≡ C.spell phrase following → (other ≡ phrase) × (after ≡ following)
+  pub exact : (other : C.Tree) (after following : Kinds) → C.Is other → C.spell other after ≡ C.spell phrase following
+      → (other ≡ phrase) × (after ≡ following)

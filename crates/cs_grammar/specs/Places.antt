@@ -67,7 +67,8 @@ abbrev mutual
   IsPlaced at (kind.StepBefore' step place p object) tokens = StandsAt at tokens × IsPlaced place object (drop 1 tokens)
   IsPlaced at (kind.Prefix' operator place p operand) tokens = StandsAt at tokens × IsPlaced place operand (drop 1 tokens)
   IsPlaced at (kind.SizeOf' place p operand) tokens = StandsAt at tokens × IsPlaced place operand (drop 1 tokens)
-  IsPlaced at (kind.SizeOfType' ty shape row) tokens = StandsAt at tokens × HasTagPlace ty (drop 2 tokens) × AreBoundsPlaced row (after_words ty (drop 2 tokens))
+  IsPlaced at (kind.SizeOfType' ty shape row) tokens = StandsAt at tokens × HasTagPlace ty (drop 2 tokens)
+      × AreBoundsPlaced row (after_words ty (drop 2 tokens))
   IsPlaced at (kind.Cast' ty shape row place p operand) tokens =
       StandsAt at tokens × HasTagPlace ty (drop 1 tokens) × AreBoundsPlaced row (after_words ty (drop 1 tokens))
       × IsPlaced place operand (drop 1 (after_bounds row (after_words ty (drop 1 tokens))))

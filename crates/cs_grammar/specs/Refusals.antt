@@ -30,7 +30,8 @@ pub record EndsWithType (names : Names) (front : Kinds) : Type 0 where
   pub type : IsTrue (is_type names words)
   pub pointer : IsTrue (is_pointer pointers)
   pub phrases : ArePhrases names CHOICE bounds
-  pub spelled : front ≡ before ++ token.Punctuator punctuator.OpenParenthesis ∷ type_text words pointers bounds (token.Punctuator punctuator.CloseParenthesis ∷ [])
+  pub spelled : front ≡ before ++ token.Punctuator punctuator.OpenParenthesis
+      ∷ type_text words pointers bounds (token.Punctuator punctuator.CloseParenthesis ∷ [])
 
 -- the token is a word or punctuator of C that is unsupported after these tokens of an expression: an unsupported word, the punctuator of three
 -- dots, `static` or `typedef` anywhere; a brace after `struct` or `enum`, after its tag, or after a type between parentheses

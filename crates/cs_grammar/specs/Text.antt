@@ -10,7 +10,8 @@ use Rattle.cs_ast.specs.declared.raw.written_type.IntegerWord.{IntegerWord}
 use Rattle.cs_ast.specs.declared.raw.written_type.IntegerWord.TheVariants.{Char, Short, Int, Long, Signed, Unsigned}
 use Rattle.cs_ast.specs.declared.raw.written_type.PointerWord.{PointerWord}
 use Rattle.cs_ast.specs.declared.raw.written_type.PointerWord.TheVariants as pointer
-use Rattle.cs_ast.specs.RawTree.{Written, WrittenList, Named, Numeral, Character, Literal, Enclosed, Index, Call, Member, Arrow, StepAfter, StepBefore, Prefix, SizeOf, SizeOfType, Cast, Infix, Choice, Assign, Comma, End, More}
+use Rattle.cs_ast.specs.RawTree.{Written, WrittenList, Named, Numeral, Character, Literal, Enclosed, Index, Call, Member, Arrow, StepAfter, StepBefore, Prefix}
+use Rattle.cs_ast.specs.RawTree.{SizeOf, SizeOfType, Cast, Infix, Choice, Assign, Comma, End, More}
 use Rattle.cs_grammar.specs.Punctuators.{step_punctuator, prefix_punctuator, infix_punctuator, assign_punctuator}
 
 -- tokens by their kinds
@@ -54,7 +55,8 @@ abbrev mutual
   text (Literal bytes) rest = token.Text bytes ∷ rest
   text (Enclosed inner) rest = token.Punctuator punctuator.OpenParenthesis ∷ text inner (token.Punctuator punctuator.CloseParenthesis ∷ rest)
   text (Index array number) rest = text array (token.Punctuator punctuator.OpenBracket ∷ text number (token.Punctuator punctuator.CloseBracket ∷ rest))
-  text (Call function arguments) rest = text function (token.Punctuator punctuator.OpenParenthesis ∷ listed arguments (token.Punctuator punctuator.CloseParenthesis ∷ rest))
+  text (Call function arguments) rest =
+      text function (token.Punctuator punctuator.OpenParenthesis ∷ listed arguments (token.Punctuator punctuator.CloseParenthesis ∷ rest))
   text (Member object name) rest = text object (token.Punctuator punctuator.Dot ∷ token.Name name ∷ rest)
   text (Arrow pointer name) rest = text pointer (token.Punctuator punctuator.Arrow ∷ token.Name name ∷ rest)
   text (StepAfter step object) rest = text object (token.Punctuator (step_punctuator step) ∷ rest)
@@ -62,9 +64,11 @@ abbrev mutual
   text (Prefix operator operand) rest = token.Punctuator (prefix_punctuator operator) ∷ text operand rest
   text (SizeOf operand) rest = token.Keyword keyword.Sizeof ∷ text operand rest
   text (SizeOfType words pointers bounds) rest =
-      token.Keyword keyword.Sizeof ∷ token.Punctuator punctuator.OpenParenthesis ∷ words_text words (pointers_text pointers (bounds_text bounds (token.Punctuator punctuator.CloseParenthesis ∷ rest)))
+      token.Keyword keyword.Sizeof ∷ token.Punctuator punctuator.OpenParenthesis
+      ∷ words_text words (pointers_text pointers (bounds_text bounds (token.Punctuator punctuator.CloseParenthesis ∷ rest)))
   text (Cast words pointers bounds operand) rest =
-      token.Punctuator punctuator.OpenParenthesis ∷ words_text words (pointers_text pointers (bounds_text bounds (token.Punctuator punctuator.CloseParenthesis ∷ text operand rest)))
+      token.Punctuator punctuator.OpenParenthesis ∷ words_text words
+      (pointers_text pointers (bounds_text bounds (token.Punctuator punctuator.CloseParenthesis ∷ text operand rest)))
   text (Infix operator left right) rest = text left (token.Punctuator (infix_punctuator operator) ∷ text right rest)
   text (Choice test one other) rest = text test (token.Punctuator punctuator.Question ∷ text one (token.Punctuator punctuator.Colon ∷ text other rest))
   text (Assign operator object value) rest = text object (token.Punctuator (assign_punctuator operator) ∷ text value rest)
@@ -83,7 +87,8 @@ abbrev mutual
   -- expressions, each between brackets
   pub bounds_text : WrittenList → Kinds → Kinds
   bounds_text End rest = rest
-  bounds_text (More first others) rest = token.Punctuator punctuator.OpenBracket ∷ text first (token.Punctuator punctuator.CloseBracket ∷ bounds_text others rest)
+  bounds_text (More first others) rest = token.Punctuator punctuator.OpenBracket
+      ∷ text first (token.Punctuator punctuator.CloseBracket ∷ bounds_text others rest)
 
 -- the tokens of a type between its parentheses
 abbrev pub type_text : List TypeWord → List PointerWord → WrittenList → Kinds → Kinds

@@ -1,5 +1,6 @@
 -- The words of a type between parentheses (C11 6.7.2, 6.7.3, 6.7.7).
-use Rattle.std.specs.Prelude.{ℕ, ◌+◌, Bool, true, false, ◌&&◌, ◌||◌, not, ◌==◌, nat_le, nat_eq, IsTrue, List, [], ◌∷◌, ◌++◌, filter, count_by, Option, Some, None}
+use Rattle.std.specs.Prelude.{ℕ, ◌+◌, Bool, true, false, ◌&&◌, ◌||◌, not, ◌==◌, nat_le, nat_eq, IsTrue, List, [], ◌∷◌, ◌++◌, filter}
+use Rattle.std.specs.Prelude.{count_by, Option, Some, None}
 use Rattle.std.specs.List.{list_any, list_all}
 use Rattle.std.specs.Cmp.Lexicographic.{pointwise}
 use Rattle.cs_ast.specs.declared.token.Keyword.{Keyword}

@@ -97,7 +97,8 @@ impl IntegerWords {
 impl TypeSoFar {
     /// What the words leave open with one more, none where no type begins so.
     pub fn with(self, next: &TypeWord) -> Option<TypeSoFar>
-        ensures { (names : Names) (words : List TypeWord) → Describes names self words → IsTrue (is_known names next.now) → IsExtended names words next.now result }
+        ensures { (names : Names) (words : List TypeWord) → Describes names self words
+            → IsTrue (is_known names next.now) → IsExtended names words next.now result }
     {
         match (self, next) {
             (_, TypeWord::Const) => Some(self),
@@ -117,7 +118,8 @@ impl TypeSoFar {
 
     /// Whether the words name a type.
     pub fn is_type(self) -> bool
-        ensures { (names : Names) (words : List TypeWord) → Describes names self words → result ≡ is_type names words }
+        ensures { (names : Names) (words : List TypeWord) → Describes names self words
+            → result ≡ is_type names words }
     {
         match self {
             TypeSoFar::Nothing => false,

@@ -40,7 +40,8 @@ impl TypedefNames {
 
     /// Makes the name one of these, after the others if it is new.
     pub fn add(&mut self, name: Name) -> Result<(), AllocError>
-        ensures added { OnOk result (self.new ≡ (if is_among self.old name then self.old else self.old ++ name ∷ [])) }
+        ensures added { OnOk result
+            (self.new ≡ (if is_among self.old name then self.old else self.old ++ name ∷ [])) }
         ensures kept { OnErr result (self.new ≡ self.old) }
     {
         self.names.insert(name)?;

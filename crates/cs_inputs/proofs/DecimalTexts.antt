@@ -1,5 +1,6 @@
 -- Which texts are the decimal text of a number of 64 bits, and of which: for `value_of` and `number_with_text`.
-use Rattle.std.proofs.Common.{◌≡◌, ℕ, ◌<◌, ◌^◌, zero, suc, Bool, true, false, not, ◌&&◌, ◌||◌, eqb-true, List, [], ◌∷◌, length, get_or, Option, Some, None, Result, Ok, Err, ap, sym, ◌∙◌, refl, subst, arith, rules}
+use Rattle.std.proofs.Common.{◌≡◌, ℕ, ◌<◌, ◌^◌, zero, suc, Bool, true, false, not, ◌&&◌, ◌||◌, eqb-true, List, [], ◌∷◌, length}
+use Rattle.std.proofs.Common.{get_or, Option, Some, None, Result, Ok, Err, ap, sym, ◌∙◌, refl, subst, arith, rules}
 use Rattle.std.specs.Prelude.{◌==◌, SomeIff}
 use Rattle.std.specs.List.{list_all}
 use Rattle.std.specs.Result.{result_ok, OkIff}
@@ -9,7 +10,8 @@ use Rattle.std.specs.Fmt.{decimal}
 use Rattle.std.proofs.lemmas.Bool.Decides.{nat_tests}
 use Rattle.std.proofs.lemmas.Str.{IsUtf8-from_ascii}
 use Rattle.std.proofs.lemmas.Str.Parse.{IsNumeralModel, numerals_by_value, parse_digits}
-use Rattle.std.proofs.lemmas.Fmt.{IsAscii-from_digits, decimal-digits_value, digits_decimal, digits_value-decimal, decimal_nonempty, first_decimal, decimal_digit}
+use Rattle.std.proofs.lemmas.Fmt.{IsAscii-from_digits, decimal-digits_value, digits_decimal, digits_value-decimal, decimal_nonempty, first_decimal}
+use Rattle.std.proofs.lemmas.Fmt.{decimal_digit}
 use Rattle.cs_inputs.specs.InputText.{is_digit}
 use Rattle.cs_inputs.specs.Reading.{Finds, IsDecimalOf, has_no_leading_zero}
 use Rattle.cs_inputs.proofs.Splits.{both}
@@ -21,14 +23,17 @@ own = numerals_by_value _ (search rules)
 pub digits_are_text : (bs : List ℕ) → list_all is_digit bs ≡ true → IsUtf8 bs
 digits_are_text bs h = IsUtf8-from_ascii bs (IsAscii-from_digits bs (own.to bs h))
 
-some_iff : {E : Type 0} (r : Result ℕ E) (o : Option ℕ) (some fits : Type 0) (x : ℕ) → some → o ≡ result_ok r → OkIff r (some × fits) x → SomeIff o fits x
+some_iff : {E : Type 0} (r : Result ℕ E) (o : Option ℕ) (some fits : Type 0) (x : ℕ) → some → o ≡ result_ok r → OkIff r (some × fits) x
+    → SomeIff o fits x
 some_iff (Ok y) (Some z) some fits x s e h = (h.0.1, cc)
 some_iff (Ok y) None some fits x s e h = absurd (cc)
 some_iff (Err y) (Some z) some fits x s e h = absurd (cc)
 some_iff (Err y) None some fits x s e h = λ f. h (s, f)
 
-pub value_read : {E : Type 0} (bs : List ℕ) (r : Result ℕ E) (o : Option ℕ) → list_all is_digit bs ≡ true → 0 < length bs → ParsesUnsigned 64 10 bs r → o ≡ result_ok r → SomeIff o (digits_value 10 bs < 2 ^ 64) (digits_value 10 bs)
-value_read bs r o digits some parsed e = some_iff r o (0 < length bs) (digits_value 10 bs < 2 ^ 64) (digits_value 10 bs) some e (parse_digits own 64 bs r parsed digits)
+pub value_read : {E : Type 0} (bs : List ℕ) (r : Result ℕ E) (o : Option ℕ) → list_all is_digit bs ≡ true → 0 < length bs
+    → ParsesUnsigned 64 10 bs r → o ≡ result_ok r → SomeIff o (digits_value 10 bs < 2 ^ 64) (digits_value 10 bs)
+value_read bs r o digits some parsed e =
+    some_iff r o (0 < length bs) (digits_value 10 bs < 2 ^ 64) (digits_value 10 bs) some e (parse_digits own 64 bs r parsed digits)
 
 -- ---- texts of numbers
 pub is_digits : (bs : List ℕ) (n : ℕ) → IsDecimalOf bs n → list_all is_digit bs ≡ true
@@ -71,13 +76,15 @@ not_found bs h n d =
     not_plain bs (ap (λ t. t && has_no_leading_zero bs) (sym (is_digits bs n d)) ∙ h) (is_nonempty bs n d) (has_no_leading_zero-first bs n d)
 
 -- other digits are found by their value
-pub found : (bs : List ℕ) (r : Option ℕ) → (list_all is_digit bs && has_no_leading_zero bs) ≡ true → SomeIff r (digits_value 10 bs < 2 ^ 64) (digits_value 10 bs) → Finds (IsDecimalOf bs) r
+pub found : (bs : List ℕ) (r : Option ℕ) → (list_all is_digit bs && has_no_leading_zero bs) ≡ true
+    → SomeIff r (digits_value 10 bs < 2 ^ 64) (digits_value 10 bs) → Finds (IsDecimalOf bs) r
 found bs r plain h =
     let tests = both (list_all is_digit bs) (has_no_leading_zero bs) plain in
     let first = plain_first bs tests.1 in
     by_value bs r tests.0 first.0 first.1 h
   where
-    by_value : (bs : List ℕ) (r : Option ℕ) → list_all is_digit bs ≡ true → 0 < length bs → (get_or bs 0 0 ≡ 48 → length bs ≡ 1) → SomeIff r (digits_value 10 bs < 2 ^ 64) (digits_value 10 bs) → Finds (IsDecimalOf bs) r
+    by_value : (bs : List ℕ) (r : Option ℕ) → list_all is_digit bs ≡ true → 0 < length bs → (get_or bs 0 0 ≡ 48 → length bs ≡ 1)
+        → SomeIff r (digits_value 10 bs < 2 ^ 64) (digits_value 10 bs) → Finds (IsDecimalOf bs) r
     by_value bs (Some x) digits some plain h =
         let text : decimal (digits_value 10 bs) ≡ bs = decimal-digits_value own bs digits some plain h.0 in
         record { fits = subst (λ v. v < 2 ^ 64) (sym h.1) h.0; is = ap decimal h.1 ∙ text }

@@ -19,11 +19,14 @@ not_tied Greater h = refl
 pub number_at-here : (entries : List (Path × ℤ)) (path : Path) (number : ℤ) → number_at (insert_entry path_order entries path number) path ≡ number
 number_at-here entries path number = ap (λ (o : Option ℤ). unwrap_or o (pos 0)) (lookup_here path_order-total entries path number)
 
-pub number_at-elsewhere : (entries : List (Path × ℤ)) (path : Path) (number : ℤ) (q : Path) → q ≢ path → number_at (insert_entry path_order entries path number) q ≡ number_at entries q
+pub number_at-elsewhere : (entries : List (Path × ℤ)) (path : Path) (number : ℤ) (q : Path) → q ≢ path
+    → number_at (insert_entry path_order entries path number) q ≡ number_at entries q
 number_at-elsewhere entries path number q n =
-    ap (λ (o : Option ℤ). unwrap_or o (pos 0)) (lookup_elsewhere path_order-total entries path q number (not_tied (path_order q path) (λ e. n (path_order-tie q path e))))
+    ap (λ (o : Option ℤ). unwrap_or o (pos 0))
+    (lookup_elsewhere path_order-total entries path q number (not_tied (path_order q path) (λ e. n (path_order-tie q path e))))
 
-pub in_order_after : (entries : List (Path × ℤ)) (path : Path) (number : ℤ) → IsInOrder entries → IsInOrder (insert_entry path_order entries path number)
+pub in_order_after : (entries : List (Path × ℤ)) (path : Path) (number : ℤ) → IsInOrder entries
+    → IsInOrder (insert_entry path_order entries path number)
 in_order_after entries path number h = insert-sorted path_order-total entries path number h
 
 -- what holds where a step succeeded
@@ -32,7 +35,8 @@ then_OnOk (Ok x) p f = f p
 then_OnOk (Err e) p f = tt
 
 -- entries stay in order, whether a path was set or refused
-pub in_order_either : {T E : Type 0} (r : Result T E) (old new : List (Path × ℤ)) (path : Path) (number : ℤ) → IsInOrder old → OnOk r (new ≡ insert_entry path_order old path number) → OnErr r (new ≡ old) → IsInOrder new
+pub in_order_either : {T E : Type 0} (r : Result T E) (old new : List (Path × ℤ)) (path : Path) (number : ℤ) → IsInOrder old
+    → OnOk r (new ≡ insert_entry path_order old path number) → OnErr r (new ≡ old) → IsInOrder new
 in_order_either (Ok x) old new path number h ok err = subst IsInOrder (sym ok) (in_order_after old path number h)
 in_order_either (Err e) old new path number h ok err = subst IsInOrder (sym err) h
 

@@ -68,50 +68,65 @@ abbrev pub IsRight : List ℕ → Result (Path × ℤ) PathRefusal → Type 0
 IsRight text (Ok input) = SpellsInput text input.0 input.1
 IsRight text (Err refusal) = IsRefusedFor refusal text ⊎ (refusal ≡ Memory)
 
-pub right_err : (text : List ℕ) (r : Result (Path × ℤ) PathRefusal) → IsRight text r → IfErr r (λ refusal. IsRefusedFor refusal text ⊎ (refusal ≡ Memory))
+pub right_err : (text : List ℕ) (r : Result (Path × ℤ) PathRefusal) → IsRight text r
+    → IfErr r (λ refusal. IsRefusedFor refusal text ⊎ (refusal ≡ Memory))
 right_err text (Ok input) h = tt
 right_err text (Err refusal) h = h
 
-pub accepts : (text : List ℕ) (r : Result (Path × ℤ) PathRefusal) → IsRight text r → (path : Path) (number : ℤ) → SpellsInput text path number → (r ≡ Ok (path, number)) ⊎ (r ≡ Err Memory)
+pub accepts : (text : List ℕ) (r : Result (Path × ℤ) PathRefusal) → IsRight text r → (path : Path) (number : ℤ) → SpellsInput text path number
+    → (r ≡ Ok (path, number)) ⊎ (r ≡ Err Memory)
 accepts text (Ok input) h path number s = let same = same_input text input.0 path input.1 number h s in inl (λ i. Ok (same.0 i, same.1 i))
 accepts text (Err refusal) (inl h) path number s = absurd (not_refused text path number s refusal h)
 accepts text (Err refusal) (inr h) path number s = inr (ap Err h)
 
-pub refuses : (text : List ℕ) (r : Result (Path × ℤ) PathRefusal) → IsRight text r → (refusal : PathRefusal) → IsRefusedFor refusal text → (r ≡ Err refusal) ⊎ (r ≡ Err Memory)
+pub refuses : (text : List ℕ) (r : Result (Path × ℤ) PathRefusal) → IsRight text r → (refusal : PathRefusal) → IsRefusedFor refusal text
+    → (r ≡ Err refusal) ⊎ (r ≡ Err Memory)
 refuses text (Ok input) h refusal s = absurd (not_refused text input.0 input.1 h refusal s)
 refuses text (Err other) (inl h) refusal s = inl (ap Err (one_refusal text other refusal h s))
 refuses text (Err other) (inr h) refusal s = inr (ap Err h)
 
-pub round_trip : (text : List ℕ) (r : Result (Path × ℤ) PathRefusal) → IsRight text r → (path : Path) (number : ℤ) → HasText path → IsInputNumber number → text ≡ path_text path ++ codes "=" ++ signed_decimal number → (r ≡ Ok (path, number)) ⊎ (r ≡ Err Memory)
-round_trip text r h path number has within is = accepts text r h path number (record { spelling = signed_decimal number; has_text = has; is = is; spells = spelled number within; within = within })
+pub round_trip : (text : List ℕ) (r : Result (Path × ℤ) PathRefusal) → IsRight text r → (path : Path) (number : ℤ) → HasText path
+    → IsInputNumber number → text ≡ path_text path ++ codes "=" ++ signed_decimal number → (r ≡ Ok (path, number)) ⊎ (r ≡ Err Memory)
+round_trip text r h path number has within is =
+    accepts text r h path number (record { spelling = signed_decimal number; has_text = has; is = is; spells = spelled number within; within = within })
 
 -- ---- what `parse` answers is right
-cut_is : (text before following number : List ℕ) (mark : ℕ) → SplitsBefore 61 text before following → following ≡ mark ∷ number → IsCutAtFirst text before number
+cut_is : (text before following number : List ℕ) (mark : ℕ) → SplitsBefore 61 text before following → following ≡ mark ∷ number
+    → IsCutAtFirst text before number
 cut_is text before [] number mark cut is = absurd (no_tail mark number (sym is))
 cut_is text before (b ∷ bs) number mark cut is =
     let rest : b ∷ bs ≡ 61 ∷ number = ap (λ m. m ∷ bs) cut.at ∙ ap (λ (t : List ℕ). 61 ∷ t) (ap (drop 1) is) in
     record { whole = cut.whole ∙ ap (λ t. before ++ t) rest ∙ sym (append_assoc before (codes "=") number); first = cut.none }
 
-pub path_refused : (text before following number : List ℕ) (mark : ℕ) → SplitsBefore 61 text before following → following ≡ mark ∷ number → (refusal : PathRefusal) (r : Result (Path × ℤ) PathRefusal) → Reads {X = Path} (IsTextOf before) (Err refusal) → IsErrAnd r (λ e. e ≡ refusal) → IsRight text r
+pub path_refused : (text before following number : List ℕ) (mark : ℕ) → SplitsBefore 61 text before following → following ≡ mark ∷ number
+    → (refusal : PathRefusal) (r : Result (Path × ℤ) PathRefusal) → Reads {X = Path} (IsTextOf before) (Err refusal) → IsErrAnd r (λ e. e ≡ refusal)
+    → IsRight text r
 path_refused text before following number mark cut is refusal (Ok input) h e = absurd e
 path_refused text before following number mark cut is BadPath (Err r) h e = subst (λ (t : PathRefusal). IsRight text (Err t)) (sym e) (inl none)
   where
     none : (path : Path) (others : List ℕ) → NamesPath text path others → ⊥
-    none path others names = h path (subst (λ (t : List ℕ). IsTextOf t path) (same_cut 61 text names.before before (61 ∷ others) following (as_split text names.before others names.cut) cut).0 names.names)
+    none path others names =
+        h path (subst (λ (t : List ℕ). IsTextOf t path)
+        (same_cut 61 text names.before before (61 ∷ others) following (as_split text names.before others names.cut) cut).0 names.names)
 path_refused text before following number mark cut is BadNumber (Err r) h e = absurd h
 path_refused text before following number mark cut is TooWide (Err r) h e = absurd h
 path_refused text before following number mark cut is Memory (Err r) h e = inr e
 
-pub number_refused : (text before following number : List ℕ) (mark : ℕ) → SplitsBefore 61 text before following → following ≡ mark ∷ number → (path : Path) → IsTextOf before path → (refusal : PathRefusal) (r : Result (Path × ℤ) PathRefusal) → IsNumberRead number (Err refusal) → IsErrAnd r (λ e. e ≡ refusal) → IsRight text r
+pub number_refused : (text before following number : List ℕ) (mark : ℕ) → SplitsBefore 61 text before following → following ≡ mark ∷ number
+    → (path : Path) → IsTextOf before path → (refusal : PathRefusal) (r : Result (Path × ℤ) PathRefusal) → IsNumberRead number (Err refusal)
+    → IsErrAnd r (λ e. e ≡ refusal) → IsRight text r
 number_refused text before following number mark cut is path t refusal (Ok input) h e = absurd e
 number_refused text before following number mark cut is path t BadPath (Err r) h e = absurd h
 number_refused text before following number mark cut is path t BadNumber (Err r) h e =
-    subst (λ (t : PathRefusal). IsRight text (Err t)) (sym e) (inl (path, number, record { before = before; cut = cut_is text before following number mark cut is; names = t }, h))
+    subst (λ (t : PathRefusal). IsRight text (Err t)) (sym e)
+    (inl (path, number, record { before = before; cut = cut_is text before following number mark cut is; names = t }, h))
 number_refused text before following number mark cut is path t TooWide (Err r) h e =
-    subst (λ (t : PathRefusal). IsRight text (Err t)) (sym e) (inl (path, number, h.0, record { before = before; cut = cut_is text before following number mark cut is; names = t }, h.1, h.2))
+    subst (λ (t : PathRefusal). IsRight text (Err t)) (sym e)
+    (inl (path, number, h.0, record { before = before; cut = cut_is text before following number mark cut is; names = t }, h.1, h.2))
 number_refused text before following number mark cut is path t Memory (Err r) h e = absurd h
 
-pub input_is : (text before following number : List ℕ) (mark : ℕ) → SplitsBefore 61 text before following → following ≡ mark ∷ number → (path : Path) → IsTextOf before path → (n : ℤ) → SpellsNumber number n × IsInputNumber n → SpellsInput text path n
+pub input_is : (text before following number : List ℕ) (mark : ℕ) → SplitsBefore 61 text before following → following ≡ mark ∷ number
+    → (path : Path) → IsTextOf before path → (n : ℤ) → SpellsNumber number n × IsInputNumber n → SpellsInput text path n
 input_is text before following number mark cut is path t n h = record {
   spelling = number;
   has_text = t.has_text;

@@ -1,5 +1,6 @@
 -- The number that a text spells, and that there is one: for `number_of` and `parse`.
-use Rattle.std.proofs.Common.{◌≡◌, ℕ, ◌<◌, ◌^◌, suc, true, List, ◌∷◌, ◌++◌, drop, ap, sym, ◌∙◌, refl, subst, arith, inl, inr, lit<}
+use Rattle.std.proofs.Common.{◌≡◌, ℕ, ◌<◌, ◌^◌, suc, true, List, ◌∷◌, ◌++◌, drop, ap, sym, ◌∙◌, refl, subst, arith, inl, inr}
+use Rattle.std.proofs.Common.{lit<}
 use Rattle.std.specs.Int.{w128}
 use Rattle.std.specs.Prelude.{FitsSigned, ℤ, pos, negsuc, ◌-ℤ◌, Result, Ok, Err, codes, IsErrAnd}
 use Rattle.std.specs.List.{list_all}
@@ -30,7 +31,9 @@ same_value text m n (inr one) (inr other) =
     omega (arith, ints)
 
 -- ---- why digits aren't read
-pub minus_refused : (text digits : List ℕ) → text ≡ 45 ∷ digits → (refusal : PathRefusal) (r : Result ℤ PathRefusal) → IsMagnitudeRead digits (Err refusal) → IsErrAnd r (λ e. e ≡ refusal) → IsNumberRead text r
+pub minus_refused : (text digits : List ℕ) → text ≡ 45 ∷ digits
+    → (refusal : PathRefusal) (r : Result ℤ PathRefusal) → IsMagnitudeRead digits (Err refusal) → IsErrAnd r (λ e. e ≡ refusal)
+    → IsNumberRead text r
 minus_refused text digits is refusal (Ok n) h e = absurd e
 minus_refused text digits is BadPath (Err r) h e = absurd h
 minus_refused text digits is BadNumber (Err r) h e = subst (λ (t : PathRefusal). IsNumberRead text (Err t)) (sym e) none
@@ -38,7 +41,8 @@ minus_refused text digits is BadNumber (Err r) h e = subst (λ (t : PathRefusal)
     none : (number : ℤ) → SpellsNumber text number → ⊥
     none number (inl plain) = no_sign text digits plain.are_digits.all is
     none number (inr minus) = h (subst AreDigits (ap (drop 1) (sym minus.1 ∙ is)) minus.2.are_digits)
-minus_refused text digits is TooWide (Err r) h e = subst (λ (t : PathRefusal). IsNumberRead text (Err t)) (sym e) (number, inr (digits, is, record { are_digits = h.0; value = back }), outside)
+minus_refused text digits is TooWide (Err r) h e =
+    subst (λ (t : PathRefusal). IsNumberRead text (Err t)) (sym e) (number, inr (digits, is, record { are_digits = h.0; value = back }), outside)
   where
     number : ℤ
     number = pos 0 -ℤ pos (digits_value 10 digits)
@@ -50,7 +54,8 @@ minus_refused text digits is TooWide (Err r) h e = subst (λ (t : PathRefusal). 
     outside within = let far = h.1 in let low = within.from_least in omega (arith, ints)
 minus_refused text digits is Memory (Err r) h e = absurd h
 
-pub plain_refused : (text : List ℕ) → ((rest : List ℕ) → text ≡ 45 ∷ rest → ⊥) → (refusal : PathRefusal) (r : Result ℤ PathRefusal) → IsMagnitudeRead text (Err refusal) → IsErrAnd r (λ e. e ≡ refusal) → IsNumberRead text r
+pub plain_refused : (text : List ℕ) → ((rest : List ℕ) → text ≡ 45 ∷ rest → ⊥)
+    → (refusal : PathRefusal) (r : Result ℤ PathRefusal) → IsMagnitudeRead text (Err refusal) → IsErrAnd r (λ e. e ≡ refusal) → IsNumberRead text r
 plain_refused text plain refusal (Ok n) h e = absurd e
 plain_refused text plain BadPath (Err r) h e = absurd h
 plain_refused text plain BadNumber (Err r) h e = subst (λ (t : PathRefusal). IsNumberRead text (Err t)) (sym e) none
@@ -58,26 +63,38 @@ plain_refused text plain BadNumber (Err r) h e = subst (λ (t : PathRefusal). Is
     none : (number : ℤ) → SpellsNumber text number → ⊥
     none number (inl digits) = h digits.are_digits
     none number (inr minus) = plain minus.0 minus.1
-plain_refused text plain TooWide (Err r) h e = subst (λ (t : PathRefusal). IsNumberRead text (Err t)) (sym e) (pos (digits_value 10 text), inl (record { are_digits = h.0; value = refl }), outside)
+plain_refused text plain TooWide (Err r) h e =
+    subst (λ (t : PathRefusal). IsNumberRead text (Err t)) (sym e) (pos (digits_value 10 text), inl (record { are_digits = h.0; value = refl }), outside)
   where
     outside : IsInputNumber (pos (digits_value 10 text)) → ⊥
     outside within = let far = h.1 in let high = within.to_greatest in omega (arith, ints)
 plain_refused text plain Memory (Err r) h e = absurd h
 
 -- below the least number
-pub too_low : (text digits : List ℕ) (magnitude : ℕ) → text ≡ 45 ∷ digits → AreDigits digits → magnitude ≡ digits_value 10 digits → 2 ^ 63 < magnitude → (n : ℤ) × SpellsNumber text n × (IsInputNumber n → ⊥)
-too_low text digits magnitude is are value low = (pos 0 -ℤ pos magnitude, inr (digits, is, record { are_digits = are; value = omega (arith, ints) }), λ within. let h = within.from_least in omega (arith, ints))
+pub too_low : (text digits : List ℕ) (magnitude : ℕ) → text ≡ 45 ∷ digits → AreDigits digits → magnitude ≡ digits_value 10 digits
+    → 2 ^ 63 < magnitude → (n : ℤ) × SpellsNumber text n × (IsInputNumber n → ⊥)
+too_low text digits magnitude is are value low = (
+  pos 0 -ℤ pos magnitude,
+  inr (digits, is, record { are_digits = are; value = omega (arith, ints) }),
+  λ within. let h = within.from_least in omega (arith, ints),
+)
 
 -- ---- the text that a number is printed as
 pub digits_of : (n : ℕ) → n < 2 ^ 64 → AreDigitsOf (decimal n) (pos n)
 digits_of n fits = record {
-  are_digits = record { all = digits_decimal own n fits; some = decimal_nonempty n fits; few = omega (arith, length-decimal-le 20 n (lit< tt) (omega arith) fits) };
+  are_digits = record {
+    all = digits_decimal own n fits;
+    some = decimal_nonempty n fits;
+    few = omega (arith, length-decimal-le 20 n (lit< tt) (omega arith) fits);
+  };
   value = ap pos (sym (digits_value-decimal own n fits));
 }
 
 pub spelled : (number : ℤ) → IsInputNumber number → SpellsNumber (signed_decimal number) number
 spelled (pos n) within = let high = within.to_greatest in inl (digits_of n (omega (arith, ints)))
-spelled (negsuc n) within = let low = within.from_least in let digits = digits_of (suc n) (omega (arith, ints)) in let opposite : pos 0 -ℤ negsuc n ≡ pos (suc n) = omega (arith, ints) in inr (decimal (suc n), refl, record { are_digits = digits.are_digits; value = opposite ∙ digits.value })
+spelled (negsuc n) within = let low = within.from_least in let digits = digits_of (suc n) (omega (arith, ints)) in
+    let opposite : pos 0 -ℤ negsuc n ≡ pos (suc n) = omega (arith, ints) in
+    inr (decimal (suc n), refl, record { are_digits = digits.are_digits; value = opposite ∙ digits.value })
 
 -- an input's number is one of 128 bits
 pub fits_machine : (number : ℤ) → IsInputNumber number → FitsSigned w128 number

@@ -1,5 +1,6 @@
 -- The root of a text, by the text's first bytes, and that there is one: for `root_of` and its parts.
-use Rattle.std.proofs.Common.{◌≡◌, ℕ, ◌<◌, ◌≤◌, ◌^◌, Bool, true, false, not, ◌&&◌, ◌||◌, eqb, eq-eqb, List, [], ◌∷◌, ◌++◌, length, drop, get_or, ap, sym, ◌∙◌, refl, subst, append_assoc, arith, inl, inr}
+use Rattle.std.proofs.Common.{◌≡◌, ℕ, ◌<◌, ◌≤◌, ◌^◌, Bool, true, false, not, ◌&&◌, ◌||◌, eqb, eq-eqb, List, [], ◌∷◌}
+use Rattle.std.proofs.Common.{◌++◌, length, drop, get_or, ap, sym, ◌∙◌, refl, subst, append_assoc, arith, inl, inr}
 use Rattle.std.specs.Prelude.{◌==◌, ◌⊎◌, codes, nat_le}
 use Rattle.std.specs.List.{list_all}
 use Rattle.std.specs.Fmt.{decimal}
@@ -49,7 +50,8 @@ pub record IsWroteWith (numbers : List ℕ) (root : Root) (call argument : ℕ) 
   pub text : decimal call ++ (46 ∷ decimal argument) ≡ numbers
 
 -- what begins with `call#` is the result of a call, or what it wrote
-pub following_call : (rest : List ℕ) (root : Root) → IsRootOf (codes "call#" ++ rest) root → ((k : ℕ) × IsCallWith rest root k) ⊎ ((k : ℕ) × (a : ℕ) × IsWroteWith rest root k a)
+pub following_call : (rest : List ℕ) (root : Root) → IsRootOf (codes "call#" ++ rest) root
+    → ((k : ℕ) × IsCallWith rest root k) ⊎ ((k : ℕ) × (a : ℕ) × IsWroteWith rest root k a)
 following_call rest (Param name) r = absurd (unnamed _ _ r.has_text r.is refl)
 following_call rest (Global name) r = absurd (apart _ _ r.is refl)
 following_call rest (Call k) r = inl (k, record { is = refl; counts = r.has_text; text = ap (drop 5) r.is })
@@ -59,7 +61,8 @@ following_call rest (Wrote k a) r =
 following_call rest (Malloc k) r = absurd (apart _ _ r.is refl)
 
 -- what begins with `malloc#` is an allocation
-pub after_malloc : (rest : List ℕ) (root : Root) → IsRootOf (codes "malloc#" ++ rest) root → (k : ℕ) × (root ≡ Malloc k) × IsCount k × (decimal k ≡ rest)
+pub after_malloc : (rest : List ℕ) (root : Root) → IsRootOf (codes "malloc#" ++ rest) root
+    → (k : ℕ) × (root ≡ Malloc k) × IsCount k × (decimal k ≡ rest)
 after_malloc rest (Param name) r = absurd (unnamed _ _ r.has_text r.is refl)
 after_malloc rest (Global name) r = absurd (apart _ _ r.is refl)
 after_malloc rest (Call k) r = absurd (apart _ _ r.is refl)
@@ -71,13 +74,15 @@ digits_without_dot : (n : ℕ) → n < 2 ^ 64 → list_all (λ b. not (b == 46))
 digits_without_dot n fits = all_without is_digit 46 refl (decimal n) (digits_decimal own n fits)
 
 -- the number before the `.` is the call's
-cut_at_call : (numbers first following : List ℕ) (k : ℕ) → k < 2 ^ 64 → (rest : List ℕ) → IsEmptyOrAt 46 rest → decimal k ++ rest ≡ numbers → SplitsBefore 46 numbers first following → (IsDecimalOf first k) × (following ≡ rest)
+cut_at_call : (numbers first following : List ℕ) (k : ℕ) → k < 2 ^ 64 → (rest : List ℕ) → IsEmptyOrAt 46 rest → decimal k ++ rest ≡ numbers
+    → SplitsBefore 46 numbers first following → (IsDecimalOf first k) × (following ≡ rest)
 cut_at_call numbers first following k fits rest at is cut =
     let same = same_cut 46 numbers first (decimal k) following rest cut (record { whole = sym is; none = digits_without_dot k fits; at = at }) in
     (record { fits = fits; is = sym same.0 }, same.1)
 
 -- without a call's number there is no root
-pub no_call : (numbers first following : List ℕ) → SplitsBefore 46 numbers first following → ((k : ℕ) → IsDecimalOf first k × IsCount k → ⊥) → (root : Root) → IsRootOf (codes "call#" ++ numbers) root → ⊥
+pub no_call : (numbers first following : List ℕ) → SplitsBefore 46 numbers first following → ((k : ℕ) → IsDecimalOf first k × IsCount k → ⊥)
+    → (root : Root) → IsRootOf (codes "call#" ++ numbers) root → ⊥
 no_call numbers first following cut none root r = either (following_call numbers root r)
   where
     either : ((k : ℕ) × IsCallWith numbers root k) ⊎ ((k : ℕ) × (a : ℕ) × IsWroteWith numbers root k a) → ⊥
@@ -85,11 +90,13 @@ no_call numbers first following cut none root r = either (following_call numbers
     either (inr (k, a, wrote)) = none k ((cut_at_call numbers first following k wrote.counts.fits (46 ∷ decimal a) refl wrote.text cut).0, wrote.counts)
 
 -- without an argument's number after the `.` there is no root
-pub no_argument : (numbers first following argument : List ℕ) (mark : ℕ) → SplitsBefore 46 numbers first following → following ≡ mark ∷ argument → ((a : ℕ) → IsDecimalOf argument a × (a ≤ 400000) → ⊥) → (root : Root) → IsRootOf (codes "call#" ++ numbers) root → ⊥
+pub no_argument : (numbers first following argument : List ℕ) (mark : ℕ) → SplitsBefore 46 numbers first following → following ≡ mark ∷ argument
+    → ((a : ℕ) → IsDecimalOf argument a × (a ≤ 400000) → ⊥) → (root : Root) → IsRootOf (codes "call#" ++ numbers) root → ⊥
 no_argument numbers first following argument mark cut is none root r = either (following_call numbers root r)
   where
     either : ((k : ℕ) × IsCallWith numbers root k) ⊎ ((k : ℕ) × (a : ℕ) × IsWroteWith numbers root k a) → ⊥
-    either (inl (k, call)) = no_tail mark argument (sym is ∙ (cut_at_call numbers first following k call.counts.fits [] tt (append-nil (decimal k) ∙ call.text) cut).1)
+    either (inl (k, call)) =
+        no_tail mark argument (sym is ∙ (cut_at_call numbers first following k call.counts.fits [] tt (append-nil (decimal k) ∙ call.text) cut).1)
     either (inr (k, a, wrote)) =
         let rest : following ≡ 46 ∷ decimal a = (cut_at_call numbers first following k wrote.counts.fits (46 ∷ decimal a) refl wrote.text cut).1 in
         let text : decimal a ≡ argument = ap (drop 1) (sym rest ∙ is) in
@@ -119,16 +126,19 @@ call_root k counts root r = either (following_call (decimal k) root r)
 
     either : ((m : ℕ) × IsCallWith (decimal k) root m) ⊎ ((m : ℕ) × (a : ℕ) × IsWroteWith (decimal k) root m a) → root ≡ Call k
     either (inl (m, call)) = call.is ∙ ap Call (decimal_injective m k call.counts.fits counts.fits call.text)
-    either (inr (m, a, wrote)) = absurd (no_tail 46 (decimal a) (sym (cut_at_call (decimal k) (decimal k) [] m wrote.counts.fits (46 ∷ decimal a) refl wrote.text cut).1))
+    either (inr (m, a, wrote)) =
+        absurd (no_tail 46 (decimal a) (sym (cut_at_call (decimal k) (decimal k) [] m wrote.counts.fits (46 ∷ decimal a) refl wrote.text cut).1))
 
-wrote_root : (k a : ℕ) → IsCount k → a ≤ 400000 → (text : List ℕ) → text ≡ decimal k ++ (46 ∷ decimal a) → (root : Root) → IsRootOf (codes "call#" ++ text) root → root ≡ Wrote k a
+wrote_root : (k a : ℕ) → IsCount k → a ≤ 400000 → (text : List ℕ) → text ≡ decimal k ++ (46 ∷ decimal a)
+    → (root : Root) → IsRootOf (codes "call#" ++ text) root → root ≡ Wrote k a
 wrote_root k a counts few text is root r = either (following_call text root r)
   where
     cut : SplitsBefore 46 text (decimal k) (46 ∷ decimal a)
     cut = record { whole = is; none = digits_without_dot k counts.fits; at = refl }
 
     either : ((m : ℕ) × IsCallWith text root m) ⊎ ((m : ℕ) × (b : ℕ) × IsWroteWith text root m b) → root ≡ Wrote k a
-    either (inl (m, call)) = absurd (no_tail 46 (decimal a) (cut_at_call text (decimal k) (46 ∷ decimal a) m call.counts.fits [] tt (append-nil (decimal m) ∙ call.text) cut).1)
+    either (inl (m, call)) =
+        absurd (no_tail 46 (decimal a) (cut_at_call text (decimal k) (46 ∷ decimal a) m call.counts.fits [] tt (append-nil (decimal m) ∙ call.text) cut).1)
     either (inr (m, b, wrote)) =
         let other = cut_at_call text (decimal k) (46 ∷ decimal a) m wrote.counts.fits (46 ∷ decimal b) refl wrote.text cut in
         let calls : m ≡ k = decimal_injective m k wrote.counts.fits counts.fits other.0.is in
@@ -148,7 +158,8 @@ same_root text (Param name) other r s = sym (named_root text (subst (λ n. is_na
 same_root text (Global name) other r s = sym (after_dollar name other (record { has_text = s.has_text; is = s.is ∙ sym r.is })).0
 same_root text (Call k) other r s = sym (call_root k r.has_text other (record { has_text = s.has_text; is = s.is ∙ sym r.is }))
 same_root text (Wrote k a) other r s =
-    sym (wrote_root k a r.has_text.0 r.has_text.1 ((decimal k ++ 46 ∷ []) ++ decimal a) (append_assoc (decimal k) (46 ∷ []) (decimal a)) other (record { has_text = s.has_text; is = s.is ∙ sym r.is }))
+    sym (wrote_root k a r.has_text.0 r.has_text.1 ((decimal k ++ 46 ∷ []) ++ decimal a) (append_assoc (decimal k) (46 ∷ []) (decimal a)) other
+    (record { has_text = s.has_text; is = s.is ∙ sym r.is }))
 same_root text (Malloc k) other r s = sym (malloc_root k r.has_text other (record { has_text = s.has_text; is = s.is ∙ sym r.is }))
 
 -- ---- which bytes stand in a root's text

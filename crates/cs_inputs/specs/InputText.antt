@@ -1,5 +1,6 @@
 -- The text of an input, which is a path's, an `=` and a number's; and why another text is refused.
-use Rattle.std.specs.Prelude.{◌≡◌, ℕ, ◌<◌, ◌≤◌, ◌-◌, ◌^◌, ℤ, pos, ◌-ℤ◌, ◌≤ℤ◌, Bool, ◌&&◌, ◌==◌, not, nat_le, IsTrue, ◌⊎◌, List, ◌++◌, length, codes}
+use Rattle.std.specs.Prelude.{◌≡◌, ℕ, ◌<◌, ◌≤◌, ◌-◌, ◌^◌, ℤ, pos, ◌-ℤ◌, ◌≤ℤ◌, Bool, ◌&&◌, ◌==◌, not, nat_le}
+use Rattle.std.specs.Prelude.{IsTrue, ◌⊎◌, List, ◌++◌, length, codes}
 use Rattle.std.specs.List.{list_all}
 use Rattle.std.specs.Str.Parse.{digits_value}
 use Rattle.cs_inputs.specs.declared.path.Path.{Path}
@@ -59,6 +60,8 @@ pub record SpellsInput (text : List ℕ) (path : Path) (number : ℤ) : Type 0 w
 -- after the `=` is no number; the number is outside. No text is refused for want of memory.
 abbrev pub IsRefusedFor : PathRefusal → List ℕ → Type 0
 IsRefusedFor BadPath text = (path : Path) (following : List ℕ) → NamesPath text path following → ⊥
-IsRefusedFor BadNumber text = (path : Path) × (following : List ℕ) × NamesPath text path following × ((number : ℤ) → SpellsNumber following number → ⊥)
-IsRefusedFor TooWide text = (path : Path) × (following : List ℕ) × (number : ℤ) × NamesPath text path following × SpellsNumber following number × (IsInputNumber number → ⊥)
+IsRefusedFor BadNumber text = (path : Path) × (following : List ℕ) × NamesPath text path following
+    × ((number : ℤ) → SpellsNumber following number → ⊥)
+IsRefusedFor TooWide text = (path : Path) × (following : List ℕ) × (number : ℤ) × NamesPath text path following × SpellsNumber following number
+    × (IsInputNumber number → ⊥)
 IsRefusedFor Memory text = ⊥

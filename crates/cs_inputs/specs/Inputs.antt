@@ -18,4 +18,6 @@ number_at entries path = unwrap_or (lookup (is_at (path_order path)) entries) (p
 
 -- a path's entry is at this place, or all entries before the place are of smaller paths and all others of greater ones
 abbrev pub IsPlaceOf : Path → List (Path × ℤ) → Result ℕ ℕ → Type 0
-IsPlaceOf path entries answer = MatchResult answer (HoldsAt (λ e. path_order e.0 path ≡ Equal) entries) (IsPartitionPoint (λ e. path_order e.0 path ≡ Less) (λ e. path_order e.0 path ≡ Greater) entries)
+IsPlaceOf path entries answer =
+    MatchResult answer (HoldsAt (λ e. path_order e.0 path ≡ Equal) entries)
+    (IsPartitionPoint (λ e. path_order e.0 path ≡ Less) (λ e. path_order e.0 path ≡ Greater) entries)

@@ -1,5 +1,6 @@
 -- The text of paths, and the paths that have one.
-use Rattle.std.specs.Prelude.{◌≡◌, ℕ, ◌<◌, ◌≤◌, ◌^◌, Bool, false, ◌&&◌, ◌||◌, ◌==◌, nat_le, IsTrue, List, [], ◌∷◌, ◌++◌, length, codes}
+use Rattle.std.specs.Prelude.{◌≡◌, ℕ, ◌<◌, ◌≤◌, ◌^◌, Bool, false, ◌&&◌, ◌||◌, ◌==◌, nat_le, IsTrue, List, [], ◌∷◌}
+use Rattle.std.specs.Prelude.{◌++◌, length, codes}
 use Rattle.std.specs.List.{All, list_all}
 use Rattle.std.specs.Fmt.{decimal}
 use Rattle.cs_inputs.specs.declared.path.Root.{Root}

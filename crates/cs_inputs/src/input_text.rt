@@ -22,10 +22,15 @@ use std::alloc::Global;
 /// stands after it, else `TooWide` where the number is outside -2^63 to 2^64-1.
 pub fn parse(alloc: Global, text: &[u8]) -> Result<(Path, i128), PathRefusal>
     ensures ok { IfOk result (λ input. SpellsInput text.now input.0 input.1) }
-    ensures accepts { (path : Path) (number : ℤ) → SpellsInput text.now path number → (result ≡ Ok (path, number)) ⊎ (result ≡ Err PathRefusal.Memory) }
-    ensures err { IfErr result (λ refusal. IsRefusedFor refusal text.now ⊎ (refusal ≡ PathRefusal.Memory)) }
-    ensures refuses { (refusal : PathRefusal) → IsRefusedFor refusal text.now → (result ≡ Err refusal) ⊎ (result ≡ Err PathRefusal.Memory) }
-    ensures round_trip { (path : Path) (number : ℤ) → HasText path → IsInputNumber number → text.now ≡ path_text path ++ codes "=" ++ signed_decimal number → (result ≡ Ok (path, number)) ⊎ (result ≡ Err PathRefusal.Memory) }
+    ensures accepts { (path : Path) (number : ℤ) → SpellsInput text.now path number
+        → (result ≡ Ok (path, number)) ⊎ (result ≡ Err PathRefusal.Memory) }
+    ensures err { IfErr result (λ refusal.
+        IsRefusedFor refusal text.now ⊎ (refusal ≡ PathRefusal.Memory)) }
+    ensures refuses { (refusal : PathRefusal) → IsRefusedFor refusal text.now
+        → (result ≡ Err refusal) ⊎ (result ≡ Err PathRefusal.Memory) }
+    ensures round_trip { (path : Path) (number : ℤ) → HasText path → IsInputNumber number
+        → text.now ≡ path_text path ++ codes "=" ++ signed_decimal number
+        → (result ≡ Ok (path, number)) ⊎ (result ≡ Err PathRefusal.Memory) }
 {
     let (before, following) = split_before(text, b'=');
     let Some((_, number)) = following.split_first() else {
@@ -79,7 +84,9 @@ fn cells_of(alloc: Global, text: &[u8]) -> Result<Cells, PathRefusal>
 
 // The offset of the cell that a text begins with, and what stands after it.
 fn first_cell(text: &[u8]) -> Option<(u64, &[u8])>
-    ensures { MatchOption result ((offset : ℕ) (following : List ℕ) → BeginsWithCell text.now offset following → ⊥) (λ cell. BeginsWithCell text.now cell.0 cell.1.now) }
+    ensures { MatchOption result ((offset : ℕ) (following : List ℕ)
+        → BeginsWithCell text.now offset following
+        → ⊥) (λ cell. BeginsWithCell text.now cell.0 cell.1.now) }
 {
     let cell = text.strip_prefix(b"@")?;
     let (digits, following) = split_before(cell, b'@');

@@ -53,7 +53,8 @@ impl Inputs {
     pub fn set(&mut self, path: Path, number: i128) -> Result<(), AllocError>
         ensures ok { OnOk result (self.new ≡ insert_entry path_order self.old path number) }
         ensures here { OnOk result (number_at self.new path ≡ number) }
-        ensures elsewhere { OnOk result ((q : Path) → q ≢ path → number_at self.new q ≡ number_at self.old q) }
+        ensures elsewhere { OnOk result ((q : Path) → q ≢ path
+            → number_at self.new q ≡ number_at self.old q) }
         ensures err { OnErr result (self.new ≡ self.old) }
     {
         put(&mut self.entries, path, number)
@@ -71,7 +72,8 @@ impl Inputs {
 // Gives a path a number among entries in path order.
 fn put(entries: &mut Vec<(Path, i128)>, path: Path, number: i128) -> Result<(), AllocError>
     requires { IsInOrder entries.old.items }
-    ensures ok { OnOk result (entries.new.items ≡ insert_entry path_order entries.old.items path number) }
+    ensures ok { OnOk result (entries.new.items
+        ≡ insert_entry path_order entries.old.items path number) }
     ensures err { OnErr result (entries.new.items ≡ entries.old.items) }
 {
     match place(entries.as_slice(), &path) {

@@ -5,7 +5,8 @@ use Rattle.std.specs.Prelude.{Option, Some, None}
 use Rattle.std.specs.Io.KnownBytes.{Appends}
 
 -- the next k bytes after the first n make the first n + k
-pub Appends-take_add : (before between now : Option (List ℕ)) (text : List ℕ) (n k : ℕ) → Appends before between (take n text) → Appends between now (take k (drop n text)) → Appends before now (take (n + k) text)
+pub Appends-take_add : (before between now : Option (List ℕ)) (text : List ℕ) (n k : ℕ) → Appends before between (take n text)
+    → Appends between now (take k (drop n text)) → Appends before now (take (n + k) text)
 Appends-take_add None between now text n k front piece = tt
 Appends-take_add (Some xs) None now text n k front piece = absurd front
 Appends-take_add (Some xs) (Some ys) None text n k front piece = absurd piece

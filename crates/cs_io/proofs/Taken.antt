@@ -5,7 +5,8 @@ use Rattle.std.specs.Io.KnownBytes.{Consumes}
 use Rattle.cs_io.specs.Reported.{LosesFront}
 
 -- bytes that lose their front, and then more of it, lose their front
-pub LosesFront-from_both : (before between now : Option (List ℕ)) (front : List ℕ) → Consumes before between front → LosesFront between now → LosesFront before now
+pub LosesFront-from_both : (before between now : Option (List ℕ)) (front : List ℕ) → Consumes before between front → LosesFront between now
+    → LosesFront before now
 LosesFront-from_both None between now front taken lost = (front, tt)
 LosesFront-from_both (Some xs) None now front taken lost = absurd taken
 LosesFront-from_both (Some xs) (Some ys) None front taken lost = absurd lost.1

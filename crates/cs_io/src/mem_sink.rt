@@ -73,14 +73,18 @@ impl Sink for MemSink {
     fn write(&mut self, piece: &[u8]) -> Result<usize, Failed>
         requires nonempty { 0 < length piece.now }
         ensures listed { IsErr result ↔ FailsNext self.old.plan }
-        ensures takes { IfOk result (λ k. k ≡ min (min (length piece.now) self.old.most) (self.old.room - length self.old.written)) }
-        ensures full { IfOk result (λ k. (k ≡ 0) ↔ (length self.old.written ≡ self.old.room)) }
+        ensures takes { IfOk result (λ k.
+            k ≡ min (min (length piece.now) self.old.most)
+            (self.old.room - length self.old.written)) }
+        ensures full { IfOk result (λ k.
+            (k ≡ 0) ↔ (length self.old.written ≡ self.old.room)) }
         ensures ok { IfOk result (λ k. self.new ≡ record self.old {
           written = self.old.written ++ take k piece.now;
           empty_takes = empty_takes_after k self.old.empty_takes;
           plan = after_call self.old.plan;
         }) }
-        ensures err { OnErr result (self.new ≡ record self.old { plan = after_fault self.old.plan }) }
+        ensures err { OnErr result (self.new
+            ≡ record self.old { plan = after_fault self.old.plan }) }
         ensures faults { CountsUp self.old.plan.faults self.new.plan.faults }
         ensures empty_takes { CountsUp self.old.empty_takes self.new.empty_takes }
     {

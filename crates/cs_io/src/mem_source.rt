@@ -53,14 +53,16 @@ impl Source for MemSource {
     fn read(&mut self, into: &mut [u8]) -> Result<usize, Failed>
         requires nonempty { 0 < length into.old }
         ensures listed { IsErr result ↔ FailsNext self.old.plan }
-        ensures gives { IfOk result (λ k. k ≡ min (min (length into.old) self.old.most) (length self.old.left)) }
+        ensures gives { IfOk result (λ k.
+            k ≡ min (min (length into.old) self.old.most) (length self.old.left)) }
         ensures end { IfOk result (λ k. (k ≡ 0) ↔ (self.old.left ≡ [])) }
         ensures fills { IfOk result (λ k. into.new ≡ take k self.old.left ++ drop k into.old) }
         ensures ok { IfOk result (λ k. self.new ≡ record self.old {
           left = drop k self.old.left;
           plan = after_call self.old.plan;
         }) }
-        ensures err { OnErr result (self.new ≡ record self.old { plan = after_fault self.old.plan }) }
+        ensures err { OnErr result (self.new
+            ≡ record self.old { plan = after_fault self.old.plan }) }
         ensures untouched { OnErr result (into.new ≡ into.old) }
         ensures faults { CountsUp self.old.plan.faults self.new.plan.faults }
     {

@@ -61,7 +61,8 @@ fn read_more<S: Source>(
 ) -> Result<usize, ReadRefusal>
     requires nonempty { 0 < length buffer.old }
     requires within { vec_len bytes.old ≤ MOST_BYTES }
-    ensures takes_next { IfOk result (λ k. Consumes (S.left source.old) (S.left source.new) (take k buffer.new)) }
+    ensures takes_next { IfOk result (λ k.
+        Consumes (S.left source.old) (S.left source.new) (take k buffer.new)) }
     ensures adds { IfOk result (λ k. bytes.new.items ≡ bytes.old.items ++ take k buffer.new) }
     ensures counts { IfOk result (λ k. vec_len bytes.new ≡ vec_len bytes.old + k) }
     ensures limit { OnOk result (vec_len bytes.new ≤ MOST_BYTES) }
@@ -70,7 +71,8 @@ fn read_more<S: Source>(
     ensures loses_front { LosesFront (S.left source.old) (S.left source.new) }
     ensures too_long { result ≡ Err ReadRefusal.TooLong → IfSome (S.left source.old) (λ left.
         MOST_BYTES < length bytes.old.items + length left) }
-    ensures fault { result ≡ Err ReadRefusal.ReadFault → Rose (S.faults source.old) (S.faults source.new) }
+    ensures fault { result ≡ Err ReadRefusal.ReadFault
+        → Rose (S.faults source.old) (S.faults source.new) }
     ensures never_falls { S.faults source.old ≤ S.faults source.new }
 {
     let count = source.read(buffer)?;
@@ -83,15 +85,18 @@ fn read_more<S: Source>(
 
 /// All bytes that the source has left, in order, where they are at most `MOST_BYTES`.
 pub fn read_all<S: Source>(alloc: Global, source: &mut S) -> Result<Vec<u8>, ReadRefusal>
-    ensures all { IfOk result (λ bytes. IfSome (S.left source.old) (λ left. bytes.items ≡ left)) }
+    ensures all { IfOk result (λ bytes.
+        IfSome (S.left source.old) (λ left. bytes.items ≡ left)) }
     ensures to_the_end { OnOk result (IsAtEnd (S.left source.new)) }
     ensures limit { IfOk result (λ bytes. vec_len bytes ≤ MOST_BYTES) }
     ensures err { OnErr result (LosesFront (S.left source.old) (S.left source.new)) }
 
     // A source is refused as too long only where more than the limit were left, and as faulty only
     // where its count rose.
-    ensures too_long { result ≡ Err ReadRefusal.TooLong → IfSome (S.left source.old) (λ left. MOST_BYTES < length left) }
-    ensures fault { result ≡ Err ReadRefusal.ReadFault → Rose (S.faults source.old) (S.faults source.new) }
+    ensures too_long { result ≡ Err ReadRefusal.TooLong
+        → IfSome (S.left source.old) (λ left. MOST_BYTES < length left) }
+    ensures fault { result ≡ Err ReadRefusal.ReadFault
+        → Rose (S.faults source.old) (S.faults source.new) }
     ensures never_falls { S.faults source.old ≤ S.faults source.new }
 {
     let mut bytes = Vec::new(alloc);

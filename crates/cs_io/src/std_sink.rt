@@ -48,8 +48,12 @@ impl<W: Write> Sink for StdSink<W> {
     fn write(&mut self, piece: &[u8]) -> Result<usize, Failed>
         requires nonempty { 0 < length piece.now }
         ensures within { IfOk result (λ k. k ≤ length piece.now) }
-        ensures ok { IfOk result (λ k. self.new ≡ record self.old { empty_takes = empty_takes_after k self.old.empty_takes }) }
-        ensures err { OnErr result (self.new ≡ record self.old { faults = next_count self.old.faults }) }
+        ensures ok { IfOk result (λ k.
+            self.new ≡ record self.old {
+              empty_takes = empty_takes_after k self.old.empty_takes;
+            }) }
+        ensures err { OnErr result (self.new
+            ≡ record self.old { faults = next_count self.old.faults }) }
         ensures faults { CountsUp self.old.faults self.new.faults }
         ensures empty_takes { CountsUp self.old.empty_takes self.new.empty_takes }
     {

@@ -28,7 +28,8 @@ impl Model for SureSink {
 impl SureSink {
     /// Takes the memory for `room` bytes. No later call takes any.
     pub fn new(alloc: Global, room: usize) -> Result<Self, AllocError>
-        ensures { IfOk result (λ sink. sink ≡ record { written = []; room = room; empty_takes = 0 }) }
+        ensures { IfOk result (λ sink.
+            sink ≡ record { written = []; room = room; empty_takes = 0 }) }
     {
         Ok(SureSink {
             bytes: Vec::with_capacity(alloc, room)?,
@@ -54,7 +55,8 @@ impl Sink for SureSink {
 
     fn write(&mut self, piece: &[u8]) -> Result<usize, Failed>
         requires nonempty { 0 < length piece.now }
-        ensures takes { result ≡ Ok (min (length piece.now) (self.old.room - length self.old.written)) }
+        ensures takes { result
+            ≡ Ok (min (length piece.now) (self.old.room - length self.old.written)) }
         ensures full { (result ≡ Ok 0) ↔ (length self.old.written ≡ self.old.room) }
         ensures ok { IfOk result (λ k. self.new ≡ record self.old {
           written = self.old.written ++ take k piece.now;

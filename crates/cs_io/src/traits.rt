@@ -30,7 +30,8 @@ pub trait Source {
     fn read(&mut self, into: &mut [u8]) -> Result<usize, Failed>
         requires nonempty { 0 < length into.old }
         ensures within { IfOk result (λ k. k ≤ length into.new) }
-        ensures takes_next { IfOk result (λ k. Consumes (left self.old) (left self.new) (take k into.new)) }
+        ensures takes_next { IfOk result (λ k.
+            Consumes (left self.old) (left self.new) (take k into.new)) }
         ensures end { result ≡ Ok 0 → IsAtEnd (left self.new) }
         ensures takes_nothing { OnErr result (Keeps (left self.old) (left self.new)) }
 
@@ -54,12 +55,14 @@ pub trait Sink {
     fn write(&mut self, piece: &[u8]) -> Result<usize, Failed>
         requires nonempty { 0 < length piece.now }
         ensures within { IfOk result (λ k. k ≤ length piece.now) }
-        ensures appends { IfOk result (λ k. Appends (written self.old) (written self.new) (take k piece.now)) }
+        ensures appends { IfOk result (λ k.
+            Appends (written self.old) (written self.new) (take k piece.now)) }
         ensures appends_nothing { OnErr result (Keeps (written self.old) (written self.new)) }
 
         // A call fails, or takes no byte, only where that count rose.
         ensures fault { OnErr result (Rose (faults self.old) (faults self.new)) }
-        ensures empty_take { result ≡ Ok 0 → Rose (empty_takes self.old) (empty_takes self.new) }
+        ensures empty_take { result ≡ Ok 0
+            → Rose (empty_takes self.old) (empty_takes self.new) }
         ensures faults { CountsUp (faults self.old) (faults self.new) }
         ensures empty_takes { CountsUp (empty_takes self.old) (empty_takes self.new) };
 }

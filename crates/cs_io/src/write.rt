@@ -39,7 +39,8 @@ pub fn write_all_of<K: Sink>(sink: &mut K, text: &[u8]) -> Result<(), WriteRefus
     // It gives up only where a call failed or took nothing.
     ensures fault { OnErr result (Rose (K.faults sink.old) (K.faults sink.new) ⊎
         Rose (K.empty_takes sink.old) (K.empty_takes sink.new)) }
-    ensures never_fall { (K.faults sink.old ≤ K.faults sink.new) × (K.empty_takes sink.old ≤ K.empty_takes sink.new) }
+    ensures never_fall { (K.faults sink.old ≤ K.faults sink.new)
+        × (K.empty_takes sink.old ≤ K.empty_takes sink.new) }
 {
     let mut done = 0;
     while done < text.len() {

@@ -1,5 +1,6 @@
 -- A piece takes one byte or more, and a linemarker's line is bounded: for the loop of `cut`.
-use Rattle.std.proofs.Common.{◌≡◌, ℕ, ◌+◌, ◌<◌, ◌≤◌, Bool, true, false, cond, ◌&&◌, List, [], ◌∷◌, length, take, drop, Option, Some, None, nat_lt, refl, sym, subst, arith}
+use Rattle.std.proofs.Common.{◌≡◌, ℕ, ◌+◌, ◌<◌, ◌≤◌, Bool, true, false, cond, ◌&&◌, List, [], ◌∷◌, length, take, drop, Option}
+use Rattle.std.proofs.Common.{Some, None, nat_lt, refl, sym, subst, arith}
 use Rattle.std.specs.Prelude.{◌==◌, nat_le, nat_eq}
 use Rattle.std.specs.List.{take_while, starts_with}
 use Rattle.std.proofs.lemmas.Bool.{and_parts}
@@ -25,7 +26,8 @@ use Rattle.cs_lexer.specs.declared.piece.Class.TheVariants as classes
 use Rattle.cs_lexer.specs.Classes.{is_space, is_letter, is_digit, is_name_byte, begins_with}
 use Rattle.cs_lexer.specs.Comments.{is_inside, CommentGives}
 use Rattle.cs_lexer.specs.Digits.{run, value_of, is_digit_of}
-use Rattle.cs_lexer.specs.Directives.{directive_at, marker, with_line, with_name, bounded, line_number, number_part, file_name, next_line, whole_length, skip_blanks}
+use Rattle.cs_lexer.specs.Directives.{directive_at, marker, with_line, with_name, bounded, line_number, number_part, file_name, next_line, whole_length}
+use Rattle.cs_lexer.specs.Directives.{skip_blanks}
 use Rattle.cs_lexer.specs.Punctuators.{PunctuatorGives}
 use Rattle.cs_lexer.specs.Numbers.{number_at, base_of, is_hexadecimal, prefix_length, suffix_of, constant, is_too_wide, goes_on, is_decimal}
 use Rattle.cs_lexer.specs.Quoted.{character_in, character_of, character_with, signed, closing, TextIn, TextBodyGives}
@@ -58,20 +60,27 @@ next_fits : (line : ℕ) (is_ended : Bool) → line ≤ 2147483647 → LineFits 
 next_fits line true fits = fits
 next_fits line false fits = tt
 
-line_advances : (line : Option ℕ) (file : FileName) (size : ℕ) (is_ended : Bool) → 0 < size → LineFits line → Advances (with_line line file size is_ended)
+line_advances : (line : Option ℕ) (file : FileName) (size : ℕ) (is_ended : Bool) → 0 < size → LineFits line
+    → Advances (with_line line file size is_ended)
 line_advances None file size is_ended some fits = tt
 line_advances (Some line) file size is_ended some fits = name_advances file (next_line line is_ended) size some (next_fits line is_ended fits)
 
 bounded_fits : (value : Option ℕ) → LineFits (bounded value)
 bounded_fits None = tt
-bounded_fits (Some value) = elim (nat_le value 2147483647) as (λ t. nat_le value 2147483647 ≡ t → LineFits (cond t (Some value) None)) [ true ↦ λ e. grind (arith, nat_tests) | false ↦ λ _. tt ] refl
+bounded_fits (Some value) =
+    elim (nat_le value 2147483647) as (λ t. nat_le value 2147483647 ≡ t → LineFits (cond t (Some value) None)) [
+      | true ↦ λ e. grind (arith, nat_tests)
+      | false ↦ λ _. tt
+    ] refl
 
 number_fits : (t : Bool) (value : Option ℕ) → LineFits (cond t None (bounded value))
 number_fits true value = tt
 number_fits false value = bounded_fits value
 
 marker_advances : (body : List ℕ) (size : ℕ) (is_ended : Bool) → 0 < size → Advances (marker body size is_ended)
-marker_advances body size is_ended some = line_advances (line_number (number_part body)) (file_name (drop (length (run Decimal (number_part body))) (number_part body))) size is_ended some (number_fits (length (run Decimal (number_part body)) == 0) (value_of Decimal (run Decimal (number_part body))))
+marker_advances body size is_ended some =
+    line_advances (line_number (number_part body)) (file_name (drop (length (run Decimal (number_part body))) (number_part body))) size is_ended some
+    (number_fits (length (run Decimal (number_part body)) == 0) (value_of Decimal (run Decimal (number_part body))))
 
 pragma_advances : (t : Bool) (body : List ℕ) (size : ℕ) (is_ended : Bool) → 0 < size → Advances (cond t (Gap size) (marker body size is_ended))
 pragma_advances true body size is_ended some = some
@@ -85,7 +94,8 @@ directive_advances : (b : ℕ) (bytes : List ℕ) → (b == 35) ≡ true → Adv
 directive_advances b bytes is =
     let line = take_while is_inside (b ∷ bytes) in
     let is_ended = nat_lt (length line) (length (b ∷ bytes)) in
-    pragma_advances (starts_with nat_eq (skip_blanks (drop 1 line)) (112 ∷ 114 ∷ 97 ∷ 103 ∷ 109 ∷ 97 ∷ [])) (skip_blanks (drop 1 line)) (whole_length (length line) is_ended) is_ended (whole_some (length line) is_ended (some_run is_inside b bytes (grind (arith, nat_tests))))
+    pragma_advances (starts_with nat_eq (skip_blanks (drop 1 line)) (112 ∷ 114 ∷ 97 ∷ 103 ∷ 109 ∷ 97 ∷ [])) (skip_blanks (drop 1 line))
+    (whole_length (length line) is_ended) is_ended (whole_some (length line) is_ended (some_run is_inside b bytes (grind (arith, nat_tests))))
 
 comment_advances : (inside : List ℕ) (found : Found) → CommentGives inside found → Advances found
 comment_advances inside (Gap size) h = omega arith
@@ -144,15 +154,21 @@ character_advances bytes None = tt
 character_advances bytes (Some count) = body_advances (take count bytes)
 
 -- integer constants
-judged_advances : (wide bad : Bool) (size : ℕ) (number : IntegerConstant) → 0 < size → Advances (cond wide (Refused faults.WideNumber 0) (cond bad (Refused faults.BadByte size) (Token size (kinds.Number number))))
+judged_advances : (wide bad : Bool) (size : ℕ) (number : IntegerConstant) → 0 < size
+    → Advances (cond wide (Refused faults.WideNumber 0) (cond bad (Refused faults.BadByte size) (Token size (kinds.Number number))))
 judged_advances true bad size number some = tt
 judged_advances false bad size number some = decided bad faults.BadByte size size (kinds.Number number) some
 
-constant_advances : (base : Base) (value : Option ℕ) (suffix : Suffix) (size : ℕ) (bytes : List ℕ) → 0 < size → Advances (constant base value suffix size bytes)
+constant_advances : (base : Base) (value : Option ℕ) (suffix : Suffix) (size : ℕ) (bytes : List ℕ) → 0 < size
+    → Advances (constant base value suffix size bytes)
 constant_advances base None suffix size bytes some = tt
-constant_advances base (Some value) suffix size bytes some = judged_advances (is_too_wide base suffix value) (goes_on (drop size bytes)) size (record { value = value; decimal = is_decimal base; unsigned = suffix.unsigned; length = suffix.length }) some
+constant_advances base (Some value) suffix size bytes some =
+    judged_advances (is_too_wide base suffix value) (goes_on (drop size bytes)) size
+    (record { value = value; decimal = is_decimal base; unsigned = suffix.unsigned; length = suffix.length }) some
 
-some_digits : (b : ℕ) (bytes : List ℕ) (hexadecimal octal : Bool) → is_digit b ≡ true → (b == 48) ≡ octal → (let base = cond hexadecimal Hexadecimal (cond octal Octal Decimal) in 0 < prefix_length base + length (run base (drop (prefix_length base) (b ∷ bytes))))
+some_digits : (b : ℕ) (bytes : List ℕ) (hexadecimal octal : Bool) → is_digit b ≡ true → (b == 48) ≡ octal
+    → (let base = cond hexadecimal Hexadecimal (cond octal Octal Decimal) in
+    0 < prefix_length base + length (run base (drop (prefix_length base) (b ∷ bytes))))
 some_digits b bytes true octal digit first = omega arith
 some_digits b bytes false true digit first = omega (arith, some_run (is_digit_of Octal) b bytes (grind (arith, nat_tests)))
 some_digits b bytes false false digit first = omega (arith, some_run (is_digit_of Decimal) b bytes digit)
@@ -162,10 +178,12 @@ number_advances b bytes digit =
     let base = base_of (b ∷ bytes) in
     let digits = drop (prefix_length base) (b ∷ bytes) in
     let some : 0 < prefix_length base + length (run base digits) = some_digits b bytes (is_hexadecimal (b ∷ bytes)) (b == 48) digit refl in
-    constant_advances base (value_of base (run base digits)) (suffix_of (drop (length (run base digits)) digits)) (prefix_length base + length (run base digits) + (suffix_of (drop (length (run base digits)) digits)).bytes) (b ∷ bytes) (omega arith)
+    constant_advances base (value_of base (run base digits)) (suffix_of (drop (length (run base digits)) digits))
+    (prefix_length base + length (run base digits) + (suffix_of (drop (length (run base digits)) digits)).bytes) (b ∷ bytes) (omega arith)
 
 -- the classes, one test after another
-choose : (t : Bool) (one other : Class) (bytes : List ℕ) (found : Found) → (t ≡ true → BeginsAs one bytes found → Advances found) → (t ≡ false → BeginsAs other bytes found → Advances found) → BeginsAs (cond t one other) bytes found → Advances found
+choose : (t : Bool) (one other : Class) (bytes : List ℕ) (found : Found) → (t ≡ true → BeginsAs one bytes found → Advances found)
+    → (t ≡ false → BeginsAs other bytes found → Advances found) → BeginsAs (cond t one other) bytes found → Advances found
 choose true one other bytes found here elsewhere h = here refl h
 choose false one other bytes found here elsewhere h = elsewhere refl h
 
@@ -173,15 +191,20 @@ other_advances : (b : ℕ) (bytes : List ℕ) (found : Found) → BeginsAs (othe
 other_advances b bytes found =
     choose (is_digit b) classes.Number _ (b ∷ bytes) found (λ digit is. subst Advances (sym is) (number_advances b bytes digit)) (λ _.
     choose (b == 39) classes.Character _ (b ∷ bytes) found (λ _ is. subst Advances (sym is) (character_advances bytes (closing 39 false bytes))) (λ _.
-    choose (b == 34) classes.Text classes.Punctuator (b ∷ bytes) found (λ _ h. quoted_advances bytes (closing 34 false bytes) found h) (λ _ h. punctuator_advances (b ∷ bytes) found h)))
+    choose (b == 34) classes.Text classes.Punctuator (b ∷ bytes) found (λ _ h. quoted_advances bytes (closing 34 false bytes) found h)
+    (λ _ h. punctuator_advances (b ∷ bytes) found h)))
 
 -- a piece at the front of some bytes has a byte or more
 pub advances : (is_line_start : Bool) (bytes : List ℕ) (found : Found) → 0 < length bytes → Begins is_line_start bytes found → Advances found
 advances is_line_start [] found some = absurd (omega arith)
 advances is_line_start (b ∷ bytes) found some =
-    choose (is_line_start && (b == 35)) classes.Directive _ (b ∷ bytes) found (λ e is. subst Advances (sym is) (directive_advances b bytes (and_parts is_line_start (b == 35) e).1)) (λ _.
+    choose (is_line_start && (b == 35)) classes.Directive _ (b ∷ bytes) found
+    (λ e is. subst Advances (sym is) (directive_advances b bytes (and_parts is_line_start (b == 35) e).1)) (λ _.
     choose (is_space b) classes.Space _ (b ∷ bytes) found (λ e is. subst Advances (sym is) (some_run is_space b bytes e)) (λ _.
     choose ((b == 47) && begins_with 42 bytes) classes.BlockComment _ (b ∷ bytes) found (λ _ h. comment_advances _ found h) (λ _.
-    choose ((b == 47) && begins_with 47 bytes) classes.LineComment _ (b ∷ bytes) found (λ e is. subst Advances (sym is) (some_run is_inside b bytes (let slash : (b == 47) ≡ true = (and_parts (b == 47) (begins_with 47 bytes) e).0 in grind (arith, nat_tests)))) (λ _.
+    choose ((b == 47) && begins_with 47 bytes) classes.LineComment _ (b ∷ bytes) found
+    (λ e is.
+    subst Advances (sym is) (some_run is_inside b bytes (let slash : (b == 47) ≡ true = (and_parts (b == 47) (begins_with 47 bytes) e).0 in
+    grind (arith, nat_tests)))) (λ _.
     choose (is_letter b) classes.Word _ (b ∷ bytes) found (λ e h. word_advances _ found (some_run is_name_byte b bytes (rw e refl)) h) (λ _.
     other_advances b bytes found)))))

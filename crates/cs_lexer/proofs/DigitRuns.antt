@@ -1,5 +1,6 @@
 -- Digits of a base as std reads them: for `value` and `leading_value`.
-use Rattle.std.proofs.Common.{◌≡◌, ℕ, ◌<◌, ◌^◌, zero, suc, true, false, List, [], ◌∷◌, length, get_or, nat_lt, cond, Result, Err, Some, None, refl, arith}
+use Rattle.std.proofs.Common.{◌≡◌, ℕ, ◌<◌, ◌^◌, zero, suc, true, false, List, [], ◌∷◌, length, get_or, nat_lt, cond, Result, Err, Some}
+use Rattle.std.proofs.Common.{None, refl, arith}
 use Rattle.std.specs.Prelude.{◌==◌}
 use Rattle.std.specs.List.{list_all}
 use Rattle.std.specs.Char.{digit_value}
@@ -49,7 +50,13 @@ no_plus base [] some h = refl
 no_plus base (d ∷ ds) some h = rw (digit_is_no_plus base d (and_parts (is_digit_of base d) (list_all (is_digit_of base) ds) h).0) refl
 
 -- digits that don't parse have too large a value
-pub too_large : {E : Type 0} (base : Base) (ds : List ℕ) (r : Result ℕ E) (e : E) → 0 < length ds → list_all (is_digit_of base) ds ≡ true → ParsesUnsigned 64 (radix base) ds r → r ≡ Err e → value_of base ds ≡ None
+pub too_large : {E : Type 0} (base : Base) (ds : List ℕ) (r : Result ℕ E) (e : E) → 0 < length ds → list_all (is_digit_of base) ds ≡ true
+    → ParsesUnsigned 64 (radix base) ds r → r ≡ Err e → value_of base ds ≡ None
 too_large base ds r e some h parsed is =
     let fails = rw (is, no_plus base ds some h) at parsed in
-    elim (nat_lt (digits_value (radix base) ds) (2 ^ 64)) as (λ t. nat_lt (digits_value (radix base) ds) (2 ^ 64) ≡ t → cond t (Some (digits_value (radix base) ds)) None ≡ None) [ true ↦ λ low. absurd (fails ((some, digits_fit base ds h), grind (arith, nat_tests))) | false ↦ λ _. refl ] refl
+    elim (nat_lt (digits_value (radix base) ds) (2 ^ 64)) as (λ t.
+    nat_lt (digits_value (radix base) ds) (2 ^ 64) ≡ t
+    → cond t (Some (digits_value (radix base) ds)) None ≡ None) [
+      | true ↦ λ low. absurd (fails ((some, digits_fit base ds h), grind (arith, nat_tests)))
+      | false ↦ λ _. refl
+    ] refl

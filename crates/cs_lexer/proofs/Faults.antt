@@ -9,11 +9,15 @@ use Rattle.cs_lexer.specs.declared.found.Fault.TheVariants.{BadByte, Unclosed, W
 use Rattle.cs_lexer.specs.Cuttings.{IsRefusedAt}
 use Rattle.cs_lexer.specs.Lexing.{IsFirstFault, IsRefused, refusal_of, tokens_of}
 
-at_fault : (text : List ℕ) (fault : Fault) (place : Place) (file : List ℕ) → IsFirstFault text fault place file → IsRefused text (refusal_of fault place file)
+at_fault : (text : List ℕ) (fault : Fault) (place : Place) (file : List ℕ) → IsFirstFault text fault place file
+    → IsRefused text (refusal_of fault place file)
 at_fault text BadByte place file h = h
 at_fault text Unclosed place file h = h
 at_fault text WideNumber place file h = h
 at_fault text BadLine place file h = h
 
-pub first_fault : (text : List ℕ) (fault : Fault) (place : Place) (file : List ℕ) (files : List (List ℕ)) (pieces : List Token) → IsRefusedAt text files pieces place fault → slice_get files place.file ≡ Some file → length (tokens_of pieces) ≤ MOST_TOKENS → IsRefused text (refusal_of fault place file)
-first_fault text fault place file files pieces refused named few = at_fault text fault place file (record { files = files; pieces = pieces; refused = refused; named = named; few = few })
+pub first_fault : (text : List ℕ) (fault : Fault) (place : Place) (file : List ℕ) (files : List (List ℕ)) (pieces : List Token)
+    → IsRefusedAt text files pieces place fault → slice_get files place.file ≡ Some file → length (tokens_of pieces) ≤ MOST_TOKENS
+    → IsRefused text (refusal_of fault place file)
+first_fault text fault place file files pieces refused named few =
+    at_fault text fault place file (record { files = files; pieces = pieces; refused = refused; named = named; few = few })

@@ -1,5 +1,6 @@
 -- The place of a name among the names of files: for `add` and `number_in`.
-use Rattle.std.proofs.Common.{◌≡◌, ℕ, ◌+◌, ◌≤◌, Bool, true, false, cond, List, [], ◌∷◌, ◌++◌, length, length-append, Option, Some, None, nat_lt, nat_eq, eqb, refl, sym, ap, ◌∙◌, subst, arith}
+use Rattle.std.proofs.Common.{◌≡◌, ℕ, ◌+◌, ◌≤◌, Bool, true, false, cond, List, [], ◌∷◌, ◌++◌, length, length-append, Option, Some}
+use Rattle.std.proofs.Common.{None, nat_lt, nat_eq, eqb, refl, sym, ap, ◌∙◌, subst, arith}
 use Rattle.std.specs.List.{position, position_or_len}
 use Rattle.std.specs.Ordering.{nat_cmp, is_eq}
 use Rattle.std.specs.Cmp.Lexicographic.{pointwise, slice_cmp, bytes_decides, texts_ties}
@@ -16,14 +17,19 @@ within : (p : List ℕ → Bool) (names : List (List ℕ)) → position_or_len p
 within p names = prefix_len-le-length _ names
 
 at_end : (at end : ℕ) → at ≤ end → place at end ≡ None → at ≡ end
-at_end at end h none = elim (nat_lt at end) as (λ t. nat_lt at end ≡ t → cond t (Some at) None ≡ None → at ≡ end) [ true ↦ λ _ e. absurd cc | false ↦ λ e _. grind (arith, nat_tests) ] refl none
+at_end at end h none = elim (nat_lt at end) as (λ t. nat_lt at end ≡ t → cond t (Some at) None ≡ None → at ≡ end) [
+  | true ↦ λ _ e. absurd cc
+  | false ↦ λ e _. grind (arith, nat_tests)
+] refl none
 
 -- a name that has no place has the next number
 pub next_number : (p : List ℕ → Bool) (names : List (List ℕ)) → position p names ≡ None → position_or_len p names ≡ length names
 next_number p names none = at_end (position_or_len p names) (length names) (within p names) none
 
 -- the place of a name among one more
-pushed : (p : List ℕ → Bool) (names : List (List ℕ)) (name : List ℕ) → position p (names ++ name ∷ []) ≡ place (cond (eqb (position_or_len p names) (length names)) (length names + cond (p name) 0 1) (position_or_len p names)) (length names + 1)
+pushed : (p : List ℕ → Bool) (names : List (List ℕ)) (name : List ℕ)
+    → position p (names ++ name ∷ [])
+    ≡ place (cond (eqb (position_or_len p names) (length names)) (length names + cond (p name) 0 1) (position_or_len p names)) (length names + 1)
 pushed p names name = rw (position_or_len_push p names name, length-append names (name ∷ [])) refl
 
 found_last : (at end : ℕ) → at ≡ end → place (cond (eqb at end) (end + 0) at) (end + 1) ≡ Some end
@@ -36,31 +42,46 @@ same_test : (one other : List ℕ) → pointwise nat_eq one other ≡ is_eq (sli
 same_test one other = texts_ties one other
 
 -- the added name is found last
-new_place : (names : List (List ℕ)) (name other : List ℕ) → pointwise nat_eq name other ≡ true → position (pointwise nat_eq name) names ≡ None → position (pointwise nat_eq other) (names ++ name ∷ []) ≡ Some (length names)
+new_place : (names : List (List ℕ)) (name other : List ℕ) → pointwise nat_eq name other ≡ true → position (pointwise nat_eq name) names ≡ None
+    → position (pointwise nat_eq other) (names ++ name ∷ []) ≡ Some (length names)
 new_place names name other same none =
     let e : name ≡ other = (bytes_decides name other).0 same in
     let itself : pointwise nat_eq name name ≡ true = (bytes_decides name name).1 refl in
     let here : position (pointwise nat_eq name) (names ++ name ∷ []) ≡ Some (length names) =
-    pushed (pointwise nat_eq name) names name ∙ ap (λ t. place (cond (eqb (position_or_len (pointwise nat_eq name) names) (length names)) (length names + cond t 0 1) (position_or_len (pointwise nat_eq name) names)) (length names + 1)) itself ∙ found_last (position_or_len (pointwise nat_eq name) names) (length names) (next_number (pointwise nat_eq name) names none) in
+    pushed (pointwise nat_eq name) names name
+    ∙ ap (λ t.
+    place (cond (eqb (position_or_len (pointwise nat_eq name) names) (length names)) (length names + cond t 0 1)
+    (position_or_len (pointwise nat_eq name) names)) (length names + 1)) itself
+    ∙ found_last (position_or_len (pointwise nat_eq name) names) (length names) (next_number (pointwise nat_eq name) names none) in
     subst (λ o. position (pointwise nat_eq o) (names ++ name ∷ []) ≡ Some (length names)) e here
 
 flipped : (one other : List ℕ) → pointwise nat_eq one other ≡ false → pointwise nat_eq other one ≡ false
 flipped one other apart = elim (pointwise nat_eq other one) as (λ t. pointwise nat_eq other one ≡ t → t ≡ false) [
-  | true ↦ λ e. absurd (let same : one ≡ other = sym ((bytes_decides other one).0 e) in let h : pointwise nat_eq one other ≡ true = (bytes_decides one other).1 same in cc)
+  | true ↦ λ e.
+      absurd (let same : one ≡ other = sym ((bytes_decides other one).0 e) in
+      let h : pointwise nat_eq one other ≡ true = (bytes_decides one other).1 same in cc)
   | false ↦ λ _. refl
 ] refl
 
 -- and any other name where it was
-old_place : (names : List (List ℕ)) (name other : List ℕ) → pointwise nat_eq name other ≡ false → position (pointwise nat_eq other) (names ++ name ∷ []) ≡ position (pointwise nat_eq other) names
+old_place : (names : List (List ℕ)) (name other : List ℕ) → pointwise nat_eq name other ≡ false
+    → position (pointwise nat_eq other) (names ++ name ∷ []) ≡ position (pointwise nat_eq other) names
 old_place names name other apart =
-    pushed (pointwise nat_eq other) names name ∙ ap (λ t. place (cond (eqb (position_or_len (pointwise nat_eq other) names) (length names)) (length names + cond t 0 1) (position_or_len (pointwise nat_eq other) names)) (length names + 1)) (flipped name other apart) ∙ found_before (position_or_len (pointwise nat_eq other) names) (length names) (within (pointwise nat_eq other) names)
+    pushed (pointwise nat_eq other) names name
+    ∙ ap (λ t.
+    place (cond (eqb (position_or_len (pointwise nat_eq other) names) (length names)) (length names + cond t 0 1)
+    (position_or_len (pointwise nat_eq other) names)) (length names + 1)) (flipped name other apart)
+    ∙ found_before (position_or_len (pointwise nat_eq other) names) (length names) (within (pointwise nat_eq other) names)
 
 -- a map with the added name's number has the place of each name
-pub still_numbered : (old new : BTreeMap (List ℕ) ℕ) (names more : List (List ℕ)) (name : List ℕ) (number : ℕ) → Numbered old names → position (pointwise nat_eq name) names ≡ None → number ≡ length names → more ≡ names ++ name ∷ [] → HasEntered old new name number → Numbered new more
+pub still_numbered : (old new : BTreeMap (List ℕ) ℕ) (names more : List (List ℕ)) (name : List ℕ) (number : ℕ) → Numbered old names
+    → position (pointwise nat_eq name) names ≡ None → number ≡ length names → more ≡ names ++ name ∷ [] → HasEntered old new name number
+    → Numbered new more
 still_numbered old new names more name number numbered none is added entered = record {
   each = λ other. subst (λ ns. number_at new other ≡ position (pointwise nat_eq other) ns) (sym added)
       (entered other ∙ ap (λ t. cond t (Some number) (number_at old other)) (sym (same_test name other)) ∙
-      elim (pointwise nat_eq name other) as (λ t. pointwise nat_eq name other ≡ t → cond t (Some number) (number_at old other) ≡ position (pointwise nat_eq other) (names ++ name ∷ [])) [
+      elim (pointwise nat_eq name other) as (λ t.
+      pointwise nat_eq name other ≡ t → cond t (Some number) (number_at old other) ≡ position (pointwise nat_eq other) (names ++ name ∷ [])) [
         | true ↦ λ e. ap Some is ∙ sym (new_place names name other e none)
         | false ↦ λ e. numbered.each other ∙ sym (old_place names name other e)
       ] refl);

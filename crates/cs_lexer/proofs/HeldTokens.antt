@@ -1,5 +1,6 @@
 -- What the lexer takes has no constant that is too wide: for the tokens of lexed files.
-use Rattle.std.proofs.Common.{◌-◌, ◌≡◌, ℕ, zero, suc, ◌+◌, ◌^◌, ◌<◌, Bool, true, false, cond, List, [], ◌∷◌, length, take, drop, Option, Some, None, refl, sym, subst, arith}
+use Rattle.std.proofs.Common.{◌-◌, ◌≡◌, ℕ, zero, suc, ◌+◌, ◌^◌, ◌<◌, Bool, true, false, cond, List, [], ◌∷◌, length, take, drop}
+use Rattle.std.proofs.Common.{Option, Some, None, refl, sym, subst, arith}
 use Rattle.std.specs.Prelude.{pos, negsuc, nat_le, nat_lt, not, ◌&&◌, codes, IfSome, is_some, FitsSigned, nat_eq}
 use Rattle.std.specs.Int.{w32}
 use Rattle.std.specs.Str.Parse.{digits_value}
@@ -117,7 +118,8 @@ text-held bytes (Some count) piece h = text_body-held (take count bytes) piece h
 value_of-fits : (base : Base) (digits : List ℕ) → IfSome (value_of base digits) (λ v. v < 2 ^ 64)
 value_of-fits base digits = by_test _ refl
   where
-    by_test : (b : Bool) → nat_lt (digits_value (radix base) digits) (2 ^ 64) ≡ b → IfSome (cond b (Some (digits_value (radix base) digits)) None) (λ v. v < 2 ^ 64)
+    by_test : (b : Bool) → nat_lt (digits_value (radix base) digits) (2 ^ 64) ≡ b
+        → IfSome (cond b (Some (digits_value (radix base) digits)) None) (λ v. v < 2 ^ 64)
     by_test true is = ltb-true _ _ is
     by_test false is = tt
 
@@ -128,18 +130,23 @@ narrow true false true h d u = absurd cc
 narrow true true wide h d u = absurd cc
 narrow false unsigned wide h d u = absurd cc
 
-constant-held : (base : Base) (value : Option ℕ) (suffix : Suffix) (size : ℕ) (bytes : List ℕ) → IfSome value (λ v. v < 2 ^ 64) → PieceIsHeld (constant base value suffix size bytes)
+constant-held : (base : Base) (value : Option ℕ) (suffix : Suffix) (size : ℕ) (bytes : List ℕ) → IfSome value (λ v. v < 2 ^ 64)
+    → PieceIsHeld (constant base value suffix size bytes)
 constant-held base None suffix size bytes h = tt
 constant-held base (Some value) suffix size bytes h = by_test (is_too_wide base suffix value) refl
   where
     made : Found
     made = found.Token size (token.Number (record { value = value; decimal = is_decimal base; unsigned = suffix.unsigned; length = suffix.length }))
 
-    by_test : (b : Bool) → is_too_wide base suffix value ≡ b → PieceIsHeld (cond b (found.Refused WideNumber 0) (cond (goes_on (drop size bytes)) (found.Refused BadByte size) made))
+    by_test : (b : Bool) → is_too_wide base suffix value ≡ b
+        → PieceIsHeld (cond b (found.Refused WideNumber 0) (cond (goes_on (drop size bytes)) (found.Refused BadByte size) made))
     by_test true is = tt
     by_test false is =
         either-held (goes_on (drop size bytes)) (found.Refused BadByte size) made tt
-        (record { fits = h; fits_signed = λ decimal unsigned. leb-false (2 ^ 63) value (narrow (is_decimal base) suffix.unsigned (nat_le (2 ^ 63) value) is decimal unsigned) })
+        (record {
+          fits = h;
+          fits_signed = λ decimal unsigned. leb-false (2 ^ 63) value (narrow (is_decimal base) suffix.unsigned (nat_le (2 ^ 63) value) is decimal unsigned);
+        })
 
 number-held : (bytes : List ℕ) → PieceIsHeld (number_at bytes)
 number-held bytes =
@@ -184,19 +191,22 @@ piece-held class.Punctuator bytes piece h = punctuator-held bytes piece h
 
 -- ---- tokens
 
-pieces-held : (text : List ℕ) (files : List (List ℕ)) (list : List Token) (spot : Spot) (rest : List ℕ) → Reaches text files list spot rest → All IsHeld list
+pieces-held : (text : List ℕ) (files : List (List ℕ)) (list : List Token) (spot : Spot) (rest : List ℕ) → Reaches text files list spot rest
+    → All IsHeld list
 pieces-held text files list spot rest begins = All-nil IsHeld
 pieces-held text files list spot rest (gap {files = fs} {spot = at} {rest = left} size before some piece) = pieces-held text fs list at left before
 pieces-held text files list spot rest (marker {files = fs} {spot = at} {rest = left} size next name before some piece) = pieces-held text fs list at left before
 pieces-held text files list spot rest (one_token {list = earlier} {spot = at} {rest = left} size kind before some piece) =
-    All-push IsHeld earlier (token_at kind at.place) (pieces-held text files earlier at left before) (piece-held (class_of at.is_line_start left) left (found.Token size kind) piece)
+    All-push IsHeld earlier (token_at kind at.place) (pieces-held text files earlier at left before)
+    (piece-held (class_of at.is_line_start left) left (found.Token size kind) piece)
 
 kept-held : (skipped : ℕ) (list : List Token) → AllByRecursion IsHeld list → AllByRecursion IsHeld (without_attributes skipped list)
 kept-held skipped [] h = tt
 kept-held (suc skipped) (t ∷ ts) h = kept-held skipped ts h.1
 kept-held zero (t ∷ ts) h = by_test (has_group t ts) (kept-held (group_length ts) ts h.1) (kept-held 0 ts h.1)
   where
-    by_test : (b : Bool) → AllByRecursion IsHeld (without_attributes (group_length ts) ts) → AllByRecursion IsHeld (without_attributes 0 ts) → AllByRecursion IsHeld (cond b (without_attributes (group_length ts) ts) (t ∷ without_attributes 0 ts))
+    by_test : (b : Bool) → AllByRecursion IsHeld (without_attributes (group_length ts) ts) → AllByRecursion IsHeld (without_attributes 0 ts)
+        → AllByRecursion IsHeld (cond b (without_attributes (group_length ts) ts) (t ∷ without_attributes 0 ts))
     by_test true following next = following
     by_test false following next = (h.0, next)
 
@@ -208,7 +218,8 @@ following-held (t ∷ ts) h = by_test (is_some (text_of_kind t.kind))
     by_test true = h.1
     by_test false = h
 
-joined_to-held : (bytes : Option (List ℕ)) (t : Token) (list : List Token) → IsHeld t → AllByRecursion IsHeld list → AllByRecursion IsHeld (joined_to bytes t list)
+joined_to-held : (bytes : Option (List ℕ)) (t : Token) (list : List Token) → IsHeld t → AllByRecursion IsHeld list
+    → AllByRecursion IsHeld (joined_to bytes t list)
 joined_to-held None t list h k = (h, k)
 joined_to-held (Some bytes) t list h k = (tt, following-held list k)
 

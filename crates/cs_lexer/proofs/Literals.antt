@@ -15,7 +15,8 @@ nothing_read body values none = record {
   within = omega arith;
 }
 
-pub one_more : (body values rest more left : List ℕ) (byte size : ℕ) → Progress body values rest → 0 < length rest → item_at rest ≡ Byte byte size → more ≡ values ++ byte ∷ [] → left ≡ drop size rest → Progress body more left
+pub one_more : (body values rest more left : List ℕ) (byte size : ℕ) → Progress body values rest → 0 < length rest → item_at rest ≡ Byte byte size
+    → more ≡ values ++ byte ∷ [] → left ≡ drop size rest → Progress body more left
 one_more body values rest more left byte size so_far some is pushed cut = record {
   reads = subst (λ vs. Reads body vs left) (sym pushed) (subst (λ xs. Reads body (values ++ byte ∷ []) xs) (sym cut) (item so_far.reads some is));
   within = let fits = so_far.within in rw cut (omega (arith, length-drop size rest));

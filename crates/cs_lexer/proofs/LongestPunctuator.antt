@@ -1,5 +1,6 @@
 -- The longest punctuator at the front of bytes: for `longest_punctuator`, which tries three bytes, then two, then one.
-use Rattle.std.proofs.Common.{◌≡◌, ◌≢◌, ℕ, ◌<◌, ◌≤◌, inl, inr, zero, suc, List, [], ◌∷◌, length, take, refl, sym, ap, ◌∙◌, arith, length-take}
+use Rattle.std.proofs.Common.{◌≡◌, ◌≢◌, ℕ, ◌<◌, ◌≤◌, inl, inr, zero, suc, List, [], ◌∷◌, length, take, refl, sym, ap, ◌∙◌}
+use Rattle.std.proofs.Common.{arith, length-take}
 use Rattle.std.proofs.lemmas.Bool.{cases_lt}
 use Rattle.cs_ast.specs.declared.token.Punctuator.{Punctuator}
 use Rattle.cs_ast.specs.declared.token.Punctuator.TheVariants.{OpenBracket}
@@ -26,7 +27,8 @@ NoneOf bytes k = (other : Punctuator) → punctuator_text other ≢ take k bytes
 taken_fits : (bytes text : List ℕ) → take (length text) bytes ≡ text → length text ≤ length bytes
 taken_fits bytes text h = omega (arith, ap length h, length-take (length text) bytes)
 
-no_longer : (bytes text : List ℕ) (other : Punctuator) (n : ℕ) → text ≡ take n bytes → ((k : ℕ) → n < k → k ≤ 3 → NoneOf bytes k) → BeginsWithPunctuator bytes other → length (punctuator_text other) ≤ length text
+no_longer : (bytes text : List ℕ) (other : Punctuator) (n : ℕ) → text ≡ take n bytes → ((k : ℕ) → n < k → k ≤ 3 → NoneOf bytes k)
+    → BeginsWithPunctuator bytes other → length (punctuator_text other) ≤ length text
 no_longer bytes text other n is none begins =
     let within = taken_fits bytes (punctuator_text other) begins in
     let short = punctuator_has_three other in
@@ -36,7 +38,8 @@ no_longer bytes text other n is none begins =
     ]
 
 -- a punctuator of so many bytes is the longest where no more bytes spell one
-pub longest_from : (bytes : List ℕ) (punctuator : Punctuator) (n : ℕ) → punctuator_text punctuator ≡ take n bytes → ((k : ℕ) → n < k → k ≤ 3 → NoneOf bytes k) → IsLongestPunctuator bytes punctuator
+pub longest_from : (bytes : List ℕ) (punctuator : Punctuator) (n : ℕ) → punctuator_text punctuator ≡ take n bytes
+    → ((k : ℕ) → n < k → k ≤ 3 → NoneOf bytes k) → IsLongestPunctuator bytes punctuator
 longest_from bytes punctuator n is none =
     record {
       begins = ap (λ text. take (length text) bytes) is ∙ take_again n bytes ∙ sym is;
@@ -60,4 +63,7 @@ pub above_one : (bytes : List ℕ) → NoneOf bytes 3 → NoneOf bytes 2 → (k 
 above_one bytes three two k above below = elim (cases_lt 2 k) [ inl more ↦ above_two bytes three k more below | inr less ↦ at bytes k 2 (omega arith) two ]
 
 pub above_none : (bytes : List ℕ) → NoneOf bytes 3 → NoneOf bytes 2 → NoneOf bytes 1 → (k : ℕ) → 0 < k → k ≤ 3 → NoneOf bytes k
-above_none bytes three two one k above below = elim (cases_lt 1 k) [ inl more ↦ above_one bytes three two k more below | inr less ↦ at bytes k 1 (omega arith) one ]
+above_none bytes three two one k above below = elim (cases_lt 1 k) [
+  | inl more ↦ above_one bytes three two k more below
+  | inr less ↦ at bytes k 1 (omega arith) one
+]

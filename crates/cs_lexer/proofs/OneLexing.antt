@@ -21,7 +21,8 @@ lexed_once text one other h i =
     let same = one_cutting text one.files.items other.files.items h.pieces i.pieces one.end other.end ends.Whole ends.Whole h.whole i.whole in
     record { list = h.tokens_are ∙ ap tokens_of same.same_list ∙ sym i.tokens_are; files = same.same_files; end = same.same_place }
 
-no_fault : (text : List ℕ) (lexed : Lexed) (fault : Fault) (place : Place) (file : List ℕ) → Lexes text lexed → IsFirstFault text fault place file → ⊥
+no_fault : (text : List ℕ) (lexed : Lexed) (fault : Fault) (place : Place) (file : List ℕ) → Lexes text lexed → IsFirstFault text fault place file
+    → ⊥
 no_fault text lexed fault place file h i =
     let same = one_cutting text lexed.files.items i.files h.pieces i.pieces lexed.end place ends.Whole (ends.Refused fault) h.whole i.refused in
     let e = same.same_end in

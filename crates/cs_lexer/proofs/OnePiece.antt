@@ -1,5 +1,6 @@
 -- The piece that bytes begin with is one: for the one cutting of a text.
-use Rattle.std.proofs.Common.{◌≡◌, inl, inr, ◌++◌, ℕ, ◌+◌, ◌<◌, Bool, List, [], ◌∷◌, length, take, drop, Option, Some, None, refl, sym, ap, ◌∙◌, arith}
+use Rattle.std.proofs.Common.{◌≡◌, inl, inr, ◌++◌, ℕ, ◌+◌, ◌<◌, Bool, List, [], ◌∷◌, length, take, drop, Option, Some, None, refl}
+use Rattle.std.proofs.Common.{sym, ap, ◌∙◌, arith}
 use Rattle.std.proofs.lemmas.Bool.{cases_lt}
 use Rattle.cs_ast.specs.declared.token.TokenKind.{TokenKind}
 use Rattle.cs_ast.specs.declared.token.TokenKind.TheVariants as kinds
@@ -62,7 +63,8 @@ item_once s t u h i =
 reads_onward : (body values rest : List ℕ) → Reads body values rest → Onward ReadsItem ([], body) (values, rest)
 reads_onward body _ _ begins = stays refl
 reads_onward body _ _ (item {values} {rest} {byte} {size} reads some is) =
-    one_further ReadsItem ([], body) (values, rest) (values ++ byte ∷ [], drop size rest) (reads_onward body values rest reads) (record { byte = byte; size = size; some = some; is = is; values = refl; rest = refl })
+    one_further ReadsItem ([], body) (values, rest) (values ++ byte ∷ [], drop size rest) (reads_onward body values rest reads)
+    (record { byte = byte; size = size; some = some; is = is; values = refl; rest = refl })
 
 read_through : (values : List ℕ) → IsStuck ReadsItem (values, [])
 read_through values t step = absurd (omega (arith, step.some))
@@ -72,20 +74,23 @@ read_to_fault values rest fault is t step = let e : items.Refused fault ≡ item
 
 text_token_once : (body : List ℕ) (m n : ℕ) (a b : TokenKind) → IsTextToken body m a → IsTextToken body n b → Token m a ≡ Token n b
 text_token_once body m n (kinds.Text v) (kinds.Text w) h i =
-    let same = one_end ReadsItem item_once ([], body) (v, []) (w, []) (reads_onward body v [] h.1) (read_through v) (reads_onward body w [] i.1) (read_through w) in
+    let same = one_end ReadsItem item_once ([], body) (v, []) (w, []) (reads_onward body v [] h.1) (read_through v) (reads_onward body w [] i.1)
+    (read_through w) in
     ap (λ x. Token m (kinds.Text x)) (ap (λ x. x.0) same) ∙ ap (λ x. Token x (kinds.Text w)) (h.0 ∙ sym i.0)
 text_token_once body m n (kinds.Text v) _ h i = absurd i
 text_token_once body m n _ b h i = absurd h
 
 text_or_fault : (body : List ℕ) (m : ℕ) (a : TokenKind) (fault : Fault) (n : ℕ) → IsTextToken body m a → BadItem body fault n → ⊥
 text_or_fault body m (kinds.Text v) fault n h i =
-    let same = one_end ReadsItem item_once ([], body) (v, []) (i.values, i.rest) (reads_onward body v [] h.1) (read_through v) (reads_onward body i.values i.rest i.reads) (read_to_fault i.values i.rest fault i.refused) in
+    let same = one_end ReadsItem item_once ([], body) (v, []) (i.values, i.rest) (reads_onward body v [] h.1) (read_through v)
+    (reads_onward body i.values i.rest i.reads) (read_to_fault i.values i.rest fault i.refused) in
     absurd (omega (arith, i.some, ap (λ x. length x.1) same))
 text_or_fault body m _ fault n h i = h
 
 fault_once : (body : List ℕ) (f g : Fault) (m n : ℕ) → BadItem body f m → BadItem body g n → Refused f m ≡ Refused g n
 fault_once body f g m n h i =
-    let same = one_end ReadsItem item_once ([], body) (h.values, h.rest) (i.values, i.rest) (reads_onward body h.values h.rest h.reads) (read_to_fault h.values h.rest f h.refused) (reads_onward body i.values i.rest i.reads) (read_to_fault i.values i.rest g i.refused) in
+    let same = one_end ReadsItem item_once ([], body) (h.values, h.rest) (i.values, i.rest) (reads_onward body h.values h.rest h.reads)
+    (read_to_fault h.values h.rest f h.refused) (reads_onward body i.values i.rest i.reads) (read_to_fault i.values i.rest g i.refused) in
     let rest : h.rest ≡ i.rest = ap (λ x. x.1) same in
     let fault : items.Refused f ≡ items.Refused g = sym h.refused ∙ ap item_at rest ∙ i.refused in
     let size : m ≡ n = omega (arith, h.place, i.place, ap length rest) in

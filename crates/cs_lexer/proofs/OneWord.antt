@@ -1,10 +1,12 @@
 -- A word, and the punctuator at the front of bytes, is one thing alone: for the one cutting of a text.
-use Rattle.std.proofs.Common.{◌≡◌, ◌⊎◌, inl, inr, ◌||◌, codes, ℕ, Bool, true, false, List, [], ◌∷◌, length, take, Option, Some, None, nat_eq, refl, sym, ap, ◌∙◌, arith}
+use Rattle.std.proofs.Common.{◌≡◌, ◌⊎◌, inl, inr, ◌||◌, codes, ℕ, Bool, true, false, List, [], ◌∷◌, length, take, Option, Some, None}
+use Rattle.std.proofs.Common.{nat_eq, refl, sym, ap, ◌∙◌, arith}
 use Rattle.std.proofs.lemmas.Bool.{false≢true}
 use Rattle.std.specs.List.{find}
 use Rattle.std.specs.Cmp.Lexicographic.{pointwise, bytes_decides}
 use Rattle.cs_ast.specs.declared.token.Keyword as keywords
-use Rattle.cs_ast.specs.declared.token.Keyword.TheVariants.{Break, Case, Char, Const, Continue, Default, Do, Else, Enum, For, Goto, If, Int, Long, Return, Short, Signed, Sizeof, Static, Struct, Switch, Typedef, Unsigned, Void, While}
+use Rattle.cs_ast.specs.declared.token.Keyword.TheVariants.{Break, Case, Char, Const, Continue, Default, Do, Else, Enum, For, Goto, If, Int, Long, Return}
+use Rattle.cs_ast.specs.declared.token.Keyword.TheVariants.{Short, Signed, Sizeof, Static, Struct, Switch, Typedef, Unsigned, Void, While}
 use Rattle.cs_ast.specs.declared.token.Unsupported as left_outs
 use Rattle.cs_ast.specs.declared.token.Unsupported.TheVariants as left
 use Rattle.cs_ast.specs.declared.token.Punctuator as punctuators
@@ -23,13 +25,23 @@ abbrev spelled : {A : Type 0} → (A → List ℕ) → List A → List ℕ → O
 spelled text all word = find (λ a. pointwise nat_eq (text a) word) all
 
 abbrev all_keywords : List keywords.Keyword
-all_keywords = Break ∷ Case ∷ Char ∷ Const ∷ Continue ∷ Default ∷ Do ∷ Else ∷ Enum ∷ For ∷ Goto ∷ If ∷ Int ∷ Long ∷ Return ∷ Short ∷ Signed ∷ Sizeof ∷ Static ∷ Struct ∷ Switch ∷ Typedef ∷ Unsigned ∷ Void ∷ While ∷ []
+all_keywords = Break ∷ Case ∷ Char ∷ Const ∷ Continue ∷ Default ∷ Do ∷ Else ∷ Enum ∷ For ∷ Goto ∷ If ∷ Int ∷ Long ∷ Return ∷ Short
+    ∷ Signed ∷ Sizeof ∷ Static ∷ Struct ∷ Switch ∷ Typedef ∷ Unsigned ∷ Void ∷ While ∷ []
 
 abbrev all_left_outs : List left_outs.Unsupported
-all_left_outs = left.Float ∷ left.Double ∷ left.Union ∷ left.Bool ∷ left.Complex ∷ left.Imaginary ∷ left.Atomic ∷ left.Alignas ∷ left.Alignof ∷ left.Generic ∷ left.Noreturn ∷ left.StaticAssert ∷ left.ThreadLocal ∷ left.Int128 ∷ left.Asm ∷ left.AsmUnderscored ∷ left.AsmPrefixed ∷ left.Typeof ∷ left.TypeofUnderscored ∷ left.Auto ∷ []
+all_left_outs = left.Float ∷ left.Double ∷ left.Union ∷ left.Bool ∷ left.Complex ∷ left.Imaginary ∷ left.Atomic ∷ left.Alignas ∷ left.Alignof
+    ∷ left.Generic ∷ left.Noreturn ∷ left.StaticAssert ∷ left.ThreadLocal ∷ left.Int128 ∷ left.Asm ∷ left.AsmUnderscored ∷ left.AsmPrefixed
+    ∷ left.Typeof ∷ left.TypeofUnderscored ∷ left.Auto ∷ []
 
 abbrev all_punctuators : List punctuators.Punctuator
-all_punctuators = punctuator.OpenBracket ∷ punctuator.CloseBracket ∷ punctuator.OpenParenthesis ∷ punctuator.CloseParenthesis ∷ punctuator.OpenBrace ∷ punctuator.CloseBrace ∷ punctuator.Dot ∷ punctuator.Arrow ∷ punctuator.Increment ∷ punctuator.Decrement ∷ punctuator.Ampersand ∷ punctuator.Star ∷ punctuator.Plus ∷ punctuator.Minus ∷ punctuator.Tilde ∷ punctuator.Exclamation ∷ punctuator.Slash ∷ punctuator.Percent ∷ punctuator.ShiftLeft ∷ punctuator.ShiftRight ∷ punctuator.Less ∷ punctuator.More ∷ punctuator.AtMost ∷ punctuator.AtLeast ∷ punctuator.EqualEqual ∷ punctuator.Differs ∷ punctuator.Caret ∷ punctuator.Bar ∷ punctuator.AndAnd ∷ punctuator.BarBar ∷ punctuator.Question ∷ punctuator.Colon ∷ punctuator.Semicolon ∷ punctuator.Equal ∷ punctuator.StarEqual ∷ punctuator.SlashEqual ∷ punctuator.PercentEqual ∷ punctuator.PlusEqual ∷ punctuator.MinusEqual ∷ punctuator.ShiftLeftEqual ∷ punctuator.ShiftRightEqual ∷ punctuator.AmpersandEqual ∷ punctuator.CaretEqual ∷ punctuator.BarEqual ∷ punctuator.Comma ∷ punctuator.Ellipsis ∷ []
+all_punctuators = punctuator.OpenBracket ∷ punctuator.CloseBracket ∷ punctuator.OpenParenthesis ∷ punctuator.CloseParenthesis ∷ punctuator.OpenBrace
+    ∷ punctuator.CloseBrace ∷ punctuator.Dot ∷ punctuator.Arrow ∷ punctuator.Increment ∷ punctuator.Decrement ∷ punctuator.Ampersand
+    ∷ punctuator.Star ∷ punctuator.Plus ∷ punctuator.Minus ∷ punctuator.Tilde ∷ punctuator.Exclamation ∷ punctuator.Slash ∷ punctuator.Percent
+    ∷ punctuator.ShiftLeft ∷ punctuator.ShiftRight ∷ punctuator.Less ∷ punctuator.More ∷ punctuator.AtMost ∷ punctuator.AtLeast
+    ∷ punctuator.EqualEqual ∷ punctuator.Differs ∷ punctuator.Caret ∷ punctuator.Bar ∷ punctuator.AndAnd ∷ punctuator.BarBar ∷ punctuator.Question
+    ∷ punctuator.Colon ∷ punctuator.Semicolon ∷ punctuator.Equal ∷ punctuator.StarEqual ∷ punctuator.SlashEqual ∷ punctuator.PercentEqual
+    ∷ punctuator.PlusEqual ∷ punctuator.MinusEqual ∷ punctuator.ShiftLeftEqual ∷ punctuator.ShiftRightEqual ∷ punctuator.AmpersandEqual
+    ∷ punctuator.CaretEqual ∷ punctuator.BarEqual ∷ punctuator.Comma ∷ punctuator.Ellipsis ∷ []
 
 keyword_found : (k : keywords.Keyword) → spelled keyword_text all_keywords (keyword_text k) ≡ Some k
 keyword_found Break = refl
@@ -106,13 +118,15 @@ contrary b h k = false≢true (sym k ∙ h)
 
 keyword_once : (word : List ℕ) (k : keywords.Keyword) (b : TokenKind) → keyword_text k ≡ word → WordIs word b → Keyword k ≡ b
 keyword_once word k (Keyword l) h i = ap Keyword (one_keyword k l (h ∙ sym i))
-keyword_once word k (Unsupported l) h i = absurd (let e = sym (keyword_found k) ∙ ap (spelled keyword_text all_keywords) (h ∙ sym i) ∙ no_keyword_unsupported l in cc)
+keyword_once word k (Unsupported l) h i =
+    absurd (let e = sym (keyword_found k) ∙ ap (spelled keyword_text all_keywords) (h ∙ sym i) ∙ no_keyword_unsupported l in cc)
 keyword_once word k Attribute h i = absurd (contrary (is_attribute word) i (ap is_attribute (sym h) ∙ keyword_plain k))
 keyword_once word k (Name name) h i = absurd (i.1.no_keyword k h)
 keyword_once word k _ h i = absurd i
 
 unsupported_once : (word : List ℕ) (l : left_outs.Unsupported) (b : TokenKind) → unsupported_text l ≡ word → WordIs word b → Unsupported l ≡ b
-unsupported_once word l (Keyword k) h i = absurd (let e = sym (keyword_found k) ∙ ap (spelled keyword_text all_keywords) (i ∙ sym h) ∙ no_keyword_unsupported l in cc)
+unsupported_once word l (Keyword k) h i =
+    absurd (let e = sym (keyword_found k) ∙ ap (spelled keyword_text all_keywords) (i ∙ sym h) ∙ no_keyword_unsupported l in cc)
 unsupported_once word l (Unsupported m) h i = ap Unsupported (one_unsupported l m (h ∙ sym i))
 unsupported_once word l Attribute h i = absurd (contrary (is_attribute word) i (ap is_attribute (sym h) ∙ unsupported_plain l))
 unsupported_once word l (Name name) h i = absurd (i.1.no_unsupported l h)
@@ -160,7 +174,8 @@ word_once word (Marker m next name) g h i = absurd h
 word_once word (Refused fault m) g h i = absurd h
 
 -- a punctuator is the longest one alone
-punctuator_token_once : (bytes : List ℕ) (m n : ℕ) (a b : TokenKind) → IsPunctuatorToken bytes m a → IsPunctuatorToken bytes n b → Token m a ≡ Token n b
+punctuator_token_once : (bytes : List ℕ) (m n : ℕ) (a b : TokenKind) → IsPunctuatorToken bytes m a → IsPunctuatorToken bytes n b
+    → Token m a ≡ Token n b
 punctuator_token_once bytes m n (kinds.Punctuator k) (kinds.Punctuator l) h i =
     let long : length (punctuator_text k) ≡ length (punctuator_text l) = omega (arith, h.1.longest l i.1.begins, i.1.longest k h.1.begins) in
     let same : punctuator_text k ≡ punctuator_text l = sym h.1.begins ∙ ap (λ n. take n bytes) long ∙ i.1.begins in

@@ -22,14 +22,16 @@ module _ {S : Type 0} where
   meet : (Step : S → S → Type 0) → IsDetermined Step → (a s t : S) → Onward Step a s → Onward Step a t → Onward Step s t ⊎ Onward Step t s
   meet Step once a s t (stays e) way = inl (subst (λ x. Onward Step x t) e way)
   meet Step once a s t (goes first rest) (stays e) = inr (subst (λ x. Onward Step x s) e (goes first rest))
-  meet Step once a s t (goes {t = x} first rest) (goes {t = y} other more) = meet Step once x s t rest (subst (λ z. Onward Step z t) (sym (once a x y first other)) more)
+  meet Step once a s t (goes {t = x} first rest) (goes {t = y} other more) =
+      meet Step once x s t rest (subst (λ z. Onward Step z t) (sym (once a x y first other)) more)
 
   stuck_at : (Step : S → S → Type 0) (s t : S) → Onward Step s t → IsStuck Step s → s ≡ t
   stuck_at Step s t (stays e) stuck = e
   stuck_at Step s t (goes {t = x} first rest) stuck = absurd (stuck x first)
 
   -- the state at which the steps from a beginning end is one
-  pub one_end : (Step : S → S → Type 0) → IsDetermined Step → (a s t : S) → Onward Step a s → IsStuck Step s → Onward Step a t → IsStuck Step t → s ≡ t
+  pub one_end : (Step : S → S → Type 0) → IsDetermined Step → (a s t : S) → Onward Step a s → IsStuck Step s → Onward Step a t → IsStuck Step t
+      → s ≡ t
   one_end Step once a s t way stuck other ended = elim (meet Step once a s t way other) [
     | inl onward ↦ stuck_at Step s t onward stuck
     | inr onward ↦ sym (stuck_at Step t s onward ended)

@@ -1,5 +1,6 @@
 -- The tokens of a text with the bytes of their string literals are no more than its bytes: for `lexed_texts_are_bounded`.
-use Rattle.std.proofs.Common.{ℕ, zero, suc, ◌+◌, ◌<◌, ◌≤◌, Bool, true, false, cond, List, [], ◌∷◌, ◌++◌, length, length-append, length-drop, length-take, take, drop, Option, Some, None, sym, ap, subst, arith}
+use Rattle.std.proofs.Common.{ℕ, zero, suc, ◌+◌, ◌<◌, ◌≤◌, Bool, true, false, cond, List, [], ◌∷◌, ◌++◌, length, length-append}
+use Rattle.std.proofs.Common.{length-drop, length-take, take, drop, Option, Some, None, sym, ap, subst, arith}
 use Rattle.std.specs.Prelude.{nat_lt, nat_le, ◌&&◌, ◌==◌, codes, is_some, unwrap_or, nat_eq}
 use Rattle.std.specs.List.{sum_by, take_while, starts_with}
 use Rattle.std.proofs.lemmas.List.Sums.{sum_by-cons, sum_by_push}
@@ -32,7 +33,8 @@ use Rattle.cs_lexer.specs.Extent.{token_extent, LexedTokensAreShort}
 use Rattle.cs_lexer.specs.Punctuators.{IsPunctuatorToken, PunctuatorGives}
 use Rattle.cs_lexer.specs.Numbers.{base_of, prefix_length, suffix_of, goes_on, is_decimal, is_too_wide, constant, number_at}
 use Rattle.cs_lexer.specs.Pieces.{class_of, BeginsAs}
-use Rattle.cs_lexer.specs.Quoted.{closing, signed, character_with, character_of, character_in, Reads, begins as reads_none, item, IsTextToken, TextBodyGives, TextIn}
+use Rattle.cs_lexer.specs.Quoted.{closing, signed, character_with, character_of, character_in, Reads, begins as reads_none, item, IsTextToken, TextBodyGives}
+use Rattle.cs_lexer.specs.Quoted.{TextIn}
 use Rattle.cs_lexer.specs.Texts.{first_text, text_of_kind, after_text, joined_to, joined}
 use Rattle.cs_lexer.specs.Words.{WordIs, WordGives}
 use Rattle.cs_lexer.proofs.Advancing.{advances}
@@ -96,7 +98,8 @@ punctuator-fits left bytes (found.Gap size) h = tt
 punctuator-fits left bytes (found.Marker size next name) h = tt
 punctuator-fits left bytes (found.Refused fault size) h = tt
 
-constant-fits : (left : ℕ) (base : Base) (value : Option ℕ) (suffix : Suffix) (size : ℕ) (bytes : List ℕ) → PieceFits left (constant base value suffix size bytes)
+constant-fits : (left : ℕ) (base : Base) (value : Option ℕ) (suffix : Suffix) (size : ℕ) (bytes : List ℕ)
+    → PieceFits left (constant base value suffix size bytes)
 constant-fits left base None suffix size bytes = tt
 constant-fits left base (Some value) suffix size bytes =
     let made = found.Token size (token.Number (record { value = value; decimal = is_decimal base; unsigned = suffix.unsigned; length = suffix.length })) in
@@ -142,8 +145,10 @@ numeric-advances : (b : ℕ) (bytes : List ℕ) → Advances (numeric b bytes)
 numeric-advances b bytes =
     let hexadecimal : Item = cond ((b == 120) && begins_hexadecimal bytes) (coded Hexadecimal bytes 2) (items.Refused BadByte) in
     let hexadecimal_advances : Advances hexadecimal =
-    either-advances ((b == 120) && begins_hexadecimal bytes) (coded Hexadecimal bytes 2) (items.Refused BadByte) (coded-advances Hexadecimal bytes 2 (omega arith)) tt in
-    either-advances (is_octal_digit b) (coded Octal (take 3 (b ∷ bytes)) 1) hexadecimal (coded-advances Octal (take 3 (b ∷ bytes)) 1 (omega arith)) hexadecimal_advances
+    either-advances ((b == 120) && begins_hexadecimal bytes) (coded Hexadecimal bytes 2) (items.Refused BadByte)
+    (coded-advances Hexadecimal bytes 2 (omega arith)) tt in
+    either-advances (is_octal_digit b) (coded Octal (take 3 (b ∷ bytes)) 1) hexadecimal (coded-advances Octal (take 3 (b ∷ bytes)) 1 (omega arith))
+    hexadecimal_advances
 
 simple_or-advances : (simple_one : Option ℕ) (other : Item) → Advances other → Advances (simple_or simple_one other)
 simple_or-advances None other h = h
@@ -199,11 +204,13 @@ abbrev extent : List Token → ℕ
 extent list = sum_by token_extent list
 
 -- a token and what is left after it are no more than what was left before it
-one_less : (bytes : List ℕ) (size : ℕ) (kind : TokenKind) → 0 < length bytes → 0 < size → KindFits (length bytes) size kind → token_size kind + length (drop size bytes) ≤ length bytes
+one_less : (bytes : List ℕ) (size : ℕ) (kind : TokenKind) → 0 < length bytes → 0 < size → KindFits (length bytes) size kind
+    → token_size kind + length (drop size bytes) ≤ length bytes
 one_less bytes size (token.Text values) some more h = omega (arith, h.0, h.1, length-drop size bytes)
 one_less bytes size other some more h = omega (arith, length-drop size bytes)
 
-pieces-short : (text : List ℕ) (files : List (List ℕ)) (list : List Token) (spot : Spot) (rest : List ℕ) → Reaches text files list spot rest → extent list + length rest ≤ length text
+pieces-short : (text : List ℕ) (files : List (List ℕ)) (list : List Token) (spot : Spot) (rest : List ℕ) → Reaches text files list spot rest
+    → extent list + length rest ≤ length text
 pieces-short text files list spot rest begins = omega arith
 pieces-short text files list spot rest (gap {files = fs} {spot = at} {rest = left} size before some piece) =
     omega (arith, pieces-short text fs list at left before, length-drop size left)
@@ -211,14 +218,20 @@ pieces-short text files list spot rest (marker {files = fs} {spot = at} {rest = 
     omega (arith, pieces-short text fs list at left before, length-drop size left)
 pieces-short text files list spot rest (one_token {files = fs} {list = earlier} {spot = at} {rest = left} size kind before some piece) =
     let more : 0 < size = advances at.is_line_start left (found.Token size kind) some piece in
-    omega (arith, pieces-short text fs earlier at left before, sum_by_push token_extent earlier (token_at kind at.place), one_less left size kind some more (piece-fits (class_of at.is_line_start left) left (found.Token size kind) some piece))
+    omega (
+      arith,
+      pieces-short text fs earlier at left before,
+      sum_by_push token_extent earlier (token_at kind at.place),
+      one_less left size kind some more (piece-fits (class_of at.is_line_start left) left (found.Token size kind) some piece),
+    )
 
 kept-short : (skipped : ℕ) (list : List Token) → extent (without_attributes skipped list) ≤ extent list
 kept-short skipped [] = omega arith
 kept-short (suc skipped) (t ∷ ts) = omega (arith, kept-short skipped ts, sum_by-cons token_extent t ts)
 kept-short zero (t ∷ ts) = by_test (has_group t ts) (kept-short (group_length ts) ts) (kept-short 0 ts)
   where
-    by_test : (b : Bool) → extent (without_attributes (group_length ts) ts) ≤ extent ts → extent (without_attributes 0 ts) ≤ extent ts → extent (cond b (without_attributes (group_length ts) ts) (t ∷ without_attributes 0 ts)) ≤ extent (t ∷ ts)
+    by_test : (b : Bool) → extent (without_attributes (group_length ts) ts) ≤ extent ts → extent (without_attributes 0 ts) ≤ extent ts
+        → extent (cond b (without_attributes (group_length ts) ts) (t ∷ without_attributes 0 ts)) ≤ extent (t ∷ ts)
     by_test true following next = omega (arith, following, sum_by-cons token_extent t ts)
     by_test false following next = omega (arith, next, sum_by-cons token_extent t ts, sum_by-cons token_extent t (without_attributes 0 ts))
 
@@ -227,11 +240,14 @@ front-short : (list : List Token) → length (unwrap_or (first_text list) []) + 
 front-short [] = omega arith
 front-short (t ∷ ts) = by_kind t.kind t.place
   where
-    by_kind : (kind : TokenKind) (place : Place) → length (unwrap_or (text_of_kind kind) []) + extent (cond (is_some (text_of_kind kind)) ts (token_at kind place ∷ ts)) ≤ extent (token_at kind place ∷ ts)
+    by_kind : (kind : TokenKind) (place : Place)
+        → length (unwrap_or (text_of_kind kind) []) + extent (cond (is_some (text_of_kind kind)) ts (token_at kind place ∷ ts))
+        ≤ extent (token_at kind place ∷ ts)
     by_kind (token.Text bytes) place = omega (arith, sum_by-cons token_extent (token_at (token.Text bytes) place) ts)
     by_kind other place = omega arith
 
-joined_to-short : (kind : TokenKind) (place : Place) (list : List Token) → extent (joined_to (text_of_kind kind) (token_at kind place) list) ≤ token_size kind + extent list
+joined_to-short : (kind : TokenKind) (place : Place) (list : List Token)
+    → extent (joined_to (text_of_kind kind) (token_at kind place) list) ≤ token_size kind + extent list
 joined_to-short (token.Text bytes) place list =
     let more = unwrap_or (first_text list) [] in
     let made = token_at (token.Text (bytes ++ more)) place in

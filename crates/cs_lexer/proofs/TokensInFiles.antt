@@ -1,5 +1,6 @@
 -- The tokens of a text stand in the files that it names, which are few: for `lexed_texts_are_bounded`.
-use Rattle.std.proofs.Common.{ℕ, zero, suc, ◌+◌, ◌<◌, ◌≤◌, Bool, true, false, cond, List, [], ◌∷◌, length, length-drop, Option, Some, None, arith}
+use Rattle.std.proofs.Common.{ℕ, zero, suc, ◌+◌, ◌<◌, ◌≤◌, Bool, true, false, cond, List, [], ◌∷◌, length, length-drop, Option, Some}
+use Rattle.std.proofs.Common.{None, arith}
 use Rattle.std.specs.Prelude.{is_some}
 use Rattle.std.specs.List.{All, AllByRecursion}
 use Rattle.std.proofs.lemmas.List.Elements.{All-nil, All-push, All-same, All-from_recursion, recursion_from_All}
@@ -26,12 +27,14 @@ still-in count more (t ∷ ts) le h = (let here : t.place.file < count = h.0 in 
 
 -- ---- the pieces of a text
 
-pieces-in : (text : List ℕ) (files : List (List ℕ)) (list : List Token) (spot : Spot) (rest : List ℕ) → Reaches text files list spot rest → All (IsIn (length files)) list
+pieces-in : (text : List ℕ) (files : List (List ℕ)) (list : List Token) (spot : Spot) (rest : List ℕ) → Reaches text files list spot rest
+    → All (IsIn (length files)) list
 pieces-in text files list spot rest begins = All-nil (IsIn (length files))
 pieces-in text files list spot rest (gap {files = fs} {spot = at} {rest = left} size before some piece) = pieces-in text fs list at left before
 pieces-in text files list spot rest (marker {files = fs} {spot = at} {rest = left} size next name before some piece) =
     All-from_recursion (IsIn (length (files_after fs name))) list
-    (still-in (length fs) (length (files_after fs name)) list (files_kept fs name) (recursion_from_All (IsIn (length fs)) list (pieces-in text fs list at left before)))
+    (still-in (length fs) (length (files_after fs name)) list (files_kept fs name)
+    (recursion_from_All (IsIn (length fs)) list (pieces-in text fs list at left before)))
   where
     files_kept : (fs : List (List ℕ)) (name : Option (List ℕ)) → length fs ≤ length (files_after fs name)
     files_kept fs None = omega arith
@@ -40,7 +43,8 @@ pieces-in text files list spot rest (token {files = fs} {list = earlier} {spot =
     All-push (IsIn (length fs)) earlier (token_at kind at.place) (pieces-in text fs earlier at left before) (is_named text fs earlier at left before)
 
 -- what is left of a text has a byte for each file that is still to come
-pub files_fit : (text : List ℕ) (files : List (List ℕ)) (list : List Token) (spot : Spot) (rest : List ℕ) → Reaches text files list spot rest → length files + length rest ≤ length text + 1
+pub files_fit : (text : List ℕ) (files : List (List ℕ)) (list : List Token) (spot : Spot) (rest : List ℕ) → Reaches text files list spot rest
+    → length files + length rest ≤ length text + 1
 files_fit text files list spot rest begins = omega arith
 files_fit text files list spot rest (gap {files = fs} {spot = at} {rest = left} size before some piece) =
     omega (arith, files_fit text fs list at left before, length-drop size left)
@@ -57,7 +61,8 @@ kept-in count skipped [] h = tt
 kept-in count (suc skipped) (t ∷ ts) h = kept-in count skipped ts h.1
 kept-in count zero (t ∷ ts) h = by_test (has_group t ts) (kept-in count (group_length ts) ts h.1) (kept-in count 0 ts h.1)
   where
-    by_test : (b : Bool) → AllByRecursion (IsIn count) (without_attributes (group_length ts) ts) → AllByRecursion (IsIn count) (without_attributes 0 ts) → AllByRecursion (IsIn count) (cond b (without_attributes (group_length ts) ts) (t ∷ without_attributes 0 ts))
+    by_test : (b : Bool) → AllByRecursion (IsIn count) (without_attributes (group_length ts) ts) → AllByRecursion (IsIn count) (without_attributes 0 ts)
+        → AllByRecursion (IsIn count) (cond b (without_attributes (group_length ts) ts) (t ∷ without_attributes 0 ts))
     by_test true following next = following
     by_test false following next = (h.0, next)
 
@@ -69,7 +74,8 @@ following-in count (t ∷ ts) h = by_test (is_some (text_of_kind t.kind))
     by_test true = h.1
     by_test false = h
 
-joined_to-in : (count : ℕ) (bytes : Option (List ℕ)) (t : Token) (list : List Token) → IsIn count t → AllByRecursion (IsIn count) list → AllByRecursion (IsIn count) (joined_to bytes t list)
+joined_to-in : (count : ℕ) (bytes : Option (List ℕ)) (t : Token) (list : List Token) → IsIn count t → AllByRecursion (IsIn count) list
+    → AllByRecursion (IsIn count) (joined_to bytes t list)
 joined_to-in count None t list h k = (h, k)
 joined_to-in count (Some bytes) t list h k = (h, following-in count list k)
 

@@ -16,4 +16,6 @@ pub front_turned : (left inside : List Token) (token : Token) → reverse left �
 front_turned left inside token is =
     let whole : left ≡ reverse inside ++ token ∷ [] = sym (reverse-reverse left) ∙ ap reverse is ∙ reverse-append (token ∷ []) inside in
     let size : length left - 1 ≡ length (reverse inside) = omega (arith, ap length whole, length-append (reverse inside) (token ∷ [])) in
-    ap (λ n. reverse (take n left)) size ∙ ap (λ ts. reverse (take (length (reverse inside)) ts)) whole ∙ ap reverse (take-append-le (length (reverse inside)) (reverse inside) (token ∷ []) (omega arith) ∙ take_whole (reverse inside)) ∙ reverse-reverse inside
+    ap (λ n. reverse (take n left)) size ∙ ap (λ ts. reverse (take (length (reverse inside)) ts)) whole
+    ∙ ap reverse (take-append-le (length (reverse inside)) (reverse inside) (token ∷ []) (omega arith) ∙ take_whole (reverse inside))
+    ∙ reverse-reverse inside

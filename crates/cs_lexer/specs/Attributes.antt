@@ -1,5 +1,6 @@
 -- Tokens without the attributes among them: the word of an attribute and the parenthesis after it.
-use Rattle.std.specs.Prelude.{◌≡◌, ℕ, zero, suc, pred, ◌≤◌, Bool, true, false, ◌&&◌, List, [], ◌∷◌, length, reverse, take, Option, Some, None, is_some, option_map, unwrap_or, slice_index_or, if◌then◌else◌}
+use Rattle.std.specs.Prelude.{◌≡◌, ℕ, zero, suc, pred, ◌≤◌, Bool, true, false, ◌&&◌, List, [], ◌∷◌, length, reverse, take, Option, Some}
+use Rattle.std.specs.Prelude.{None, is_some, option_map, unwrap_or, slice_index_or, if◌then◌else◌}
 use Rattle.cs_ast.specs.declared.token.Token.{Token}
 use Rattle.cs_ast.specs.declared.token.Punctuator.{Punctuator}
 use Rattle.cs_ast.specs.declared.token.Punctuator.TheVariants as punctuators

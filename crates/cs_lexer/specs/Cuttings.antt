@@ -1,5 +1,6 @@
 -- The cutting of a text into pieces, and the tokens and files that it gives.
-use Rattle.std.specs.Prelude.{◌≡◌, ℕ, pos, zero, suc, ◌<◌, List, [], ◌∷◌, ◌++◌, length, take, drop, codes, Option, Some, None, if◌then◌else◌}
+use Rattle.std.specs.Prelude.{◌≡◌, ℕ, pos, zero, suc, ◌<◌, List, [], ◌∷◌, ◌++◌, length, take, drop, codes, Option, Some, None}
+use Rattle.std.specs.Prelude.{if◌then◌else◌}
 use Rattle.cs_ast.specs.declared.place.Place.{Place}
 use Rattle.cs_ast.specs.declared.token.Token as tokens
 use Rattle.cs_ast.specs.declared.token.TokenKind.{TokenKind}
@@ -37,9 +38,14 @@ marked_spot spot file (Some line) bytes = line_of file line
 -- the text is cut into pieces as far as this rest, which stands at the spot; the pieces name these files and have these tokens
 pub data Reaches (text : List ℕ) : List (List ℕ) → List tokens.Token → Spot → List ℕ → Type 0 where
   begins : Reaches text (codes "<input>" ∷ []) [] start text
-  gap : {files : List (List ℕ)} {list : List tokens.Token} {spot : Spot} {rest : List ℕ} (size : ℕ) → Reaches text files list spot rest → 0 < length rest → Begins spot.is_line_start rest (found.Gap size) → Reaches text files list (spot_after spot (take size rest)) (drop size rest)
-  marker : {files : List (List ℕ)} {list : List tokens.Token} {spot : Spot} {rest : List ℕ} (size : ℕ) (next : Option ℕ) (name : Option (List ℕ)) → Reaches text files list spot rest → 0 < length rest → Begins spot.is_line_start rest (found.Marker size next name) → Reaches text (files_after files name) list (marked_spot spot (file_after files spot name) next (take size rest)) (drop size rest)
-  token : {files : List (List ℕ)} {list : List tokens.Token} {spot : Spot} {rest : List ℕ} (size : ℕ) (kind : TokenKind) → Reaches text files list spot rest → 0 < length rest → Begins spot.is_line_start rest (found.Token size kind) → Reaches text files (list ++ token_at kind spot.place ∷ []) (spot_after spot (take size rest)) (drop size rest)
+  gap : {files : List (List ℕ)} {list : List tokens.Token} {spot : Spot} {rest : List ℕ} (size : ℕ) → Reaches text files list spot rest
+      → 0 < length rest → Begins spot.is_line_start rest (found.Gap size) → Reaches text files list (spot_after spot (take size rest)) (drop size rest)
+  marker : {files : List (List ℕ)} {list : List tokens.Token} {spot : Spot} {rest : List ℕ} (size : ℕ) (next : Option ℕ) (name : Option (List ℕ))
+      → Reaches text files list spot rest → 0 < length rest → Begins spot.is_line_start rest (found.Marker size next name)
+      → Reaches text (files_after files name) list (marked_spot spot (file_after files spot name) next (take size rest)) (drop size rest)
+  token : {files : List (List ℕ)} {list : List tokens.Token} {spot : Spot} {rest : List ℕ} (size : ℕ) (kind : TokenKind)
+      → Reaches text files list spot rest → 0 < length rest → Begins spot.is_line_start rest (found.Token size kind)
+      → Reaches text files (list ++ token_at kind spot.place ∷ []) (spot_after spot (take size rest)) (drop size rest)
 
 -- a refusal after the first byte of a piece stands in a token that has begun; of that token it matters only whether it is a text
 abbrev pub begun_kind : List ℕ → TokenKind

@@ -1,5 +1,6 @@
 -- Lines that begin with `#`: linemarkers and pragmas (C11 6.10.4, 6.10.6).
-use Rattle.std.specs.Prelude.{ℕ, ◌+◌, Bool, true, false, not, ◌&&◌, ◌==◌, nat_lt, nat_le, nat_eq, List, [], ◌∷◌, length, take, drop, codes, Option, Some, None, if◌then◌else◌}
+use Rattle.std.specs.Prelude.{ℕ, ◌+◌, Bool, true, false, not, ◌&&◌, ◌==◌, nat_lt, nat_le, nat_eq, List, [], ◌∷◌, length, take, drop, codes}
+use Rattle.std.specs.Prelude.{Option, Some, None, if◌then◌else◌}
 use Rattle.std.specs.List.{take_while, list_all, starts_with}
 use Rattle.std.specs.Str.{is_utf8}
 use Rattle.cs_lexer.specs.declared.digits.Base.TheVariants.{Decimal}
@@ -73,7 +74,8 @@ with_line (Some line) file size is_ended = with_name file (next_line line is_end
 
 -- the linemarker with these bytes after its `#` and blanks
 abbrev pub marker : List ℕ → ℕ → Bool → Found
-marker body size is_ended = with_line (line_number (number_part body)) (file_name (drop (length (run Decimal (number_part body))) (number_part body))) size is_ended
+marker body size is_ended = with_line (line_number (number_part body)) (file_name (drop (length (run Decimal (number_part body))) (number_part body))) size
+    is_ended
 
 -- how many bytes a line has, with its line feed
 abbrev pub whole_length : ℕ → Bool → ℕ
@@ -85,4 +87,5 @@ line_of body size is_ended = if starts_with nat_eq body (codes "pragma") then Ga
 
 -- the line that bytes begin with, the first of them being its `#`
 abbrev pub directive_at : List ℕ → Found
-directive_at bytes = (let line = take_while is_inside bytes in let is_ended = nat_lt (length line) (length bytes) in line_of (skip_blanks (drop 1 line)) (whole_length (length line) is_ended) is_ended)
+directive_at bytes = (let line = take_while is_inside bytes in let is_ended = nat_lt (length line) (length bytes) in
+    line_of (skip_blanks (drop 1 line)) (whole_length (length line) is_ended) is_ended)

@@ -1,5 +1,6 @@
 -- What the bytes of character constants and string literals stand for (C11 6.4.4.4).
-use Rattle.std.specs.Prelude.{ℕ, ◌+◌, ◌<◌, Bool, false, ◌&&◌, ◌==◌, nat_le, List, [], ◌∷◌, length, take, Option, Some, None, if◌then◌else◌}
+use Rattle.std.specs.Prelude.{ℕ, ◌+◌, ◌<◌, Bool, false, ◌&&◌, ◌==◌, nat_le, List, [], ◌∷◌, length, take, Option, Some, None}
+use Rattle.std.specs.Prelude.{if◌then◌else◌}
 use Rattle.cs_lexer.specs.declared.digits.Base.{Base}
 use Rattle.cs_lexer.specs.declared.digits.Base.TheVariants.{Octal, Hexadecimal}
 use Rattle.cs_lexer.specs.declared.found.Fault.TheVariants.{BadByte, WideNumber}

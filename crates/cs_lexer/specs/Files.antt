@@ -23,4 +23,5 @@ pub record Numbered (numbers : BTreeMap (List ℕ) ℕ) (names : List (List ℕ)
 
 -- a name has this number now, and each other name the number that it had
 abbrev pub HasEntered : BTreeMap (List ℕ) ℕ → BTreeMap (List ℕ) ℕ → List ℕ → ℕ → Type 0
-HasEntered old new name number = (other : List ℕ) → number_at new other ≡ (if is_eq (slice_cmp nat_cmp name other) then Some number else number_at old other)
+HasEntered old new name number = (other : List ℕ)
+    → number_at new other ≡ (if is_eq (slice_cmp nat_cmp name other) then Some number else number_at old other)

@@ -1,5 +1,6 @@
 -- Integer constants (C11 6.4.4.1).
-use Rattle.std.specs.Prelude.{ℕ, ◌+◌, ◌^◌, Bool, true, false, not, ◌&&◌, ◌||◌, ◌==◌, List, [], ◌∷◌, length, drop, Option, Some, None, nat_le, if◌then◌else◌}
+use Rattle.std.specs.Prelude.{ℕ, ◌+◌, ◌^◌, Bool, true, false, not, ◌&&◌, ◌||◌, ◌==◌, List, [], ◌∷◌, length, drop, Option, Some}
+use Rattle.std.specs.Prelude.{None, nat_le, if◌then◌else◌}
 use Rattle.cs_lexer.specs.declared.digits.Base.{Base}
 use Rattle.cs_lexer.specs.declared.digits.Base.TheVariants.{Octal, Decimal, Hexadecimal}
 use Rattle.cs_ast.specs.declared.token.Length.{Length}
@@ -53,7 +54,8 @@ longs_first length unsigned = record { unsigned = unsigned; length = length; byt
 
 -- the suffix at the front of bytes: `u` and `l`s in either order, as many as there are
 abbrev pub suffix_of : List ℕ → Suffix
-suffix_of bytes = if begins_unsigned bytes then unsigned_first (longs (drop 1 bytes)) else longs_first (longs bytes) (begins_unsigned (drop (width (longs bytes)) bytes))
+suffix_of bytes = if begins_unsigned bytes then unsigned_first (longs (drop 1 bytes))
+    else longs_first (longs bytes) (begins_unsigned (drop (width (longs bytes)) bytes))
 
 -- what may not stand directly after a number: a letter, a digit, `_` or `.`
 abbrev pub goes_on : List ℕ → Bool
@@ -79,5 +81,6 @@ constant base (Some value) suffix size bytes =
 
 -- the integer constant that bytes begin with: as many digits of its base as there are, then its suffix
 abbrev pub number_at : List ℕ → Found
-number_at bytes = (let base = base_of bytes in let digits = drop (prefix_length base) bytes in let count = length (run base digits) in let suffix = suffix_of (drop count digits) in
+number_at bytes = (let base = base_of bytes in let digits = drop (prefix_length base) bytes in let count = length (run base digits) in
+    let suffix = suffix_of (drop count digits) in
     constant base (value_of base (run base digits)) suffix (prefix_length base + count + suffix.bytes) bytes)

@@ -1,5 +1,6 @@
 -- Character constants and string literals (C11 6.4.4.4, 6.4.5).
-use Rattle.std.specs.Prelude.{◌≡◌, ℕ, ℤ, pos, negsuc, ◌+◌, ◌-◌, ◌<◌, Bool, false, not, ◌&&◌, ◌==◌, nat_lt, List, [], ◌∷◌, ◌++◌, length, take, drop, Option, Some, None, option_map, if◌then◌else◌}
+use Rattle.std.specs.Prelude.{◌≡◌, ℕ, ℤ, pos, negsuc, ◌+◌, ◌-◌, ◌<◌, Bool, false, not, ◌&&◌, ◌==◌, nat_lt, List, [], ◌∷◌}
+use Rattle.std.specs.Prelude.{◌++◌, length, take, drop, Option, Some, None, option_map, if◌then◌else◌}
 use Rattle.cs_ast.specs.declared.token.TokenKind.{TokenKind}
 use Rattle.cs_ast.specs.declared.token.TokenKind.TheVariants.{Character, Text}
 use Rattle.cs_lexer.specs.declared.found.Fault.{Fault}
@@ -44,7 +45,8 @@ character_at bytes = character_in (drop 1 bytes) (closing 39 false (drop 1 bytes
 -- the body stands for these bytes as far as the rest of it
 pub data Reads (body : List ℕ) : List ℕ → List ℕ → Type 0 where
   begins : Reads body [] body
-  item : {values rest : List ℕ} {byte size : ℕ} → Reads body values rest → 0 < length rest → item_at rest ≡ items.Byte byte size → Reads body (values ++ byte ∷ []) (drop size rest)
+  item : {values rest : List ℕ} {byte size : ℕ} → Reads body values rest → 0 < length rest → item_at rest ≡ items.Byte byte size
+      → Reads body (values ++ byte ∷ []) (drop size rest)
 
 -- the first bad item of a body
 pub record BadItem (body : List ℕ) (fault : Fault) (size : ℕ) : Type 0 where

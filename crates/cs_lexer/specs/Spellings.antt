@@ -1,11 +1,19 @@
 -- How keywords, unsupported words and punctuators are spelled.
 use Rattle.std.specs.Prelude.{◌≢◌, ℕ, List, codes}
 use Rattle.cs_ast.specs.declared.token.Keyword.{Keyword}
-use Rattle.cs_ast.specs.declared.token.Keyword.TheVariants.{Break, Case, Char, Const, Continue, Default, Do, Else, Enum, For, Goto, If, Int, Long, Return, Short, Signed, Sizeof, Static, Struct, Switch, Typedef, Unsigned, Void, While}
+use Rattle.cs_ast.specs.declared.token.Keyword.TheVariants.{Break, Case, Char, Const, Continue, Default, Do, Else, Enum, For, Goto, If, Int, Long, Return}
+use Rattle.cs_ast.specs.declared.token.Keyword.TheVariants.{Short, Signed, Sizeof, Static, Struct, Switch, Typedef, Unsigned, Void, While}
 use Rattle.cs_ast.specs.declared.token.Unsupported.{Unsupported}
-use Rattle.cs_ast.specs.declared.token.Unsupported.TheVariants.{Float, Double, Union, Bool, Complex, Imaginary, Atomic, Alignas, Alignof, Generic, Noreturn, StaticAssert, ThreadLocal, Int128, Asm, AsmUnderscored, AsmPrefixed, Typeof, TypeofUnderscored, Auto}
+use Rattle.cs_ast.specs.declared.token.Unsupported.TheVariants.{Float, Double, Union, Bool, Complex, Imaginary, Atomic, Alignas, Alignof, Generic, Noreturn}
+use Rattle.cs_ast.specs.declared.token.Unsupported.TheVariants.{StaticAssert, ThreadLocal, Int128, Asm, AsmUnderscored, AsmPrefixed, Typeof, TypeofUnderscored}
+use Rattle.cs_ast.specs.declared.token.Unsupported.TheVariants.{Auto}
 use Rattle.cs_ast.specs.declared.token.Punctuator.{Punctuator}
-use Rattle.cs_ast.specs.declared.token.Punctuator.TheVariants.{OpenBracket, CloseBracket, OpenParenthesis, CloseParenthesis, OpenBrace, CloseBrace, Dot, Arrow, Increment, Decrement, Ampersand, Star, Plus, Minus, Tilde, Exclamation, Slash, Percent, ShiftLeft, ShiftRight, Less, More, AtMost, AtLeast, EqualEqual, Differs, Caret, Bar, AndAnd, BarBar, Question, Colon, Semicolon, Equal, StarEqual, SlashEqual, PercentEqual, PlusEqual, MinusEqual, ShiftLeftEqual, ShiftRightEqual, AmpersandEqual, CaretEqual, BarEqual, Comma, Ellipsis}
+use Rattle.cs_ast.specs.declared.token.Punctuator.TheVariants.{OpenBracket, CloseBracket, OpenParenthesis, CloseParenthesis, OpenBrace, CloseBrace, Dot, Arrow}
+use Rattle.cs_ast.specs.declared.token.Punctuator.TheVariants.{Increment, Decrement, Ampersand, Star, Plus, Minus, Tilde, Exclamation, Slash, Percent}
+use Rattle.cs_ast.specs.declared.token.Punctuator.TheVariants.{ShiftLeft, ShiftRight, Less, More, AtMost, AtLeast, EqualEqual, Differs, Caret, Bar, AndAnd}
+use Rattle.cs_ast.specs.declared.token.Punctuator.TheVariants.{BarBar, Question, Colon, Semicolon, Equal, StarEqual, SlashEqual, PercentEqual, PlusEqual}
+use Rattle.cs_ast.specs.declared.token.Punctuator.TheVariants.{MinusEqual, ShiftLeftEqual, ShiftRightEqual, AmpersandEqual, CaretEqual, BarEqual, Comma}
+use Rattle.cs_ast.specs.declared.token.Punctuator.TheVariants.{Ellipsis}
 
 abbrev pub keyword_text : Keyword → List ℕ
 keyword_text Break = codes "break"

@@ -34,8 +34,10 @@ joined (token ∷ tokens) = joined_to (text_of_kind token.kind) token (joined to
 
 -- a text before tokens is one with those of them that continue with it, after which the others stand
 abbrev pub IsWholeText : List ℕ → List Token → List ℕ → List Token → Type 0
-IsWholeText first tokens bytes others = (place : Place) → text_before first place (joined tokens) ≡ (record { kind = Text bytes; place = place }) ∷ joined others
+IsWholeText first tokens bytes others = (place : Place)
+    → text_before first place (joined tokens) ≡ (record { kind = Text bytes; place = place }) ∷ joined others
 
 -- the same of what a token is, whether a text or not
 abbrev pub IsWholeKind : TokenKind → List Token → TokenKind → List Token → Type 0
-IsWholeKind kind tokens whole others = (place : Place) → joined_to (text_of_kind kind) (record { kind = kind; place = place }) (joined tokens) ≡ (record { kind = whole; place = place }) ∷ joined others
+IsWholeKind kind tokens whole others = (place : Place)
+    → joined_to (text_of_kind kind) (record { kind = kind; place = place }) (joined tokens) ≡ (record { kind = whole; place = place }) ∷ joined others

@@ -16,7 +16,8 @@ pub fn line_length(bytes: &[u8]) -> usize
 // How many bytes stand before the first `*/`.
 fn comment_end(bytes: &[u8]) -> Option<usize>
     requires { length bytes.now < 2 ^ 32 }
-    ensures { MatchOption result ((k : ℕ) → IsEnd bytes.now k → ⊥) (λ count. IsFirstEnd bytes.now count) }
+    ensures { MatchOption result ((k : ℕ) → IsEnd bytes.now k
+        → ⊥) (λ count. IsFirstEnd bytes.now count) }
 {
     for i in 0..bytes.len() {
         if bytes[i] == b'*' && i + 1 < bytes.len() && bytes[i + 1] == b'/' {

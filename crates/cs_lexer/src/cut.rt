@@ -74,7 +74,8 @@ fn push_begun(
     size: usize,
     place: Place,
 ) -> Result<(), AllocError>
-    ensures ok { OnOk result (tokens.new.items ≡ tokens.old.items ++ spec.begun rest.now size place) }
+    ensures ok { OnOk result (tokens.new.items
+        ≡ tokens.old.items ++ spec.begun rest.now size place) }
     ensures err { OnErr result (tokens.new.items ≡ tokens.old.items) }
 {
     if size > 0 {
@@ -98,8 +99,10 @@ fn refused(
     requires column { spot.place.column + length rest.now < 2 ^ 32 }
     ensures end { IfOk result (λ cutting. cutting.end ≡ End.Refused fault) }
     ensures files { IfOk result (λ cutting. cutting.files ≡ files) }
-    ensures tokens { IfOk result (λ cutting. cutting.tokens.items ≡ before.items ++ spec.begun rest.now size spot.place) }
-    ensures place { IfOk result (λ cutting. cutting.place ≡ (spots.spot_after spot (take size rest.now)).place) }
+    ensures tokens { IfOk result (λ cutting.
+        cutting.tokens.items ≡ before.items ++ spec.begun rest.now size spot.place) }
+    ensures place { IfOk result (λ cutting.
+        cutting.place ≡ (spots.spot_after spot (take size rest.now)).place) }
 {
     let mut tokens = before;
     push_begun(alloc, &mut tokens, rest, size, spot.place)?;

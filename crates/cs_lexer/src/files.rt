@@ -81,7 +81,8 @@ fn find(numbers: &BTreeMap<Name, u32>, name: &Name) -> Option<u32>
 // Gives a name a number in the map.
 fn enter(numbers: &mut BTreeMap<Name, u32>, name: Name, number: u32) -> Result<(), AllocError>
     ensures entered { OnOk result (HasEntered numbers.old numbers.new name number) }
-    ensures err { OnErr result ((other : List ℕ) → number_at numbers.new other ≡ number_at numbers.old other) }
+    ensures err { OnErr result ((other : List ℕ)
+        → number_at numbers.new other ≡ number_at numbers.old other) }
 {
     match numbers.insert(name, number) {
         Ok(_) => Ok(()),

@@ -10,7 +10,8 @@ use cs_ast::{Punctuator, TokenKind};
 
 // The longest punctuator that bytes begin with.
 fn longest_punctuator(bytes: &[u8]) -> Option<Punctuator>
-    ensures { MatchOption result (NoPunctuator bytes.now) (λ punctuator. IsLongestPunctuator bytes.now punctuator) }
+    ensures { MatchOption result (NoPunctuator bytes.now)
+        (λ punctuator. IsLongestPunctuator bytes.now punctuator) }
 {
     if let Some(punctuator) = punctuator_spelled(front(bytes, 3)) {
         return Some(punctuator);

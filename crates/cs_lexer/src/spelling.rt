@@ -6,7 +6,8 @@ use cs_ast::{Keyword, Punctuator, Unsupported};
 
 /// The keyword that is spelled so.
 pub fn keyword_spelled(text: &[u8]) -> Option<Keyword>
-    ensures { MatchOption result ((other : Keyword) → keyword_text other ≢ text.now) (λ found. keyword_text found ≡ text.now) }
+    ensures { MatchOption result ((other : Keyword)
+        → keyword_text other ≢ text.now) (λ found. keyword_text found ≡ text.now) }
 {
     match text {
         b"break" => Some(Keyword::Break),
@@ -40,7 +41,8 @@ pub fn keyword_spelled(text: &[u8]) -> Option<Keyword>
 
 // The unsupported word of more than ten bytes that is spelled so.
 fn long_unsupported_spelled(text: &[u8]) -> Option<Unsupported>
-    ensures { MatchOption result (NoLongUnsupported text.now) (λ found. unsupported_text found ≡ text.now) }
+    ensures { MatchOption result (NoLongUnsupported text.now)
+        (λ found. unsupported_text found ≡ text.now) }
 {
     if text == b"_Static_assert".as_slice() {
         Some(Unsupported::StaticAssert)
@@ -53,7 +55,8 @@ fn long_unsupported_spelled(text: &[u8]) -> Option<Unsupported>
 
 /// The unsupported word that is spelled so.
 pub fn unsupported_spelled(text: &[u8]) -> Option<Unsupported>
-    ensures { MatchOption result ((other : Unsupported) → unsupported_text other ≢ text.now) (λ found. unsupported_text found ≡ text.now) }
+    ensures { MatchOption result ((other : Unsupported)
+        → unsupported_text other ≢ text.now) (λ found. unsupported_text found ≡ text.now) }
 {
     if let Some(found) = long_unsupported_spelled(text) {
         return Some(found);
@@ -83,7 +86,8 @@ pub fn unsupported_spelled(text: &[u8]) -> Option<Unsupported>
 
 // The punctuator that assigns and is spelled so (C11 6.5.16).
 fn assignment_spelled(text: &[u8]) -> Option<Punctuator>
-    ensures { MatchOption result (IsNoAssignment text.now) (λ found. punctuator_text found ≡ text.now) }
+    ensures { MatchOption result (IsNoAssignment text.now)
+        (λ found. punctuator_text found ≡ text.now) }
 {
     match text {
         b"=" => Some(Punctuator::Equal),
@@ -103,7 +107,8 @@ fn assignment_spelled(text: &[u8]) -> Option<Punctuator>
 
 /// The punctuator that is spelled so.
 pub fn punctuator_spelled(text: &[u8]) -> Option<Punctuator>
-    ensures { MatchOption result ((other : Punctuator) → punctuator_text other ≢ text.now) (λ found. punctuator_text found ≡ text.now) }
+    ensures { MatchOption result ((other : Punctuator)
+        → punctuator_text other ≢ text.now) (λ found. punctuator_text found ≡ text.now) }
 {
     if let Some(found) = assignment_spelled(text) {
         return Some(found);

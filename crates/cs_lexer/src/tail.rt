@@ -15,7 +15,8 @@ pub fn drop_last(tokens: &mut Vec<Token>)
 
 // The bytes of a token, if it is a text.
 fn text_of(token: &Token) -> Option<&Bytes>
-    ensures { MatchOption result (text_of_kind token.now.kind ≡ None) (λ bytes. text_of_kind token.now.kind ≡ Some bytes.now) }
+    ensures { MatchOption result (text_of_kind token.now.kind ≡ None)
+        (λ bytes. text_of_kind token.now.kind ≡ Some bytes.now) }
 {
     match &token.kind {
         TokenKind::Text(bytes) => Some(bytes),
@@ -25,7 +26,8 @@ fn text_of(token: &Token) -> Option<&Bytes>
 
 /// The bytes of the last token, if it is a text.
 pub fn last_text(tokens: &[Token]) -> Option<&Bytes>
-    ensures { MatchOption result (first_text (reverse tokens.now) ≡ None) (λ bytes. first_text (reverse tokens.now) ≡ Some bytes.now) }
+    ensures { MatchOption result (first_text (reverse tokens.now) ≡ None)
+        (λ bytes. first_text (reverse tokens.now) ≡ Some bytes.now) }
 {
     match tokens.split_last() {
         Some((last, _)) => text_of(last),

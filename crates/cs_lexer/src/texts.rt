@@ -11,7 +11,8 @@ use std::alloc::{AllocError, Global};
 // The bytes of a text and of those that stand directly after it, which are dropped. The tokens after it are given from
 // the last one on.
 fn whole_text(alloc: Global, first: Bytes, left: &mut Vec<Token>) -> Result<Bytes, AllocError>
-    ensures whole { IfOk result (λ bytes. IsWholeText first (reverse left.old.items) bytes (reverse left.new.items)) }
+    ensures whole { IfOk result (λ bytes.
+        IsWholeText first (reverse left.old.items) bytes (reverse left.new.items)) }
     ensures fewer { length left.new.items ≤ length left.old.items }
 {
     let mut bytes = Vec::from_slice(alloc, first.as_bytes())?;
@@ -28,7 +29,8 @@ fn whole_kind(
     kind: TokenKind,
     left: &mut Vec<Token>,
 ) -> Result<TokenKind, AllocError>
-    ensures whole { IfOk result (λ whole. IsWholeKind kind (reverse left.old.items) whole (reverse left.new.items)) }
+    ensures whole { IfOk result (λ whole.
+        IsWholeKind kind (reverse left.old.items) whole (reverse left.new.items)) }
     ensures fewer { length left.new.items ≤ length left.old.items }
 {
     match kind {
@@ -42,7 +44,9 @@ fn whole_kind(
 
 // A token, made one with the texts directly after it if it is a text.
 fn whole_token(alloc: Global, token: Token, left: &mut Vec<Token>) -> Result<Token, AllocError>
-    ensures whole { IfOk result (λ whole. spec.joined (token ∷ reverse left.old.items) ≡ whole ∷ spec.joined (reverse left.new.items)) }
+    ensures whole { IfOk result (λ whole.
+        spec.joined (token ∷ reverse left.old.items)
+        ≡ whole ∷ spec.joined (reverse left.new.items)) }
     ensures fewer { length left.new.items ≤ length left.old.items }
 {
     let Token { kind, place } = token;

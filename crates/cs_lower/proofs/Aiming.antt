@@ -15,9 +15,11 @@ module _ {program : TypedProgram} {routine : Routine} {flow : Flow} {to : Target
   aims_from aims = record { out_meets = aims.out_meets; again_meets = aims.again_meets; labels_meet = aims.labels_meet }
 
   -- in a loop, and in a `switch`
-  pub aims_in_loop : (out' again' : Point) {out_next again_next : Next} → Aims program routine flow to out again → MeetsNext flow out' out_next → MeetsNext flow again' again_next →
+  pub aims_in_loop : (out' again' : Point) {out_next again_next : Next} → Aims program routine flow to out again → MeetsNext flow out' out_next
+      → MeetsNext flow again' again_next →
       Aims program routine flow (in_loop to out_next again_next) out' again'
   aims_in_loop out' again' aims m m' = record { out_meets = m; again_meets = m'; labels_meet = aims.labels_meet }
 
-  pub aims_in_switch : (out' : Point) {out_next : Next} → Aims program routine flow to out again → MeetsNext flow out' out_next → Aims program routine flow (in_switch to out_next) out' again
+  pub aims_in_switch : (out' : Point) {out_next : Next} → Aims program routine flow to out again → MeetsNext flow out' out_next
+      → Aims program routine flow (in_switch to out_next) out' again
   aims_in_switch out' aims m = record { out_meets = m; again_meets = aims.again_meets; labels_meet = aims.labels_meet }

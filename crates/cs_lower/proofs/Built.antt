@@ -1,9 +1,11 @@
 -- What was built and what more is: for the contracts of `GraphBuilder`, and for every lemma on what is built one after another.
-use Rattle.std.proofs.Common.{◌≡◌, ℕ, zero, suc, ◌+◌, List, [], ◌∷◌, ◌++◌, length, map, reverse, Option, Some, refl, sym, ap, subst, ◌∙◌, arith}
+use Rattle.std.proofs.Common.{◌≡◌, ℕ, zero, suc, ◌+◌, List, [], ◌∷◌, ◌++◌, length, map, reverse, Option, Some, refl, sym, ap, subst}
+use Rattle.std.proofs.Common.{◌∙◌, arith}
 use Rattle.std.specs.Prelude.{Contains, slice_get, unwrap_or}
 use Rattle.std.specs.List.{All}
 use Rattle.std.proofs.lemmas.List.{reverse-append, length-reverse, map-append}
-use Rattle.std.proofs.lemmas.List.Elements.{All-append, All-cons, All-head, All-nil, All-weaker, All-contains_itself, Contains-append_left, Contains-append_right}
+use Rattle.std.proofs.lemmas.List.Elements.{All-append, All-cons, All-head, All-nil, All-weaker, All-contains_itself, Contains-append_left}
+use Rattle.std.proofs.lemmas.List.Elements.{Contains-append_right}
 use Rattle.cs_ast.specs.declared.place.Place.{Place}
 use Rattle.cs_events.specs.declared.point.PointKind.{PointKind}
 use Rattle.cs_cfg.specs.Fitting.{AddsPoints}
@@ -41,7 +43,8 @@ module _ {X : Type 0} where
   from_end [] n m x e h = cc
   from_end (y ∷ xs) zero m x e h =
       let last : m ≡ length (reverse xs) = omega (arith, length-reverse xs) in
-      ap (slice_get (reverse (y ∷ xs))) last ∙ (ap (λ (l : List X). slice_get l (length (reverse xs))) (reverse-append (y ∷ []) xs) ∙ (newest (reverse xs) y ∙ e))
+      ap (slice_get (reverse (y ∷ xs))) last
+      ∙ (ap (λ (l : List X). slice_get l (length (reverse xs))) (reverse-append (y ∷ []) xs) ∙ (newest (reverse xs) y ∙ e))
   from_end (y ∷ xs) (suc n) m x e h =
       ap (λ (l : List X). slice_get l m) (reverse-append (y ∷ []) xs) ∙ kept (reverse xs) (y ∷ []) m x (from_end xs n m x e (omega arith))
 
@@ -87,17 +90,21 @@ module _ {X : Type 0} where
   among_last x xs ys =
       let whole = x ∷ (xs ++ ys) in
       let rest = among_rest x (xs ++ ys) in
-      let wider = λ (zs : List X) (some : All (Contains (xs ++ ys)) zs). All-weaker (Contains (xs ++ ys)) (Contains whole) (λ z in_rest. Contains-append_right (x ∷ []) (xs ++ ys) z in_rest) zs some in
+      let wider = λ (zs : List X) (some : All (Contains (xs ++ ys)) zs).
+      All-weaker (Contains (xs ++ ys)) (Contains whole) (λ z in_rest. Contains-append_right (x ∷ []) (xs ++ ys) z in_rest) zs some in
       All-append (Contains whole) xs (ys ++ x ∷ []) (wider xs (among_left xs ys))
-      (All-append (Contains whole) ys (x ∷ []) (wider ys (among_right xs ys)) (All-cons (Contains whole) x [] (All-head (Contains whole) x (xs ++ ys) (All-contains_itself whole)) (All-nil (Contains whole))))
+      (All-append (Contains whole) ys (x ∷ []) (wider ys (among_right xs ys))
+      (All-cons (Contains whole) x [] (All-head (Contains whole) x (xs ++ ys) (All-contains_itself whole)) (All-nil (Contains whole))))
 
   -- a list with one more in the middle
   among_middle : (x : X) (xs ys : List X) → All (Contains (x ∷ (xs ++ ys))) ((xs ++ x ∷ []) ++ ys)
   among_middle x xs ys =
       let whole = x ∷ (xs ++ ys) in
-      let wider = λ (zs : List X) (some : All (Contains (xs ++ ys)) zs). All-weaker (Contains (xs ++ ys)) (Contains whole) (λ z in_rest. Contains-append_right (x ∷ []) (xs ++ ys) z in_rest) zs some in
+      let wider = λ (zs : List X) (some : All (Contains (xs ++ ys)) zs).
+      All-weaker (Contains (xs ++ ys)) (Contains whole) (λ z in_rest. Contains-append_right (x ∷ []) (xs ++ ys) z in_rest) zs some in
       All-append (Contains whole) (xs ++ x ∷ []) ys
-      (All-append (Contains whole) xs (x ∷ []) (wider xs (among_left xs ys)) (All-cons (Contains whole) x [] (All-head (Contains whole) x (xs ++ ys) (All-contains_itself whole)) (All-nil (Contains whole))))
+      (All-append (Contains whole) xs (x ∷ []) (wider xs (among_left xs ys))
+      (All-cons (Contains whole) x [] (All-head (Contains whole) x (xs ++ ys) (All-contains_itself whole)) (All-nil (Contains whole))))
       (wider ys (among_right xs ys))
 
   -- a list in reverse
@@ -107,7 +114,8 @@ module _ {X : Type 0} where
       let whole = x ∷ xs in
       let rest = All-weaker (Contains xs) (Contains whole) (λ z in_rest. Contains-append_right (x ∷ []) xs z in_rest) (reverse xs) (among_reverse xs) in
       subst (All (Contains whole)) (sym (reverse-append (x ∷ []) xs))
-      (All-append (Contains whole) (reverse xs) (x ∷ []) rest (All-cons (Contains whole) x [] (All-head (Contains whole) x xs (All-contains_itself whole)) (All-nil (Contains whole))))
+      (All-append (Contains whole) (reverse xs) (x ∷ []) rest
+      (All-cons (Contains whole) x [] (All-head (Contains whole) x xs (All-contains_itself whole)) (All-nil (Contains whole))))
 
   -- two lists, the first in reverse
   pub among_reversed : (xs ys : List X) → All (Contains (xs ++ ys)) (reverse xs ++ ys)
@@ -135,7 +143,8 @@ pushed old p = record {
 }
 
 -- one more block of a counted point
-pub pushed_counted_point : (old : Built) (kind : PointKind) (at : Place) (p : Point) (number : ℕ) → number + suc (length old.heads) ≡ old.counted_points → SealsCountedPoint old (record old { heads = old.heads ++ does at 0 (Reach kind number) p ∷ [] }) kind at p
+pub pushed_counted_point : (old : Built) (kind : PointKind) (at : Place) (p : Point) (number : ℕ) → number + suc (length old.heads) ≡ old.counted_points
+    → SealsCountedPoint old (record old { heads = old.heads ++ does at 0 (Reach kind number) p ∷ [] }) kind at p
 pushed_counted_point old kind at p number is_last = record {
   grows = record {
     same = refl;
@@ -147,7 +156,8 @@ pushed_counted_point old kind at p number is_last = record {
   };
   is = λ flow has counted_point e.
       let same : number ≡ counted_point = omega arith in
-      has.heads (length old.heads) counted_point (does at 0 (Reach kind number) p) (newest old.heads (does at 0 (Reach kind number) p)) e ∙ ap (λ (k : ℕ). does at 0 (Reach kind k) p) same;
+      has.heads (length old.heads) counted_point (does at 0 (Reach kind number) p) (newest old.heads (does at 0 (Reach kind number) p)) e
+      ∙ ap (λ (k : ℕ). does at 0 (Reach kind k) p) same;
   adds = λ flow counted_point e.
       let same : number ≡ counted_point = omega arith in
       let head = does at 0 (Reach kind number) p in
@@ -156,7 +166,9 @@ pushed_counted_point old kind at p number is_last = record {
 }
 
 -- a graph of all that was built
-pub whole : (heads others : List Point) (entry counted_points : ℕ) → length heads ≡ counted_points → Has (record { blocks = reverse heads ++ others; entry = entry; counted_points = counted_points }) (record { counted_points = counted_points; heads = heads; others = others })
+pub whole : (heads others : List Point) (entry counted_points : ℕ) → length heads ≡ counted_points
+    → Has (record { blocks = reverse heads ++ others; entry = entry; counted_points = counted_points })
+    (record { counted_points = counted_points; heads = heads; others = others })
 whole heads others entry counted_points all = record {
   heads = λ n counted_point p got e.
       let at : counted_point + suc n ≡ length heads = omega arith in
@@ -167,12 +179,17 @@ whole heads others entry counted_points all = record {
 }
 
 -- the same of what is known to be more
-pub sealed : (old new : Built) (block : ℕ) (p : Point) → new ≡ record old { others = old.others ++ p ∷ [] } → block ≡ old.counted_points + length old.others → Seals old new block p
+pub sealed : (old new : Built) (block : ℕ) (p : Point) → new ≡ record old { others = old.others ++ p ∷ [] }
+    → block ≡ old.counted_points + length old.others → Seals old new block p
 sealed old new block p is number =
-    subst (λ (n : ℕ). Seals old new n p) (sym number) (subst (λ (b : Built). Seals old b (old.counted_points + length old.others) p) (sym is) (pushed old p))
+    subst (λ (n : ℕ). Seals old new n p) (sym number)
+    (subst (λ (b : Built). Seals old b (old.counted_points + length old.others) p) (sym is) (pushed old p))
 
-pub sealed_counted_point : (old new : Built) (kind : PointKind) (at : Place) (p : Point) (number : ℕ) → new ≡ record old { heads = old.heads ++ does at 0 (Reach kind number) p ∷ [] } → number + suc (length old.heads) ≡ old.counted_points → SealsCountedPoint old new kind at p
-sealed_counted_point old new kind at p number is last = subst (λ (b : Built). SealsCountedPoint old b kind at p) (sym is) (pushed_counted_point old kind at p number last)
+pub sealed_counted_point : (old new : Built) (kind : PointKind) (at : Place) (p : Point) (number : ℕ)
+    → new ≡ record old { heads = old.heads ++ does at 0 (Reach kind number) p ∷ [] } → number + suc (length old.heads) ≡ old.counted_points
+    → SealsCountedPoint old new kind at p
+sealed_counted_point old new kind at p number is last =
+    subst (λ (b : Built). SealsCountedPoint old b kind at p) (sym is) (pushed_counted_point old kind at p number last)
 
 -- one more at the end of a list, seen as another
 pub map_push : {X Y : Type 0} (f : X → Y) (xs new : List X) (x : X) (y : Y) → new ≡ xs ++ x ∷ [] → f x ≡ y → map f new ≡ map f xs ++ y ∷ []

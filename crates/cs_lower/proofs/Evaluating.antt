@@ -1,5 +1,6 @@
 -- What is built of expressions, one after another: for the contracts of the functions that `lower_expression` calls.
-use Rattle.std.proofs.Common.{◌≡◌, ℕ, suc, ◌+◌, ◌-◌, ◌≤◌, pos, List, ◌∷◌, length, drop, get_or, drop-cons, refl, sym, ap, subst, ◌∙◌, arith}
+use Rattle.std.proofs.Common.{◌≡◌, ℕ, suc, ◌+◌, ◌-◌, ◌≤◌, pos, List, ◌∷◌, length, drop, get_or, drop-cons, refl, sym, ap, subst}
+use Rattle.std.proofs.Common.{◌∙◌, arith}
 use Rattle.cs_types.specs.Shape.{Shape, void}
 use Rattle.cs_ast.specs.declared.place.Place.{Place}
 use Rattle.cs_ast.specs.declared.typed.expression.Expr.{Expr}
@@ -40,12 +41,14 @@ module _ (program : TypedProgram) (flow : Flow) where
   joined_is : (e : Typed) (number : ℕ) (p r q : Point) → used program flow e number p r → Joins program flow r q → joined program flow e number p q
   joined_is (Of at ty form) number p r q h j = (r, h, j)
 
-  judged_is : (at : Place) (e : Typed) (number : ℕ) (p r q : Point) → used program flow e number p (does at number graph.Judge r) → Joins program flow r q → judged program flow at e number p q
+  judged_is : (at : Place) (e : Typed) (number : ℕ) (p r q : Point) → used program flow e number p (does at number graph.Judge r) → Joins program flow r q
+      → judged program flow at e number p q
   judged_is place (Of at ty form) number p r q h j = (r, h, j)
 
 module _ {program : TypedProgram} where
   -- an expression whose value is used
-  pub uses : {e : Typed} {number : ℕ} {old new : Built} {p s q : Point} → s ≡ used_then e number q → Evaluates program e number old new p s → Uses program e number old new p q
+  pub uses : {e : Typed} {number : ℕ} {old new : Built} {p s q : Point} → s ≡ used_then e number q → Evaluates program e number old new p s
+      → Uses program e number old new p q
   uses {e = e} {number = number} {p = p} {q = q} is h = record {
     grows = h.grows;
     does = λ flow has args. used_is program flow e number p q (subst (λ s. evaluates program flow e number p s) is (h.does flow has args));
@@ -53,7 +56,8 @@ module _ {program : TypedProgram} where
   }
 
   -- an expression at the beginning of a block
-  pub uses_in : {e : Typed} {number block : ℕ} {old mid new : Built} {p q : Point} → Uses program e number old mid p q → Seals mid new block p → UsesIn program e number old new block q
+  pub uses_in : {e : Typed} {number block : ℕ} {old mid new : Built} {p q : Point} → Uses program e number old mid p q → Seals mid new block p
+      → UsesIn program e number old new block q
   uses_in {e = e} {number = number} {q = q} h seals = record {
     grows = grows_on h.grows seals.grows;
     does = λ flow has args. subst (λ p. used program flow e number p q) (sym (seals.is flow has)) (h.does flow (seals.grows.keeps flow has) args);
@@ -61,7 +65,8 @@ module _ {program : TypedProgram} where
   }
 
   -- two expressions
-  pub uses_both : {one other : Typed} {number next : ℕ} {old mid new : Built} {p r q : Point} → next ≡ 1 + number → Uses program other next old mid r q → Uses program one number mid new p r → UsesBoth program one other number old new p q
+  pub uses_both : {one other : Typed} {number next : ℕ} {old mid new : Built} {p r q : Point} → next ≡ 1 + number → Uses program other next old mid r q
+      → Uses program one number mid new p r → UsesBoth program one other number old new p q
   uses_both {other = other} {number = number} {next = next} {r = r} {q = q} above last before =
       let is : next ≡ suc number = omega arith in
       record {
@@ -79,8 +84,10 @@ module _ {program : TypedProgram} where
   uses_none number built p = record { grows = nothing_more built; does = λ flow has args. refl; adds = λ flow has args following m. adds_nothing }
 
   -- one more of a row that is lowered from its end
-  pub uses_further : {here : ℕ} {old mid new : Built} {p r q : Point} (row : List Expr) (left number : ℕ) (e : Expr) → 1 ≤ left → left ≤ length row → e ≡ get_or row (left - 1) e → here ≡ left - 1 + number
-      → UsesAll program (typed_list (drop left row)) (left + number) old mid r q → Uses program (typed e) here mid new p r → UsesAll program (typed_list (drop (left - 1) row)) (left - 1 + number) old new p q
+  pub uses_further : {here : ℕ} {old mid new : Built} {p r q : Point} (row : List Expr) (left number : ℕ) (e : Expr) → 1 ≤ left → left ≤ length row
+      → e ≡ get_or row (left - 1) e → here ≡ left - 1 + number
+      → UsesAll program (typed_list (drop left row)) (left + number) old mid r q → Uses program (typed e) here mid new p r
+      → UsesAll program (typed_list (drop (left - 1) row)) (left - 1 + number) old new p q
   uses_further {old = old} {new = new} {p = p} {r = r} {q = q} row left number e some within is at last one =
       let next : left ≡ suc (left - 1) = omega arith in
       let above : left + number ≡ suc (left - 1 + number) = omega arith in
@@ -105,27 +112,41 @@ module _ {program : TypedProgram} where
       }
 
   -- the comma
-  pub commas : {at : Place} {a b : Typed} {number : ℕ} {old mid new : Built} {p s r q : Point} → Uses program b number old mid r q → s ≡ does at number graph.Drop r → Evaluates program a number mid new p s → EvaluatesForm program at (Comma a b) number old new p q
+  pub commas : {at : Place} {a b : Typed} {number : ℕ} {old mid new : Built} {p s r q : Point} → Uses program b number old mid r q
+      → s ≡ does at number graph.Drop r → Evaluates program a number mid new p s → EvaluatesForm program at (Comma a b) number old new p q
   commas {at = at} {a = a} {b = b} {number = number} {p = p} {r = r} {q = q} last is one = record {
     grows = grows_on last.grows one.grows;
-    does = λ flow has args ty. (r, subst (λ s. evaluates program flow a number p s) is (one.does flow has args.0), last.does flow (one.grows.keeps flow has) args.1);
+    does =
+        λ flow has args ty. (
+          r,
+          subst (λ s. evaluates program flow a number p s) is (one.does flow has args.0),
+          last.does flow (one.grows.keeps flow has) args.1,
+        );
     adds = λ flow has args following m.
         let in_mid = one.grows.keeps flow has in
         let dropped = does_meets at number graph.Drop r refl (used_meets program flow b number r q (last.does flow in_mid args.1) m) in
-        adds_both (last.adds flow in_mid args.1 following m) (adds_past at number graph.Drop r refl (same_after is (one.adds flow has args.0 (first b following) (same_meets is dropped))));
+        adds_both (last.adds flow in_mid args.1 following m)
+        (adds_past at number graph.Drop r refl (same_after is (one.adds flow has args.0 (first b following) (same_meets is dropped))));
   }
 
   -- the ways of a branch, each of which ends with a jump to one block
-  pub ands : {at : Place} {a b : Typed} {number end one other : ℕ} {old x y z new : Built} {p q s t : Point} → Seals old x end q → s ≡ does at number graph.Judge (jump_to end) → UsesIn program b number x y one s → Seals y z other (does at number (graph.Number (pos 0)) (jump_to end)) → t ≡ split at number one other → Uses program a number z new p t → EvaluatesForm program at (And a b) number old new p q
-  ands {at = at} {a = a} {b = b} {number = number} {end = end} {one = one} {other = other} {z = z} {new = new} {p = p} {q = q} ends judges way knows tests test =
-      let joins : (flow : Flow) → Has flow z → Joins program flow (jump_to end) q = λ flow in_z. jump_joins program flow end q (ends.is flow (way.grows.keeps flow (knows.grows.keeps flow in_z))) in
-      let placed : (flow : Flow) → Has flow new → HasArguments a × HasArguments b → (ty : Shape) → evaluates_form program flow at ty (And a b) number p q = λ flow has args ty.
+  pub ands : {at : Place} {a b : Typed} {number end one other : ℕ} {old x y z new : Built} {p q s t : Point} → Seals old x end q
+      → s ≡ does at number graph.Judge (jump_to end) → UsesIn program b number x y one s
+      → Seals y z other (does at number (graph.Number (pos 0)) (jump_to end)) → t ≡ split at number one other → Uses program a number z new p t
+      → EvaluatesForm program at (And a b) number old new p q
+  ands {at = at} {a = a} {b = b} {number = number} {end = end} {one = one} {other = other} {z = z} {new = new} {p = p} {q = q} ends judges way knows tests
+      test =
+      let joins : (flow : Flow) → Has flow z → Joins program flow (jump_to end) q = λ flow in_z.
+      jump_joins program flow end q (ends.is flow (way.grows.keeps flow (knows.grows.keeps flow in_z))) in
+      let placed : (flow : Flow) → Has flow new → HasArguments a × HasArguments b
+      → (ty : Shape) → evaluates_form program flow at ty (And a b) number p q = λ flow has args ty.
       let in_z = test.grows.keeps flow has in
       let in_y = knows.grows.keeps flow in_z in (
         one,
         other,
         subst (λ r. used program flow a number p r) tests (test.does flow has args.0),
-        judged_is program flow at b number (block_of flow one) (jump_to end) q (subst (λ r. used program flow b number (block_of flow one) r) judges (way.does flow in_y args.1)) (joins flow in_z),
+        judged_is program flow at b number (block_of flow one) (jump_to end) q
+            (subst (λ r. used program flow b number (block_of flow one) r) judges (way.does flow in_y args.1)) (joins flow in_z),
         (jump_to end, knows.is flow in_z, joins flow in_z),
       ) in
       record {
@@ -140,17 +161,23 @@ module _ {program : TypedProgram} where
             and_adds program flow at void number end following p q m a b (placed flow has args void) (ends.adds flow) right (knows.adds flow) left;
       }
 
-  pub ors : {at : Place} {a b : Typed} {number end one other : ℕ} {old x y z new : Built} {p q s t : Point} → Seals old x end q → s ≡ does at number graph.Judge (jump_to end) → UsesIn program b number x y other s → Seals y z one (does at number (graph.Number (pos 1)) (jump_to end)) → t ≡ split at number one other → Uses program a number z new p t → EvaluatesForm program at (Or a b) number old new p q
+  pub ors : {at : Place} {a b : Typed} {number end one other : ℕ} {old x y z new : Built} {p q s t : Point} → Seals old x end q
+      → s ≡ does at number graph.Judge (jump_to end) → UsesIn program b number x y other s
+      → Seals y z one (does at number (graph.Number (pos 1)) (jump_to end)) → t ≡ split at number one other → Uses program a number z new p t
+      → EvaluatesForm program at (Or a b) number old new p q
   ors {at = at} {a = a} {b = b} {number = number} {end = end} {one = one} {other = other} {z = z} {new = new} {p = p} {q = q} ends judges way knows tests test =
-      let joins : (flow : Flow) → Has flow z → Joins program flow (jump_to end) q = λ flow in_z. jump_joins program flow end q (ends.is flow (way.grows.keeps flow (knows.grows.keeps flow in_z))) in
-      let placed : (flow : Flow) → Has flow new → HasArguments a × HasArguments b → (ty : Shape) → evaluates_form program flow at ty (Or a b) number p q = λ flow has args ty.
+      let joins : (flow : Flow) → Has flow z → Joins program flow (jump_to end) q = λ flow in_z.
+      jump_joins program flow end q (ends.is flow (way.grows.keeps flow (knows.grows.keeps flow in_z))) in
+      let placed : (flow : Flow) → Has flow new → HasArguments a × HasArguments b
+      → (ty : Shape) → evaluates_form program flow at ty (Or a b) number p q = λ flow has args ty.
       let in_z = test.grows.keeps flow has in
       let in_y = knows.grows.keeps flow in_z in (
         one,
         other,
         subst (λ r. used program flow a number p r) tests (test.does flow has args.0),
         (jump_to end, knows.is flow in_z, joins flow in_z),
-        judged_is program flow at b number (block_of flow other) (jump_to end) q (subst (λ r. used program flow b number (block_of flow other) r) judges (way.does flow in_y args.1)) (joins flow in_z),
+        judged_is program flow at b number (block_of flow other) (jump_to end) q
+            (subst (λ r. used program flow b number (block_of flow other) r) judges (way.does flow in_y args.1)) (joins flow in_z),
       ) in
       record {
         grows = grows_on ends.grows (grows_on way.grows (grows_on knows.grows test.grows));
@@ -164,17 +191,24 @@ module _ {program : TypedProgram} where
             or_adds program flow at void number end following p q m a b (placed flow has args void) (ends.adds flow) right (knows.adds flow) left;
       }
 
-  pub chooses : {at : Place} {a b c : Typed} {number end one other : ℕ} {old x y z new : Built} {p q t u v : Point} → Seals old x end q → u ≡ jump_to end → UsesIn program b number x y one u → v ≡ jump_to end → UsesIn program c number y z other v → t ≡ split at number one other → Uses program a number z new p t → EvaluatesForm program at (Choice a b c) number old new p q
-  chooses {at = at} {a = a} {b = b} {c = c} {number = number} {end = end} {one = one} {other = other} {y = y} {new = new} {p = p} {q = q} ends jump_one way_one jump_other way_other tests test =
-      let joins : (flow : Flow) → Has flow y → Joins program flow (jump_to end) q = λ flow in_y. jump_joins program flow end q (ends.is flow (way_one.grows.keeps flow in_y)) in
-      let placed : (flow : Flow) → Has flow new → HasArguments a × HasArguments b × HasArguments c → (ty : Shape) → evaluates_form program flow at ty (Choice a b c) number p q = λ flow has args ty.
+  pub chooses : {at : Place} {a b c : Typed} {number end one other : ℕ} {old x y z new : Built} {p q t u v : Point} → Seals old x end q
+      → u ≡ jump_to end → UsesIn program b number x y one u → v ≡ jump_to end → UsesIn program c number y z other v
+      → t ≡ split at number one other → Uses program a number z new p t → EvaluatesForm program at (Choice a b c) number old new p q
+  chooses {at = at} {a = a} {b = b} {c = c} {number = number} {end = end} {one = one} {other = other} {y = y} {new = new} {p = p} {q = q} ends jump_one way_one
+      jump_other way_other tests test =
+      let joins : (flow : Flow) → Has flow y → Joins program flow (jump_to end) q = λ flow in_y.
+      jump_joins program flow end q (ends.is flow (way_one.grows.keeps flow in_y)) in
+      let placed : (flow : Flow) → Has flow new → HasArguments a × HasArguments b × HasArguments c
+      → (ty : Shape) → evaluates_form program flow at ty (Choice a b c) number p q = λ flow has args ty.
       let in_z = test.grows.keeps flow has in
       let in_y = way_other.grows.keeps flow in_z in (
         one,
         other,
         subst (λ r. used program flow a number p r) tests (test.does flow has args.0),
-        joined_is program flow b number (block_of flow one) (jump_to end) q (subst (λ r. used program flow b number (block_of flow one) r) jump_one (way_one.does flow in_y args.1)) (joins flow in_y),
-        joined_is program flow c number (block_of flow other) (jump_to end) q (subst (λ r. used program flow c number (block_of flow other) r) jump_other (way_other.does flow in_z args.2)) (joins flow in_y),
+        joined_is program flow b number (block_of flow one) (jump_to end) q
+            (subst (λ r. used program flow b number (block_of flow one) r) jump_one (way_one.does flow in_y args.1)) (joins flow in_y),
+        joined_is program flow c number (block_of flow other) (jump_to end) q
+            (subst (λ r. used program flow c number (block_of flow other) r) jump_other (way_other.does flow in_z args.2)) (joins flow in_y),
       ) in
       record {
         grows = grows_on ends.grows (grows_on way_one.grows (grows_on way_other.grows test.grows));

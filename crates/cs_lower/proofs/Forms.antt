@@ -37,19 +37,23 @@ if_made (Err e) onward h = h
 
 module _ {flow : Flow} where
   -- an operation that may be there and is no control point
-  if_meets : (at : Place) (number : ℕ) (work : Option Work) (q : Point) {next : Next} → IsSilent at work → MeetsNext flow q next → MeetsNext flow (does_if at number work q) next
+  if_meets : (at : Place) (number : ℕ) (work : Option Work) (q : Point) {next : Next} → IsSilent at work → MeetsNext flow q next
+      → MeetsNext flow (does_if at number work q) next
   if_meets at number None q silent m = m
   if_meets at number (Some work) q silent m = does_meets at number work q silent m
 
-  if_adds : {some : List ControlPoint} {old new : List Point} (at : Place) (number : ℕ) (work : Option Work) (q : Point) → IsSilent at work → AddsPoints flow some (does_if at number work q ∷ old) new → AddsPoints flow some (q ∷ old) new
+  if_adds : {some : List ControlPoint} {old new : List Point} (at : Place) (number : ℕ) (work : Option Work) (q : Point) → IsSilent at work
+      → AddsPoints flow some (does_if at number work q ∷ old) new → AddsPoints flow some (q ∷ old) new
   if_adds at number None q silent rest = rest
   if_adds at number (Some work) q silent rest = adds_past at number work q silent rest
 
 module _ {program : TypedProgram} {at : Place} {ty : Shape} {number : ℕ} {old new : Built} {p s q : Point} where
   -- what is built of an expression's parts, before what is done with them; the form may be seen as another that it is
   from_parts : {form it : Form} → form ≡ it → s ≡ acted program (Of at ty form) number q → Grows 0 old new
-      → ((flow : Flow) → s ≡ acted program (Of at ty it) number q → Has flow new → HasArguments (Of at ty it) → evaluates_form program flow at ty it number p q)
-      → ((flow : Flow) → Has flow new → HasArguments (Of at ty it) → (following : Next) → MeetsNext flow s following → AddsPoints flow (points_of at it following) (s ∷ blocks old) (p ∷ blocks new))
+      → ((flow : Flow) → s ≡ acted program (Of at ty it) number q → Has flow new → HasArguments (Of at ty it)
+      → evaluates_form program flow at ty it number p q)
+      → ((flow : Flow) → Has flow new → HasArguments (Of at ty it) → (following : Next) → MeetsNext flow s following
+      → AddsPoints flow (points_of at it following) (s ∷ blocks old) (p ∷ blocks new))
       → Evaluates program (Of at ty form) number old new p q
   from_parts {form = form} {it = it} is acts grows does adds =
       subst (λ f. s ≡ acted program (Of at ty f) number q → Evaluates program (Of at ty f) number old new p q) (sym is)
@@ -63,17 +67,23 @@ module _ {program : TypedProgram} {at : Place} {ty : Shape} {number : ℕ} {old 
       }) acts
 
   -- an expression with one part, whose value is used
-  pub part : {form it : Form} {a : Typed} → form ≡ it → ((flow : Flow) → used program flow a number p (acted program (Of at ty it) number q) → evaluates_form program flow at ty it number p q)
-      → (HasArguments (Of at ty it) → HasArguments a) → ((following : Next) → points a following ≡ points_of at it following) → s ≡ acted program (Of at ty form) number q → Uses program a number old new p s
+  pub part : {form it : Form} {a : Typed} → form ≡ it
+      → ((flow : Flow) → used program flow a number p (acted program (Of at ty it) number q) → evaluates_form program flow at ty it number p q)
+      → (HasArguments (Of at ty it) → HasArguments a) → ((following : Next) → points a following ≡ points_of at it following)
+      → s ≡ acted program (Of at ty form) number q → Uses program a number old new p s
       → Evaluates program (Of at ty form) number old new p q
   part {a = a} is does args points_are acts h = from_parts is acts h.grows
       (λ flow at_once has all. does flow (subst (λ r. used program flow a number p r) at_once (h.does flow has (args all))))
-      (λ flow has all following m. subst (λ some. AddsPoints flow some (s ∷ blocks old) (p ∷ blocks new)) (points_are following) (h.adds flow has (args all) following m))
+      (λ flow has all following m.
+      subst (λ some. AddsPoints flow some (s ∷ blocks old) (p ∷ blocks new)) (points_are following) (h.adds flow has (args all) following m))
 
   -- an expression with two parts, in the order in which they are evaluated
   pub pair : {form it : Form} {a b : Typed} → form ≡ it
-      → ((flow : Flow) (r : Point) → used program flow a number p r → used program flow b (suc number) r (acted program (Of at ty it) number q) → evaluates_form program flow at ty it number p q)
-      → (HasArguments (Of at ty it) → HasArguments a × HasArguments b) → ((following : Next) → points a (first b following) ++ points b following ≡ points_of at it following) → s ≡ acted program (Of at ty form) number q
+      → ((flow : Flow) (r : Point) → used program flow a number p r → used program flow b (suc number) r (acted program (Of at ty it) number q)
+      → evaluates_form program flow at ty it number p q)
+      → (HasArguments (Of at ty it) → HasArguments a × HasArguments b)
+      → ((following : Next) → points a (first b following) ++ points b following ≡ points_of at it following)
+      → s ≡ acted program (Of at ty form) number q
       → UsesBoth program a b number old new p s → Evaluates program (Of at ty form) number old new p q
   pair {a = a} {b = b} is does args points_are acts h = from_parts is acts h.grows
       (λ flow at_once has all.
@@ -85,28 +95,36 @@ module _ {program : TypedProgram} {at : Place} {ty : Shape} {number : ℕ} {old 
       subst (λ some. AddsPoints flow some (s ∷ blocks old) (p ∷ blocks new)) (points_are following) (h.adds flow has both following m))
 
   -- a conversion to void doesn't use the value
-  pub convert_away : {form : Form} {a : Typed} → form ≡ Convert a → ty ≡ void → s ≡ acted program (Of at ty form) number q → Evaluates program a number old new p s → Evaluates program (Of at ty form) number old new p q
+  pub convert_away : {form : Form} {a : Typed} → form ≡ Convert a → ty ≡ void → s ≡ acted program (Of at ty form) number q
+      → Evaluates program a number old new p s → Evaluates program (Of at ty form) number old new p q
   convert_away {a = a} is none acts h = from_parts is acts h.grows
       (λ flow at_once has all. away flow none (subst (λ r. evaluates program flow a number p r) at_once (h.does flow has all)))
       (λ flow has all following m. h.adds flow has all following m)
     where
-      away : (flow : Flow) → ty ≡ void → evaluates program flow a number p (acted program (Of at ty (Convert a)) number q) → evaluates_form program flow at ty (Convert a) number p q
-      away flow is it = subst (λ t. evaluates program flow a number p (acted program (Of at t (Convert a)) number q) → evaluates_form program flow at t (Convert a) number p q) (sym is) (λ placed. placed) it
+      away : (flow : Flow) → ty ≡ void → evaluates program flow a number p (acted program (Of at ty (Convert a)) number q)
+          → evaluates_form program flow at ty (Convert a) number p q
+      away flow is it =
+          subst (λ t. evaluates program flow a number p (acted program (Of at t (Convert a)) number q)
+          → evaluates_form program flow at t (Convert a) number p q) (sym is) (λ placed. placed) it
 
-  pub call : {form : Form} {row : TypedList} {function : ℕ} → form ≡ Call function row → s ≡ acted program (Of at ty form) number q → UsesAll program row number old new p s → Evaluates program (Of at ty form) number old new p q
+  pub call : {form : Form} {row : TypedList} {function : ℕ} → form ≡ Call function row → s ≡ acted program (Of at ty form) number q
+      → UsesAll program row number old new p s → Evaluates program (Of at ty form) number old new p q
   call {row = row} is acts parts = from_parts is acts parts.grows
       (λ flow at_once has args. subst (λ r. used_all program flow row number p r) at_once (parts.does flow has args))
       (λ flow has args following m. parts.adds flow has args following m)
 
-  pub allocate : {form : Form} {row : TypedList} {allocator : Allocator} {element : Shape} → form ≡ Allocate allocator row element → s ≡ acted program (Of at ty form) number q → UsesAll program row number old new p s → Evaluates program (Of at ty form) number old new p q
+  pub allocate : {form : Form} {row : TypedList} {allocator : Allocator} {element : Shape} → form ≡ Allocate allocator row element
+      → s ≡ acted program (Of at ty form) number q → UsesAll program row number old new p s → Evaluates program (Of at ty form) number old new p q
   allocate {row = row} is acts parts = from_parts is acts parts.grows
       (λ flow at_once has args. (args.0, subst (λ r. used_all program flow row number p r) at_once (parts.does flow has args.1)))
       (λ flow has args following m. parts.adds flow has args.1 following m)
 
   -- a form whose parts are put together before the form is known to be that of the expression
   pub formed : {form it : Form} → form ≡ it
-      → ((flow : Flow) → evaluates_form program flow at ty it number p (acted program (Of at ty it) number q) → evaluates_form program flow at ty it number p q)
-      → s ≡ acted program (Of at ty form) number q → EvaluatesForm program at it number old new p s → Evaluates program (Of at ty form) number old new p q
+      → ((flow : Flow) → evaluates_form program flow at ty it number p (acted program (Of at ty it) number q)
+      → evaluates_form program flow at ty it number p q)
+      → s ≡ acted program (Of at ty form) number q → EvaluatesForm program at it number old new p s
+      → Evaluates program (Of at ty form) number old new p q
   formed {it = it} is does acts parts = from_parts is acts parts.grows
       (λ flow at_once has args. does flow (subst (λ r. evaluates_form program flow at ty it number p r) at_once (parts.does flow has args ty)))
       (λ flow has args following m. parts.adds flow has args following m)
@@ -117,21 +135,25 @@ module _ {program : TypedProgram} {at : Place} {ty : Shape} {number : ℕ} {old 
   index PointerFirst is acts h = pair is (λ flow r one other. (r, one, other)) (λ args. (args.0, args.1)) (λ following. refl) acts h
   index AmountFirst is acts h = pair is (λ flow r one other. (r, one, other)) (λ args. (args.1, args.0)) (λ following. refl) acts h
 
-  pub sum : {form : Form} {a b : Typed} {direction : Direction} (order : Order) → form ≡ Sum a b direction order → s ≡ acted program (Of at ty form) number q
+  pub sum : {form : Form} {a b : Typed} {direction : Direction} (order : Order) → form ≡ Sum a b direction order
+      → s ≡ acted program (Of at ty form) number q
       → UsesBoth program (earlier order a b) (later order a b) number old new p s → Evaluates program (Of at ty form) number old new p q
   sum PointerFirst is acts h = pair is (λ flow r one other. (r, one, other)) (λ args. (args.0, args.1)) (λ following. refl) acts h
   sum AmountFirst is acts h = pair is (λ flow r one other. (r, one, other)) (λ args. (args.1, args.0)) (λ following. refl) acts h
 
 -- an expression without parts
 pub alone : {program : TypedProgram} {at : Place} {ty : Shape} {number : ℕ} {built : Built} {s q : Point} {form it : Form} → form ≡ it
-    → ((flow : Flow) → evaluates_form program flow at ty it number (acted program (Of at ty it) number q) q) → ((following : Next) → points_of at it following ≡ []) → s ≡ acted program (Of at ty form) number q
+    → ((flow : Flow) → evaluates_form program flow at ty it number (acted program (Of at ty it) number q) q)
+    → ((following : Next) → points_of at it following ≡ []) → s ≡ acted program (Of at ty form) number q
     → Evaluates program (Of at ty form) number built built s q
-alone {program = program} {at = at} {ty = ty} {number = number} {built = built} {s = s} {q = q} {it = it} is does points_are acts = from_parts is acts (nothing_more built)
+alone {program = program} {at = at} {ty = ty} {number = number} {built = built} {s = s} {q = q} {it = it} is does points_are acts =
+    from_parts is acts (nothing_more built)
     (λ flow at_once has args. subst (λ r. evaluates_form program flow at ty it number r q) (sym at_once) (does flow))
     (λ flow has args following m. subst (λ some. AddsPoints flow some (s ∷ blocks built) (s ∷ blocks built)) (sym (points_are following)) adds_nothing)
 
 -- a conversion uses the value, but for one to void
-pub convert : {program : TypedProgram} {at : Place} {number : ℕ} {old new : Built} {p s q : Point} {form : Form} {a : Typed} (to : CType) → (to ≡ Void → ⊥) → form ≡ Convert a → s ≡ acted program (Of at (shape_of to) form) number q
+pub convert : {program : TypedProgram} {at : Place} {number : ℕ} {old new : Built} {p s q : Point} {form : Form} {a : Typed} (to : CType)
+    → (to ≡ Void → ⊥) → form ≡ Convert a → s ≡ acted program (Of at (shape_of to) form) number q
     → Uses program a number old new p s → Evaluates program (Of at (shape_of to) form) number old new p q
 convert Void used is acts h = absurd (used refl)
 convert (Int ty) used is acts h = part is (λ flow it. it) (λ args. args) (λ following. refl) acts h
@@ -141,7 +163,8 @@ convert (Struct number) used is acts h = part is (λ flow it. it) (λ args. args
 
 -- updates: the load stands between the two parts
 module _ {program : TypedProgram} {at : Place} {ty : Shape} {number : ℕ} {old new : Built} {p s q : Point} where
-  pub update : {form : Form} {a b : Typed} {op : BinOp} {works_in : IntType} {gives : Gives} → form ≡ Update op a b works_in gives → s ≡ acted program (Of at ty form) number q
+  pub update : {form : Form} {a b : Typed} {op : BinOp} {works_in : IntType} {gives : Gives} → form ≡ Update op a b works_in gives
+      → s ≡ acted program (Of at ty form) number q
       → UsesAround program (Of at ty form) a b 3 number old new p s → Evaluates program (Of at ty form) number old new p q
   update {form = form} {a = a} {b = b} {works_in = works_in} is acts parts =
       let load = graph.FetchNumber (access_of a) works_in in
@@ -159,7 +182,8 @@ module _ {program : TypedProgram} {at : Place} {ty : Shape} {number : ℕ} {old 
       let object = parts.one.adds flow has args.0 (first b following) (same_meets loads loaded) in
       adds_both (parts.last.adds flow in_mid args.1 following m) (adds_past at number load r refl (same_after loads object)))
 
-  pub move : {form : Form} {a b : Typed} {direction : Direction} {gives : Gives} → form ≡ Move a b direction gives → s ≡ acted program (Of at ty form) number q
+  pub move : {form : Form} {a b : Typed} {direction : Direction} {gives : Gives} → form ≡ Move a b direction gives
+      → s ≡ acted program (Of at ty form) number q
       → UsesAround program (Of at ty form) a b 2 number old new p s → Evaluates program (Of at ty form) number old new p q
   move {form = form} {a = a} {b = b} is acts parts =
       let load = graph.FetchPointer (access_of a) in

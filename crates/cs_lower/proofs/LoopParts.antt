@@ -31,7 +31,8 @@ module _ (program : TypedProgram) (flow : Flow) where
   joins_block block q is = subst (λ r. Joins program flow r (block_of flow block)) is there
 
 -- a `return` brings in its own control point and those of its value
-return_alone : {flow : Flow} {at : Place} {some new : List Point} (value : Option Typed) (to : Targets) (following : Next) → AddsPoints flow (points_some value (met point.Return at)) (does at 1 (graph.Meet point.Return) leaving ∷ some) new
+return_alone : {flow : Flow} {at : Place} {some new : List Point} (value : Option Typed) (to : Targets) (following : Next)
+    → AddsPoints flow (points_some value (met point.Return at)) (does at 1 (graph.Meet point.Return) leaving ∷ some) new
     → AddsPoints flow (flows to (Return at value) following) some new
 return_alone {at = at} {some = some} value to following values =
     nothing_then (adds_jump 0) (return_adds at value to (jump_to 0) following (adds_among (jump_to 0 ∷ some) some (among_rest (jump_to 0) some)) values)
@@ -45,7 +46,8 @@ module _ {program : TypedProgram} where
     adds = λ flow has args inside following m m'. adds_nothing;
   }
 
-  pub tests_for : {at : Place} {test : Typed} {one end : ℕ} {old x new : Built} {p body : Point} → Seals old x one body → Uses program test 0 x new p (split at 0 one end) → TestsFor program at (Some test) old new p body end
+  pub tests_for : {at : Place} {test : Typed} {one end : ℕ} {old x new : Built} {p body : Point} → Seals old x one body
+      → Uses program test 0 x new p (split at 0 one end) → TestsFor program at (Some test) old new p body end
   tests_for {at = at} {test = test} {one = one} {end = end} seals tests = record {
     grows = grows_on seals.grows tests.grows;
     does = λ flow q has args is. (one, end, tests.does flow has args, (seals.is flow (tests.grows.keeps flow has), block_joins program flow end q is));
@@ -62,7 +64,8 @@ module _ {program : TypedProgram} where
     adds = λ flow has args following m. adds_among (jump_to head ∷ blocks built) (blocks built) (among_rest (jump_to head) (blocks built));
   }
 
-  pub ends_for : {at : Place} {last : Typed} {block head : ℕ} {old x new : Built} {p s : Point} → s ≡ does at 0 graph.Drop (jump_to head) → Uses program last 0 old x p s → Seals x new block p → EndsFor program (Some last) old new block head
+  pub ends_for : {at : Place} {last : Typed} {block head : ℕ} {old x new : Built} {p s : Point} → s ≡ does at 0 graph.Drop (jump_to head)
+      → Uses program last 0 old x p s → Seals x new block p → EndsFor program (Some last) old new block head
   ends_for {at = at} {last = last} {head = head} {p = p} is one seals = record {
     grows = grows_on one.grows seals.grows;
     does = λ flow has args. (
@@ -80,17 +83,20 @@ module _ {program : TypedProgram} where
 
   -- a `return` without a value, and with one
   module _ {routine : Routine} where
-    pub returns_nothing : {at : Place} {built : Built} {p s l : Point} → l ≡ leaving → s ≡ does at 1 (graph.Meet point.Return) l → p ≡ does at 0 graph.Nothing s → Returns program routine at None built built p
+    pub returns_nothing : {at : Place} {built : Built} {p s l : Point} → l ≡ leaving → s ≡ does at 1 (graph.Meet point.Return) l
+        → p ≡ does at 0 graph.Nothing s → Returns program routine at None built built p
     returns_nothing {at = at} {built = built} {p = p} {s = s} {l = l} left meets is =
         let returned : s ≡ does at 1 (graph.Meet point.Return) leaving = subst (λ r. s ≡ does at 1 (graph.Meet point.Return) r) left meets in
         let whole : p ≡ does at 0 graph.Nothing (does at 1 (graph.Meet point.Return) leaving) = subst (λ r. p ≡ does at 0 graph.Nothing r) returned is in
         record {
           grows = nothing_more built;
           does = λ flow has args. whole;
-          adds = λ flow has args to following. return_alone None to following (same_before whole (adds_silent at 0 graph.Nothing (does at 1 (graph.Meet point.Return) leaving) refl));
+          adds = λ flow has args to following. return_alone None to following
+              (same_before whole (adds_silent at 0 graph.Nothing (does at 1 (graph.Meet point.Return) leaving) refl));
         }
 
-    pub returns_value : {at : Place} {e : Typed} {old new : Built} {p s l : Point} → l ≡ leaving → s ≡ does at 1 (graph.Meet point.Return) l → Uses program e 0 old new p s → Returns program routine at (Some e) old new p
+    pub returns_value : {at : Place} {e : Typed} {old new : Built} {p s l : Point} → l ≡ leaving → s ≡ does at 1 (graph.Meet point.Return) l
+        → Uses program e 0 old new p s → Returns program routine at (Some e) old new p
     returns_value {at = at} {e = e} {old = old} {p = p} {s = s} left meets h =
         let returned : s ≡ does at 1 (graph.Meet point.Return) leaving = subst (λ r. s ≡ does at 1 (graph.Meet point.Return) r) left meets in
         record {

@@ -25,7 +25,9 @@ use Rattle.cs_lower.proofs.Evaluating.{jump_joins, same_after, same_before}
 use Rattle.cs_lower.proofs.Executing.{counted_point_stays}
 
 -- the head of a loop has the number that was told before its body
-pub is_head : {old y new : Built} {count head inner counted_point : ℕ} → Grows count old y → Grows 1 y new → head + suc (inner + length old.heads) ≡ old.counted_points → inner ≡ count → counted_point + length new.heads ≡ new.counted_points → head ≡ counted_point
+pub is_head : {old y new : Built} {count head inner counted_point : ℕ} → Grows count old y → Grows 1 y new
+    → head + suc (inner + length old.heads) ≡ old.counted_points → inner ≡ count → counted_point + length new.heads ≡ new.counted_points
+    → head ≡ counted_point
 is_head inside seals before counts e =
     let a = inside.counts in
     let b = seals.counts in
@@ -34,14 +36,16 @@ is_head inside seals before counts e =
     omega arith
 
 -- and is the last counted point that had no block
-pub is_last : {old y : Built} {count inner : ℕ} (head : ℕ) → Grows count old y → head + suc (inner + length old.heads) ≡ old.counted_points → inner ≡ count → head + suc (length y.heads) ≡ y.counted_points
+pub is_last : {old y : Built} {count inner : ℕ} (head : ℕ) → Grows count old y → head + suc (inner + length old.heads) ≡ old.counted_points
+    → inner ≡ count → head + suc (length y.heads) ≡ y.counted_points
 is_last head inside before counts =
     let a = inside.counts in
     let c = inside.same in
     omega arith
 
 -- the counted point after the head
-pub after_head : (built : Built) (head : ℕ) → head + suc (length built.heads) ≡ built.counted_points → head + 1 + length built.heads ≡ built.counted_points
+pub after_head : (built : Built) (head : ℕ) → head + suc (length built.heads) ≡ built.counted_points
+    → head + 1 + length built.heads ≡ built.counted_points
 after_head built head e = omega arith
 
 module _ (program : TypedProgram) (flow : Flow) where
@@ -51,14 +55,19 @@ module _ (program : TypedProgram) (flow : Flow) where
 
 module _ {program : TypedProgram} {routine : Routine} where
   -- a `while`
-  pub while_made : {at : Place} {test : Typed} {body : Statement} {out again inner head end one : ℕ} {old x y z new : Built} {p r q : Point} → head + suc (inner + length old.heads) ≡ old.counted_points → inner ≡ counted_points body
-      → Seals old x end q → ExecutesIn program routine body end head x y one head → Uses program test 0 y z r (split at 0 one end) → SealsCountedPoint z new point.Head at r → p ≡ jump_to head
+  pub while_made : {at : Place} {test : Typed} {body : Statement} {out again inner head end one : ℕ} {old x y z new : Built} {p r q : Point}
+      → head + suc (inner + length old.heads) ≡ old.counted_points → inner ≡ counted_points body
+      → Seals old x end q → ExecutesIn program routine body end head x y one head → Uses program test 0 y z r (split at 0 one end)
+      → SealsCountedPoint z new point.Head at r → p ≡ jump_to head
       → Executes program routine (While at test body) out again old new p q
-  while_made {at = at} {test = test} {body = body} {out = out} {again = again} {head = head} {end = end} {one = one} {z = z} {new = new} {p = p} {r = r} {q = q} before counts ends way tests seals jump =
-      let inside = more_and_more 0 (counted_points body) (counted_points body) ends.grows (more_and_more (counted_points body) 0 (counted_points body) way.grows tests.grows (omega arith)) (omega arith) in
+  while_made {at = at} {test = test} {body = body} {out = out} {again = again} {head = head} {end = end} {one = one} {z = z} {new = new} {p = p} {r = r} {q = q}
+      before counts ends way tests seals jump =
+      let inside = more_and_more 0 (counted_points body) (counted_points body) ends.grows
+      (more_and_more (counted_points body) 0 (counted_points body) way.grows tests.grows (omega arith)) (omega arith) in
       let last = is_last head inside before counts in
       let here = counted_point_stays tests.grows (head + 1) (after_head z head last) in
-      let placed : (flow : Flow) → Has flow new → StatementHasArguments (While at test body) → executes_at program flow routine (labels_in routine flow) (While at test body) head (block_of flow out) (block_of flow again) p q =
+      let placed : (flow : Flow) → Has flow new → StatementHasArguments (While at test body)
+      → executes_at program flow routine (labels_in routine flow) (While at test body) head (block_of flow out) (block_of flow again) p q =
       λ flow has args.
       let in_z = seals.grows.keeps flow has in
       let in_y = tests.grows.keeps flow in_z in
@@ -74,7 +83,13 @@ module _ {program : TypedProgram} {routine : Routine} where
             end,
             tests.does flow in_z args.0,
             (
-              (jump_to head, subst (λ s. executes_at program flow routine (labels_in routine flow) body (head + 1) s (block_of flow head) (block_of flow one) (jump_to head)) (ends.is flow in_x) executed, jumps there),
+              (
+                jump_to head,
+                subst (λ s.
+                    executes_at program flow routine (labels_in routine flow) body (head + 1) s (block_of flow head) (block_of flow one) (jump_to head))
+                    (ends.is flow in_x) executed,
+                jumps there,
+              ),
               block_joins program flow end q (ends.is flow in_x),
             ),
           ),
@@ -83,7 +98,8 @@ module _ {program : TypedProgram} {routine : Routine} where
       record {
         grows = more_and_more (counted_points body) 1 (1 + counted_points body) inside seals.grows (omega arith);
         does = λ flow has args counted_point e.
-            subst (λ (m : ℕ). executes_at program flow routine (labels_in routine flow) (While at test body) m (block_of flow out) (block_of flow again) p q) (is_head inside seals.grows before counts e) (placed flow has args);
+            subst (λ (m : ℕ). executes_at program flow routine (labels_in routine flow) (While at test body) m (block_of flow out) (block_of flow again) p q)
+            (is_head inside seals.grows before counts e) (placed flow has args);
         adds = λ flow has args counted_point e to aims following m.
             let in_z = seals.grows.keeps flow has in
             let in_y = tests.grows.keeps flow in_z in
@@ -91,20 +107,27 @@ module _ {program : TypedProgram} {routine : Routine} where
             let turns = same_meets (seals.is flow has head last) (point_meets at 0 (graph.Reach point.Head head) r refl) in
             let inner_aims = aims_in_loop (block_of flow end) (block_of flow head) aims (same_meets (ends.is flow in_x) m) turns in
             same_before jump
-            (while_adds program flow routine (labels_in routine flow) head (block_of flow out) (block_of flow again) p q (aims_of aims) m (ends.adds flow) at test body head (placed flow has args)
+            (while_adds program flow routine (labels_in routine flow) head (block_of flow out) (block_of flow again) p q (aims_of aims) m (ends.adds flow) at
+            test body head (placed flow has args)
             (way.adds flow in_y args.1 (head + 1) here (in_loop to following (met point.Head at)) inner_aims (met point.Head at) turns)
             (tests.adds flow in_z args.0 (met point.Branch at) (split_meets at 0 one end)) (seals.adds flow head last));
       }
 
   -- a `do`
-  pub do_made : {at : Place} {test : Typed} {body : Statement} {out again inner head end following : ℕ} {old x y z w new : Built} {p v r q s : Point} → head + suc (inner + length old.heads) ≡ old.counted_points → inner ≡ counted_points body
-      → Seals old x end q → Uses program test 0 x y r (split at 0 head end) → Seals y z following r → s ≡ jump_to following → Executes program routine body end following z w v s → SealsCountedPoint w new point.Head at v → p ≡ jump_to head
+  pub do_made : {at : Place} {test : Typed} {body : Statement} {out again inner head end following : ℕ} {old x y z w new : Built} {p v r q s : Point}
+      → head + suc (inner + length old.heads) ≡ old.counted_points → inner ≡ counted_points body
+      → Seals old x end q → Uses program test 0 x y r (split at 0 head end) → Seals y z following r → s ≡ jump_to following
+      → Executes program routine body end following z w v s → SealsCountedPoint w new point.Head at v → p ≡ jump_to head
       → Executes program routine (Do at body test) out again old new p q
-  do_made {at = at} {test = test} {body = body} {out = out} {again = again} {head = head} {end = end} {following = following} {w = w} {new = new} {p = p} {v = v} {r = r} {q = q} {s = s} before counts ends tests tested leads way seals jump =
-      let inside = more_and_more 0 (counted_points body) (counted_points body) ends.grows (more_and_more 0 (counted_points body) (counted_points body) tests.grows (more_and_more 0 (counted_points body) (counted_points body) tested.grows way.grows (omega arith)) (omega arith)) (omega arith) in
+  do_made {at = at} {test = test} {body = body} {out = out} {again = again} {head = head} {end = end} {following = following} {w = w} {new = new} {p = p} {v =
+      v} {r = r} {q = q} {s = s} before counts ends tests tested leads way seals jump =
+      let inside = more_and_more 0 (counted_points body) (counted_points body) ends.grows
+      (more_and_more 0 (counted_points body) (counted_points body) tests.grows
+      (more_and_more 0 (counted_points body) (counted_points body) tested.grows way.grows (omega arith)) (omega arith)) (omega arith) in
       let last = is_last head inside before counts in
       let here = after_head w head last in
-      let placed : (flow : Flow) → Has flow new → StatementHasArguments (Do at body test) → executes_at program flow routine (labels_in routine flow) (Do at body test) head (block_of flow out) (block_of flow again) p q =
+      let placed : (flow : Flow) → Has flow new → StatementHasArguments (Do at body test)
+      → executes_at program flow routine (labels_in routine flow) (Do at body test) head (block_of flow out) (block_of flow again) p q =
       λ flow has args.
       let in_w = seals.grows.keeps flow has in
       let in_z = way.grows.keeps flow in_w in
@@ -112,7 +135,9 @@ module _ {program : TypedProgram} {routine : Routine} where
       let in_x = tests.grows.keeps flow in_y in
       let executed = way.does flow in_w args.0 (head + 1) here in
       let At : Point → Point → Point → Type 0 = λ o a t. executes_at program flow routine (labels_in routine flow) body (head + 1) o a v t in
-      let turned = subst (λ o. At o r (jump_to following)) (ends.is flow in_x) (subst (λ a. At (block_of flow end) a (jump_to following)) (tested.is flow in_z) (subst (λ t. At (block_of flow end) (block_of flow following) t) leads executed)) in (
+      let turned = subst (λ o. At o r (jump_to following)) (ends.is flow in_x)
+      (subst (λ a. At (block_of flow end) a (jump_to following)) (tested.is flow in_z)
+      (subst (λ t. At (block_of flow end) (block_of flow following) t) leads executed)) in (
         block_of flow head,
         r,
         subst (λ t. Joins program flow t (block_of flow head)) (sym jump) (jumps there),
@@ -126,17 +151,21 @@ module _ {program : TypedProgram} {routine : Routine} where
       record {
         grows = more_and_more (counted_points body) 1 (1 + counted_points body) inside seals.grows (omega arith);
         does = λ flow has args counted_point e.
-            subst (λ (m : ℕ). executes_at program flow routine (labels_in routine flow) (Do at body test) m (block_of flow out) (block_of flow again) p q) (is_head inside seals.grows before counts e) (placed flow has args);
+            subst (λ (m : ℕ). executes_at program flow routine (labels_in routine flow) (Do at body test) m (block_of flow out) (block_of flow again) p q)
+            (is_head inside seals.grows before counts e) (placed flow has args);
         adds = λ flow has args counted_point e to aims next m.
             let in_w = seals.grows.keeps flow has in
             let in_z = way.grows.keeps flow in_w in
             let in_y = tested.grows.keeps flow in_z in
             let in_x = tests.grows.keeps flow in_y in
             let again_next = first test (met point.Branch at) in
-            let again_met = same_meets (tested.is flow in_z) (used_meets program flow test 0 r (split at 0 head end) (tests.does flow in_y args.1) (split_meets at 0 head end)) in
+            let again_met = same_meets (tested.is flow in_z)
+            (used_meets program flow test 0 r (split at 0 head end) (tests.does flow in_y args.1) (split_meets at 0 head end)) in
             let inner_aims = aims_in_loop (block_of flow end) (block_of flow following) aims (same_meets (ends.is flow in_x) m) again_met in
             same_before jump
-            (do_adds program flow routine (labels_in routine flow) head (block_of flow out) (block_of flow again) p q (aims_of aims) m (ends.adds flow) at body test head following (placed flow has args)
+            (do_adds program flow routine (labels_in routine flow) head (block_of flow out) (block_of flow again) p q (aims_of aims) m (ends.adds flow) at body
+            test head following (placed flow has args)
             (then_nothing (tests.adds flow in_y args.1 (met point.Branch at) (split_meets at 0 head end)) (tested.adds flow))
-            (same_after leads (way.adds flow in_w args.0 (head + 1) here (in_loop to next again_next) inner_aims again_next (same_meets leads (past_jump again_met)))) (seals.adds flow head last));
+            (same_after leads (way.adds flow in_w args.0 (head + 1) here (in_loop to next again_next) inner_aims again_next
+            (same_meets leads (past_jump again_met)))) (seals.adds flow head last));
       }

@@ -1,7 +1,10 @@
 -- Each allocation has the arguments that its function takes (C11 7.22.3.2, 7.22.3.4): a recursion over the syntax. The typing of a
 -- program sees to it.
 use Rattle.std.specs.Prelude.{◌≡◌, ℕ, List, [], ◌∷◌, Option, Some, None}
-use Rattle.cs_ast.specs.TypedTree.{Typed, Of, Form, Through, Index, Member, Arrow, Load, Address, Decay, Convert, Unary, Not, Binary, Compare, Sum, Difference, And, Or, Choice, Comma, Assign, Update, Move, Call, Allocate, Free, TypedList, NoMore, Further, Initial, Value, Parts, Bytes, Initials, NoPart, Part, Statement, Block, Declare, Run, If, IfElse, While, Do, For, Switch, Goto, Label, Break, Continue, Return, Statements, Empty, Then}
+use Rattle.cs_ast.specs.TypedTree.{Typed, Of, Form, Through, Index, Member, Arrow, Load, Address, Decay, Convert, Unary, Not, Binary, Compare, Sum, Difference}
+use Rattle.cs_ast.specs.TypedTree.{And, Or, Choice, Comma, Assign, Update, Move, Call, Allocate, Free, TypedList, NoMore, Further, Initial, Value, Parts, Bytes}
+use Rattle.cs_ast.specs.TypedTree.{Initials, NoPart, Part, Statement, Block, Declare, Run, If, IfElse, While, Do, For, Switch, Goto, Label, Break, Continue}
+use Rattle.cs_ast.specs.TypedTree.{Return, Statements, Empty, Then}
 use Rattle.cs_ast.specs.TypedProgram.{TypedProgram}
 use Rattle.cs_meaning.specs.Initials.{Piece, Evaluated, Spelled}
 use Rattle.cs_meaning.specs.Expressions.{count_all}

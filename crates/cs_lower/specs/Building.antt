@@ -28,7 +28,8 @@ built_of graph = record { counted_points = graph.counted_points; heads = map vie
 
 -- a graph has what was built: a counted point's block is the one with the counted point's number, and the other blocks stand after those of all counted points
 pub record Has (flow : Flow) (built : Built) : Type 0 where
-  pub heads : (n counted_point : ℕ) (p : Point) → slice_get built.heads n ≡ Some p → counted_point + suc n ≡ built.counted_points → block_of flow counted_point ≡ p
+  pub heads : (n counted_point : ℕ) (p : Point) → slice_get built.heads n ≡ Some p → counted_point + suc n ≡ built.counted_points
+      → block_of flow counted_point ≡ p
   pub others : (n : ℕ) (p : Point) → slice_get built.others n ≡ Some p → block_of flow (built.counted_points + n) ≡ p
 
 -- more was built, the blocks of so many counted points among it

@@ -15,8 +15,10 @@ use Rattle.cs_lower.specs.Building.{Built, blocks, Has, Grows}
 -- built has no control points but those of the function, where what was there before has no others
 pub record BeginsBody (program : TypedProgram) (routine : Routine) (body : Statement) (old new : Built) (entry : ℕ) : Type 0 where
   pub grows : Grows (counted_points body) old new
-  pub does : (flow : Flow) → Has flow new → StatementHasArguments body → length new.heads ≡ new.counted_points → flow.entry ≡ entry → flow.counted_points ≡ counted_points body → LowersBody program routine body flow
-  pub fits : (flow : Flow) → Has flow new → StatementHasArguments body → length new.heads ≡ new.counted_points → flow.entry ≡ entry → flow.counted_points ≡ counted_points body → routine.body ≡ Some body →
+  pub does : (flow : Flow) → Has flow new → StatementHasArguments body → length new.heads ≡ new.counted_points → flow.entry ≡ entry
+      → flow.counted_points ≡ counted_points body → LowersBody program routine body flow
+  pub fits : (flow : Flow) → Has flow new → StatementHasArguments body → length new.heads ≡ new.counted_points → flow.entry ≡ entry
+      → flow.counted_points ≡ counted_points body → routine.body ≡ Some body →
       AllFit flow (control_points routine) (blocks old) → AllFit flow (control_points routine) (blocks new)
 
 -- a graph is that of a function's body: it executes the body, and has no control points but those of the function
@@ -27,4 +29,5 @@ pub record IsGraphOf (program : TypedProgram) (routine : Routine) (body : Statem
 -- a function with a body has a graph, which is that of the body if its allocations have their arguments, and one without a body has none
 pub record HasGraph (program : TypedProgram) (routine : Routine) (graph : Option Flow) : Type 0 where
   pub there : is_there graph ≡ is_there routine.body
-  pub lowers : (body : Statement) (flow : Flow) → routine.body ≡ Some body → graph ≡ Some flow → StatementHasArguments body → IsGraphOf program routine body flow
+  pub lowers : (body : Statement) (flow : Flow) → routine.body ≡ Some body → graph ≡ Some flow → StatementHasArguments body
+      → IsGraphOf program routine body flow

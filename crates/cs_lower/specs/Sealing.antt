@@ -16,5 +16,7 @@ pub record Seals (old new : Built) (block : ℕ) (p : Point) : Type 0 where
 -- the block of the last counted point that had none is added: the counted point is reached, and then comes this point
 pub record SealsCountedPoint (old new : Built) (kind : PointKind) (at : Place) (p : Point) : Type 0 where
   pub grows : Grows 1 old new
-  pub is : (flow : Flow) → Has flow new → (counted_point : ℕ) → counted_point + suc (length old.heads) ≡ old.counted_points → block_of flow counted_point ≡ does at 0 (Reach kind counted_point) p
-  pub adds : (flow : Flow) (counted_point : ℕ) → counted_point + suc (length old.heads) ≡ old.counted_points → AddsPoints flow [] (does at 0 (Reach kind counted_point) p ∷ blocks old) (blocks new)
+  pub is : (flow : Flow) → Has flow new → (counted_point : ℕ) → counted_point + suc (length old.heads) ≡ old.counted_points
+      → block_of flow counted_point ≡ does at 0 (Reach kind counted_point) p
+  pub adds : (flow : Flow) (counted_point : ℕ) → counted_point + suc (length old.heads) ≡ old.counted_points
+      → AddsPoints flow [] (does at 0 (Reach kind counted_point) p ∷ blocks old) (blocks new)

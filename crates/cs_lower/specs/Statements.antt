@@ -32,52 +32,67 @@ module _ (program : TypedProgram) (routine : Routine) where
   pub record Aims (flow : Flow) (to : Targets) (out again : Point) : Type 0 where
     pub out_meets : MeetsNext flow out to.out
     pub again_meets : MeetsNext flow again to.again
-    pub labels_meet : (label : ℕ) (p q : Point) (following : Next) → goes_to program flow routine (labels_in routine flow) (landing label (body_of routine) 0 []) (labels_in routine flow label) p q →
+    pub labels_meet : (label : ℕ) (p q : Point) (following : Next)
+        → goes_to program flow routine (labels_in routine flow) (landing label (body_of routine) 0 []) (labels_in routine flow label) p q →
         MeetsNext flow q following → MeetsNext flow p (at_label (to.labels label) following)
 
   -- a point executes a statement; `break` and `continue` lead to two blocks
   pub record Executes (s : Statement) (out again : ℕ) (old new : Built) (p q : Point) : Type 0 where
     pub grows : Grows (counted_points s) old new
-    pub does : (flow : Flow) → Has flow new → StatementHasArguments s → (counted_point : ℕ) → counted_point + length new.heads ≡ new.counted_points →
+    pub does : (flow : Flow) → Has flow new → StatementHasArguments s → (counted_point : ℕ) → counted_point + length new.heads ≡ new.counted_points
+        →
         executes_at program flow routine (labels_in routine flow) s counted_point (block_of flow out) (block_of flow again) p q
-    pub adds : (flow : Flow) → Has flow new → StatementHasArguments s → (counted_point : ℕ) → counted_point + length new.heads ≡ new.counted_points → (to : Targets) → Aims flow to (block_of flow out) (block_of flow again) →
+    pub adds : (flow : Flow) → Has flow new → StatementHasArguments s → (counted_point : ℕ) → counted_point + length new.heads ≡ new.counted_points
+        → (to : Targets) → Aims flow to (block_of flow out) (block_of flow again) →
         (following : Next) → MeetsNext flow q following → AddsPoints flow (flows to s following) (q ∷ blocks old) (p ∷ blocks new)
 
   -- the same of statements one after another
   pub record ExecutesAll (statements : Statements) (out again : ℕ) (old new : Built) (p q : Point) : Type 0 where
     pub grows : Grows (counted_points_in statements) old new
-    pub does : (flow : Flow) → Has flow new → StatementsHaveArguments statements → (counted_point : ℕ) → counted_point + length new.heads ≡ new.counted_points →
+    pub does : (flow : Flow) → Has flow new → StatementsHaveArguments statements
+        → (counted_point : ℕ) → counted_point + length new.heads ≡ new.counted_points →
         all_at program flow routine (labels_in routine flow) statements counted_point (block_of flow out) (block_of flow again) p q
-    pub adds : (flow : Flow) → Has flow new → StatementsHaveArguments statements → (counted_point : ℕ) → counted_point + length new.heads ≡ new.counted_points → (to : Targets) → Aims flow to (block_of flow out) (block_of flow again) →
+    pub adds : (flow : Flow) → Has flow new → StatementsHaveArguments statements
+        → (counted_point : ℕ) → counted_point + length new.heads ≡ new.counted_points
+        → (to : Targets) → Aims flow to (block_of flow out) (block_of flow again) →
         (following : Next) → MeetsNext flow q following → AddsPoints flow (flows_in to statements following) (q ∷ blocks old) (p ∷ blocks new)
 
   -- the same of a statement with which a block begins, and after which stands a jump
   pub record ExecutesIn (s : Statement) (out again : ℕ) (old new : Built) (block end : ℕ) : Type 0 where
     pub grows : Grows (counted_points s) old new
-    pub does : (flow : Flow) → Has flow new → StatementHasArguments s → (counted_point : ℕ) → counted_point + length new.heads ≡ new.counted_points →
+    pub does : (flow : Flow) → Has flow new → StatementHasArguments s → (counted_point : ℕ) → counted_point + length new.heads ≡ new.counted_points
+        →
         executes_at program flow routine (labels_in routine flow) s counted_point (block_of flow out) (block_of flow again) (block_of flow block) (jump_to end)
-    pub adds : (flow : Flow) → Has flow new → StatementHasArguments s → (counted_point : ℕ) → counted_point + length new.heads ≡ new.counted_points → (to : Targets) → Aims flow to (block_of flow out) (block_of flow again) →
+    pub adds : (flow : Flow) → Has flow new → StatementHasArguments s → (counted_point : ℕ) → counted_point + length new.heads ≡ new.counted_points
+        → (to : Targets) → Aims flow to (block_of flow out) (block_of flow again) →
         (following : Next) → MeetsNext flow (block_of flow end) following → AddsPoints flow (flows to s following) (jump_to end ∷ blocks old) (blocks new)
 
   -- statements one after another, each with which a block begins, and after them a block
   pub record EntersAll (statements : Statements) (out again : ℕ) (old new : Built) (entries : List ℕ) (end : ℕ) : Type 0 where
     pub grows : Grows (counted_points_in statements) old new
     pub counts : length entries ≡ count_of statements
-    pub does : (flow : Flow) → Has flow new → StatementsHaveArguments statements → (counted_point : ℕ) → counted_point + length new.heads ≡ new.counted_points → (item : ℕ) →
-        from_at program flow routine (labels_in routine flow) item statements counted_point (block_of flow out) (block_of flow again) (block_of flow (block_at entries end item)) (block_of flow end)
-    pub adds : (flow : Flow) → Has flow new → StatementsHaveArguments statements → (counted_point : ℕ) → counted_point + length new.heads ≡ new.counted_points → (to : Targets) → Aims flow to (block_of flow out) (block_of flow again) →
+    pub does : (flow : Flow) → Has flow new → StatementsHaveArguments statements
+        → (counted_point : ℕ) → counted_point + length new.heads ≡ new.counted_points → (item : ℕ) →
+        from_at program flow routine (labels_in routine flow) item statements counted_point (block_of flow out) (block_of flow again)
+        (block_of flow (block_at entries end item)) (block_of flow end)
+    pub adds : (flow : Flow) → Has flow new → StatementsHaveArguments statements
+        → (counted_point : ℕ) → counted_point + length new.heads ≡ new.counted_points
+        → (to : Targets) → Aims flow to (block_of flow out) (block_of flow again) →
         (following : Next) → MeetsNext flow (block_of flow end) following → AddsPoints flow (flows_in to statements following) (blocks old) (blocks new)
 
   -- pieces of an initializer are stored, one after another
   pub record StoresPieces (at : Place) (declaration : ℕ) (pieces : List Piece) (old new : Built) (p q : Point) : Type 0 where
     pub grows : Grows 0 old new
-    pub does : (flow : Flow) → Has flow new → PiecesHaveArguments pieces → stores_at program flow routine (labels_in routine flow) at declaration pieces p q
-    pub adds : (flow : Flow) → Has flow new → PiecesHaveArguments pieces → (following : Next) → MeetsNext flow q following → AddsPoints flow (points_pieces pieces following) (q ∷ blocks old) (p ∷ blocks new)
+    pub does : (flow : Flow) → Has flow new → PiecesHaveArguments pieces
+        → stores_at program flow routine (labels_in routine flow) at declaration pieces p q
+    pub adds : (flow : Flow) → Has flow new → PiecesHaveArguments pieces → (following : Next) → MeetsNext flow q following
+        → AddsPoints flow (points_pieces pieces following) (q ∷ blocks old) (p ∷ blocks new)
 
   -- a declaration
   pub record Declares (at : Place) (declaration : ℕ) (initial : Option Initial) (old new : Built) (p q : Point) : Type 0 where
     pub grows : Grows 0 old new
-    pub does : (flow : Flow) → Has flow new → OptionInitialHasArguments initial → declares_at program flow routine (labels_in routine flow) at declaration initial p q
+    pub does : (flow : Flow) → Has flow new → OptionInitialHasArguments initial
+        → declares_at program flow routine (labels_in routine flow) at declaration initial p q
     pub adds : (flow : Flow) → Has flow new → OptionInitialHasArguments initial → (to : Targets) (following : Next) → MeetsNext flow q following →
         AddsPoints flow (flows to (Declare at declaration initial) following) (q ∷ blocks old) (p ∷ blocks new)
 
@@ -85,13 +100,15 @@ module _ (program : TypedProgram) (routine : Routine) where
   pub record Returns (at : Place) (value : Option Typed) (old new : Built) (p : Point) : Type 0 where
     pub grows : Grows 0 old new
     pub does : (flow : Flow) → Has flow new → OptionHasArguments value → returns_at program flow routine (labels_in routine flow) at value p
-    pub adds : (flow : Flow) → Has flow new → OptionHasArguments value → (to : Targets) (following : Next) → AddsPoints flow (flows to (Return at value) following) (blocks old) (p ∷ blocks new)
+    pub adds : (flow : Flow) → Has flow new → OptionHasArguments value
+        → (to : Targets) (following : Next) → AddsPoints flow (flows to (Return at value) following) (blocks old) (p ∷ blocks new)
 
 -- a test, and then one of two blocks, is a use over no temporaries; the test of a `for` may be left out
 pub record TestsFor (program : TypedProgram) (at : Place) (test : Option Typed) (old new : Built) (p body : Point) (end : ℕ) : Type 0 where
   pub grows : Grows 0 old new
   pub does : (flow : Flow) (q : Point) → Has flow new → OptionHasArguments test → block_of flow end ≡ q → for_test_at program flow at test p body q
-  pub adds : (flow : Flow) → Has flow new → OptionHasArguments test → (inside following : Next) → MeetsNext flow body inside → MeetsNext flow (block_of flow end) following →
+  pub adds : (flow : Flow) → Has flow new → OptionHasArguments test → (inside following : Next) → MeetsNext flow body inside
+      → MeetsNext flow (block_of flow end) following →
       AddsPoints flow (for_tested at test inside following ++ for_points at test) (body ∷ blocks old) (p ∷ blocks new)
 
 -- the last part of a `for`, with a jump to its head

@@ -19,4 +19,5 @@ cases_to blocks end (one ∷ others) = with_case one.value (block_at blocks end 
 
 -- a number leads to the block of its case, or else to that of `default`, or else after all statements
 abbrev pub leads_to : Place → List Case → List ℕ → ℕ → Point
-leads_to at cases blocks end = record { operations = []; end = graph.Switch at 0 (cases_to blocks end cases) (block_at blocks end (default_item cases (length blocks))) }
+leads_to at cases blocks end =
+    record { operations = []; end = graph.Switch at 0 (cases_to blocks end cases) (block_at blocks end (default_item cases (length blocks))) }

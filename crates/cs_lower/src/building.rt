@@ -24,7 +24,11 @@ pub struct GraphBuilder {
 impl GraphBuilder {
     /// Nothing is built yet.
     pub fn new(alloc: Global, counted_points: u32) -> GraphBuilder
-        ensures { built_of result ≡ record { counted_points = counted_points; heads = []; others = [] } }
+        ensures { built_of result ≡ record {
+          counted_points = counted_points;
+          heads = [];
+          others = [];
+        } }
     {
         GraphBuilder {
             counted_points,
@@ -35,7 +39,8 @@ impl GraphBuilder {
 
     /// Makes a block of a strip, and gives the block's number.
     pub fn seal(&mut self, strip: Strip) -> Result<u32, AllocError>
-        ensures { IfOk result (λ block. Seals (built_of self.old) (built_of self.new) block (point_of strip)) }
+        ensures { IfOk result (λ block.
+            Seals (built_of self.old) (built_of self.new) block (point_of strip)) }
     {
         let block = self.next_block()?;
         self.others.push(strip.into_block(None))?;
@@ -57,7 +62,8 @@ impl GraphBuilder {
 
     // The number of the next block that isn't that of a counted point.
     fn next_block(&self) -> Result<u32, AllocError>
-        ensures { IfOk result (λ block. block ≡ self.now.counted_points + length (built_of self.now).others) }
+        ensures { IfOk result (λ block.
+            block ≡ self.now.counted_points + length (built_of self.now).others) }
     {
         let following = u32::try_from(self.others.len()).map_err(|_| AllocError)?;
         self.counted_points.checked_add(following).ok_or(AllocError)
@@ -65,7 +71,9 @@ impl GraphBuilder {
 
     /// The number of the counted point before so many others that have no block yet.
     pub fn counted_point_before(&self, others: u64) -> Result<u32, AllocError>
-        ensures { IfOk result (λ counted_point. counted_point + suc (others + length (built_of self.now).heads) ≡ self.now.counted_points) }
+        ensures { IfOk result (λ counted_point.
+            counted_point + suc (others + length (built_of self.now).heads)
+            ≡ self.now.counted_points) }
     {
         let built = u32::try_from(self.heads.len()).map_err(|_| AllocError)?;
         let others = u32::try_from(others).map_err(|_| AllocError)?;
@@ -81,7 +89,9 @@ impl GraphBuilder {
         place: Place,
         strip: Strip,
     ) -> Result<(), AllocError>
-        ensures { OnOk result (SealsCountedPoint (built_of self.old) (built_of self.new) kind place (point_of strip)) }
+        ensures { OnOk result
+            (SealsCountedPoint (built_of self.old) (built_of self.new) kind place
+            (point_of strip)) }
     {
         let number = self.counted_point_before(0)?;
         let counted_point = CountedPoint {
@@ -96,9 +106,13 @@ impl GraphBuilder {
     /// The graph, once each counted point has its block.
     pub fn finish(mut self, entry: u32) -> Result<Flow, AllocError>
         ensures entry { IfOk result (λ flow. flow.entry ≡ entry) }
-        ensures counted_points { IfOk result (λ flow. flow.counted_points ≡ self.counted_points) }
-        ensures whole { IfOk result (λ flow. length (built_of self).heads ≡ self.counted_points → Has (view.flow flow) (built_of self)) }
-        ensures no_other { IfOk result (λ flow. All (Contains (blocks (built_of self))) (view.flow flow).blocks) }
+        ensures counted_points { IfOk result
+            (λ flow. flow.counted_points ≡ self.counted_points) }
+        ensures whole { IfOk result (λ flow.
+            length (built_of self).heads ≡ self.counted_points
+            → Has (view.flow flow) (built_of self)) }
+        ensures no_other { IfOk result (λ flow.
+            All (Contains (blocks (built_of self))) (view.flow flow).blocks) }
     {
         self.heads.reverse();
         self.heads.append(&mut self.others)?;

@@ -32,7 +32,8 @@ impl Lowering<'_> {
         following: Strip,
     ) -> Result<Strip, AllocError>
         requires { IsLaidOut self.now.program.now.model self.now.program.now.table.list }
-        ensures { IfOk result (λ made. Builds self.now graph.old graph.new (evaluated (typed e.now) number) made following) }
+        ensures { IfOk result (λ made.
+            Builds self.now graph.old graph.new (evaluated (typed e.now) number) made following) }
     {
         let next = self.act(e, number, following)?;
         match &*e.kind {
@@ -75,7 +76,8 @@ impl Lowering<'_> {
         following: Strip,
     ) -> Result<Strip, AllocError>
         requires { IsLaidOut self.now.program.now.model self.now.program.now.table.list }
-        ensures { IfOk result (λ made. Builds self.now graph.old graph.new (used_one (typed e.now) number) made following) }
+        ensures { IfOk result (λ made.
+            Builds self.now graph.old graph.new (used_one (typed e.now) number) made following) }
     {
         let following = used_before(e, number, following)?;
         let made = self.lower_expression(graph, e, number, following)?;
@@ -92,7 +94,9 @@ impl Lowering<'_> {
         following: Strip,
     ) -> Result<u32, AllocError>
         requires { IsLaidOut self.now.program.now.model self.now.program.now.table.list }
-        ensures { IfOk result (λ made. UsesIn (program_of self.now) (typed e.now) number (built_of graph.old) (built_of graph.new) made (point_of following)) }
+        ensures { IfOk result (λ made.
+            UsesIn (program_of self.now) (typed e.now) number (built_of graph.old)
+            (built_of graph.new) made (point_of following)) }
     {
         let made = self.lower_used(graph, e, number, following)?;
         let block = graph.seal(made)?;
@@ -110,7 +114,9 @@ impl Lowering<'_> {
         following: Strip,
     ) -> Result<Strip, AllocError>
         requires { IsLaidOut self.now.program.now.model self.now.program.now.table.list }
-        ensures { IfOk result (λ made. Builds self.now graph.old graph.new (used_both (typed first.now) (typed second.now) number) made following) }
+        ensures { IfOk result (λ made.
+            Builds self.now graph.old graph.new
+            (used_both (typed first.now) (typed second.now) number) made following) }
     {
         let made = self.lower_used(graph, second, above(number, 1)?, following)?;
         let made = self.lower_used(graph, first, number, made)?;
@@ -129,7 +135,10 @@ impl Lowering<'_> {
         following: Strip,
     ) -> Result<Strip, AllocError>
         requires { IsLaidOut self.now.program.now.model self.now.program.now.table.list }
-        ensures { IfOk result (λ made. Builds self.now graph.old graph.new (used_both (earlier order (typed pointer.now) (typed amount.now)) (later order (typed pointer.now) (typed amount.now)) number) made following) }
+        ensures { IfOk result (λ made.
+            Builds self.now graph.old graph.new
+            (used_both (earlier order (typed pointer.now) (typed amount.now))
+            (later order (typed pointer.now) (typed amount.now)) number) made following) }
     {
         match order {
             Order::PointerFirst => self.lower_pair(graph, pointer, amount, number, following),
@@ -151,7 +160,10 @@ impl Lowering<'_> {
         following: Strip,
     ) -> Result<Strip, AllocError>
         requires { IsLaidOut self.now.program.now.model self.now.program.now.table.list }
-        ensures { IfOk result (λ made. UsesAround (program_of self.now) (typed update.now) (typed object.now) (typed right.now) more number (built_of graph.old) (built_of graph.new) (point_of made) (point_of following)) }
+        ensures { IfOk result (λ made.
+            UsesAround (program_of self.now) (typed update.now) (typed object.now) (typed right.now)
+            more number (built_of graph.old) (built_of graph.new) (point_of made)
+            (point_of following)) }
     {
         let made = self.lower_used(graph, right, above(number, more)?, following)?;
         let fetched = self.fetch(update, number, made)?;
@@ -169,7 +181,9 @@ impl Lowering<'_> {
         following: Strip,
     ) -> Result<Strip, AllocError>
         requires { IsLaidOut self.now.program.now.model self.now.program.now.table.list }
-        ensures { IfOk result (λ made. Builds self.now graph.old graph.new (used_row (typed_list row.now) number) made following) }
+        ensures { IfOk result (λ made.
+            Builds self.now graph.old graph.new (used_row (typed_list row.now) number) made
+            following) }
     {
         let mut made = following;
         let mut left = row.len();
@@ -192,7 +206,9 @@ impl Lowering<'_> {
         following: Strip,
     ) -> Result<Strip, AllocError>
         requires { IsLaidOut self.now.program.now.model self.now.program.now.table.list }
-        ensures { IfOk result (λ made. Builds self.now graph.old graph.new (formed place (And (typed left.now) (typed right.now)) number) made following) }
+        ensures { IfOk result (λ made.
+            Builds self.now graph.old graph.new
+            (formed place (And (typed left.now) (typed right.now)) number) made following) }
     {
         let end = graph.seal(following)?;
         let judged = self.judged(place, number, end)?;
@@ -215,7 +231,9 @@ impl Lowering<'_> {
         following: Strip,
     ) -> Result<Strip, AllocError>
         requires { IsLaidOut self.now.program.now.model self.now.program.now.table.list }
-        ensures { IfOk result (λ made. Builds self.now graph.old graph.new (formed place (Or (typed left.now) (typed right.now)) number) made following) }
+        ensures { IfOk result (λ made.
+            Builds self.now graph.old graph.new
+            (formed place (Or (typed left.now) (typed right.now)) number) made following) }
     {
         let end = graph.seal(following)?;
         let judged = self.judged(place, number, end)?;
@@ -239,7 +257,10 @@ impl Lowering<'_> {
         following: Strip,
     ) -> Result<Strip, AllocError>
         requires { IsLaidOut self.now.program.now.model self.now.program.now.table.list }
-        ensures { IfOk result (λ made. Builds self.now graph.old graph.new (formed place (Choice (typed test.now) (typed first.now) (typed second.now)) number) made following) }
+        ensures { IfOk result (λ made.
+            Builds self.now graph.old graph.new
+            (formed place (Choice (typed test.now) (typed first.now) (typed second.now)) number)
+            made following) }
     {
         let end = graph.seal(following)?;
         let one = self.lower_way(graph, first, number, self.jump(end))?;
@@ -261,7 +282,9 @@ impl Lowering<'_> {
         following: Strip,
     ) -> Result<Strip, AllocError>
         requires { IsLaidOut self.now.program.now.model self.now.program.now.table.list }
-        ensures { IfOk result (λ made. Builds self.now graph.old graph.new (formed place (Comma (typed first.now) (typed second.now)) number) made following) }
+        ensures { IfOk result (λ made.
+            Builds self.now graph.old graph.new
+            (formed place (Comma (typed first.now) (typed second.now)) number) made following) }
     {
         let made = self.lower_used(graph, second, number, following)?;
         let dropped = made.prepend(place, number, Work::Drop)?;
@@ -278,7 +301,9 @@ impl Lowering<'_> {
         value: i128,
         end: u32,
     ) -> Result<u32, AllocError>
-        ensures { IfOk result (λ block. Seals (built_of graph.old) (built_of graph.new) block (does place number (Number value) (jump_to end))) }
+        ensures { IfOk result (λ block.
+            Seals (built_of graph.old) (built_of graph.new) block
+            (does place number (Number value) (jump_to end))) }
     {
         let made = self.jump(end).prepend(place, number, Work::Number(value))?;
         let block = graph.seal(made)?;
@@ -303,7 +328,8 @@ fn above(number: u32, more: usize) -> Result<u32, AllocError>
 
 // What comes before a strip where the value of an expression is used: the result of a call is looked at.
 fn used_before(e: &Expr, number: u32, following: Strip) -> Result<Strip, AllocError>
-    ensures { IfOk result (λ made. point_of made ≡ used_then (typed e.now) number (point_of following)) }
+    ensures { IfOk result (λ made.
+        point_of made ≡ used_then (typed e.now) number (point_of following)) }
 {
     match &*e.kind {
         ExprKind::Call(_, _) => following.prepend(e.place, number, Work::Use),

@@ -32,8 +32,12 @@ use std::collections::BTreeMap;
 /// allocation has the arguments that its function takes (C11 7.22.3). Its only error is want of memory.
 pub fn lower(alloc: Global, program: &Program) -> Result<Code, AllocError>
     requires { IsLaidOut program.now.model program.now.table.list }
-    ensures placed { IfOk result (λ code. AllocationsHaveArguments (typed_program program.now) → IsPlaced (view.code code) (typed_program program.now)) }
-    ensures lowered { IfOk result (λ code. AllocationsHaveArguments (typed_program program.now) → IsLowered (view.code code) (typed_program program.now)) }
+    ensures placed { IfOk result (λ code.
+        AllocationsHaveArguments (typed_program program.now)
+        → IsPlaced (view.code code) (typed_program program.now)) }
+    ensures lowered { IfOk result (λ code.
+        AllocationsHaveArguments (typed_program program.now)
+        → IsLowered (view.code code) (typed_program program.now)) }
 {
     let mut flows = Vec::new(alloc);
     for function in &program.functions {
@@ -50,7 +54,8 @@ fn lower_function(
     function: &Function,
 ) -> Result<Option<Flow>, AllocError>
     requires { IsLaidOut program.now.model program.now.table.list }
-    ensures { IfOk result (λ made. HasGraph (typed_program program.now) (routine function.now) (option_map view.flow made)) }
+    ensures { IfOk result (λ made.
+        HasGraph (typed_program program.now) (routine function.now) (option_map view.flow made)) }
 {
     match &function.body {
         None => Ok(None),
@@ -70,7 +75,10 @@ fn lower_body(
 ) -> Result<Flow, AllocError>
     requires laid_out { IsLaidOut program.now.model program.now.table.list }
     requires own { (routine function.now).body ≡ Some (statement body.now) }
-    ensures { IfOk result (λ flow. StatementHasArguments (statement body.now) → IsGraphOf (typed_program program.now) (routine function.now) (statement body.now) (view.flow flow)) }
+    ensures { IfOk result (λ flow.
+        StatementHasArguments (statement body.now)
+        → IsGraphOf (typed_program program.now) (routine function.now) (statement body.now)
+        (view.flow flow)) }
 {
     let mut labels = BTreeMap::new(alloc);
     let counted_points = add_labels(&mut labels, body, 0)?;
@@ -98,7 +106,9 @@ impl Lowering<'_> {
     // The body of a function between its beginning and its end. Gives the block in which a call begins.
     fn lower_whole(&self, graph: &mut GraphBuilder, body: &Stmt) -> Result<u32, AllocError>
         requires { IsReady self.now }
-        ensures { IfOk result (λ entry. BeginsBody (program_of self.now) (function_of self.now) (statement body.now) (built_of graph.old) (built_of graph.new) entry) }
+        ensures { IfOk result (λ entry.
+            BeginsBody (program_of self.now) (function_of self.now) (statement body.now)
+            (built_of graph.old) (built_of graph.new) entry) }
     {
         let function = self.function;
         let finish = Strip::ending(self.alloc, BlockEnd::Finish);

@@ -34,7 +34,10 @@ impl Lowering<'_> {
         following: Strip,
     ) -> Result<Strip, AllocError>
         requires { IsLaidOut self.now.program.now.model self.now.program.now.table.list }
-        ensures { IfOk result (λ made. Declares (program_of self.now) (function_of self.now) place declaration (option_map initial (option_copied first.entry)) (built_of graph.old) (built_of graph.new) (point_of made) (point_of following)) }
+        ensures { IfOk result (λ made.
+            Declares (program_of self.now) (function_of self.now) place declaration
+            (option_map initial (option_copied first.entry)) (built_of graph.old)
+            (built_of graph.new) (point_of made) (point_of following)) }
     {
         match first {
             None => {
@@ -58,7 +61,10 @@ impl Lowering<'_> {
         following: Strip,
     ) -> Result<Strip, AllocError>
         requires { IsLaidOut self.now.program.now.model self.now.program.now.table.list }
-        ensures { IfOk result (λ made. Declares (program_of self.now) (function_of self.now) place declaration (Some (initial first.now)) (built_of graph.old) (built_of graph.new) (point_of made) (point_of following)) }
+        ensures { IfOk result (λ made.
+            Declares (program_of self.now) (function_of self.now) place declaration
+            (Some (initial first.now)) (built_of graph.old) (built_of graph.new) (point_of made)
+            (point_of following)) }
     {
         match first {
             Initial::Value(value) => {
@@ -86,7 +92,11 @@ impl Lowering<'_> {
         following: Strip,
     ) -> Result<Strip, AllocError>
         requires { IsLaidOut self.now.program.now.model self.now.program.now.table.list }
-        ensures { IfOk result (λ made. StoresPieces (program_of self.now) (function_of self.now) place declaration (initials.pieces (program_of self.now) (type_in (function_of self.now) declaration) 0 (initial first.now)) (built_of graph.old) (built_of graph.new) (point_of made) (point_of following)) }
+        ensures { IfOk result (λ made.
+            StoresPieces (program_of self.now) (function_of self.now) place declaration
+            (initials.pieces (program_of self.now) (type_in (function_of self.now) declaration) 0
+            (initial first.now)) (built_of graph.old) (built_of graph.new) (point_of made)
+            (point_of following)) }
     {
         let ty = self.local_type(declaration);
         let pieces = pieces(self.alloc, self.program, ty, first)?;
@@ -104,7 +114,10 @@ impl Lowering<'_> {
         following: Strip,
     ) -> Result<Strip, AllocError>
         requires { IsLaidOut self.now.program.now.model self.now.program.now.table.list }
-        ensures { IfOk result (λ made. StoresPieces (program_of self.now) (function_of self.now) place declaration (map piece_of pieces.now) (built_of graph.old) (built_of graph.new) (point_of made) (point_of following)) }
+        ensures { IfOk result (λ made.
+            StoresPieces (program_of self.now) (function_of self.now) place declaration
+            (map piece_of pieces.now) (built_of graph.old) (built_of graph.new) (point_of made)
+            (point_of following)) }
     {
         let mut made = following;
         let mut left = pieces.len();
@@ -125,7 +138,10 @@ impl Lowering<'_> {
         following: Strip,
     ) -> Result<Strip, AllocError>
         requires { IsLaidOut self.now.program.now.model self.now.program.now.table.list }
-        ensures { IfOk result (λ made. StoresPieces (program_of self.now) (function_of self.now) place declaration (piece_of piece.entry ∷ []) (built_of graph.old) (built_of graph.new) (point_of made) (point_of following)) }
+        ensures { IfOk result (λ made.
+            StoresPieces (program_of self.now) (function_of self.now) place declaration
+            (piece_of piece.entry ∷ []) (built_of graph.old) (built_of graph.new) (point_of made)
+            (point_of following)) }
     {
         match piece {
             Piece::Value(offset, value) => {
@@ -149,7 +165,10 @@ impl Lowering<'_> {
         following: Strip,
     ) -> Result<Strip, AllocError>
         requires { IsLaidOut self.now.program.now.model self.now.program.now.table.list }
-        ensures { IfOk result (λ made. StoresPieces (program_of self.now) (function_of self.now) place declaration (initials.Evaluated offset (typed value.now) ∷ []) (built_of graph.old) (built_of graph.new) (point_of made) (point_of following)) }
+        ensures { IfOk result (λ made.
+            StoresPieces (program_of self.now) (function_of self.now) place declaration
+            (initials.Evaluated offset (typed value.now) ∷ []) (built_of graph.old)
+            (built_of graph.new) (point_of made) (point_of following)) }
     {
         let ty = value.ty.copy(self.alloc)?;
         let scalar = self.is_scalar_local(declaration);

@@ -20,8 +20,12 @@ pub fn add_labels(
     s: &Stmt,
     counted_point: u64,
 ) -> Result<u64, AllocError>
-    ensures next { IfOk result (λ next. next ≡ counted_point + meaning.counted_points (statement s.now)) }
-    ensures labels { OnOk result ((wanted : ℕ) → get nat_cmp labels.new wanted ≡ option_or (get nat_cmp labels.old wanted) (label_in wanted (statement s.now) counted_point)) }
+    ensures next { IfOk result (λ next.
+        next ≡ counted_point + meaning.counted_points (statement s.now)) }
+    ensures labels { OnOk result ((wanted : ℕ)
+        → get nat_cmp labels.new wanted
+        ≡ option_or (get nat_cmp labels.old wanted)
+        (label_in wanted (statement s.now) counted_point)) }
 {
     match &*s.kind {
         StmtKind::Block(statements) => add_labels_in(labels, statements, counted_point),
@@ -61,8 +65,12 @@ fn add_labels_in(
     statements: &[Stmt],
     counted_point: u64,
 ) -> Result<u64, AllocError>
-    ensures next { IfOk result (λ next. next ≡ counted_point + meaning.counted_points_in (statement_list statements.now)) }
-    ensures labels { OnOk result ((wanted : ℕ) → get nat_cmp labels.new wanted ≡ option_or (get nat_cmp labels.old wanted) (label_among wanted (statement_list statements.now) counted_point)) }
+    ensures next { IfOk result (λ next.
+        next ≡ counted_point + meaning.counted_points_in (statement_list statements.now)) }
+    ensures labels { OnOk result ((wanted : ℕ)
+        → get nat_cmp labels.new wanted
+        ≡ option_or (get nat_cmp labels.old wanted)
+        (label_among wanted (statement_list statements.now) counted_point)) }
 {
     let mut next = counted_point;
     for s in statements {
@@ -77,7 +85,10 @@ fn add_label(
     label: u32,
     counted_point: u64,
 ) -> Result<(), AllocError>
-    ensures { OnOk result ((wanted : ℕ) → get nat_cmp labels.new wanted ≡ option_or (get nat_cmp labels.old wanted) (if label == wanted then Some counted_point else None)) }
+    ensures { OnOk result ((wanted : ℕ)
+        → get nat_cmp labels.new wanted
+        ≡ option_or (get nat_cmp labels.old wanted)
+        (if label == wanted then Some counted_point else None)) }
 {
     if labels.contains_key(&label) {
         return Ok(());

@@ -34,7 +34,10 @@ impl Lowering<'_> {
         following: Strip,
     ) -> Result<Strip, AllocError>
         requires { IsReady self.now }
-        ensures { IfOk result (λ made. (out again : ℕ) → BuildsStatement self.now graph.old graph.new (While place (typed test.now) (statement body.now)) out again made following) }
+        ensures { IfOk result (λ made.
+            (out again : ℕ)
+            → BuildsStatement self.now graph.old graph.new
+            (While place (typed test.now) (statement body.now)) out again made following) }
     {
         let inner = counted_points(body)?;
         let head = graph.counted_point_before(inner)?;
@@ -60,7 +63,10 @@ impl Lowering<'_> {
         following: Strip,
     ) -> Result<Strip, AllocError>
         requires { IsReady self.now }
-        ensures { IfOk result (λ made. (out again : ℕ) → BuildsStatement self.now graph.old graph.new (Do place (statement body.now) (typed test.now)) out again made following) }
+        ensures { IfOk result (λ made.
+            (out again : ℕ)
+            → BuildsStatement self.now graph.old graph.new
+            (Do place (statement body.now) (typed test.now)) out again made following) }
     {
         let inner = counted_points(body)?;
         let start = graph.counted_point_before(inner)?;
@@ -87,7 +93,10 @@ impl Lowering<'_> {
         following: Strip,
     ) -> Result<Strip, AllocError>
         requires { IsReady self.now }
-        ensures { IfOk result (λ made. (out : ℕ) → BuildsStatement self.now graph.old graph.new (For place (statement_list first.now) (some_typed test.now) (some_typed last.now) (statement body.now)) out around made following) }
+        ensures { IfOk result (λ made.
+            (out : ℕ) → BuildsStatement self.now graph.old graph.new
+            (For place (statement_list first.now) (some_typed test.now) (some_typed last.now)
+            (statement body.now)) out around made following) }
     {
         let before = counted_points_in(first)?;
         let inside = counted_points(body)?;
@@ -122,7 +131,9 @@ impl Lowering<'_> {
         other: u32,
     ) -> Result<Strip, AllocError>
         requires { IsLaidOut self.now.program.now.model self.now.program.now.table.list }
-        ensures { IfOk result (λ made. BuildsBefore self.now graph.old graph.new (used_one (typed test.now) 0) made (split place 0 one other)) }
+        ensures { IfOk result (λ made.
+            BuildsBefore self.now graph.old graph.new (used_one (typed test.now) 0) made
+            (split place 0 one other)) }
     {
         self.lower_used(graph, test, 0, self.branch(place, 0, one, other))
     }
@@ -137,7 +148,9 @@ impl Lowering<'_> {
         end: u32,
     ) -> Result<Strip, AllocError>
         requires { IsLaidOut self.now.program.now.model self.now.program.now.table.list }
-        ensures { IfOk result (λ made. TestsFor (program_of self.now) place (option_map typed (option_copied test.entry)) (built_of graph.old) (built_of graph.new) (point_of made) (point_of body) end) }
+        ensures { IfOk result (λ made.
+            TestsFor (program_of self.now) place (option_map typed (option_copied test.entry))
+            (built_of graph.old) (built_of graph.new) (point_of made) (point_of body) end) }
     {
         match test {
             None => Ok(body),
@@ -157,7 +170,9 @@ impl Lowering<'_> {
         head: u32,
     ) -> Result<u32, AllocError>
         requires { IsLaidOut self.now.program.now.model self.now.program.now.table.list }
-        ensures { IfOk result (λ made. EndsFor (program_of self.now) (option_map typed (option_copied last.entry)) (built_of graph.old) (built_of graph.new) made head) }
+        ensures { IfOk result (λ made.
+            EndsFor (program_of self.now) (option_map typed (option_copied last.entry))
+            (built_of graph.old) (built_of graph.new) made head) }
     {
         match last {
             None => Ok(head),

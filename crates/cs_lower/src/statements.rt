@@ -39,7 +39,9 @@ impl Lowering<'_> {
         next: Strip,
     ) -> Result<Strip, AllocError>
         requires { IsReady self.now }
-        ensures { IfOk result (λ made. BuildsStatement self.now graph.old graph.new (statement s.now) exits.out exits.again made next) }
+        ensures { IfOk result (λ made.
+            BuildsStatement self.now graph.old graph.new (statement s.now) exits.out exits.again
+            made next) }
     {
         let place = s.place;
         match &*s.kind {
@@ -80,7 +82,10 @@ impl Lowering<'_> {
         following: Strip,
     ) -> Result<Strip, AllocError>
         requires { IsLaidOut self.now.program.now.model self.now.program.now.table.list }
-        ensures { IfOk result (λ made. (out again : ℕ) → BuildsStatement self.now graph.old graph.new (Run place (typed e.now)) out again made following) }
+        ensures { IfOk result (λ made.
+            (out again : ℕ)
+            → BuildsStatement self.now graph.old graph.new (Run place (typed e.now)) out again
+            made following) }
     {
         let dropped = following.prepend(place, 0, Work::Drop)?;
         self.lower_expression(graph, e, 0, dropped)
@@ -98,7 +103,9 @@ impl Lowering<'_> {
         following: Strip,
     ) -> Result<Strip, AllocError>
         requires { IsReady self.now }
-        ensures { IfOk result (λ made. BuildsStatement self.now graph.old graph.new (If place (typed test.now) (statement body.now)) exits.out exits.again made following) }
+        ensures { IfOk result (λ made.
+            BuildsStatement self.now graph.old graph.new
+            (If place (typed test.now) (statement body.now)) exits.out exits.again made following) }
     {
         let end = graph.seal(following)?;
         let one = self.lower_way_out(graph, body, exits, end)?;
@@ -119,7 +126,10 @@ impl Lowering<'_> {
         following: Strip,
     ) -> Result<Strip, AllocError>
         requires { IsReady self.now }
-        ensures { IfOk result (λ made. BuildsStatement self.now graph.old graph.new (IfElse place (typed test.now) (statement body.now) (statement otherwise.now)) exits.out exits.again made following) }
+        ensures { IfOk result (λ made.
+            BuildsStatement self.now graph.old graph.new
+            (IfElse place (typed test.now) (statement body.now) (statement otherwise.now)) exits.out
+            exits.again made following) }
     {
         let end = graph.seal(following)?;
         let other = self.lower_way_out(graph, otherwise, exits, end)?;
@@ -138,7 +148,10 @@ impl Lowering<'_> {
         following: Strip,
     ) -> Result<Strip, AllocError>
         requires { IsReady self.now }
-        ensures { IfOk result (λ made. ExecutesAll (program_of self.now) (function_of self.now) (statement_list statements.now) exits.out exits.again (built_of graph.old) (built_of graph.new) (point_of made) (point_of following)) }
+        ensures { IfOk result (λ made.
+            ExecutesAll (program_of self.now) (function_of self.now) (statement_list statements.now)
+            exits.out exits.again (built_of graph.old) (built_of graph.new) (point_of made)
+            (point_of following)) }
     {
         let mut made = following;
         let mut left = statements.len();
@@ -159,7 +172,9 @@ impl Lowering<'_> {
         end: u32,
     ) -> Result<Vec<u32>, AllocError>
         requires { IsReady self.now }
-        ensures { IfOk result (λ made. EntersAll (program_of self.now) (function_of self.now) (statement_list statements.now) exits.out exits.again (built_of graph.old) (built_of graph.new) made.items end) }
+        ensures { IfOk result (λ made.
+            EntersAll (program_of self.now) (function_of self.now) (statement_list statements.now)
+            exits.out exits.again (built_of graph.old) (built_of graph.new) made.items end) }
     {
         let mut entries = Vec::new(self.alloc);
         let mut next = end;
@@ -183,7 +198,9 @@ impl Lowering<'_> {
         end: u32,
     ) -> Result<u32, AllocError>
         requires { IsReady self.now }
-        ensures { IfOk result (λ made. ExecutesIn (program_of self.now) (function_of self.now) (statement s.now) exits.out exits.again (built_of graph.old) (built_of graph.new) made end) }
+        ensures { IfOk result (λ made.
+            ExecutesIn (program_of self.now) (function_of self.now) (statement s.now) exits.out
+            exits.again (built_of graph.old) (built_of graph.new) made end) }
     {
         let made = self.lower_statement(graph, s, exits, self.jump(end))?;
         let block = graph.seal(made)?;
@@ -201,7 +218,9 @@ impl Lowering<'_> {
         following: Strip,
     ) -> Result<Strip, AllocError>
         requires { IsReady self.now }
-        ensures { IfOk result (λ made. (label : ℕ) → BuildsStatement self.now graph.old graph.new (Label place label (statement body.now)) exits.out exits.again made following) }
+        ensures { IfOk result (λ made.
+            (label : ℕ) → BuildsStatement self.now graph.old graph.new
+            (Label place label (statement body.now)) exits.out exits.again made following) }
     {
         let inner = counted_points(body)?;
         let counted_point = graph.counted_point_before(inner)?;
@@ -217,7 +236,9 @@ impl Lowering<'_> {
         block: u32,
         following: Strip,
     ) -> Result<Strip, AllocError>
-        ensures { IfOk result (λ made. LeadsOff (built_of graph.old) (built_of graph.new) block (point_of made) (point_of following)) }
+        ensures { IfOk result (λ made.
+            LeadsOff (built_of graph.old) (built_of graph.new) block (point_of made)
+            (point_of following)) }
     {
         graph.keep(following)?;
         Ok(self.jump(block))
@@ -231,7 +252,10 @@ impl Lowering<'_> {
         following: Strip,
     ) -> Result<Strip, AllocError>
         requires { IsReady self.now }
-        ensures { IfOk result (λ made. (place : Place) (out again : ℕ) → BuildsStatement self.now graph.old graph.new (Goto place label) out again made following) }
+        ensures { IfOk result (λ made.
+            (place : Place) (out again : ℕ)
+            → BuildsStatement self.now graph.old graph.new (Goto place label) out again made
+            following) }
     {
         match self.labels.get(&label) {
             Some(counted_point) => self.lower_jump(graph, *counted_point, following),
@@ -247,7 +271,10 @@ impl Lowering<'_> {
         value: Option<&Expr>,
     ) -> Result<Strip, AllocError>
         requires { IsLaidOut self.now.program.now.model self.now.program.now.table.list }
-        ensures { IfOk result (λ made. Returns (program_of self.now) (function_of self.now) place (option_map typed (option_copied value.entry)) (built_of graph.old) (built_of graph.new) (point_of made)) }
+        ensures { IfOk result (λ made.
+            Returns (program_of self.now) (function_of self.now) place
+            (option_map typed (option_copied value.entry)) (built_of graph.old) (built_of graph.new)
+            (point_of made)) }
     {
         let leaving = Strip::ending(self.alloc, BlockEnd::Return(0));
         let leaving = leaving.prepend(place, 1, Work::Meet(PointKind::Return))?;

@@ -28,7 +28,8 @@ impl Strip {
 
     /// An operation on the temporaries from a number on, and then the strip.
     pub fn prepend(mut self, place: Place, temporary: u32, work: Work) -> Result<Strip, AllocError>
-        ensures { IfOk result (λ made. point_of made ≡ does place temporary (view.work work) (point_of self)) }
+        ensures { IfOk result (λ made.
+            point_of made ≡ does place temporary (view.work work) (point_of self)) }
     {
         self.operations.push(Operation {
             place,
@@ -54,7 +55,10 @@ impl Strip {
 
     /// The block that the strip is, which may be that of a counted point.
     pub fn into_block(mut self, counted_point: Option<CountedPoint>) -> Block
-        ensures { view.block result ≡ record { operations = view.with_counted_point counted_point (point_of self).operations; end = (point_of self).end } }
+        ensures { view.block result ≡ record {
+          operations = view.with_counted_point counted_point (point_of self).operations;
+          end = (point_of self).end;
+        } }
     {
         self.operations.reverse();
         Block {

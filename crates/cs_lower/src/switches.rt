@@ -36,7 +36,10 @@ impl Lowering<'_> {
         following: Strip,
     ) -> Result<Strip, AllocError>
         requires { IsReady self.now }
-        ensures { IfOk result (λ made. (out : ℕ) → BuildsStatement self.now graph.old graph.new (Switch place (typed value.now) cases.now (statement_list statements.now)) out around made following) }
+        ensures { IfOk result (λ made.
+            (out : ℕ) → BuildsStatement self.now graph.old graph.new
+            (Switch place (typed value.now) cases.now (statement_list statements.now)) out around
+            made following) }
     {
         let end = graph.seal(following)?;
         let exits = Exits {
@@ -59,7 +62,9 @@ impl Lowering<'_> {
         end: u32,
     ) -> Result<Strip, AllocError>
         requires { IsLaidOut self.now.program.now.model self.now.program.now.table.list }
-        ensures { IfOk result (λ made. BuildsBefore self.now graph.old graph.new (used_one (typed value.now) 0) made (leads_to place cases.now blocks.now end)) }
+        ensures { IfOk result (λ made.
+            BuildsBefore self.now graph.old graph.new (used_one (typed value.now) 0) made
+            (leads_to place cases.now blocks.now end)) }
     {
         let following = self.choice(place, cases, blocks, end)?;
         self.lower_used(graph, value, 0, following)
@@ -83,7 +88,8 @@ impl Lowering<'_> {
 
     // The cases with a value, each with its block.
     fn ways(&self, cases: &[Case], blocks: &[u32], end: u32) -> Result<Vec<SwitchCase>, AllocError>
-        ensures { IfOk result (λ ways. map switch_case ways.items ≡ cases_to blocks.now end cases.now) }
+        ensures { IfOk result (λ ways.
+            map switch_case ways.items ≡ cases_to blocks.now end cases.now) }
     {
         let mut ways = Vec::new(self.alloc);
         for case in cases {
@@ -95,7 +101,8 @@ impl Lowering<'_> {
 
 // Adds a case with its block, if it has a value.
 fn add_way(ways: &mut Vec<SwitchCase>, case: &Case, block: u32) -> Result<(), AllocError>
-    ensures { OnOk result (map switch_case ways.new.items ≡ map switch_case ways.old.items ++ with_case case.now.value block []) }
+    ensures { OnOk result (map switch_case ways.new.items
+        ≡ map switch_case ways.old.items ++ with_case case.now.value block []) }
 {
     match case.value {
         Some(value) => {
@@ -118,7 +125,8 @@ fn block_at(blocks: &[u32], item: u32, end: u32) -> u32
 
 // The block of `default`, or else the one after all statements.
 fn default_block(cases: &[Case], blocks: &[u32], end: u32) -> u32
-    ensures { result ≡ statements.block_at blocks.now end (default_item cases.now (length blocks.now)) }
+    ensures { result ≡ statements.block_at blocks.now end
+        (default_item cases.now (length blocks.now)) }
 {
     for case in cases {
         if case.value.is_none() {

@@ -28,7 +28,9 @@ impl Lowering<'_> {
     /// What an expression does with its parts, before a strip.
     pub fn act(&self, e: &Expr, number: u32, following: Strip) -> Result<Strip, AllocError>
         requires { IsLaidOut self.now.program.now.model self.now.program.now.table.list }
-        ensures { IfOk result (λ made. point_of made ≡ acted (program_of self.now) (typed e.now) number (point_of following)) }
+        ensures { IfOk result (λ made.
+            point_of made ≡ acted (program_of self.now) (typed e.now) number
+            (point_of following)) }
     {
         match self.work_of(e)? {
             Some(work) => following.prepend(e.place, number, work),
@@ -38,7 +40,8 @@ impl Lowering<'_> {
 
     /// The load of an update, before a strip.
     pub fn fetch(&self, e: &Expr, number: u32, following: Strip) -> Result<Strip, AllocError>
-        ensures { IfOk result (λ made. point_of made ≡ fetched (typed e.now) number (point_of following)) }
+        ensures { IfOk result (λ made.
+            point_of made ≡ fetched (typed e.now) number (point_of following)) }
     {
         match self.fetch_of(e)? {
             Some(work) => following.prepend(e.place, number, work),
@@ -49,7 +52,9 @@ impl Lowering<'_> {
     // The operation that does what an expression does with its parts, if it does something with them.
     fn work_of(&self, e: &Expr) -> Result<Option<Work>, AllocError>
         requires { IsLaidOut self.now.program.now.model self.now.program.now.table.list }
-        ensures { IfOk result (λ made. option_map view.work made ≡ standing.work_of (program_of self.now) (shape_of e.now.ty) (form e.now.kind.value)) }
+        ensures { IfOk result (λ made.
+            option_map view.work made ≡ standing.work_of (program_of self.now) (shape_of e.now.ty)
+            (form e.now.kind.value)) }
     {
         match &*e.kind {
             ExprKind::Number(value) => Ok(Some(Work::Number(*value))),
@@ -91,7 +96,9 @@ impl Lowering<'_> {
 
     // A conversion from a type to another.
     fn conversion(&self, from: &CType, to: &CType) -> Result<Option<Work>, AllocError>
-        ensures { IfOk result (λ made. option_map view.work made ≡ Some (graph.Convert (shape_of from.now) (shape_of to.now))) }
+        ensures { IfOk result (λ made.
+            option_map view.work made
+            ≡ Some (graph.Convert (shape_of from.now) (shape_of to.now))) }
     {
         let from = from.copy(self.alloc)?;
         let to = to.copy(self.alloc)?;
@@ -106,7 +113,10 @@ impl Lowering<'_> {
         works_in: IntType,
         gives: Gives,
     ) -> Result<Option<Work>, AllocError>
-        ensures { IfOk result (λ made. option_map view.work made ≡ Some (graph.Update operator (meaning.access_of (typed object.now)) works_in gives)) }
+        ensures { IfOk result (λ made.
+            option_map view.work made
+            ≡ Some (graph.Update operator (meaning.access_of (typed object.now)) works_in
+            gives)) }
     {
         let access = self.access(object)?;
         Ok(Some(Work::Update(operator, access, works_in, gives)))
@@ -120,7 +130,10 @@ impl Lowering<'_> {
         gives: Gives,
     ) -> Result<Option<Work>, AllocError>
         requires { IsLaidOut self.now.program.now.model self.now.program.now.table.list }
-        ensures { IfOk result (λ made. option_map view.work made ≡ Some (graph.Move (meaning.access_of (typed object.now)) (step_of (program_of self.now) (shape_of object.now.ty)) direction gives)) }
+        ensures { IfOk result (λ made.
+            option_map view.work made
+            ≡ Some (graph.Move (meaning.access_of (typed object.now))
+            (step_of (program_of self.now) (shape_of object.now.ty)) direction gives)) }
     {
         let bytes = target_size(self.program, &object.ty)?;
         let access = self.access(object)?;
@@ -129,7 +142,8 @@ impl Lowering<'_> {
 
     // An allocation of elements of a type.
     fn allocation(&self, allocator: Allocator, element: &CType) -> Result<Option<Work>, AllocError>
-        ensures { IfOk result (λ made. option_map view.work made ≡ Some (graph.Allocate allocator (shape_of element.now))) }
+        ensures { IfOk result (λ made.
+            option_map view.work made ≡ Some (graph.Allocate allocator (shape_of element.now))) }
     {
         let element = element.copy(self.alloc)?;
         Ok(Some(Work::Allocate(allocator, element)))
@@ -137,7 +151,8 @@ impl Lowering<'_> {
 
     // The load of an update.
     fn fetch_of(&self, e: &Expr) -> Result<Option<Work>, AllocError>
-        ensures { IfOk result (λ made. option_map view.work made ≡ fetch_of (form e.now.kind.value)) }
+        ensures { IfOk result (λ made.
+            option_map view.work made ≡ fetch_of (form e.now.kind.value)) }
     {
         match &*e.kind {
             ExprKind::Update(_, object, _, works_in, _) => {

@@ -19,7 +19,8 @@ use Rattle.cs_meaning.proofs.Building.{at, int, literal, local, value, named, de
 
 -- int f(int x){return 10/x;}
 abbrev divides : TypedProgram
-divides = functions (defined 5 int 1 (named 120 int ∷ []) 26 (Return (at 14) (Some (Of (at 23) int (Binary Div (literal 21 10) (value 24 int 0)))) ∷ []) ∷ [])
+divides =
+    functions (defined 5 int 1 (named 120 int ∷ []) 26 (Return (at 14) (Some (Of (at 23) int (Binary Div (literal 21 10) (value 24 int 0)))) ∷ []) ∷ [])
 
 -- a division by 0 is a fault, and shows nothing
 divides_by_zero : RunEnds divides 0 (plain []) USUAL [] (Fault Divide (at 23))
@@ -32,15 +33,19 @@ divides_by_three = ends_so divides 0 (plain (given 120 (pos 3) ∷ [])) USUAL 20
 
 -- int f(int x){return x/-1;}, where the least number leaves its type once
 abbrev turns_round : TypedProgram
-turns_round = functions (defined 5 int 1 (named 120 int ∷ []) 26 (Return (at 14) (Some (Of (at 22) int (Binary Div (value 21 int 0) (Of (at 23) int (Unary Complement (literal 24 0)))))) ∷ []) ∷ [])
+turns_round =
+    functions (defined 5 int 1 (named 120 int ∷ []) 26
+    (Return (at 14) (Some (Of (at 22) int (Binary Div (value 21 int 0) (Of (at 23) int (Unary Complement (literal 24 0)))))) ∷ []) ∷ [])
 
-least_by_minus_one : RunEnds turns_round 0 (plain (given 120 (negsuc 2147483647) ∷ [])) USUAL (event 23 (Wrap Same) ∷ event 22 (Wrap Past) ∷ []) (Done (Number (negsuc 2147483647)))
+least_by_minus_one : RunEnds turns_round 0 (plain (given 120 (negsuc 2147483647) ∷ [])) USUAL (event 23 (Wrap Same) ∷ event 22 (Wrap Past) ∷ [])
+    (Done (Number (negsuc 2147483647)))
 unfolding runs.perform
 least_by_minus_one = ends_so turns_round 0 (plain (given 120 (negsuc 2147483647) ∷ [])) USUAL 20 refl
 
 -- int f(int x){return 1<<x;}
 abbrev shifts : TypedProgram
-shifts = functions (defined 5 int 1 (named 120 int ∷ []) 26 (Return (at 14) (Some (Of (at 22) int (Binary Shl (literal 21 1) (value 24 int 0)))) ∷ []) ∷ [])
+shifts =
+    functions (defined 5 int 1 (named 120 int ∷ []) 26 (Return (at 14) (Some (Of (at 22) int (Binary Shl (literal 21 1) (value 24 int 0)))) ∷ []) ∷ [])
 
 shifts_by_minus_one : RunEnds shifts 0 (plain (given 120 (negsuc 0) ∷ [])) USUAL [] (Fault Shift (at 22))
 unfolding runs.perform
@@ -56,7 +61,9 @@ shifts_into_sign = ends_so shifts 0 (plain (given 120 (pos 31) ∷ [])) USUAL 20
 
 -- unsigned char f(unsigned char x){return x--;}, where the value before is given and -1 doesn't fit the type
 abbrev steps_down : TypedProgram
-steps_down = functions (defined 15 (integer UChar) 1 (named 120 (integer UChar) ∷ []) 46 (Return (at 34) (Some (Of (at 42) (integer UChar) (Update Sub (local 41 (integer UChar) 0) (literal 42 1) Int Old))) ∷ []) ∷ [])
+steps_down =
+    functions (defined 15 (integer UChar) 1 (named 120 (integer UChar) ∷ []) 46
+    (Return (at 34) (Some (Of (at 42) (integer UChar) (Update Sub (local 41 (integer UChar) 0) (literal 42 1) Int Old))) ∷ []) ∷ [])
 
 steps_below_zero : RunEnds steps_down 0 (plain []) USUAL (event 42 (Wrap Same) ∷ event 42 (Wrap Under) ∷ []) (Done (Number (pos 0)))
 unfolding runs.perform
@@ -64,15 +71,19 @@ steps_below_zero = ends_so steps_down 0 (plain []) USUAL 20 refl
 
 -- int f(int x){return -x==x;}, which the least number meets by one turn of its type
 abbrev equals_its_negative : TypedProgram
-equals_its_negative = functions (defined 5 int 1 (named 120 int ∷ []) 27 (Return (at 14) (Some (Of (at 23) int (Compare Equal (Of (at 21) int (Unary Negate (value 22 int 0))) (value 25 int 0)))) ∷ []) ∷ [])
+equals_its_negative =
+    functions (defined 5 int 1 (named 120 int ∷ []) 27
+    (Return (at 14) (Some (Of (at 23) int (Compare Equal (Of (at 21) int (Unary Negate (value 22 int 0))) (value 25 int 0)))) ∷ []) ∷ [])
 
-least_equals_its_negative : RunEnds equals_its_negative 0 (plain (given 120 (negsuc 2147483647) ∷ [])) USUAL (event 21 (Wrap Past) ∷ event 23 (Truth true) ∷ []) (Done (Number (pos 1)))
+least_equals_its_negative : RunEnds equals_its_negative 0 (plain (given 120 (negsuc 2147483647) ∷ [])) USUAL
+    (event 21 (Wrap Past) ∷ event 23 (Truth true) ∷ []) (Done (Number (pos 1)))
 unfolding runs.perform
 least_equals_its_negative = ends_so equals_its_negative 0 (plain (given 120 (negsuc 2147483647) ∷ [])) USUAL 20 refl
 
 -- int f(int x){return x*x;}, whose exact result lies far off
 abbrev squares : TypedProgram
-squares = functions (defined 5 int 1 (named 120 int ∷ []) 24 (Return (at 14) (Some (Of (at 22) int (Binary Mul (value 21 int 0) (value 23 int 0)))) ∷ []) ∷ [])
+squares =
+    functions (defined 5 int 1 (named 120 int ∷ []) 24 (Return (at 14) (Some (Of (at 22) int (Binary Mul (value 21 int 0) (value 23 int 0)))) ∷ []) ∷ [])
 
 squares_far : RunEnds squares 0 (plain (given 120 (pos 1000003) ∷ [])) USUAL (event 22 (Wrap Far) ∷ []) (Done (Number (negsuc 721379958)))
 unfolding runs.perform

@@ -124,10 +124,12 @@ reported (Continues m log) = None
 reported (Finishes outcome log) = Some (outcome, log.events)
 
 -- a run that has ended after so many steps ends so
-pub ends_so : (program : TypedProgram) (entry : ℕ) (run : ProgramRun) (budgets : RunBudgets) (steps : ℕ) {outcome : Outcome} {events : List Event} → reported (come_to program entry run budgets steps) ≡ Some (outcome, events) → RunEnds program entry run budgets events outcome
+pub ends_so : (program : TypedProgram) (entry : ℕ) (run : ProgramRun) (budgets : RunBudgets) (steps : ℕ) {outcome : Outcome} {events : List Event}
+    → reported (come_to program entry run budgets steps) ≡ Some (outcome, events) → RunEnds program entry run budgets events outcome
 ends_so program entry run budgets steps {outcome = outcome} {events = events} h = finished (come_to program entry run budgets steps) refl h
   where
-    finished : (done : Performed State) → come_to program entry run budgets steps ≡ done → reported done ≡ Some (outcome, events) → RunEnds program entry run budgets events outcome
+    finished : (done : Performed State) → come_to program entry run budgets steps ≡ done → reported done ≡ Some (outcome, events)
+        → RunEnds program entry run budgets events outcome
     finished (Continues m log) e h = cc
     finished (Finishes end log) e h =
         let ended = ends_by (step program budgets) (setting_of program run budgets) steps (start_of program entry run) empty log end e in

@@ -23,11 +23,17 @@ jumps_back = functions (defined 5 int 1 (named 110 int ∷ (named 105 int ∷ []
     Goto (at 42) 0 ∷ []))))) ∷ (
     Return (at 54) (Some (value 61 int 1)) ∷ []))) ∷ [])
 
-jumps_back_three_times : RunEnds jumps_back 0 (plain (given 110 (pos 3) ∷ [])) USUAL (event 32 (Truth true) ∷ event 28 (Branch true) ∷ event 39 (Wrap Same) ∷ event 32 (Truth true) ∷ event 28 (Branch true) ∷ event 39 (Wrap Same) ∷ event 32 (Truth true) ∷ event 28 (Branch true) ∷ event 39 (Wrap Same) ∷ event 32 (Truth false) ∷ event 28 (Branch false) ∷ []) (Done (returned.Number (pos 3)))
+jumps_back_three_times : RunEnds jumps_back 0 (plain (given 110 (pos 3) ∷ [])) USUAL
+    (event 32 (Truth true) ∷ event 28 (Branch true) ∷ event 39 (Wrap Same) ∷ event 32 (Truth true) ∷ event 28 (Branch true) ∷ event 39 (Wrap Same)
+    ∷ event 32 (Truth true) ∷ event 28 (Branch true) ∷ event 39 (Wrap Same) ∷ event 32 (Truth false) ∷ event 28 (Branch false)
+    ∷ []) (Done (returned.Number (pos 3)))
 unfolding runs.perform
 jumps_back_three_times = ends_so jumps_back 0 (plain (given 110 (pos 3) ∷ [])) USUAL 140 refl
 
-reaches_a_label_too_often : RunEnds jumps_back 0 (plain (given 110 (pos 4) ∷ [])) USUAL (event 32 (Truth true) ∷ event 28 (Branch true) ∷ event 39 (Wrap Same) ∷ event 32 (Truth true) ∷ event 28 (Branch true) ∷ event 39 (Wrap Same) ∷ event 32 (Truth true) ∷ event 28 (Branch true) ∷ event 39 (Wrap Same) ∷ event 32 (Truth true) ∷ event 28 (Branch true) ∷ event 39 (Wrap Same) ∷ []) (Over Visits (at 22))
+reaches_a_label_too_often : RunEnds jumps_back 0 (plain (given 110 (pos 4) ∷ [])) USUAL
+    (event 32 (Truth true) ∷ event 28 (Branch true) ∷ event 39 (Wrap Same) ∷ event 32 (Truth true) ∷ event 28 (Branch true) ∷ event 39 (Wrap Same)
+    ∷ event 32 (Truth true) ∷ event 28 (Branch true) ∷ event 39 (Wrap Same) ∷ event 32 (Truth true) ∷ event 28 (Branch true) ∷ event 39 (Wrap Same)
+    ∷ []) (Over Visits (at 22))
 unfolding runs.perform
 reaches_a_label_too_often = ends_so jumps_back 0 (plain (given 110 (pos 4) ∷ [])) USUAL 140 refl
 
@@ -45,11 +51,13 @@ switches = functions (defined 5 int 1 (named 120 int ∷ (named 115 int ∷ []))
     Return (at 75) (Some (value 82 int 1)) ∷ []))) ∷ [])
 
 -- a case falls through into the next, up to a `break`
-falls_through : RunEnds switches 0 (plain (given 120 (pos 3) ∷ [])) USUAL (event 22 (CaseOf 0) ∷ event 53 (Wrap Same) ∷ []) (Done (returned.Number (pos 3)))
+falls_through : RunEnds switches 0 (plain (given 120 (pos 3) ∷ [])) USUAL (event 22 (CaseOf 0) ∷ event 53 (Wrap Same) ∷ [])
+    (Done (returned.Number (pos 3)))
 unfolding runs.perform
 falls_through = ends_so switches 0 (plain (given 120 (pos 3) ∷ [])) USUAL 80 refl
 
-takes_the_second_case : RunEnds switches 0 (plain (given 120 (pos 4) ∷ [])) USUAL (event 22 (CaseOf 1) ∷ event 53 (Wrap Same) ∷ []) (Done (returned.Number (pos 2)))
+takes_the_second_case : RunEnds switches 0 (plain (given 120 (pos 4) ∷ [])) USUAL (event 22 (CaseOf 1) ∷ event 53 (Wrap Same) ∷ [])
+    (Done (returned.Number (pos 2)))
 unfolding runs.perform
 takes_the_second_case = ends_so switches 0 (plain (given 120 (pos 4) ∷ [])) USUAL 80 refl
 
@@ -67,7 +75,10 @@ counts_down = functions (defined 5 int 1 (named 110 int ∷ (named 115 int ∷ [
     Run (at 48) (Of (at 49) int (Assign (local 48 int 1) (Of (at 51) int (Binary Add (value 50 int 1) (value 52 int 0))))) ∷ []))))) (value 62 int 0) ∷ (
     Return (at 66) (Some (value 73 int 1)) ∷ []))) ∷ [])
 
-continues_with_the_test : RunEnds counts_down 0 (plain (given 110 (pos 3) ∷ [])) USUAL (event 28 (Wrap Same) ∷ event 35 (Truth false) ∷ event 31 (Branch false) ∷ event 51 (Wrap Same) ∷ event 22 (Branch true) ∷ event 28 (Wrap Same) ∷ event 35 (Truth true) ∷ event 31 (Branch true) ∷ event 22 (Branch true) ∷ event 28 (Wrap Same) ∷ event 35 (Truth false) ∷ event 31 (Branch false) ∷ event 51 (Wrap Same) ∷ event 22 (Branch false) ∷ []) (Done (returned.Number (pos 2)))
+continues_with_the_test : RunEnds counts_down 0 (plain (given 110 (pos 3) ∷ [])) USUAL
+    (event 28 (Wrap Same) ∷ event 35 (Truth false) ∷ event 31 (Branch false) ∷ event 51 (Wrap Same) ∷ event 22 (Branch true) ∷ event 28 (Wrap Same)
+    ∷ event 35 (Truth true) ∷ event 31 (Branch true) ∷ event 22 (Branch true) ∷ event 28 (Wrap Same) ∷ event 35 (Truth false)
+    ∷ event 31 (Branch false) ∷ event 51 (Wrap Same) ∷ event 22 (Branch false) ∷ []) (Done (returned.Number (pos 2)))
 unfolding runs.perform
 continues_with_the_test = ends_so counts_down 0 (plain (given 110 (pos 3) ∷ [])) USUAL 160 refl
 
@@ -77,11 +88,20 @@ calls_itself = functions (defined 5 int 1 (named 110 int ∷ []) 45 (
     If (at 14) (Of (at 18) int (Compare AtMost (value 17 int 0) (literal 20 0))) (Return (at 22) (Some (literal 29 0))) ∷ (
     Return (at 31) (Some (Of (at 39) int (Call 0 (row (Of (at 41) int (Binary Sub (value 40 int 0) (literal 42 1)) ∷ []))))) ∷ [])) ∷ [])
 
-calls_too_deep : RunEnds calls_itself 0 (plain (given 110 (pos 5) ∷ [])) USUAL (event 18 (Truth false) ∷ event 14 (Branch false) ∷ event 41 (Wrap Same) ∷ event 39 (Callee 0) ∷ event 18 (Truth false) ∷ event 14 (Branch false) ∷ event 41 (Wrap Same) ∷ event 39 (Callee 0) ∷ event 18 (Truth false) ∷ event 14 (Branch false) ∷ event 41 (Wrap Same) ∷ event 39 (Callee 0) ∷ event 18 (Truth false) ∷ event 14 (Branch false) ∷ event 41 (Wrap Same) ∷ event 39 (Callee 0) ∷ event 18 (Truth false) ∷ event 14 (Branch false) ∷ event 41 (Wrap Same) ∷ []) (Over Depth (at 39))
+calls_too_deep : RunEnds calls_itself 0 (plain (given 110 (pos 5) ∷ [])) USUAL
+    (event 18 (Truth false) ∷ event 14 (Branch false) ∷ event 41 (Wrap Same) ∷ event 39 (Callee 0) ∷ event 18 (Truth false) ∷ event 14 (Branch false)
+    ∷ event 41 (Wrap Same) ∷ event 39 (Callee 0) ∷ event 18 (Truth false) ∷ event 14 (Branch false) ∷ event 41 (Wrap Same) ∷ event 39 (Callee 0)
+    ∷ event 18 (Truth false) ∷ event 14 (Branch false) ∷ event 41 (Wrap Same) ∷ event 39 (Callee 0) ∷ event 18 (Truth false)
+    ∷ event 14 (Branch false) ∷ event 41 (Wrap Same) ∷ []) (Over Depth (at 39))
 unfolding runs.perform
 calls_too_deep = ends_so calls_itself 0 (plain (given 110 (pos 5) ∷ [])) USUAL 200 refl
 
-calls_deep_enough : RunEnds calls_itself 0 (plain (given 110 (pos 5) ∷ [])) (record { visits = 4; depth = 6; events = 20000 }) (event 18 (Truth false) ∷ event 14 (Branch false) ∷ event 41 (Wrap Same) ∷ event 39 (Callee 0) ∷ event 18 (Truth false) ∷ event 14 (Branch false) ∷ event 41 (Wrap Same) ∷ event 39 (Callee 0) ∷ event 18 (Truth false) ∷ event 14 (Branch false) ∷ event 41 (Wrap Same) ∷ event 39 (Callee 0) ∷ event 18 (Truth false) ∷ event 14 (Branch false) ∷ event 41 (Wrap Same) ∷ event 39 (Callee 0) ∷ event 18 (Truth false) ∷ event 14 (Branch false) ∷ event 41 (Wrap Same) ∷ event 39 (Callee 0) ∷ event 18 (Truth true) ∷ event 14 (Branch true) ∷ []) (Done (returned.Number (pos 0)))
+calls_deep_enough : RunEnds calls_itself 0 (plain (given 110 (pos 5) ∷ [])) (record { visits = 4; depth = 6; events = 20000 })
+    (event 18 (Truth false) ∷ event 14 (Branch false) ∷ event 41 (Wrap Same) ∷ event 39 (Callee 0) ∷ event 18 (Truth false) ∷ event 14 (Branch false)
+    ∷ event 41 (Wrap Same) ∷ event 39 (Callee 0) ∷ event 18 (Truth false) ∷ event 14 (Branch false) ∷ event 41 (Wrap Same) ∷ event 39 (Callee 0)
+    ∷ event 18 (Truth false) ∷ event 14 (Branch false) ∷ event 41 (Wrap Same) ∷ event 39 (Callee 0) ∷ event 18 (Truth false)
+    ∷ event 14 (Branch false) ∷ event 41 (Wrap Same) ∷ event 39 (Callee 0) ∷ event 18 (Truth true) ∷ event 14 (Branch true)
+    ∷ []) (Done (returned.Number (pos 0)))
 unfolding runs.perform
 calls_deep_enough = ends_so calls_itself 0 (plain (given 110 (pos 5) ∷ [])) (record { visits = 4; depth = 6; events = 20000 }) 260 refl
 
@@ -99,7 +119,9 @@ returns_unset = ends_so falls_off_the_end 0 (plain []) USUAL 40 refl
 
 -- int f(void){return 1+1+1;}
 abbrev adds : TypedProgram
-adds = functions (defined 5 int 0 [] 26 (Return (at 13) (Some (Of (at 23) int (Binary Add (Of (at 21) int (Binary Add (literal 20 1) (literal 22 1))) (literal 24 1)))) ∷ []) ∷ [])
+adds =
+    functions (defined 5 int 0 [] 26
+    (Return (at 13) (Some (Of (at 23) int (Binary Add (Of (at 21) int (Binary Add (literal 20 1) (literal 22 1))) (literal 24 1)))) ∷ []) ∷ [])
 
 passes_too_many_events : RunEnds adds 0 (plain []) (record { visits = 4; depth = 5; events = 1 }) (event 21 (Wrap Same) ∷ []) (Over Events (at 23))
 unfolding runs.perform

@@ -22,16 +22,22 @@ abbrev reads_of_three : TypedProgram
 reads_of_three = functions (defined 5 int 2 (record { name = 112 ∷ []; ty = to_int; block = Some 3 } ∷ (named 105 int ∷ [])) 35 (
     Return (at 23) (Some (loaded (Of (at 31) int (Index (value 30 to_int 0) (value 32 int 1) PointerFirst)))) ∷ []) ∷ [])
 
-reads_the_last_of_three : RunEnds reads_of_three 0 (plain (given 105 (pos 2) ∷ (given 112 (pos 1) ∷ []))) USUAL (event 31 (Look true) ∷ event 31 (Truth true) ∷ event 31 (Truth true) ∷ event 31 (Wrap Same) ∷ event 31 (Look true) ∷ event 31 (Truth true) ∷ event 31 (Truth true) ∷ event 31 (Offset 8) ∷ []) (Done (returned.Number (pos 0)))
+reads_the_last_of_three : RunEnds reads_of_three 0 (plain (given 105 (pos 2) ∷ (given 112 (pos 1) ∷ []))) USUAL
+    (event 31 (Look true) ∷ event 31 (Truth true) ∷ event 31 (Truth true) ∷ event 31 (Wrap Same) ∷ event 31 (Look true) ∷ event 31 (Truth true)
+    ∷ event 31 (Truth true) ∷ event 31 (Offset 8) ∷ []) (Done (returned.Number (pos 0)))
 unfolding runs.perform
 reads_the_last_of_three = ends_so reads_of_three 0 (plain (given 105 (pos 2) ∷ (given 112 (pos 1) ∷ []))) USUAL 40 refl
 
-reads_a_fourth_of_three : RunEnds reads_of_three 0 (plain (given 105 (pos 3) ∷ (given 112 (pos 1) ∷ []))) USUAL (event 31 (Look true) ∷ event 31 (Truth true) ∷ event 31 (Truth true) ∷ event 31 (Wrap Same) ∷ event 31 (Look true) ∷ event 31 (Truth true) ∷ event 31 (Truth false) ∷ []) (Fault kind.Bounds (at 31))
+reads_a_fourth_of_three : RunEnds reads_of_three 0 (plain (given 105 (pos 3) ∷ (given 112 (pos 1) ∷ []))) USUAL
+    (event 31 (Look true) ∷ event 31 (Truth true) ∷ event 31 (Truth true) ∷ event 31 (Wrap Same) ∷ event 31 (Look true) ∷ event 31 (Truth true)
+    ∷ event 31 (Truth false) ∷ []) (Fault kind.Bounds (at 31))
 unfolding runs.perform
 reads_a_fourth_of_three = ends_so reads_of_three 0 (plain (given 105 (pos 3) ∷ (given 112 (pos 1) ∷ []))) USUAL 40 refl
 
 -- the first order test fails
-reads_before_the_first : RunEnds reads_of_three 0 (plain (given 105 (negsuc 0) ∷ (given 112 (pos 1) ∷ []))) USUAL (event 31 (Look true) ∷ event 31 (Truth true) ∷ event 31 (Truth true) ∷ event 31 (Wrap Same) ∷ event 31 (Look true) ∷ event 31 (Truth false) ∷ []) (Fault kind.Bounds (at 31))
+reads_before_the_first : RunEnds reads_of_three 0 (plain (given 105 (negsuc 0) ∷ (given 112 (pos 1) ∷ []))) USUAL
+    (event 31 (Look true) ∷ event 31 (Truth true) ∷ event 31 (Truth true) ∷ event 31 (Wrap Same) ∷ event 31 (Look true) ∷ event 31 (Truth false)
+    ∷ []) (Fault kind.Bounds (at 31))
 unfolding runs.perform
 reads_before_the_first = ends_so reads_of_three 0 (plain (given 105 (negsuc 0) ∷ (given 112 (pos 1) ∷ []))) USUAL 40 refl
 
@@ -49,15 +55,25 @@ leaves_null = ends_so reads_of_three 0 (plain []) USUAL 40 refl
 abbrev text_of : List ℕ → TypedProgram
 text_of bytes = functions (defined 5 int 1 (named 105 int ∷ (named 115 (array (integer Char) 4) ∷ [])) 52 (
     Declare (at 32) 1 (Some (Bytes bytes)) ∷ (
-    Return (at 41) (Some (Of (at 49) int (Convert (loaded (Of (at 49) (integer Char) (Index (Of (at 48) (pointer (integer Char)) (Decay (local 48 (array (integer Char) 4) 1))) (value 50 int 0) PointerFirst)))))) ∷ [])) ∷ [])
+    Return (at 41)
+    (Some
+    (Of (at 49) int
+    (Convert
+    (loaded
+    (Of (at 49) (integer Char) (Index (Of (at 48) (pointer (integer Char)) (Decay (local 48 (array (integer Char) 4) 1))) (value 50 int 0)
+    PointerFirst)))))) ∷ [])) ∷ [])
 
 -- a byte past 127 is a negative char
-reads_a_byte : RunEnds (text_of (97 ∷ (255 ∷ []))) 0 (plain (given 105 (pos 1) ∷ [])) USUAL (event 49 (Look true) ∷ event 49 (Truth true) ∷ event 49 (Truth true) ∷ event 49 (Wrap Same) ∷ event 49 (Look true) ∷ event 49 (Truth true) ∷ event 49 (Truth true) ∷ event 49 (Offset 1) ∷ []) (Done (returned.Number (negsuc 0)))
+reads_a_byte : RunEnds (text_of (97 ∷ (255 ∷ []))) 0 (plain (given 105 (pos 1) ∷ [])) USUAL
+    (event 49 (Look true) ∷ event 49 (Truth true) ∷ event 49 (Truth true) ∷ event 49 (Wrap Same) ∷ event 49 (Look true) ∷ event 49 (Truth true)
+    ∷ event 49 (Truth true) ∷ event 49 (Offset 1) ∷ []) (Done (returned.Number (negsuc 0)))
 unfolding runs.perform
 reads_a_byte = ends_so (text_of (97 ∷ (255 ∷ []))) 0 (plain (given 105 (pos 1) ∷ [])) USUAL 40 refl
 
 -- what the text leaves out is zero
-reads_after_the_text : RunEnds (text_of (97 ∷ (255 ∷ []))) 0 (plain (given 105 (pos 2) ∷ [])) USUAL (event 49 (Look true) ∷ event 49 (Truth true) ∷ event 49 (Truth true) ∷ event 49 (Wrap Same) ∷ event 49 (Look true) ∷ event 49 (Truth true) ∷ event 49 (Truth true) ∷ event 49 (Offset 2) ∷ []) (Done (returned.Number (pos 0)))
+reads_after_the_text : RunEnds (text_of (97 ∷ (255 ∷ []))) 0 (plain (given 105 (pos 2) ∷ [])) USUAL
+    (event 49 (Look true) ∷ event 49 (Truth true) ∷ event 49 (Truth true) ∷ event 49 (Wrap Same) ∷ event 49 (Look true) ∷ event 49 (Truth true)
+    ∷ event 49 (Truth true) ∷ event 49 (Offset 2) ∷ []) (Done (returned.Number (pos 0)))
 unfolding runs.perform
 reads_after_the_text = ends_so (text_of (97 ∷ (255 ∷ []))) 0 (plain (given 105 (pos 2) ∷ [])) USUAL 40 refl
 
@@ -66,22 +82,37 @@ abbrev int2 : Shape
 int2 = array int 2
 
 abbrev nested_part : ℕ → ℕ → Typed
-nested_part column number = loaded (Of (at (column + 4)) int (Index (Of (at (column + 1)) to_int (Decay (Of (at (column + 1)) int2 (Index (Of (at column) (pointer int2) (Decay (local column (array int2 2) 1))) (literal (column + 2) 1) PointerFirst)))) (literal (column + 5) number) PointerFirst))
+nested_part column number =
+    loaded (Of (at (column + 4)) int
+    (Index
+    (Of (at (column + 1)) to_int
+    (Decay (Of (at (column + 1)) int2 (Index (Of (at column) (pointer int2) (Decay (local column (array int2 2) 1))) (literal (column + 2) 1) PointerFirst))))
+    (literal (column + 5) number) PointerFirst))
 
 abbrev nested_list : TypedProgram
 nested_list = functions (defined 5 int 1 (named 105 int ∷ (named 97 (array int2 2) ∷ [])) 62 (
-    Declare (at 25) 1 (Some (Parts (Part (Parts (Part (Value (literal 28 1)) (Part (Value (literal 30 2)) NoPart))) (Part (Parts (Part (Value (value 34 int 0)) NoPart)) NoPart)))) ∷ (
+    Declare (at 25) 1
+    (Some
+    (Parts (Part (Parts (Part (Value (literal 28 1)) (Part (Value (literal 30 2)) NoPart))) (Part (Parts (Part (Value (value 34 int 0)) NoPart)) NoPart))))
+    ∷ (
     Return (at 38) (Some (Of (at 52) int (Binary Add (nested_part 45 0) (nested_part 53 1)))) ∷ [])) ∷ [])
 
-adds_nested_parts : RunEnds nested_list 0 (plain (given 105 (pos 5) ∷ [])) USUAL (event 46 (Look true) ∷ event 46 (Truth true) ∷ event 46 (Truth true) ∷ event 46 (Wrap Same) ∷ event 49 (Look true) ∷ event 49 (Truth true) ∷ event 49 (Truth true) ∷ event 49 (Wrap Same) ∷ event 49 (Look true) ∷ event 49 (Truth true) ∷ event 49 (Truth true) ∷ event 49 (Offset 8) ∷ event 54 (Look true) ∷ event 54 (Truth true) ∷ event 54 (Truth true) ∷ event 54 (Wrap Same) ∷ event 57 (Look true) ∷ event 57 (Truth true) ∷ event 57 (Truth true) ∷ event 57 (Wrap Same) ∷ event 57 (Look true) ∷ event 57 (Truth true) ∷ event 57 (Truth true) ∷ event 57 (Offset 12) ∷ event 52 (Wrap Same) ∷ []) (Done (returned.Number (pos 5)))
+adds_nested_parts : RunEnds nested_list 0 (plain (given 105 (pos 5) ∷ [])) USUAL
+    (event 46 (Look true) ∷ event 46 (Truth true) ∷ event 46 (Truth true) ∷ event 46 (Wrap Same) ∷ event 49 (Look true) ∷ event 49 (Truth true)
+    ∷ event 49 (Truth true) ∷ event 49 (Wrap Same) ∷ event 49 (Look true) ∷ event 49 (Truth true) ∷ event 49 (Truth true) ∷ event 49 (Offset 8)
+    ∷ event 54 (Look true) ∷ event 54 (Truth true) ∷ event 54 (Truth true) ∷ event 54 (Wrap Same) ∷ event 57 (Look true) ∷ event 57 (Truth true)
+    ∷ event 57 (Truth true) ∷ event 57 (Wrap Same) ∷ event 57 (Look true) ∷ event 57 (Truth true) ∷ event 57 (Truth true) ∷ event 57 (Offset 12)
+    ∷ event 52 (Wrap Same) ∷ []) (Done (returned.Number (pos 5)))
 unfolding runs.perform
 adds_nested_parts = ends_so nested_list 0 (plain (given 105 (pos 5) ∷ [])) USUAL 80 refl
 
 -- char c;int f(void){return c;}
 abbrev reads_global : Bool → TypedProgram
-reads_global constant = record (functions (defined 12 int 0 [] 29 (Return (at 20) (Some (Of (at 20) int (Convert (loaded (Of (at 27) (integer Char) (Global 0)))))) ∷ []) ∷ [])) {
-  globals = record { name = 99 ∷ []; at = at 6; ty = integer Char; constant = constant; initial = None } ∷ [];
-}
+reads_global constant =
+    record (functions (defined 12 int 0 [] 29 (Return (at 20) (Some (Of (at 20) int (Convert (loaded (Of (at 27) (integer Char) (Global 0)))))) ∷ [])
+    ∷ [])) {
+      globals = record { name = 99 ∷ []; at = at 6; ty = integer Char; constant = constant; initial = None } ∷ [];
+    }
 
 abbrev cell_of_c : ℤ → ProgramRun
 cell_of_c number = plain ((record { root = root.Global (99 ∷ []); cells = 0 ∷ [] }, number) ∷ [])
@@ -100,9 +131,10 @@ a_const_object_has_no_input = ends_so (reads_global true) 0 (cell_of_c (pos 100)
 
 -- const int c=1;void f(void){c=2;}
 abbrev writes_const_object : TypedProgram
-writes_const_object = record (functions (defined 20 void 0 [] 33 (Run (at 28) (Of (at 29) int (Assign (Of (at 28) int (Global 0)) (literal 30 2))) ∷ []) ∷ [])) {
-  globals = record { name = 99 ∷ []; at = at 11; ty = int; constant = true; initial = Some (Value (literal 13 1)) } ∷ [];
-}
+writes_const_object =
+    record (functions (defined 20 void 0 [] 33 (Run (at 28) (Of (at 29) int (Assign (Of (at 28) int (Global 0)) (literal 30 2))) ∷ []) ∷ [])) {
+      globals = record { name = 99 ∷ []; at = at 11; ty = int; constant = true; initial = Some (Value (literal 13 1)) } ∷ [];
+    }
 
 writes_a_const_object : RunEnds writes_const_object 0 (plain []) USUAL [] (Fault kind.ConstWrite (at 28))
 unfolding runs.perform
@@ -110,14 +142,25 @@ writes_a_const_object = ends_so writes_const_object 0 (plain []) USUAL 30 refl
 
 -- struct s{int a;int b;};int f(struct s*p){struct s x;x=p[1];return x.b;}
 abbrev pair : StructType
-pair = record { tag = 115 ∷ []; members = Some (record { name = 97 ∷ []; ty = integer Int; offset = 0 } ∷ (record { name = 98 ∷ []; ty = integer Int; offset = 4 } ∷ [])); size = 8; align = 4 }
+pair = record {
+  tag = 115 ∷ [];
+  members = Some (record { name = 97 ∷ []; ty = integer Int; offset = 0 } ∷ (record { name = 98 ∷ []; ty = integer Int; offset = 4 } ∷ []));
+  size = 8;
+  align = 4;
+}
 
 abbrev copies_second : TypedProgram
 copies_second = record (functions (defined 28 int 1 (named 112 (pointer (struct 0)) ∷ (named 120 (struct 0) ∷ [])) 72 (
     Declare (at 51) 1 None ∷ (
-    Run (at 53) (Of (at 54) (struct 0) (Assign (local 53 (struct 0) 1) (loaded (Of (at 56) (struct 0) (Index (value 55 (pointer (struct 0)) 0) (literal 57 1) PointerFirst))))) ∷ (
+    Run (at 53)
+    (Of (at 54) (struct 0)
+    (Assign (local 53 (struct 0) 1) (loaded (Of (at 56) (struct 0) (Index (value 55 (pointer (struct 0)) 0) (literal 57 1) PointerFirst))))) ∷ (
     Return (at 60) (Some (loaded (Of (at 68) int (Member (local 67 (struct 0) 1) 4)))) ∷ []))) ∷ [])) { table = pair ∷ [] }
 
-reads_a_struct_of_a_start_block : RunEnds copies_second 0 (plain ((record { root = root.Param (112 ∷ []); cells = 12 ∷ [] }, pos 9) ∷ (given 112 (pos 1) ∷ []))) USUAL (event 56 (Look true) ∷ event 56 (Truth true) ∷ event 56 (Truth true) ∷ event 56 (Wrap Same) ∷ event 56 (Look true) ∷ event 56 (Truth true) ∷ event 56 (Truth true) ∷ event 56 (Offset 8) ∷ []) (Done (returned.Number (pos 9)))
+reads_a_struct_of_a_start_block : RunEnds copies_second 0
+    (plain ((record { root = root.Param (112 ∷ []); cells = 12 ∷ [] }, pos 9) ∷ (given 112 (pos 1) ∷ []))) USUAL
+    (event 56 (Look true) ∷ event 56 (Truth true) ∷ event 56 (Truth true) ∷ event 56 (Wrap Same) ∷ event 56 (Look true) ∷ event 56 (Truth true)
+    ∷ event 56 (Truth true) ∷ event 56 (Offset 8) ∷ []) (Done (returned.Number (pos 9)))
 unfolding runs.perform
-reads_a_struct_of_a_start_block = ends_so copies_second 0 (plain ((record { root = root.Param (112 ∷ []); cells = 12 ∷ [] }, pos 9) ∷ (given 112 (pos 1) ∷ []))) USUAL 60 refl
+reads_a_struct_of_a_start_block =
+    ends_so copies_second 0 (plain ((record { root = root.Param (112 ∷ []); cells = 12 ∷ [] }, pos 9) ∷ (given 112 (pos 1) ∷ []))) USUAL 60 refl

@@ -17,7 +17,12 @@ use Rattle.cs_meaning.proofs.Building.{at, int, literal, local, loaded, value, r
 
 -- struct node{int value;struct node*next;};
 abbrev node_type : StructType
-node_type = record { tag = 110 ∷ []; members = Some (record { name = 118 ∷ []; ty = integer Int; offset = 0 } ∷ (record { name = 110 ∷ []; ty = pointer (struct 0); offset = 8 } ∷ [])); size = 16; align = 8 }
+node_type = record {
+  tag = 110 ∷ [];
+  members = Some (record { name = 118 ∷ []; ty = integer Int; offset = 0 } ∷ (record { name = 110 ∷ []; ty = pointer (struct 0); offset = 8 } ∷ []));
+  size = 16;
+  align = 8;
+}
 
 abbrev node : Shape
 node = struct 0
@@ -44,21 +49,31 @@ drops_second = record (functions (
 abbrev leaves_next_out : TypedProgram
 leaves_next_out = record (functions (defined 5 int 0 (named 110 node ∷ []) 60 (
     Declare (at 27) 0 (Some (Parts (Part (Value (literal 29 5)) NoPart))) ∷ (
-    Return (at 32) (Some (Of (at 45) int (Compare Equal (loaded (Of (at 40) to_node (Member (local 39 node 0) 8))) (Of (at 47) to_node Null)))) ∷ [])) ∷ [])) { table = node_type ∷ [] }
+    Return (at 32) (Some (Of (at 45) int (Compare Equal (loaded (Of (at 40) to_node (Member (local 39 node 0) 8))) (Of (at 47) to_node Null)))) ∷ []))
+    ∷ [])) { table = node_type ∷ [] }
 
 head_is_null : RunEnds drops_second 1 (plain []) USUAL (event 56 (Look false) ∷ []) (Fault kind.Null (at 56))
 unfolding runs.perform
 head_is_null = ends_so drops_second 1 (plain []) USUAL 60 refl
 
 -- the second of the list is null unless an input says otherwise
-second_is_null : RunEnds drops_second 1 (plain (given 104 (pos 1) ∷ [])) USUAL (event 56 (Look true) ∷ event 56 (Look true) ∷ event 56 (Truth true) ∷ event 56 (Truth true) ∷ event 56 (Offset 8) ∷ event 72 (Look false) ∷ []) (Fault kind.Null (at 72))
+second_is_null : RunEnds drops_second 1 (plain (given 104 (pos 1) ∷ [])) USUAL
+    (event 56 (Look true) ∷ event 56 (Look true) ∷ event 56 (Truth true) ∷ event 56 (Truth true) ∷ event 56 (Offset 8) ∷ event 72 (Look false) ∷ [])
+    (Fault kind.Null (at 72))
 unfolding runs.perform
 second_is_null = ends_so drops_second 1 (plain (given 104 (pos 1) ∷ [])) USUAL 80 refl
 
-second_is_dropped : RunEnds drops_second 1 (plain ((record { root = root.Param (104 ∷ []); cells = 8 ∷ [] }, pos 1) ∷ (given 104 (pos 1) ∷ []))) USUAL (event 56 (Look true) ∷ event 56 (Look true) ∷ event 56 (Truth true) ∷ event 56 (Truth true) ∷ event 56 (Offset 8) ∷ event 72 (Look true) ∷ event 72 (Look true) ∷ event 72 (Truth true) ∷ event 72 (Truth true) ∷ event 72 (Offset 0) ∷ event 70 (Callee 0) ∷ event 63 (Branch false) ∷ event 91 (Look true) ∷ event 99 (Look true) ∷ event 99 (Look true) ∷ event 99 (Truth true) ∷ event 99 (Truth true) ∷ event 99 (Offset 8) ∷ event 91 (Look true) ∷ event 91 (Truth true) ∷ event 91 (Truth true) ∷ event 91 (Offset 8) ∷ event 107 (Look true) ∷ event 107 (Look true) ∷ event 107 (Truth true) ∷ event 107 (Truth true) ∷ event 107 (Offset 8) ∷ []) (Done (returned.Number (pos 1)))
+second_is_dropped : RunEnds drops_second 1 (plain ((record { root = root.Param (104 ∷ []); cells = 8 ∷ [] }, pos 1) ∷ (given 104 (pos 1) ∷ []))) USUAL
+    (event 56 (Look true) ∷ event 56 (Look true) ∷ event 56 (Truth true) ∷ event 56 (Truth true) ∷ event 56 (Offset 8) ∷ event 72 (Look true)
+    ∷ event 72 (Look true) ∷ event 72 (Truth true) ∷ event 72 (Truth true) ∷ event 72 (Offset 0) ∷ event 70 (Callee 0) ∷ event 63 (Branch false)
+    ∷ event 91 (Look true) ∷ event 99 (Look true) ∷ event 99 (Look true) ∷ event 99 (Truth true) ∷ event 99 (Truth true) ∷ event 99 (Offset 8)
+    ∷ event 91 (Look true) ∷ event 91 (Truth true) ∷ event 91 (Truth true) ∷ event 91 (Offset 8) ∷ event 107 (Look true) ∷ event 107 (Look true)
+    ∷ event 107 (Truth true) ∷ event 107 (Truth true) ∷ event 107 (Offset 8) ∷ []) (Done (returned.Number (pos 1)))
 unfolding runs.perform
-second_is_dropped = ends_so drops_second 1 (plain ((record { root = root.Param (104 ∷ []); cells = 8 ∷ [] }, pos 1) ∷ (given 104 (pos 1) ∷ []))) USUAL 160 refl
+second_is_dropped = ends_so drops_second 1 (plain ((record { root = root.Param (104 ∷ []); cells = 8 ∷ [] }, pos 1) ∷ (given 104 (pos 1) ∷ []))) USUAL
+    160 refl
 
-a_member_unsupported_is_null : RunEnds leaves_next_out 0 (plain []) USUAL (event 45 (Look false) ∷ event 45 (Look false) ∷ event 45 (Truth true) ∷ []) (Done (returned.Number (pos 1)))
+a_member_unsupported_is_null : RunEnds leaves_next_out 0 (plain []) USUAL (event 45 (Look false) ∷ event 45 (Look false) ∷ event 45 (Truth true) ∷ [])
+    (Done (returned.Number (pos 1)))
 unfolding runs.perform
 a_member_unsupported_is_null = ends_so leaves_next_out 0 (plain []) USUAL 40 refl

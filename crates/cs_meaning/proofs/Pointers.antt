@@ -7,7 +7,8 @@ use Rattle.cs_ast.specs.declared.typed.operator.CmpOp.TheVariants.{Less, Equal}
 use Rattle.cs_ast.specs.declared.typed.operator.Direction.TheVariants.{Forward}
 use Rattle.cs_ast.specs.declared.typed.operator.Order.TheVariants.{PointerFirst}
 use Rattle.cs_ast.specs.declared.typed.operator.Gives.TheVariants.{Old}
-use Rattle.cs_ast.specs.TypedTree.{Typed, Of, Text, Index, Through, Address, Decay, Convert, Compare, Sum, Difference, Assign, Update, Value, Declare, Run, If, For, Return}
+use Rattle.cs_ast.specs.TypedTree.{Typed, Of, Text, Index, Through, Address, Decay, Convert, Compare, Sum, Difference, Assign, Update, Value, Declare, Run, If}
+use Rattle.cs_ast.specs.TypedTree.{For, Return}
 use Rattle.cs_ast.specs.TypedProgram.{TypedProgram}
 use Rattle.cs_model.specs.declared.kind.Kind.TheVariants as kind
 use Rattle.cs_events.specs.declared.event.Event.{Event}
@@ -39,15 +40,21 @@ clears count = functions (defined 5 int 1 (named 110 int ∷ (named 97 (ints cou
 -- what a round of the loop shows
 abbrev round : ℕ → List Event
 round offset =
-    event 38 (Truth true) ∷ event 29 (Branch true) ∷ event 46 (Look true) ∷ event 46 (Truth true) ∷ event 46 (Truth true) ∷ event 46 (Wrap Same) ∷ event 46 (Look true) ∷ event 46 (Truth true) ∷ event 46 (Truth true) ∷ event 46 (Offset offset) ∷ event 42 (Wrap Same) ∷ []
+    event 38 (Truth true) ∷ event 29 (Branch true) ∷ event 46 (Look true) ∷ event 46 (Truth true) ∷ event 46 (Truth true) ∷ event 46 (Wrap Same)
+    ∷ event 46 (Look true) ∷ event 46 (Truth true) ∷ event 46 (Truth true) ∷ event 46 (Offset offset) ∷ event 42 (Wrap Same) ∷ []
 
 -- a store after the last element is out of bounds: of the two order tests the second one fails
-stores_after : RunEnds (clears 3) 0 (plain (given 110 (pos 4) ∷ [])) USUAL (round 0 ++ round 4 ++ round 8 ++ event 38 (Truth true) ∷ event 29 (Branch true) ∷ event 46 (Look true) ∷ event 46 (Truth true) ∷ event 46 (Truth true) ∷ event 46 (Wrap Same) ∷ event 46 (Look true) ∷ event 46 (Truth true) ∷ event 46 (Truth false) ∷ []) (Fault kind.Bounds (at 46))
+stores_after : RunEnds (clears 3) 0 (plain (given 110 (pos 4) ∷ [])) USUAL
+    (round 0 ++ round 4 ++ round 8 ++ event 38 (Truth true) ∷ event 29 (Branch true) ∷ event 46 (Look true) ∷ event 46 (Truth true)
+    ∷ event 46 (Truth true) ∷ event 46 (Wrap Same) ∷ event 46 (Look true) ∷ event 46 (Truth true) ∷ event 46 (Truth false)
+    ∷ []) (Fault kind.Bounds (at 46))
 unfolding runs.perform
 stores_after = ends_so (clears 3) 0 (plain (given 110 (pos 4) ∷ [])) USUAL 200 refl
 
 -- an element that was never set
-reads_unset : RunEnds (clears 3) 0 (plain []) USUAL (event 38 (Truth false) ∷ event 29 (Branch false) ∷ event 60 (Look true) ∷ event 60 (Truth true) ∷ event 60 (Truth true) ∷ event 60 (Wrap Same) ∷ event 60 (Look true) ∷ event 60 (Truth true) ∷ event 60 (Truth true) ∷ event 60 (Offset 0) ∷ []) (Fault kind.Unset (at 60))
+reads_unset : RunEnds (clears 3) 0 (plain []) USUAL
+    (event 38 (Truth false) ∷ event 29 (Branch false) ∷ event 60 (Look true) ∷ event 60 (Truth true) ∷ event 60 (Truth true) ∷ event 60 (Wrap Same)
+    ∷ event 60 (Look true) ∷ event 60 (Truth true) ∷ event 60 (Truth true) ∷ event 60 (Offset 0) ∷ []) (Fault kind.Unset (at 60))
 unfolding runs.perform
 reads_unset = ends_so (clears 3) 0 (plain []) USUAL 100 refl
 
@@ -61,11 +68,15 @@ abbrev following : TypedProgram
 following = functions (defined 5 int 0 (named 97 (ints 4) ∷ (named 112 to_int ∷ [])) 60 (
     Declare (at 17) 0 None ∷ (
     Declare (at 27) 1 (Some (Value (Of (at 29) to_int (Sum (Of (at 28) to_int (Decay (local 28 (ints 4) 0))) (literal 30 4) Forward PointerFirst)))) ∷ (
-    If (at 32) (Of (at 36) int (Compare Equal (value 35 to_int 1) (Of (at 38) to_int (Decay (local 38 (ints 4) 0))))) (Return (at 40) (Some (literal 47 1))) ∷ (
+    If (at 32) (Of (at 36) int (Compare Equal (value 35 to_int 1) (Of (at 38) to_int (Decay (local 38 (ints 4) 0))))) (Return (at 40) (Some (literal 47 1)))
+    ∷ (
     Return (at 49) (Some (loaded (Of (at 56) int (Through (value 57 to_int 1))))) ∷ [])))) ∷ [])
 
 -- a pointer after the last element may be made and compared, but not followed
-follows_past_end : RunEnds following 0 (plain []) USUAL (event 29 (Look true) ∷ event 29 (Truth true) ∷ event 29 (Truth true) ∷ event 29 (Wrap Same) ∷ event 36 (Look true) ∷ event 36 (Look true) ∷ event 36 (Truth false) ∷ event 32 (Branch false) ∷ event 56 (Look true) ∷ event 56 (Truth true) ∷ event 56 (Truth false) ∷ []) (Fault kind.Bounds (at 56))
+follows_past_end : RunEnds following 0 (plain []) USUAL
+    (event 29 (Look true) ∷ event 29 (Truth true) ∷ event 29 (Truth true) ∷ event 29 (Wrap Same) ∷ event 36 (Look true) ∷ event 36 (Look true)
+    ∷ event 36 (Truth false) ∷ event 32 (Branch false) ∷ event 56 (Look true) ∷ event 56 (Truth true) ∷ event 56 (Truth false)
+    ∷ []) (Fault kind.Bounds (at 56))
 unfolding runs.perform
 follows_past_end = ends_so following 0 (plain []) USUAL 60 refl
 
@@ -73,7 +84,8 @@ follows_past_end = ends_so following 0 (plain []) USUAL 60 refl
 abbrev apart : TypedProgram
 apart = functions (defined 6 (integer Long) 0 (named 97 int ∷ (named 98 int ∷ [])) 39 (
     Declare (at 18) 0 None ∷ (Declare (at 24) 1 None ∷ (
-    Return (at 26) (Some (Of (at 35) (integer Long) (Difference (Of (at 33) to_int (Address (local 34 int 0))) (Of (at 36) to_int (Address (local 37 int 1)))))) ∷ []))) ∷ [])
+    Return (at 26) (Some (Of (at 35) (integer Long) (Difference (Of (at 33) to_int (Address (local 34 int 0))) (Of (at 36) to_int (Address (local 37 int 1))))))
+    ∷ []))) ∷ [])
 
 subtracts_unrelated : RunEnds apart 0 (plain []) USUAL (event 35 (Look true) ∷ event 35 (Look true) ∷ []) (Fault kind.Unrelated (at 35))
 unfolding runs.perform
@@ -84,11 +96,13 @@ abbrev orders : TypedProgram
 orders = functions (defined 5 int 2 (named 112 to_int ∷ (named 113 to_int ∷ [])) 31 (
     Return (at 20) (Some (Of (at 28) int (Compare Less (value 27 to_int 0) (value 29 to_int 1)))) ∷ []) ∷ [])
 
-orders_unrelated : RunEnds orders 0 (plain (given 112 (pos 1) ∷ (given 113 (pos 1) ∷ []))) USUAL (event 28 (Look true) ∷ event 28 (Look true) ∷ []) (Fault kind.Unrelated (at 28))
+orders_unrelated : RunEnds orders 0 (plain (given 112 (pos 1) ∷ (given 113 (pos 1) ∷ []))) USUAL (event 28 (Look true) ∷ event 28 (Look true) ∷ [])
+    (Fault kind.Unrelated (at 28))
 unfolding runs.perform
 orders_unrelated = ends_so orders 0 (plain (given 112 (pos 1) ∷ (given 113 (pos 1) ∷ []))) USUAL 30 refl
 
-orders_nulls : RunEnds orders 0 (plain []) USUAL (event 28 (Look false) ∷ event 28 (Look false) ∷ event 28 (Truth false) ∷ []) (Done (returned.Number (pos 0)))
+orders_nulls : RunEnds orders 0 (plain []) USUAL (event 28 (Look false) ∷ event 28 (Look false) ∷ event 28 (Truth false) ∷ [])
+    (Done (returned.Number (pos 0)))
 unfolding runs.perform
 orders_nulls = ends_so orders 0 (plain []) USUAL 30 refl
 
@@ -99,9 +113,13 @@ chars = pointer (integer Char)
 abbrev writes_literal : TypedProgram
 writes_literal = record (functions (defined 6 int 0 (named 115 chars ∷ []) 35 (
     Declare (at 20) 0 (Some (Value (Of (at 21) chars (Decay (Of (at 21) (array (integer Char) 3) (Text 0)))))) ∷ (
-    Run (at 26) (Of (at 30) (integer Char) (Assign (Of (at 27) (integer Char) (Index (value 26 chars 0) (literal 28 0) PointerFirst)) (Of (at 30) (integer Char) (Convert (literal 31 120))))) ∷ [])) ∷ [])) { literals = (97 ∷ (98 ∷ [])) ∷ [] }
+    Run (at 26)
+    (Of (at 30) (integer Char) (Assign (Of (at 27) (integer Char) (Index (value 26 chars 0) (literal 28 0) PointerFirst))
+    (Of (at 30) (integer Char) (Convert (literal 31 120))))) ∷ [])) ∷ [])) { literals = (97 ∷ (98 ∷ [])) ∷ [] }
 
 -- a store to a literal is a fault after its bounds
-writes_const : RunEnds writes_literal 0 (plain []) USUAL (event 27 (Look true) ∷ event 27 (Truth true) ∷ event 27 (Truth true) ∷ event 27 (Wrap Same) ∷ event 30 (Wrap Same) ∷ event 27 (Look true) ∷ event 27 (Truth true) ∷ event 27 (Truth true) ∷ event 27 (Offset 0) ∷ []) (Fault kind.ConstWrite (at 27))
+writes_const : RunEnds writes_literal 0 (plain []) USUAL
+    (event 27 (Look true) ∷ event 27 (Truth true) ∷ event 27 (Truth true) ∷ event 27 (Wrap Same) ∷ event 30 (Wrap Same) ∷ event 27 (Look true)
+    ∷ event 27 (Truth true) ∷ event 27 (Truth true) ∷ event 27 (Offset 0) ∷ []) (Fault kind.ConstWrite (at 27))
 unfolding runs.perform
 writes_const = ends_so writes_literal 0 (plain []) USUAL 60 refl

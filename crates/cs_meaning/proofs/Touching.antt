@@ -30,7 +30,10 @@ stores_dead = functions (defined 5 int 1 (named 120 int ∷ (named 97 int ∷ []
 
 -- the store of an initializer has the place of its `=`; a `return` is met after its value; a parameter isn't touched by its setting
 touches_locals : touched (come_to stores_dead 0 (plain []) USUAL 60) ≡ Some (
-  Meets Enter (at 5) ∷ (Stores 0 1 (at 19) ∷ (Stores 0 1 (at 23) ∷ (Loads 0 0 (at 29) ∷ (Loads 0 0 (at 32) ∷ (Meets Branch (at 26) ∷ (Loads 0 1 (at 50) ∷ (Meets Returning (at 43) ∷ []))))))),
+  Meets Enter (at 5)
+      ∷ (Stores 0 1 (at 19)
+      ∷ (Stores 0 1 (at 23)
+      ∷ (Loads 0 0 (at 29) ∷ (Loads 0 0 (at 32) ∷ (Meets Branch (at 26) ∷ (Loads 0 1 (at 50) ∷ (Meets Returning (at 43) ∷ []))))))),
   [],
 )
 unfolding runs.perform
@@ -41,14 +44,23 @@ abbrev turns_once : TypedProgram
 turns_once = record (functions (defined 11 int 0 (named 105 int ∷ []) 51 (
     Declare (at 23) 0 None ∷ (
     For (at 25) (sequence (Run (at 29) (Of (at 30) int (Assign (local 29 int 0) (loaded (Of (at 31) int (Global 0))))) ∷ []))
-    (Some (Of (at 34) int (Compare Less (value 33 int 0) (literal 35 1)))) None (Run (at 38) (Of (at 39) int (Update Add (local 38 int 0) (literal 39 1) Int Old))) ∷ (
+    (Some (Of (at 34) int (Compare Less (value 33 int 0) (literal 35 1)))) None
+    (Run (at 38) (Of (at 39) int (Update Add (local 38 int 0) (literal 39 1) Int Old))) ∷ (
     Return (at 42) (Some (value 49 int 0)) ∷ []))) ∷ [])) {
       globals = record { name = 103 ∷ []; at = at 5; ty = int; constant = false; initial = None } ∷ [];
     }
 
 -- a head is met before each test; an update loads and stores; a file-scope object is read, and not touched
 touches_turns : touched (come_to turns_once 0 (plain []) USUAL 80) ≡ Some (
-  Meets Enter (at 11) ∷ (Clears 0 0 (at 23) ∷ (Stores 0 0 (at 30) ∷ (Meets Head (at 25) ∷ (Loads 0 0 (at 33) ∷ (Meets Branch (at 25) ∷ (Loads 0 0 (at 38) ∷ (Stores 0 0 (at 39) ∷ (Meets Head (at 25) ∷ (Loads 0 0 (at 33) ∷ (Meets Branch (at 25) ∷ (Loads 0 0 (at 49) ∷ (Meets Returning (at 42) ∷ [])))))))))))),
+  Meets Enter (at 11)
+      ∷ (Clears 0 0 (at 23)
+      ∷ (Stores 0 0 (at 30)
+      ∷ (Meets Head (at 25)
+      ∷ (Loads 0 0 (at 33)
+      ∷ (Meets Branch (at 25)
+      ∷ (Loads 0 0 (at 38)
+      ∷ (Stores 0 0 (at 39)
+      ∷ (Meets Head (at 25) ∷ (Loads 0 0 (at 33) ∷ (Meets Branch (at 25) ∷ (Loads 0 0 (at 49) ∷ (Meets Returning (at 42) ∷ [])))))))))))),
   record { root = root.Global (103 ∷ []); cells = 0 ∷ [] } ∷ [],
 )
 unfolding runs.perform

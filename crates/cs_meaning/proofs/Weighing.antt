@@ -4,11 +4,14 @@ use Rattle.cs_types.specs.Shape.{Shape, void, integer, pointer, array, struct}
 use Rattle.cs_ast.specs.declared.place.Place.{Place}
 use Rattle.cs_ast.specs.declared.typed.operator.Order.{Order}
 use Rattle.cs_ast.specs.declared.typed.operator.Order.TheVariants.{PointerFirst, AmountFirst}
-use Rattle.cs_ast.specs.TypedTree.{Typed, Of, Form, Number, Null, Text, Local, Global, Through, Index, Member, Arrow, Load, Address, Decay, Convert, Unary, Not, Binary, Compare, Sum, Difference, And, Or, Choice, Comma, Assign, Update, Move, Call, Allocate, Free, TypedList, NoMore, Further, Initial, Value, Parts, Bytes, Initials, NoPart, Part, Statements, Empty, Then}
+use Rattle.cs_ast.specs.TypedTree.{Typed, Of, Form, Number, Null, Text, Local, Global, Through, Index, Member, Arrow, Load, Address, Decay, Convert, Unary, Not}
+use Rattle.cs_ast.specs.TypedTree.{Binary, Compare, Sum, Difference, And, Or, Choice, Comma, Assign, Update, Move, Call, Allocate, Free, TypedList, NoMore}
+use Rattle.cs_ast.specs.TypedTree.{Further, Initial, Value, Parts, Bytes, Initials, NoPart, Part, Statements, Empty, Then}
 use Rattle.cs_ast.specs.TypedProgram.{TypedProgram}
 use Rattle.cs_meaning.specs.Types.{type_of, part_type, part_offset}
 use Rattle.cs_meaning.specs.Initials.{Piece, Evaluated, Spelled, pieces, pieces_from}
-use Rattle.cs_meaning.specs.Machine.{Item, Evaluate, EvaluateUnused, Act as Acting, Fetch, Choose, Judge, Use, Drop, Store, Spell, Execute, Decide, Turn, Again, Out, Begin, End, Give, Leave}
+use Rattle.cs_meaning.specs.Machine.{Item, Evaluate, EvaluateUnused, Act as Acting, Fetch, Choose, Judge, Use, Drop, Store, Spell, Execute, Decide, Turn, Again}
+use Rattle.cs_meaning.specs.Machine.{Out, Begin, End, Give, Leave}
 use Rattle.cs_meaning.specs.CountedPoints.{counted_points}
 use Rattle.cs_meaning.specs.Jumps.{executes, broken_out, continued}
 use Rattle.cs_meaning.specs.Expressions.{evaluates_all, evaluates_both, evaluates_operand, evaluates_form, evaluates, uses}
@@ -16,32 +19,39 @@ use Rattle.cs_meaning.specs.Statements.{stores_pieces}
 use Rattle.cs_meaning.proofs.Weights.{weigh, weigh_form, weigh_all, weigh_initial, weigh_initials, weigh_statements, weigh_items}
 
 -- statements in a row weigh what they weigh one by one
-pub executes_weigh : (statements : Statements) (counted_point : ℕ) (following : List Item) → weigh_items (executes statements counted_point following) ≡ weigh_statements statements + weigh_items following
+pub executes_weigh : (statements : Statements) (counted_point : ℕ) (following : List Item)
+    → weigh_items (executes statements counted_point following) ≡ weigh_statements statements + weigh_items following
 executes_weigh Empty counted_point following = omega arith
 executes_weigh (Then first others) counted_point following =
     let rest = executes_weigh others (counted_point + counted_points first) following in
     omega arith
 
 -- pieces one after another are stored one after another
-stores_append : (at : Place) (declaration : ℕ) (ones others : List Piece) (following : List Item) → stores_pieces at declaration (ones ++ others) following ≡ stores_pieces at declaration ones (stores_pieces at declaration others following)
+stores_append : (at : Place) (declaration : ℕ) (ones others : List Piece) (following : List Item)
+    → stores_pieces at declaration (ones ++ others) following ≡ stores_pieces at declaration ones (stores_pieces at declaration others following)
 stores_append at declaration [] others following = refl
-stores_append at declaration (Evaluated offset e ∷ ones) others following = ap (λ items. Evaluate e ∷ (Store at declaration offset (type_of e) ∷ items)) (stores_append at declaration ones others following)
-stores_append at declaration (Spelled offset bytes ∷ ones) others following = ap (λ items. Spell declaration offset bytes ∷ items) (stores_append at declaration ones others following)
+stores_append at declaration (Evaluated offset e ∷ ones) others following =
+    ap (λ items. Evaluate e ∷ (Store at declaration offset (type_of e) ∷ items)) (stores_append at declaration ones others following)
+stores_append at declaration (Spelled offset bytes ∷ ones) others following =
+    ap (λ items. Spell declaration offset bytes ∷ items) (stores_append at declaration ones others following)
 
 mutual
   -- an initializer weighs what its pieces do
-  pub pieces_weigh : (program : TypedProgram) (at : Place) (declaration : ℕ) (ty : Shape) (from : ℕ) (initial : Initial) (following : List Item) → weigh_items (stores_pieces at declaration (pieces program ty from initial) following) ≡ weigh_initial initial + weigh_items following
+  pub pieces_weigh : (program : TypedProgram) (at : Place) (declaration : ℕ) (ty : Shape) (from : ℕ) (initial : Initial) (following : List Item)
+      → weigh_items (stores_pieces at declaration (pieces program ty from initial) following) ≡ weigh_initial initial + weigh_items following
   pieces_weigh program at declaration ty from (Value e) following = omega arith
   pieces_weigh program at declaration ty from (Bytes bytes) following = refl
   pieces_weigh program at declaration ty from (Parts parts) following = parts_weigh program at declaration ty from 0 parts following
 
-  parts_weigh : (program : TypedProgram) (at : Place) (declaration : ℕ) (ty : Shape) (from number : ℕ) (parts : Initials) (following : List Item) → weigh_items (stores_pieces at declaration (pieces_from program ty from number parts) following) ≡ weigh_initials parts + weigh_items following
+  parts_weigh : (program : TypedProgram) (at : Place) (declaration : ℕ) (ty : Shape) (from number : ℕ) (parts : Initials) (following : List Item)
+      → weigh_items (stores_pieces at declaration (pieces_from program ty from number parts) following) ≡ weigh_initials parts + weigh_items following
   parts_weigh program at declaration ty from number NoPart following = omega arith
   parts_weigh program at declaration ty from number (Part first others) following =
       let ones = pieces program (part_type program ty number) (from + part_offset program ty number) first in
       let more = pieces_from program ty from (number + 1) others in
       let split = ap weigh_items (stores_append at declaration ones more following) in
-      let a = pieces_weigh program at declaration (part_type program ty number) (from + part_offset program ty number) first (stores_pieces at declaration more following) in
+      let a = pieces_weigh program at declaration (part_type program ty number) (from + part_offset program ty number) first
+      (stores_pieces at declaration more following) in
       let b = parts_weigh program at declaration ty from (number + 1) others following in
       omega arith
 
@@ -170,7 +180,8 @@ all_weigh (Further first others) following =
     omega arith
 
 -- a pointer and an amount weigh the same in either order
-both_weigh : (one amount : Typed) (order : Order) (following : List Item) → weigh_items (evaluates_both one amount order following) ≡ (weigh one + weigh amount) + weigh_items following
+both_weigh : (one amount : Typed) (order : Order) (following : List Item)
+    → weigh_items (evaluates_both one amount order following) ≡ (weigh one + weigh amount) + weigh_items following
 both_weigh one amount PointerFirst following = omega arith
 both_weigh one amount AmountFirst following = omega arith
 
@@ -182,7 +193,8 @@ operand_weighs (array element count) a following = refl
 operand_weighs (struct number) a following = refl
 
 -- the parts of an expression, with what is done with them, weigh less than the expression by two
-parts_light : (e : Typed) (ty : Shape) (form : Form) (following : List Item) → weigh_items (evaluates_form e ty form following) ≤ (weigh_form form + 2) + weigh_items following
+parts_light : (e : Typed) (ty : Shape) (form : Form) (following : List Item)
+    → weigh_items (evaluates_form e ty form following) ≤ (weigh_form form + 2) + weigh_items following
 parts_light e ty (Number n) following = omega arith
 parts_light e ty Null following = omega arith
 parts_light e ty (Text literal) following = omega arith

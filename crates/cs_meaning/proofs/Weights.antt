@@ -1,8 +1,12 @@
 -- What is left of a run that goes on without an event: turns, which are the visits that its frames may still make, and the weight of
 -- what is to be done.
 use Rattle.std.proofs.Common.{◌≡◌, ℕ, zero, suc, ◌+◌, ◌-◌, ◌<◌, List, [], ◌∷◌, Option, Some, None, slice_get, slice_set, arith}
-use Rattle.cs_ast.specs.TypedTree.{Typed, Of, Form, Number, Null, Text, Local, Global, Through, Index, Member, Arrow, Load, Address, Decay, Convert, Unary, Not, Binary, Compare, Sum, Difference, And, Or, Choice, Comma, Assign, Update, Move, Call, Allocate, Free, TypedList, NoMore, Further, Initial, Value, Parts, Bytes, Initials, NoPart, Part, Statement, Block, Declare, Run, If, IfElse, While, Do, For, Switch, Goto, Label, Break, Continue, Return, Statements, Empty, Then}
-use Rattle.cs_meaning.specs.Machine.{Item, Evaluate, EvaluateUnused, Act, Fetch, Choose, Judge, Use, Drop, Store, Spell, Execute, Decide, Turn, Again, Out, Begin, End, Give, Leave, Frame, State}
+use Rattle.cs_ast.specs.TypedTree.{Typed, Of, Form, Number, Null, Text, Local, Global, Through, Index, Member, Arrow, Load, Address, Decay, Convert, Unary, Not}
+use Rattle.cs_ast.specs.TypedTree.{Binary, Compare, Sum, Difference, And, Or, Choice, Comma, Assign, Update, Move, Call, Allocate, Free, TypedList, NoMore}
+use Rattle.cs_ast.specs.TypedTree.{Further, Initial, Value, Parts, Bytes, Initials, NoPart, Part, Statement, Block, Declare, Run, If, IfElse, While, Do, For}
+use Rattle.cs_ast.specs.TypedTree.{Switch, Goto, Label, Break, Continue, Return, Statements, Empty, Then}
+use Rattle.cs_meaning.specs.Machine.{Item, Evaluate, EvaluateUnused, Act, Fetch, Choose, Judge, Use, Drop, Store, Spell, Execute, Decide, Turn, Again, Out}
+use Rattle.cs_meaning.specs.Machine.{Begin, End, Give, Leave, Frame, State}
 
 abbrev mutual
   -- an expression weighs more than its parts and what is done with them
@@ -138,7 +142,8 @@ abbrev pub turns : ℕ → State → ℕ
 turns most m = visits_left most m.frame.visits + turns_in most m.callers
 
 -- a counted point that is reached once more may be reached once less
-pub one_visit_less : (most : ℕ) (counts : List ℕ) (counted_point count : ℕ) → slice_get counts counted_point ≡ Some count → count < most → visits_left most (slice_set counts counted_point (count + 1)) < visits_left most counts
+pub one_visit_less : (most : ℕ) (counts : List ℕ) (counted_point count : ℕ) → slice_get counts counted_point ≡ Some count → count < most
+    → visits_left most (slice_set counts counted_point (count + 1)) < visits_left most counts
 one_visit_less most [] counted_point count h less = cc
 one_visit_less most (c ∷ counts) zero count h less =
     let same : c ≡ count = cc in

@@ -1,5 +1,6 @@
 -- Loads and stores (C11 6.3.2.1, 6.5.16): what is checked and shown on the way to an object, and what memory gives and keeps.
-use Rattle.std.specs.Prelude.{ℕ, ◌+◌, ℤ, pos, negsuc, ◌-ℤ◌, neg_ℤ, Bool, true, false, List, [], ◌∷◌, Option, Some, None, unwrap_or, if◌then◌else◌}
+use Rattle.std.specs.Prelude.{ℕ, ◌+◌, ℤ, pos, negsuc, ◌-ℤ◌, neg_ℤ, Bool, true, false, List, [], ◌∷◌, Option, Some, None, unwrap_or}
+use Rattle.std.specs.Prelude.{if◌then◌else◌}
 use Rattle.cs_types.specs.Shape.{Shape, void, struct}
 use Rattle.cs_ast.specs.declared.place.Place.{Place}
 use Rattle.cs_ast.specs.TypedTree.{Typed, Of, Form, Local, Global, Member}
@@ -112,7 +113,8 @@ module _ {S : Type 0} where
   -- an object of a type is reached through a pointer: it shows whether the pointer is null, which is a fault (C11 6.5.3.2, paragraph 4)
   abbrev pub reach : TypedProgram → Memory → Place → Shape → Cell → (Object → ℕ → Act S) → Act S
   reach program memory at ty NullCell onward = shows_then at (Look false) (Stops (Fault kind.Null at))
-  reach program memory at ty (PointerCell object offset) onward = shows_then at (Look true) (reach_in program at ty object offset (memory object) (λ n. onward object n))
+  reach program memory at ty (PointerCell object offset) onward =
+      shows_then at (Look true) (reach_in program at ty object offset (memory object) (λ n. onward object n))
   reach program memory at ty (NumberCell n) onward = Stops (Fault kind.Unset at)
   reach program memory at ty UnsetCell onward = Stops (Fault kind.Unset at)
 

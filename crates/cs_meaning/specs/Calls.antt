@@ -1,5 +1,6 @@
 -- Calls (C11 6.5.2.2, 7.22.3): frames, functions without a body, allocations and releases.
-use Rattle.std.specs.Prelude.{ℕ, ◌+◌, ◌==◌, nat_lt, ℤ, pos, negsuc, Bool, true, false, not, List, [], ◌∷◌, length, replicate, Option, Some, None, option_map, slice_get, if◌then◌else◌}
+use Rattle.std.specs.Prelude.{ℕ, ◌+◌, ◌==◌, nat_lt, ℤ, pos, negsuc, Bool, true, false, not, List, [], ◌∷◌, length, replicate, Option, Some}
+use Rattle.std.specs.Prelude.{None, option_map, slice_get, if◌then◌else◌}
 use Rattle.std.specs.Ordering.{int_eq}
 use Rattle.cs_types.specs.DataModel.{size_type_of}
 use Rattle.cs_types.specs.Shape.{Shape, void}
@@ -30,7 +31,8 @@ use Rattle.cs_meaning.specs.Initials.{number_in}
 use Rattle.cs_meaning.specs.Memory.{Block, Memory, Fill, UnsetFill, ZeroFill, InputFill, new_block, with_block, changed, refill, stand, is_constant, Unknown}
 use Rattle.cs_meaning.specs.Access.{shows_then, receive}
 use Rattle.cs_meaning.specs.Operators.{operate}
-use Rattle.cs_meaning.specs.Machine.{Operand, Scalar, Whole, Nothing, Execute, Item, Begin, End, CallFrame, Frame, Running, State, push, push_cell, pop, pop_many, with_memory, cell_of, cell_at, newest, routine_of, body_of}
+use Rattle.cs_meaning.specs.Machine.{Operand, Scalar, Whole, Nothing, Execute, Item, Begin, End, CallFrame, Frame, Running, State, push, push_cell, pop}
+use Rattle.cs_meaning.specs.Machine.{pop_many, with_memory, cell_of, cell_at, newest, routine_of, body_of}
 use Rattle.cs_meaning.specs.CountedPoints.{counted_points}
 
 -- the path of the result of a call, of what a call wrote through an argument, and of an allocation
@@ -97,7 +99,8 @@ abbrev pub entered : TypedProgram → ℕ → Routine → List Operand → State
 entered program function routine arguments m = inside program (new_frame function m.frames routine) routine arguments m
 
 -- a call of a function with a body: it shows, unless there are as many frames as there may be
-abbrev pub enter_as : {Rest : Type 0} → TypedProgram → RunBudgets → (ℕ → CallFrame Rest) → Place → ℕ → Routine → List Operand → Running Rest → Act (Running Rest)
+abbrev pub enter_as : {Rest : Type 0} → TypedProgram → RunBudgets → (ℕ → CallFrame Rest) → Place → ℕ → Routine → List Operand
+    → Running Rest → Act (Running Rest)
 enter_as program budgets begins at function routine arguments m =
     if nat_lt (length m.callers + 1) budgets.depth
     then shows_then at (label.Callee function) (Goes (inside program (begins m.frames) routine arguments m))
@@ -119,7 +122,8 @@ overwrite program object path block = if is_writable program object block.standi
 -- what such a call does to the object that an argument names: it shows whether there is one, and writes all of it
 abbrev pub write_through : {S : Type 0} → TypedProgram → Place → Path → Cell → Memory → (Memory → Act S) → Act S
 write_through program at path NullCell memory onward = shows_then at (label.Look false) (onward memory)
-write_through program at path (PointerCell object offset) memory onward = shows_then at (label.Look true) (onward (changed (overwrite program object path) object memory))
+write_through program at path (PointerCell object offset) memory onward =
+    shows_then at (label.Look true) (onward (changed (overwrite program object path) object memory))
 write_through program at path (NumberCell n) memory onward = onward memory
 write_through program at path UnsetCell memory onward = onward memory
 
@@ -128,7 +132,8 @@ abbrev pub write_arguments : {S : Type 0} → TypedProgram → Place → ℕ →
 write_arguments program at call argument (true ∷ written) (operand ∷ operands) memory onward =
     write_through program at (wrote_path call argument) (cell_of operand) memory
     (λ after. write_arguments program at call (argument + 1) written operands after onward)
-write_arguments program at call argument (false ∷ written) (operand ∷ operands) memory onward = write_arguments program at call (argument + 1) written operands memory onward
+write_arguments program at call argument (false ∷ written) (operand ∷ operands) memory onward =
+    write_arguments program at call (argument + 1) written operands memory onward
 write_arguments program at call argument written operands memory onward = onward memory
 
 -- the result of a call of such a function, by the type that it gives: it is looked up, but nothing is where the type is void
@@ -187,7 +192,10 @@ bytes_of_number (negsuc n) = 0
 abbrev pub allocated : {Rest : Type 0} → Shape → ℤ → Fill → Bool → Running Rest → Running Rest
 allocated element bytes fill true m =
     push_cell (PointerCell (HeapBlock (m.allocations + 1)) (pos 0))
-    (record m { allocations = m.allocations + 1; memory = with_block (HeapBlock (m.allocations + 1)) (new_block (element_of element) (bytes_of_number bytes) fill) m.memory })
+    (record m {
+      allocations = m.allocations + 1;
+      memory = with_block (HeapBlock (m.allocations + 1)) (new_block (element_of element) (bytes_of_number bytes) fill) m.memory;
+    })
 allocated element bytes fill false m = push_cell NullCell (record m { allocations = m.allocations + 1 })
 
 -- an allocation of so many bytes (C11 7.22.3.4)

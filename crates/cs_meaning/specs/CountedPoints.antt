@@ -1,7 +1,8 @@
 -- Counted points: the loop heads and the labels of a body, numbered as they stand there, and counted as a frame reaches them.
 use Rattle.std.specs.Prelude.{ℕ, ◌+◌, nat_lt, Option, Some, None, slice_get, slice_set, if◌then◌else◌}
 use Rattle.cs_ast.specs.declared.place.Place.{Place}
-use Rattle.cs_ast.specs.TypedTree.{Statement, Block, Declare, Run, If, IfElse, While, Do, For, Switch, Goto, Label, Break, Continue, Return, Statements, Empty, Then}
+use Rattle.cs_ast.specs.TypedTree.{Statement, Block, Declare, Run, If, IfElse, While, Do, For, Switch, Goto, Label, Break, Continue, Return, Statements, Empty}
+use Rattle.cs_ast.specs.TypedTree.{Then}
 use Rattle.cs_events.specs.declared.outcome.Outcome.TheVariants.{Over}
 use Rattle.cs_events.specs.declared.outcome.Budget.TheVariants.{Visits}
 use Rattle.cs_events.specs.declared.outcome.RunBudgets.{RunBudgets}

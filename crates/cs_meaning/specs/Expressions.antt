@@ -6,7 +6,9 @@ use Rattle.cs_ast.specs.declared.typed.operator.Order.{Order}
 use Rattle.cs_ast.specs.declared.typed.operator.Order.TheVariants.{PointerFirst, AmountFirst}
 use Rattle.cs_ast.specs.declared.typed.operator.Gives.{Gives}
 use Rattle.cs_ast.specs.declared.typed.operator.Gives.TheVariants.{Old, New}
-use Rattle.cs_ast.specs.TypedTree.{Typed, Of, Form, Number, Null, Text, Local, Global, Through, Index, Member, Arrow, Load, Address, Decay, Convert, Unary, Not, Binary, Compare, Sum, Difference, And, Or, Choice, Comma, Assign, Update, Move, Call, Allocate, Free, TypedList, NoMore, Further}
+use Rattle.cs_ast.specs.TypedTree.{Typed, Of, Form, Number, Null, Text, Local, Global, Through, Index, Member, Arrow, Load, Address, Decay, Convert, Unary, Not}
+use Rattle.cs_ast.specs.TypedTree.{Binary, Compare, Sum, Difference, And, Or, Choice, Comma, Assign, Update, Move, Call, Allocate, Free, TypedList, NoMore}
+use Rattle.cs_ast.specs.TypedTree.{Further}
 use Rattle.cs_ast.specs.TypedProgram.{TypedProgram}
 use Rattle.cs_events.specs.declared.event.Label.TheVariants as label
 use Rattle.cs_events.specs.declared.operation.Operation.TheVariants as operation
@@ -18,7 +20,8 @@ use Rattle.cs_meaning.specs.Initials.{number_in, truth_cell, further, directed}
 use Rattle.cs_meaning.specs.Access.{Access, access_of, shows_then, set_then, load, store_object}
 use Rattle.cs_meaning.specs.Operators.{truth, branch, operate, convert_number, convert, sum, compare, difference, arrow}
 use Rattle.cs_meaning.specs.Calls.{call, allocate, release}
-use Rattle.cs_meaning.specs.Machine.{Operand, Scalar, Item, Evaluate, EvaluateUnused, Act as Acting, Fetch, Choose, Judge, Use, Drop, Running, State, to_do, push, push_cell, pop, pop_many, with_memory, operand_at, cell_of, cell_at}
+use Rattle.cs_meaning.specs.Machine.{Operand, Scalar, Item, Evaluate, EvaluateUnused, Act as Acting, Fetch, Choose, Judge, Use, Drop, Running, State, to_do}
+use Rattle.cs_meaning.specs.Machine.{push, push_cell, pop, pop_many, with_memory, operand_at, cell_of, cell_at}
 
 -- expressions in a row, evaluated from the first on
 abbrev pub evaluates_all : TypedList → List Item → List Item
@@ -124,14 +127,19 @@ act_form program budgets at ty (Index a i order) m =
     sum program.model at (cell_at m (pointer_age order)) (number_at m (amount_age order)) (size_of program ty) (λ cell. Goes (push_cell cell (pop_many 2 m)))
 act_form program budgets at ty (Member a offset) m = Goes (push_cell (further (cell_at m 0) offset) (pop m))
 act_form program budgets at ty (Arrow a offset) m = arrow at (cell_at m 0) offset (λ cell. Goes (push_cell cell (pop m)))
-act_form program budgets at ty (Load a) m = load program m.memory m.frame.number a (cell_at m 0) (λ memory operand. Goes (push operand (with_memory memory (pop m))))
+act_form program budgets at ty (Load a) m =
+    load program m.memory m.frame.number a (cell_at m 0) (λ memory operand. Goes (push operand (with_memory memory (pop m))))
 act_form program budgets at ty (Convert a) m = convert program.model at (type_of a) ty (operand_at m 0) (λ operand. Goes (push operand (pop m)))
-act_form program budgets at ty (Unary op a) m = Asks at (operation.Unary op (integer_of ty) (number_at m 0)) (λ number. Goes (push_cell (NumberCell number) (pop m)))
-act_form program budgets at ty (Not a) m = truth at (cell_at m 0) (λ holds. shows_then at (label.Truth (not holds)) (Goes (push_cell (truth_cell (not holds)) (pop m))))
-act_form program budgets at ty (Binary op a b) m = operate program.model at op (integer_of ty) (number_at m 1) (number_at m 0) (λ number. Goes (push_cell (NumberCell number) (pop_many 2 m)))
+act_form program budgets at ty (Unary op a) m =
+    Asks at (operation.Unary op (integer_of ty) (number_at m 0)) (λ number. Goes (push_cell (NumberCell number) (pop m)))
+act_form program budgets at ty (Not a) m =
+    truth at (cell_at m 0) (λ holds. shows_then at (label.Truth (not holds)) (Goes (push_cell (truth_cell (not holds)) (pop m))))
+act_form program budgets at ty (Binary op a b) m =
+    operate program.model at op (integer_of ty) (number_at m 1) (number_at m 0) (λ number. Goes (push_cell (NumberCell number) (pop_many 2 m)))
 act_form program budgets at ty (Compare op a b) m = compare at op (cell_at m 1) (cell_at m 0) (λ number. Goes (push_cell (NumberCell number) (pop_many 2 m)))
 act_form program budgets at ty (Sum a n direction order) m =
-    sum program.model at (cell_at m (pointer_age order)) (directed direction (number_at m (amount_age order))) (size_of program (target_of ty)) (λ cell. Goes (push_cell cell (pop_many 2 m)))
+    sum program.model at (cell_at m (pointer_age order)) (directed direction (number_at m (amount_age order))) (size_of program (target_of ty))
+    (λ cell. Goes (push_cell cell (pop_many 2 m)))
 act_form program budgets at ty (Difference a b) m =
     difference at (cell_at m 1) (cell_at m 0) (size_of program (target_of (type_of a))) (λ number. Goes (push_cell (NumberCell number) (pop_many 2 m)))
 act_form program budgets at ty (Assign a b) m = stores program at a 1 (operand_at m 0) 2 (operand_at m 0) m

@@ -1,11 +1,13 @@
 -- What objects hold at first (C11 6.7.9): the pieces of an initializer by their offsets, and what constant expressions give.
-use Rattle.std.specs.Prelude.{ℕ, ◌+◌, ◌-◌, ◌==◌, nat_lt, nat_le, ℤ, pos, ◌+ℤ◌, neg_ℤ, Bool, true, false, not, ◌&&◌, ◌||◌, List, [], ◌∷◌, ◌++◌, take, length, slice_index_or, if◌then◌else◌}
+use Rattle.std.specs.Prelude.{ℕ, ◌+◌, ◌-◌, ◌==◌, nat_lt, nat_le, ℤ, pos, ◌+ℤ◌, neg_ℤ, Bool, true, false, not, ◌&&◌, ◌||◌, List}
+use Rattle.std.specs.Prelude.{[], ◌∷◌, ◌++◌, take, length, slice_index_or, if◌then◌else◌}
 use Rattle.cs_types.specs.declared.data_model.DataModel.{DataModel}
 use Rattle.cs_types.specs.Shape.{Shape, integer, pointer}
 use Rattle.cs_types.specs.Wrap.{wrapped}
 use Rattle.cs_ast.specs.declared.typed.operator.Direction.{Direction}
 use Rattle.cs_ast.specs.declared.typed.operator.Direction.TheVariants.{Forward, Back}
-use Rattle.cs_ast.specs.TypedTree.{Typed, Of, Form, Number, Null, Text, Global, Index, Member, Address, Decay, Convert, Unary, Not, Binary, Compare, Sum, And, Or, Choice, Initial, Value, Parts, Bytes, Initials, NoPart, Part}
+use Rattle.cs_ast.specs.TypedTree.{Typed, Of, Form, Number, Null, Text, Global, Index, Member, Address, Decay, Convert, Unary, Not, Binary, Compare, Sum, And}
+use Rattle.cs_ast.specs.TypedTree.{Or, Choice, Initial, Value, Parts, Bytes, Initials, NoPart, Part}
 use Rattle.cs_ast.specs.TypedProgram.{TypedProgram}
 use Rattle.cs_events.specs.declared.operation.Operation.TheVariants as operation
 use Rattle.cs_events.specs.Operations.{own_result, truth_number, is_true}
@@ -82,9 +84,12 @@ abbrev mutual
   constant_form program ty (Convert a) = converted program.model ty (constant program a)
   constant_form program ty (Unary op a) = NumberCell (own_result program.model (operation.Unary op (integer_of ty) (number_in (constant program a))))
   constant_form program ty (Not a) = truth_cell (not (is_set (constant program a)))
-  constant_form program ty (Binary op a b) = NumberCell (own_result program.model (operation.Binary op (integer_of ty) (number_in (constant program a)) (number_in (constant program b))))
-  constant_form program ty (Compare op a b) = NumberCell (own_result program.model (operation.Compare op (number_in (constant program a)) (number_in (constant program b))))
-  constant_form program ty (Sum a n direction order) = moved program.model (constant program a) (directed direction (number_in (constant program n))) (size_of program (target_of ty))
+  constant_form program ty (Binary op a b) =
+      NumberCell (own_result program.model (operation.Binary op (integer_of ty) (number_in (constant program a)) (number_in (constant program b))))
+  constant_form program ty (Compare op a b) =
+      NumberCell (own_result program.model (operation.Compare op (number_in (constant program a)) (number_in (constant program b))))
+  constant_form program ty (Sum a n direction order) =
+      moved program.model (constant program a) (directed direction (number_in (constant program n))) (size_of program (target_of ty))
   constant_form program ty (And a b) = truth_cell (is_set (constant program a) && is_set (constant program b))
   constant_form program ty (Or a b) = truth_cell (is_set (constant program a) || is_set (constant program b))
   constant_form program ty (Choice a b c) = if is_set (constant program a) then constant program b else constant program c
@@ -102,7 +107,8 @@ byte_cell model scalar byte = NumberCell (wrapped model (integer_of scalar) (pos
 -- what a scalar at an offset holds by the pieces of a constant initializer; what these leave out is zero
 abbrev pub initial_cell : TypedProgram → Shape → List Piece → ℕ → Cell
 initial_cell program scalar [] offset = zero_of scalar
-initial_cell program scalar (Evaluated from value ∷ others) offset = if from == offset then constant program value else initial_cell program scalar others offset
+initial_cell program scalar (Evaluated from value ∷ others) offset =
+    if from == offset then constant program value else initial_cell program scalar others offset
 initial_cell program scalar (Spelled from bytes ∷ others) offset =
     if nat_le from offset && nat_lt offset (from + length bytes)
     then byte_cell program.model scalar (slice_index_or bytes (offset - from) 0)

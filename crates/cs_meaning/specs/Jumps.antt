@@ -1,7 +1,8 @@
 -- Jumps (C11 6.8.6): what is still to be done where `break`, `continue` and `goto` lead.
 use Rattle.std.specs.Prelude.{ℕ, ◌+◌, ◌==◌, List, [], ◌∷◌, Option, Some, None, if◌then◌else◌}
 use Rattle.cs_ast.specs.declared.place.Place.{Place}
-use Rattle.cs_ast.specs.TypedTree.{Statement, Block, Declare, Run, If, IfElse, While, Do, For, Switch, Goto, Label, Break, Continue, Return, Statements, Empty, Then}
+use Rattle.cs_ast.specs.TypedTree.{Statement, Block, Declare, Run, If, IfElse, While, Do, For, Switch, Goto, Label, Break, Continue, Return, Statements, Empty}
+use Rattle.cs_ast.specs.TypedTree.{Then}
 use Rattle.cs_meaning.specs.Machine.{Item, Execute, Again, Out}
 use Rattle.cs_meaning.specs.CountedPoints.{counted_points, counted_points_in}
 
@@ -40,10 +41,14 @@ abbrev mutual
   landing wanted (Declare at declaration initial) counted_point following = None
   landing wanted (Run at e) counted_point following = None
   landing wanted (If at test body) counted_point following = landing wanted body counted_point following
-  landing wanted (IfElse at test body other) counted_point following = first_of_two (landing wanted body counted_point following) (landing wanted other (counted_point + counted_points body) following)
-  landing wanted (While at test body) counted_point following = landing wanted body (counted_point + 1) (Again (While at test body) counted_point ∷ (Out ∷ following))
-  landing wanted (Do at body test) counted_point following = landing wanted body (counted_point + 1) (Again (Do at body test) counted_point ∷ (Out ∷ following))
-  landing wanted (For at first test last body) counted_point following = landing wanted body (counted_point + 1 + counted_points_in first) (Again (For at first test last body) counted_point ∷ (Out ∷ following))
+  landing wanted (IfElse at test body other) counted_point following =
+      first_of_two (landing wanted body counted_point following) (landing wanted other (counted_point + counted_points body) following)
+  landing wanted (While at test body) counted_point following =
+      landing wanted body (counted_point + 1) (Again (While at test body) counted_point ∷ (Out ∷ following))
+  landing wanted (Do at body test) counted_point following =
+      landing wanted body (counted_point + 1) (Again (Do at body test) counted_point ∷ (Out ∷ following))
+  landing wanted (For at first test last body) counted_point following =
+      landing wanted body (counted_point + 1 + counted_points_in first) (Again (For at first test last body) counted_point ∷ (Out ∷ following))
   landing wanted (Switch at value cases statements) counted_point following = landing_in wanted statements counted_point (Out ∷ following)
   landing wanted (Goto at label) counted_point following = None
   landing wanted (Label at label body) counted_point following =
@@ -58,4 +63,5 @@ abbrev mutual
   pub landing_in : ℕ → Statements → ℕ → List Item → Option Landing
   landing_in wanted Empty counted_point following = None
   landing_in wanted (Then first others) counted_point following =
-      first_of_two (landing wanted first counted_point (executes others (counted_point + counted_points first) following)) (landing_in wanted others (counted_point + counted_points first) following)
+      first_of_two (landing wanted first counted_point (executes others (counted_point + counted_points first) following))
+      (landing_in wanted others (counted_point + counted_points first) following)

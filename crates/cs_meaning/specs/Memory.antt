@@ -1,5 +1,6 @@
 -- The memory of the reference machine.
-use Rattle.std.specs.Prelude.{ℕ, zero, suc, ◌*◌, ◌%◌, ◌==◌, ℤ, pos, negsuc, Bool, true, false, List, [], ◌∷◌, ◌++◌, Option, Some, None, option_map, unwrap_or, slice_get, if◌then◌else◌}
+use Rattle.std.specs.Prelude.{ℕ, zero, suc, ◌*◌, ◌%◌, ◌==◌, ℤ, pos, negsuc, Bool, true, false, List, [], ◌∷◌, ◌++◌, Option, Some}
+use Rattle.std.specs.Prelude.{None, option_map, unwrap_or, slice_get, if◌then◌else◌}
 use Rattle.cs_types.specs.DataModel.{start_extent_of}
 use Rattle.cs_types.specs.Shape.{Shape, void}
 use Rattle.cs_inputs.specs.declared.path.Path.{Path}

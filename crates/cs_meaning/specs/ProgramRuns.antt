@@ -39,7 +39,8 @@ RunPasses program entry run budgets events = Passes (step program budgets) (sett
 
 -- this is pending in the run at the event with this number
 abbrev pub RunIsPending : TypedProgram → ℕ → ProgramRun → RunBudgets → ℕ → Pending → Type 0
-RunIsPending program entry run budgets event pending = IsPending (step program budgets) (setting_of program run budgets) (start_of program entry run) event pending
+RunIsPending program entry run budgets event pending =
+    IsPending (step program budgets) (setting_of program run budgets) (start_of program entry run) event pending
 
 -- the run reads a path
 abbrev pub RunReads : TypedProgram → ℕ → ProgramRun → RunBudgets → Path → Type 0

@@ -1,10 +1,12 @@
 -- What executing a statement does (C11 6.8).
-use Rattle.std.specs.Prelude.{ℕ, zero, suc, ◌+◌, ℤ, Bool, false, List, [], ◌∷◌, Option, Some, None, unwrap_or, option_map, slice_get, if◌then◌else◌}
+use Rattle.std.specs.Prelude.{ℕ, zero, suc, ◌+◌, ℤ, Bool, false, List, [], ◌∷◌, Option, Some, None, unwrap_or, option_map, slice_get}
+use Rattle.std.specs.Prelude.{if◌then◌else◌}
 use Rattle.std.specs.Ordering.{int_eq}
 use Rattle.cs_types.specs.Shape.{Shape, void}
 use Rattle.cs_ast.specs.declared.place.Place.{Place}
 use Rattle.cs_ast.specs.declared.typed.statement.Case.{Case}
-use Rattle.cs_ast.specs.TypedTree.{Typed, Initial, Value, Statement, Block, Declare, Run, If, IfElse, While, Do, For, Switch, Goto, Label, Break, Continue, Return, Statements, Empty, Then, count_of}
+use Rattle.cs_ast.specs.TypedTree.{Typed, Initial, Value, Statement, Block, Declare, Run, If, IfElse, While, Do, For, Switch, Goto, Label, Break, Continue}
+use Rattle.cs_ast.specs.TypedTree.{Return, Statements, Empty, Then, count_of}
 use Rattle.cs_ast.specs.TypedProgram.{TypedProgram, Variable}
 use Rattle.cs_events.specs.declared.event.Label.TheVariants as label
 use Rattle.cs_events.specs.declared.outcome.RunBudgets.{RunBudgets}
@@ -17,7 +19,8 @@ use Rattle.cs_meaning.specs.Initials.{Piece, Evaluated, Spelled, pieces, number_
 use Rattle.cs_meaning.specs.Memory.{Fill, UnsetFill, ZeroFill, changed, refill}
 use Rattle.cs_meaning.specs.Access.{shows_then, touches_then, write_operand, write_bytes}
 use Rattle.cs_meaning.specs.Operators.{branch}
-use Rattle.cs_meaning.specs.Machine.{Nothing, Item, Evaluate, EvaluateUnused, Drop, Store, Spell, Execute, Decide, Turn, Again, Out, Give, Running, State, to_do, push, pop, with_memory, operand_at, cell_at, routine_of, body_of}
+use Rattle.cs_meaning.specs.Machine.{Nothing, Item, Evaluate, EvaluateUnused, Drop, Store, Spell, Execute, Decide, Turn, Again, Out, Give, Running, State}
+use Rattle.cs_meaning.specs.Machine.{to_do, push, pop, with_memory, operand_at, cell_at, routine_of, body_of}
 use Rattle.cs_meaning.specs.CountedPoints.{counted_points, counted_points_in, reach_counted_point}
 use Rattle.cs_meaning.specs.Jumps.{executes, broken_out, continued, Landing, landing}
 
@@ -37,7 +40,8 @@ refilled fill declaration m = with_memory (changed (refill fill) (LocalObject m.
 -- the pieces of an initializer, stored one after another
 abbrev pub stores_pieces : Place → ℕ → List Piece → List Item → List Item
 stores_pieces at declaration [] following = following
-stores_pieces at declaration (Evaluated offset e ∷ others) following = Evaluate e ∷ (Store at declaration offset (type_of e) ∷ stores_pieces at declaration others following)
+stores_pieces at declaration (Evaluated offset e ∷ others) following =
+    Evaluate e ∷ (Store at declaration offset (type_of e) ∷ stores_pieces at declaration others following)
 stores_pieces at declaration (Spelled offset bytes ∷ others) following = Spell declaration offset bytes ∷ stores_pieces at declaration others following
 
 -- a declaration without an initializer is reached: the object becomes unset, which is a touch where it is a scalar
@@ -83,7 +87,8 @@ execute program budgets at_end (Block at statements) counted_point m = Goes (to_
 execute program budgets at_end (Declare at declaration initial) counted_point m = declare program at declaration initial m
 execute program budgets at_end (Run at e) counted_point m = Goes (to_do (EvaluateUnused e ∷ (Drop ∷ m.frame.todo)) m)
 execute program budgets at_end (If at test body) counted_point m = Goes (to_do (Evaluate test ∷ (Decide (If at test body) counted_point ∷ m.frame.todo)) m)
-execute program budgets at_end (IfElse at test body other) counted_point m = Goes (to_do (Evaluate test ∷ (Decide (IfElse at test body other) counted_point ∷ m.frame.todo)) m)
+execute program budgets at_end (IfElse at test body other) counted_point m =
+    Goes (to_do (Evaluate test ∷ (Decide (IfElse at test body other) counted_point ∷ m.frame.todo)) m)
 execute program budgets at_end (While at test body) counted_point m = Goes (to_do (Turn (While at test body) counted_point ∷ (Out ∷ m.frame.todo)) m)
 execute program budgets at_end (Do at body test) counted_point m = Goes (to_do (Turn (Do at body test) counted_point ∷ (Out ∷ m.frame.todo)) m)
 execute program budgets at_end (For at first test last body) counted_point m =
@@ -91,7 +96,8 @@ execute program budgets at_end (For at first test last body) counted_point m =
 execute program budgets at_end (Switch at value cases statements) counted_point m =
     Goes (to_do (Evaluate value ∷ (Decide (Switch at value cases statements) counted_point ∷ (Out ∷ m.frame.todo))) m)
 execute program budgets at_end (Goto at wanted) counted_point m = go_to program budgets wanted at_end m
-execute program budgets at_end (Label at number body) counted_point m = reach_counted_point budgets at point.Label counted_point (to_do (Execute body (counted_point + 1) ∷ m.frame.todo) m)
+execute program budgets at_end (Label at number body) counted_point m =
+    reach_counted_point budgets at point.Label counted_point (to_do (Execute body (counted_point + 1) ∷ m.frame.todo) m)
 execute program budgets at_end (Break at) counted_point m = Goes (to_do (broken_out m.frame.todo) m)
 execute program budgets at_end (Continue at) counted_point m = Goes (to_do (continued m.frame.todo) m)
 execute program budgets at_end (Return at value) counted_point m = Goes (returns at value m)
@@ -105,14 +111,18 @@ tests (Some test) loop counted_point body inner following = Evaluate test ∷ (D
 abbrev pub turned : Statement → ℕ → List Item → List Item
 turned (While at test body) counted_point following = Evaluate test ∷ (Decide (While at test body) counted_point ∷ following)
 turned (Do at body test) counted_point following = Execute body (counted_point + 1) ∷ (Again (Do at body test) counted_point ∷ following)
-turned (For at first test last body) counted_point following = tests test (For at first test last body) counted_point body (counted_point + 1 + counted_points_in first) following
+turned (For at first test last body) counted_point following =
+    tests test (For at first test last body) counted_point body (counted_point + 1 + counted_points_in first) following
 turned other counted_point following = following
 
 -- the head of a loop is reached; any other statement has none
 abbrev pub turn : RunBudgets → Statement → ℕ → State → Act State
-turn budgets (While at test body) counted_point m = reach_counted_point budgets at point.Head counted_point (to_do (turned (While at test body) counted_point m.frame.todo) m)
-turn budgets (Do at body test) counted_point m = reach_counted_point budgets at point.Head counted_point (to_do (turned (Do at body test) counted_point m.frame.todo) m)
-turn budgets (For at first test last body) counted_point m = reach_counted_point budgets at point.Head counted_point (to_do (turned (For at first test last body) counted_point m.frame.todo) m)
+turn budgets (While at test body) counted_point m =
+    reach_counted_point budgets at point.Head counted_point (to_do (turned (While at test body) counted_point m.frame.todo) m)
+turn budgets (Do at body test) counted_point m =
+    reach_counted_point budgets at point.Head counted_point (to_do (turned (Do at body test) counted_point m.frame.todo) m)
+turn budgets (For at first test last body) counted_point m =
+    reach_counted_point budgets at point.Head counted_point (to_do (turned (For at first test last body) counted_point m.frame.todo) m)
 turn budgets other counted_point m = Goes m
 
 -- what comes after the last part of a `for`
@@ -177,20 +187,26 @@ chosen_case cases statements None = record { number = values_in cases; item = de
 -- the statements of a `switch` from those of a case on: the case shows
 abbrev pub switch_to : Place → Statements → ℕ → Chosen → State → Act State
 switch_to at statements counted_point chosen m =
-    Touches (Meets point.Switch at) (shows_then at (label.Case chosen.number) (Goes (to_do (executes_from chosen.item statements counted_point m.frame.todo) m)))
+    Touches (Meets point.Switch at)
+    (shows_then at (label.Case chosen.number) (Goes (to_do (executes_from chosen.item statements counted_point m.frame.todo) m)))
 
 -- the way that the newest value says, which is a test's or a `switch`'s
 abbrev pub decide : Statement → ℕ → State → Act State
 decide (If at test body) counted_point m =
     branch at (cell_at m 0) (λ holds. Goes (to_do (if holds then Execute body counted_point ∷ m.frame.todo else m.frame.todo) (pop m)))
 decide (IfElse at test body other) counted_point m =
-    branch at (cell_at m 0) (λ holds. Goes (to_do (if holds then Execute body counted_point ∷ m.frame.todo else Execute other (counted_point + counted_points body) ∷ m.frame.todo) (pop m)))
+    branch at (cell_at m 0) (λ holds.
+    Goes (to_do (if holds then Execute body counted_point ∷ m.frame.todo else Execute other (counted_point + counted_points body) ∷ m.frame.todo)
+    (pop m)))
 decide (While at test body) counted_point m =
-    branch at (cell_at m 0) (λ holds. Goes (to_do (if holds then Execute body (counted_point + 1) ∷ (Again (While at test body) counted_point ∷ m.frame.todo) else m.frame.todo) (pop m)))
+    branch at (cell_at m 0) (λ holds.
+    Goes (to_do (if holds then Execute body (counted_point + 1) ∷ (Again (While at test body) counted_point ∷ m.frame.todo) else m.frame.todo) (pop m)))
 decide (Do at body test) counted_point m =
     branch at (cell_at m 0) (λ holds. Goes (to_do (if holds then Turn (Do at body test) counted_point ∷ m.frame.todo else m.frame.todo) (pop m)))
 decide (For at first test last body) counted_point m =
-    branch at (cell_at m 0) (λ holds. Goes (to_do (if holds then Execute body (counted_point + 1 + counted_points_in first) ∷ (Again (For at first test last body) counted_point ∷ m.frame.todo) else m.frame.todo) (pop m)))
+    branch at (cell_at m 0) (λ holds.
+    Goes (to_do (if holds then Execute body (counted_point + 1 + counted_points_in first)
+    ∷ (Again (For at first test last body) counted_point ∷ m.frame.todo) else m.frame.todo) (pop m)))
 decide (Switch at value cases statements) counted_point m =
     switch_to at statements counted_point (chosen_case cases statements (case_of cases (number_in (cell_at m 0)) 0)) (pop m)
 decide other counted_point m = Goes m

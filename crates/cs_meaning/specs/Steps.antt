@@ -15,7 +15,8 @@ use Rattle.cs_meaning.specs.Types.{size_of}
 use Rattle.cs_meaning.specs.Initials.{Spelled, pieces}
 use Rattle.cs_meaning.specs.Memory.{Block, Memory, Fill, ZeroFill, InitialFill, InputFill, new_block}
 use Rattle.cs_meaning.specs.Inputs.{input_cell, opened}
-use Rattle.cs_meaning.specs.Machine.{Operand, Scalar, Item, Evaluate, EvaluateUnused, Act as Acting, Fetch, Choose, Judge, Use, Drop, Store, Spell, Execute, Decide, Turn, Again, Out, Begin, End, Give, Leave, State, to_do, push, pop, operand_at, routine_of}
+use Rattle.cs_meaning.specs.Machine.{Operand, Scalar, Item, Evaluate, EvaluateUnused, Act as Acting, Fetch, Choose, Judge, Use, Drop, Store, Spell, Execute}
+use Rattle.cs_meaning.specs.Machine.{Decide, Turn, Again, Out, Begin, End, Give, Leave, State, to_do, push, pop, operand_at, routine_of}
 use Rattle.cs_meaning.specs.Calls.{root_path, with_locals, new_frame, falls_off, leave}
 use Rattle.cs_meaning.specs.Expressions.{evaluates, uses, act, fetch, choose, judge, use_result}
 use Rattle.cs_meaning.specs.Statements.{store_local, spell_local, execute, decide, turn, again}
@@ -97,7 +98,8 @@ abbrev pub started : TypedProgram → (Path → ℤ) → ℕ → Routine → Sta
 started program inputs entry routine = record {
   frame = new_frame entry 0 routine;
   callers = [];
-  memory = with_locals program 0 routine.variables (map (received program inputs) (parameters_of routine)) (with_received program inputs (parameters_of routine) (static_memory program));
+  memory = with_locals program 0 routine.variables (map (received program inputs) (parameters_of routine))
+      (with_received program inputs (parameters_of routine) (static_memory program));
   frames = 1;
   allocations = 0;
   calls = 0;

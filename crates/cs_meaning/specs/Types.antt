@@ -1,5 +1,6 @@
 -- What the types of a program say of its memory: sizes, and what begins at an offset of an object.
-use Rattle.std.specs.Prelude.{ℕ, zero, suc, ◌-◌, ◌*◌, ◌%◌, ◌==◌, nat_lt, nat_le, Bool, true, false, ◌&&◌, ◌||◌, List, [], ◌∷◌, map, Option, Some, None, option_map, unwrap_or, slice_get}
+use Rattle.std.specs.Prelude.{ℕ, zero, suc, ◌-◌, ◌*◌, ◌%◌, ◌==◌, nat_lt, nat_le, Bool, true, false, ◌&&◌, ◌||◌, List, [], ◌∷◌}
+use Rattle.std.specs.Prelude.{map, Option, Some, None, option_map, unwrap_or, slice_get}
 use Rattle.cs_types.specs.declared.int_type.IntType.{IntType}
 use Rattle.cs_types.specs.declared.int_type.IntType.TheVariants.{Int, UChar}
 use Rattle.cs_types.specs.Members.{Member}
@@ -14,7 +15,8 @@ size_of program shape = unwrap_or (option_map (λ (layout : Layout). layout.size
 
 -- the offsets of a type's scalars, in order (C11 6.7.2.1)
 abbrev pub scalar_offsets : TypedProgram → Shape → List ℕ
-scalar_offsets program shape = unwrap_or (option_map (λ (layout : Layout). map (λ (leaf : Leaf). leaf.offset) layout.leaves) (layout_of program.model program.table shape)) []
+scalar_offsets program shape =
+    unwrap_or (option_map (λ (layout : Layout). map (λ (leaf : Leaf). leaf.offset) layout.leaves) (layout_of program.model program.table shape)) []
 
 -- the scalar that begins at an offset of a type
 abbrev pub scalar_of : TypedProgram → Shape → ℕ → Option Shape
@@ -55,14 +57,17 @@ abbrev pub begins_in : TypedProgram → (ℕ → ℕ → Bool) → Shape → ℕ
 begins_in program in_struct void offset = false
 begins_in program in_struct (integer ty) offset = false
 begins_in program in_struct (pointer target) offset = false
-begins_in program in_struct (array element count) offset = nat_lt offset (count * size_of program element) && begins_in program in_struct element (offset % size_of program element)
+begins_in program in_struct (array element count) offset =
+    nat_lt offset (count * size_of program element) && begins_in program in_struct element (offset % size_of program element)
 begins_in program in_struct (struct number) offset = in_struct number offset
 
 -- whether a struct begins at an offset of another: at its beginning if they are one, or in the type of a member
 abbrev pub begins_in_struct : TypedProgram → ℕ → ℕ → ℕ → ℕ → Bool
 begins_in_struct program wanted zero number offset = false
 begins_in_struct program wanted (suc depth) number offset =
-    ((number == wanted) && (offset == 0)) || some_member (λ (m : Member). nat_le m.offset offset && begins_in program (begins_in_struct program wanted depth) (m.ty) (offset - m.offset)) (unwrap_or (members_of program.table number) [])
+    ((number == wanted) && (offset == 0)) || some_member (λ (m : Member).
+    nat_le m.offset offset && begins_in program (begins_in_struct program wanted depth) (m.ty) (offset - m.offset))
+    (unwrap_or (members_of program.table number) [])
 
 -- whether a scalar, if one was found, is of a type
 abbrev pub is_of : Shape → Option Shape → Bool

@@ -10,5 +10,7 @@ use Rattle.cs_expr_parser.specs.Positions.{kinds}
 use Rattle.cs_decl_parser.specs.Files.{parts_of, IsTheFile}
 
 -- where none of the tokens is too wide, none of the tree that they are is
-pub tree_held : (tokens : List Token) (tree : List RawExternal) → AreHeld tokens → IsTheFile tokens (parts_of tree) → All IsHeldToken (file_text (parts_of tree))
-tree_held tokens tree held is = All-same IsHeldToken (file_text (parts_of tree)) (kinds tokens) (sym is.spelled) (All-map IsHeldToken (λ (t : Token). t.kind) tokens held)
+pub tree_held : (tokens : List Token) (tree : List RawExternal) → AreHeld tokens → IsTheFile tokens (parts_of tree)
+    → All IsHeldToken (file_text (parts_of tree))
+tree_held tokens tree held is =
+    All-same IsHeldToken (file_text (parts_of tree)) (kinds tokens) (sym is.spelled) (All-map IsHeldToken (λ (t : Token). t.kind) tokens held)

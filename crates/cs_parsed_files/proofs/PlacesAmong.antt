@@ -31,10 +31,16 @@ use Rattle.cs_ast.specs.RawDeclarationView.{specs, declarator, initial, declared
 use Rattle.cs_ast.specs.RawStatementView.{first_of, sentence, item, switch_item, items_list, external}
 use Rattle.cs_ast.specs.RawView.{written, written_kind}
 use Rattle.cs_grammar.specs.Text.{Kinds, size, words_text, pointers_text}
-use Rattle.cs_grammar.specs.FileText.{declarator_text, specs_text, initial_text, declared_text, head_text, some_text, first_text, test_text, sentence_text, item_text, items_text, switch_item_text, external_text}
+use Rattle.cs_grammar.specs.FileText.{declarator_text, specs_text, initial_text, declared_text, head_text, some_text, first_text, test_text, sentence_text}
+use Rattle.cs_grammar.specs.FileText.{item_text, items_text, switch_item_text, external_text}
 use Rattle.cs_grammar.specs.Places.{StandsAt, following, after_words, after_bounds, IsPlaced, ArePlaced, HasPlaces}
-use Rattle.cs_decl_parser.specs.FilePlaces.{past, AreInRow, AreSideBySide, IsSomePlaced, IsInitialPlaced, AreInitialsPlaced, IsFirstValuePlaced, IsDeclaredPlaced, AreObjectsPlaced, IsDeclarationPlaced, IsFirstPlaced, ArePartsPlaced, IsItemPlaced, AreItemsPlaced, IsSwitchItemPlaced, AreSwitchItemsPlaced, IsBodyPlaced, IsExternalInside, IsExternalPlaced, AreFilePlaced}
-use Rattle.cs_well_formed.specs.WrittenPlaces.{WrittenAmong, RowAmong, ExpressionAmong, ValuesAmong, AllValuesAmong, FirstValueAmong, DeclaredAmong, FirstAmong, SentenceAmong, ItemAmong, ItemsAmong, SwitchItemAmong, SwitchItemsAmong, BodyAmong, ExternalKindAmong, ExternalAmong}
+use Rattle.cs_decl_parser.specs.FilePlaces.{past, AreInRow, AreSideBySide, IsSomePlaced, IsInitialPlaced, AreInitialsPlaced, IsFirstValuePlaced}
+use Rattle.cs_decl_parser.specs.FilePlaces.{IsDeclaredPlaced, AreObjectsPlaced, IsDeclarationPlaced, IsFirstPlaced, ArePartsPlaced, IsItemPlaced}
+use Rattle.cs_decl_parser.specs.FilePlaces.{AreItemsPlaced, IsSwitchItemPlaced, AreSwitchItemsPlaced, IsBodyPlaced, IsExternalInside, IsExternalPlaced}
+use Rattle.cs_decl_parser.specs.FilePlaces.{AreFilePlaced}
+use Rattle.cs_well_formed.specs.WrittenPlaces.{WrittenAmong, RowAmong, ExpressionAmong, ValuesAmong, AllValuesAmong, FirstValueAmong, DeclaredAmong, FirstAmong}
+use Rattle.cs_well_formed.specs.WrittenPlaces.{SentenceAmong, ItemAmong, ItemsAmong, SwitchItemAmong, SwitchItemsAmong, BodyAmong, ExternalKindAmong}
+use Rattle.cs_well_formed.specs.WrittenPlaces.{ExternalAmong}
 
 -- all of these tokens have places among these
 pub record TokensAmong (Is : Place → Type 0) (tokens : List Token) : Type 0 where
@@ -90,35 +96,53 @@ module _ (Is : Place → Type 0) where
     written-among at (kind.Character value) tokens all h = among at tokens all h
     written-among at (kind.Text bytes) tokens all h = among at tokens all h
     written-among at (kind.Parenthesis' place p inner) tokens all h = (among at tokens all h.0, written-among place inner _ (later 1 all) h.1)
-    written-among at (kind.Index' place p array place' q number) tokens all h =
-        (among at _ (past_expression array all) h.1, written-among place array tokens all h.0, written-among place' number _ (later 1 (past_expression array all)) h.2)
-    written-among at (kind.Call' place p function shape row) tokens all h =
-        (among at _ (past_expression function all) h.1, written-among place function tokens all h.0, row-among row _ (later 1 (past_expression function all)) h.2)
+    written-among at (kind.Index' place p array place' q number) tokens all h = (
+      among at _ (past_expression array all) h.1,
+      written-among place array tokens all h.0,
+      written-among place' number _ (later 1 (past_expression array all)) h.2,
+    )
+    written-among at (kind.Call' place p function shape row) tokens all h = (
+      among at _ (past_expression function all) h.1,
+      written-among place function tokens all h.0,
+      row-among row _ (later 1 (past_expression function all)) h.2,
+    )
     written-among at (kind.Member' place p object name) tokens all h = (among at _ (past_expression object all) h.1, written-among place object tokens all h.0)
-    written-among at (kind.Arrow' place p pointer name) tokens all h = (among at _ (past_expression pointer all) h.1, written-among place pointer tokens all h.0)
-    written-among at (kind.StepAfter' step place p object) tokens all h = (among at _ (past_expression object all) h.1, written-among place object tokens all h.0)
+    written-among at (kind.Arrow' place p pointer name) tokens all h =
+        (among at _ (past_expression pointer all) h.1, written-among place pointer tokens all h.0)
+    written-among at (kind.StepAfter' step place p object) tokens all h =
+        (among at _ (past_expression object all) h.1, written-among place object tokens all h.0)
     written-among at (kind.StepBefore' step place p object) tokens all h = (among at tokens all h.0, written-among place object _ (later 1 all) h.1)
     written-among at (kind.Prefix' operator place p operand) tokens all h = (among at tokens all h.0, written-among place operand _ (later 1 all) h.1)
     written-among at (kind.SizeOf' place p operand) tokens all h = (among at tokens all h.0, written-among place operand _ (later 1 all) h.1)
     written-among at (kind.SizeOfType' ty shape row) tokens all h = among at tokens all h.0
     written-among at (kind.Cast' ty shape row place p operand) tokens all h =
         (among at tokens all h.0, written-among place operand _ (later 1 (after_all row (after_words ty (drop 1 tokens)) (past_words ty (later 1 all)))) h.3)
-    written-among at (kind.Infix' operator place p left place' q right) tokens all h =
-        (among at _ (past_expression left all) h.1, written-among place left tokens all h.0, written-among place' right _ (later 1 (past_expression left all)) h.2)
+    written-among at (kind.Infix' operator place p left place' q right) tokens all h = (
+      among at _ (past_expression left all) h.1,
+      written-among place left tokens all h.0,
+      written-among place' right _ (later 1 (past_expression left all)) h.2,
+    )
     written-among at (kind.Choice' place p test place' q one place'' r other) tokens all h = (
       among at _ (past_expression test all) h.1,
       written-among place test tokens all h.0,
       written-among place' one _ (later 1 (past_expression test all)) h.2,
       written-among place'' other _ (later 1 (past_expression one (later 1 (past_expression test all)))) h.3,
     )
-    written-among at (kind.Assign' operator place p object place' q value) tokens all h =
-        (among at _ (past_expression object all) h.1, written-among place object tokens all h.0, written-among place' value _ (later 1 (past_expression object all)) h.2)
-    written-among at (kind.Comma' place p first place' q second) tokens all h =
-        (among at _ (past_expression first all) h.1, written-among place first tokens all h.0, written-among place' second _ (later 1 (past_expression first all)) h.2)
+    written-among at (kind.Assign' operator place p object place' q value) tokens all h = (
+      among at _ (past_expression object all) h.1,
+      written-among place object tokens all h.0,
+      written-among place' value _ (later 1 (past_expression object all)) h.2,
+    )
+    written-among at (kind.Comma' place p first place' q second) tokens all h = (
+      among at _ (past_expression first all) h.1,
+      written-among place first tokens all h.0,
+      written-among place' second _ (later 1 (past_expression first all)) h.2,
+    )
 
     row-among : {n : _} (row : Row_of-RawExpr n) (tokens : List Token) → TokensAmong Is tokens → ArePlaced row tokens → RowAmong Is row
     row-among end_of-RawExpr tokens all h = tt
-    row-among (more_of-RawExpr at p first others) tokens all h = (written-among at first tokens all h.0, row-among others _ (later 1 (past_expression first all)) h.1)
+    row-among (more_of-RawExpr at p first others) tokens all h =
+        (written-among at first tokens all h.0, row-among others _ (later 1 (past_expression first all)) h.1)
 
   expression-among : (e : RawExpr) (tokens : List Token) → TokensAmong Is tokens → HasPlaces e tokens → ExpressionAmong Is e
   expression-among e tokens all h = written-among e.place e.kind.value tokens all h
@@ -134,12 +158,14 @@ module _ (Is : Place → Type 0) where
     values-among (first_value.TheVariants.Value e) tokens all h = expression-among e tokens all h
     values-among (first_value.TheVariants.List' shape row comma) tokens all h = all_values-among row _ (later 1 all) h
 
-    all_values-among : {n : _} (row : first_value.Row_of-RawInitial n) (tokens : List Token) → TokensAmong Is tokens → AreInitialsPlaced row tokens → AllValuesAmong Is row
+    all_values-among : {n : _} (row : first_value.Row_of-RawInitial n) (tokens : List Token) → TokensAmong Is tokens → AreInitialsPlaced row tokens
+        → AllValuesAmong Is row
     all_values-among first_value.end_of-RawInitial tokens all h = tt
     all_values-among (first_value.more_of-RawInitial first others) tokens all h =
         (values-among first tokens all h.0, all_values-among others _ (later 1 (past_text (initial_text (initial first)) all)) h.1)
 
-  first_value-among : (v : Option RawFirstValue) (tokens : List Token) → TokensAmong Is tokens → IsFirstValuePlaced v tokens → IfSome v (FirstValueAmong Is)
+  first_value-among : (v : Option RawFirstValue) (tokens : List Token) → TokensAmong Is tokens → IsFirstValuePlaced v tokens
+      → IfSome v (FirstValueAmong Is)
   first_value-among None tokens all h = tt
   first_value-among (Some v) tokens all h = record { equals = among v.place tokens all h.0; values = values-among v.initial _ (later 1 all) h.1 }
 
@@ -149,11 +175,14 @@ module _ (Is : Place → Type 0) where
     initial = first_value-among d.initial _ (past_text (declarator_text (declarator d.declarator)) all) h.1;
   }
 
-  objects-among : (objects : List RawInit) (tokens : List Token) → TokensAmong Is tokens → AreObjectsPlaced objects tokens → All (DeclaredAmong Is) objects
+  objects-among : (objects : List RawInit) (tokens : List Token) → TokensAmong Is tokens → AreObjectsPlaced objects tokens
+      → All (DeclaredAmong Is) objects
   objects-among objects tokens all h =
-      All-from_recursion (DeclaredAmong Is) objects (in_row IsDeclaredPlaced (λ d. declared_text (declared d)) (DeclaredAmong Is) declared-among objects tokens all h)
+      All-from_recursion (DeclaredAmong Is) objects
+      (in_row IsDeclaredPlaced (λ d. declared_text (declared d)) (DeclaredAmong Is) declared-among objects tokens all h)
 
-  declaration-among : (s : RawSpecs) (objects : List RawInit) (tokens : List Token) → TokensAmong Is tokens → IsDeclarationPlaced s objects tokens → All (DeclaredAmong Is) objects
+  declaration-among : (s : RawSpecs) (objects : List RawInit) (tokens : List Token) → TokensAmong Is tokens → IsDeclarationPlaced s objects tokens
+      → All (DeclaredAmong Is) objects
   declaration-among s objects tokens all h = objects-among objects _ (past_text (specs_text (specs s)) all) h.objects_are
 
   -- ---- statements
@@ -167,7 +196,8 @@ module _ (Is : Place → Type 0) where
   first-among (first_part.Declare s objects) tokens all h = declaration-among s objects.items tokens all h
 
   mutual
-    sentence-among : (at : Place) (s : RawStmtKind) (tokens : List Token) → TokensAmong Is tokens → StandsAt at tokens × ArePartsPlaced s tokens → SentenceAmong Is at s
+    sentence-among : (at : Place) (s : RawStmtKind) (tokens : List Token) → TokensAmong Is tokens → StandsAt at tokens × ArePartsPlaced s tokens
+        → SentenceAmong Is at s
     sentence-among at (statement.Block' shape row) tokens all h = (among at tokens all h.0, items-among row _ (later 1 all) h.1)
     sentence-among at statement.Empty tokens all h = among at tokens all h.0
     sentence-among at (statement.Run e) tokens all h = (among at tokens all h.0, expression-among e tokens all h.1)
@@ -181,8 +211,11 @@ module _ (Is : Place → Type 0) where
     )
     sentence-among at (statement.While' test place p body) tokens all h =
         (among at tokens all h.0, expression-among test _ (later 2 all) h.1.0, sentence-among place body _ (past_test_text test (later 1 all)) h.1.1)
-    sentence-among at (statement.Do' place p body test) tokens all h =
-        (among at tokens all h.0, sentence-among place body _ (later 1 all) h.1.0, expression-among test _ (later 2 (past_text (sentence_text (sentence body)) (later 1 all))) h.1.1)
+    sentence-among at (statement.Do' place p body test) tokens all h = (
+      among at tokens all h.0,
+      sentence-among place body _ (later 1 all) h.1.0,
+      expression-among test _ (later 2 (past_text (sentence_text (sentence body)) (later 1 all))) h.1.1,
+    )
     sentence-among at (statement.For' first test last place p body) tokens all h =
         let following_first = past_text (first_text (first_of first)) (later 2 all) in
         let following_test = later 1 (past_text (some_text (option_map written test)) following_first) in (
@@ -204,16 +237,19 @@ module _ (Is : Place → Type 0) where
     item-among (items.TheVariants.Declare s objects) tokens all h = declaration-among s objects.items tokens all h
     item-among (items.TheVariants.Run' place p body) tokens all h = sentence-among place body tokens all h
 
-    items-among : {n : _} (row : statements.Row_of-RawItem n) (tokens : List Token) → TokensAmong Is tokens → AreItemsPlaced row tokens → ItemsAmong Is row
+    items-among : {n : _} (row : statements.Row_of-RawItem n) (tokens : List Token) → TokensAmong Is tokens → AreItemsPlaced row tokens
+        → ItemsAmong Is row
     items-among statements.end_of-RawItem tokens all h = tt
-    items-among (statements.more_of-RawItem first others) tokens all h = (item-among first tokens all h.0, items-among others _ (past_text (item_text (item first)) all) h.1)
+    items-among (statements.more_of-RawItem first others) tokens all h =
+        (item-among first tokens all h.0, items-among others _ (past_text (item_text (item first)) all) h.1)
 
     switch_item-among : (i : switches.RawSwitchItem) (tokens : List Token) → TokensAmong Is tokens → IsSwitchItemPlaced i tokens → SwitchItemAmong Is i
     switch_item-among (switches.TheVariants.Case at value) tokens all h = tt
     switch_item-among (switches.TheVariants.Default at) tokens all h = tt
     switch_item-among (switches.TheVariants.Item i) tokens all h = item-among i tokens all h
 
-    switch_items-among : {n : _} (row : statements.Row_of-RawSwitchItem n) (tokens : List Token) → TokensAmong Is tokens → AreSwitchItemsPlaced row tokens → SwitchItemsAmong Is row
+    switch_items-among : {n : _} (row : statements.Row_of-RawSwitchItem n) (tokens : List Token) → TokensAmong Is tokens → AreSwitchItemsPlaced row tokens
+        → SwitchItemsAmong Is row
     switch_items-among statements.end_of-RawSwitchItem tokens all h = tt
     switch_items-among (statements.more_of-RawSwitchItem first others) tokens all h =
         (switch_item-among first tokens all h.0, switch_items-among others _ (past_text (switch_item_text (switch_item first)) all) h.1)
@@ -233,9 +269,12 @@ module _ (Is : Place → Type 0) where
   inside-among (external_kind.Type s) tokens all h = tt
   inside-among (external_kind.Typedef s names) tokens all h = tt
   inside-among (external_kind.Objects s objects) tokens all h = declaration-among s objects.items tokens all h
-  inside-among (external_kind.Function s f) tokens all h = among f.place _ (past_text (pointers_text f.pointers.items) (past_text (specs_text (specs s)) all)) h.1.0
-  inside-among (external_kind.Definition s f body) tokens all h =
-      (among f.place _ (past_text (pointers_text f.pointers.items) (past_text (specs_text (specs s)) all)) h.1.0, body-among body _ (past_text (head_text (head f)) (past_text (specs_text (specs s)) all)) h.2)
+  inside-among (external_kind.Function s f) tokens all h =
+      among f.place _ (past_text (pointers_text f.pointers.items) (past_text (specs_text (specs s)) all)) h.1.0
+  inside-among (external_kind.Definition s f body) tokens all h = (
+    among f.place _ (past_text (pointers_text f.pointers.items) (past_text (specs_text (specs s)) all)) h.1.0,
+    body-among body _ (past_text (head_text (head f)) (past_text (specs_text (specs s)) all)) h.2,
+  )
 
   external-among : (e : RawExternal) (tokens : List Token) → TokensAmong Is tokens → IsExternalPlaced e tokens → ExternalAmong Is e
   external-among e tokens all h = inside-among e.kind tokens all h.1
@@ -243,4 +282,5 @@ module _ (Is : Place → Type 0) where
   -- the parts of a file
   pub file-among : (file : List RawExternal) (tokens : List Token) → TokensAmong Is tokens → AreFilePlaced file tokens → All (ExternalAmong Is) file
   file-among file tokens all h =
-      All-from_recursion (ExternalAmong Is) file (side_by_side IsExternalPlaced (λ e. external_text (external e)) (ExternalAmong Is) external-among file tokens all h)
+      All-from_recursion (ExternalAmong Is) file
+      (side_by_side IsExternalPlaced (λ e. external_text (external e)) (ExternalAmong Is) external-among file tokens all h)

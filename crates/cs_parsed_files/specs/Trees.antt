@@ -11,5 +11,6 @@ use Rattle.cs_well_formed.specs.Files.{IsFileTree}
 -- where a text of at most `MOST_BYTES` bytes is lexed, and its tokens are a tree that has their places, that is the tree of a file
 abbrev pub LexedFilesHaveTrees : Type 0
 LexedFilesHaveTrees =
-    (text : List ℕ) (lexed : Lexed) (tree : List RawExternal) → length text ≤ MOST_BYTES → Lexes text lexed → IsTheFile lexed.list.items (parts_of tree)
+    (text : List ℕ) (lexed : Lexed) (tree : List RawExternal) → length text ≤ MOST_BYTES → Lexes text lexed
+    → IsTheFile lexed.list.items (parts_of tree)
     → AreFilePlaced tree lexed.list.items → IsFileTree lexed.files.items lexed.list.items tree

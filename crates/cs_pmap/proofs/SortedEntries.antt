@@ -1,5 +1,6 @@
 -- Where a key stands in a list of rising entries, around one of them. Serves `get`, `inserted` and `removed` of the tree.
-use Rattle.std.proofs.Common.{◌≡◌, Bool, true, false, cond, not, ◌&&◌, T, List, [], ◌∷◌, ◌++◌, refl, sym, ap, subst, ◌∙◌, append_assoc}
+use Rattle.std.proofs.Common.{◌≡◌, Bool, true, false, cond, not, ◌&&◌, T, List, [], ◌∷◌, ◌++◌, refl, sym, ap, subst, ◌∙◌}
+use Rattle.std.proofs.Common.{append_assoc}
 use Rattle.std.specs.Prelude.{None, Some, IsTrue, filter}
 use Rattle.std.specs.declared.cmp.Ordering.{Ordering}
 use Rattle.std.specs.declared.cmp.Ordering.TheVariants.{Less, Equal, Greater}
@@ -77,10 +78,13 @@ module _ {K X : Type 0} (R : K → K → Ordering) where
         | false ↦ λ q. ap (λ w. y ∷ w) (without_missing k t q)
       ] n
 
-  pub put_left : (k : K) (v : X) (l : List (K × X)) (e : K × X) (r : List (K × X)) → R k e.0 ≡ Less → put R k v (l ++ e ∷ r) ≡ put R k v l ++ e ∷ r
+  pub put_left : (k : K) (v : X) (l : List (K × X)) (e : K × X) (r : List (K × X)) → R k e.0 ≡ Less
+      → put R k v (l ++ e ∷ r) ≡ put R k v l ++ e ∷ r
   put_left k v [] e r p = ap (λ w. by_order w ((k, v) ∷ e ∷ r) ((e.0, v) ∷ r) (e ∷ put R k v r)) p
   put_left k v (y ∷ t) e r p =
-      elim (R k y.0) as (λ w. by_order w ((k, v) ∷ y ∷ (t ++ e ∷ r)) ((y.0, v) ∷ (t ++ e ∷ r)) (y ∷ put R k v (t ++ e ∷ r)) ≡ by_order w ((k, v) ∷ y ∷ t) ((y.0, v) ∷ t) (y ∷ put R k v t) ++ e ∷ r) [
+      elim (R k y.0) as (λ w.
+      by_order w ((k, v) ∷ y ∷ (t ++ e ∷ r)) ((y.0, v) ∷ (t ++ e ∷ r)) (y ∷ put R k v (t ++ e ∷ r))
+      ≡ by_order w ((k, v) ∷ y ∷ t) ((y.0, v) ∷ t) (y ∷ put R k v t) ++ e ∷ r) [
         | Less ↦ refl
         | Equal ↦ refl
         | Greater ↦ ap (λ w. y ∷ w) (put_left k v t e r p)
@@ -89,7 +93,8 @@ module _ {K X : Type 0} (R : K → K → Ordering) where
   module _ (o : IsTotalOrder R) where
     sorted_cons : (e f : K × X) (es : List (K × X)) → R e.0 f.0 ≡ Less → Sorted (f ∷ es) → Sorted (e ∷ f ∷ es)
     sorted_cons e f es p s =
-        subst Sorted (ap (λ r. by_order r (e ∷ f ∷ es) ((f.0, e.1) ∷ es) (f ∷ put R e.0 e.1 es)) p) (IsTrue-T _ (is_sorted-put R o e.0 e.1 (f ∷ es) (T-IsTrue _ s)))
+        subst Sorted (ap (λ r. by_order r (e ∷ f ∷ es) ((f.0, e.1) ∷ es) (f ∷ put R e.0 e.1 es)) p)
+        (IsTrue-T _ (is_sorted-put R o e.0 e.1 (f ∷ es) (T-IsTrue _ s)))
 
     pub sorted_front : (l m : List (K × X)) → Sorted (l ++ m) → Sorted l
     sorted_front [] m s = refl
@@ -97,11 +102,13 @@ module _ {K X : Type 0} (R : K → K → Ordering) where
     sorted_front (e ∷ f ∷ l) m s =
         sorted_cons e f l (next_above e f (l ++ m) s) (sorted_front (f ∷ l) m (sorted_tail e ((f ∷ l) ++ m) s))
 
-    pub sorted_inner_right : (x : List (K × X)) (e : K × X) (y : List (K × X)) (f : K × X) (z : List (K × X)) → Sorted ((x ++ e ∷ y) ++ f ∷ z) → Sorted (y ++ f ∷ z)
+    pub sorted_inner_right : (x : List (K × X)) (e : K × X) (y : List (K × X)) (f : K × X) (z : List (K × X)) → Sorted ((x ++ e ∷ y) ++ f ∷ z)
+        → Sorted (y ++ f ∷ z)
     sorted_inner_right x e y f z s =
         sorted_tail e (y ++ f ∷ z) (sorted_back x (e ∷ (y ++ f ∷ z)) (subst Sorted (append_assoc x (e ∷ y) (f ∷ z)) s))
 
-    pub sorted_inner_left : (x : List (K × X)) (e : K × X) (y : List (K × X)) (f : K × X) (z : List (K × X)) → Sorted (x ++ e ∷ (y ++ f ∷ z)) → Sorted (x ++ e ∷ y)
+    pub sorted_inner_left : (x : List (K × X)) (e : K × X) (y : List (K × X)) (f : K × X) (z : List (K × X)) → Sorted (x ++ e ∷ (y ++ f ∷ z))
+        → Sorted (x ++ e ∷ y)
     sorted_inner_left x e y f z s = sorted_front (x ++ e ∷ y) (f ∷ z) (subst Sorted (sym (append_assoc x (e ∷ y) (f ∷ z))) s)
 
     rises_past : (y e : K × X) (t r : List (K × X)) → Sorted (y ∷ (t ++ e ∷ r)) → R y.0 e.0 ≡ Less
@@ -126,47 +133,58 @@ module _ {K X : Type 0} (R : K → K → Ordering) where
         ∙ find_before k t e r n (sorted_tail y (t ++ e ∷ r) s)
 
     -- a look-up, by how the key compares to the entry e
-    pub find_left : (k : K) (l : List (K × X)) (e : K × X) (r : List (K × X)) → R k e.0 ≡ Less → Sorted (l ++ e ∷ r) → find R k (l ++ e ∷ r) ≡ find R k l
+    pub find_left : (k : K) (l : List (K × X)) (e : K × X) (r : List (K × X)) → R k e.0 ≡ Less → Sorted (l ++ e ∷ r)
+        → find R k (l ++ e ∷ r) ≡ find R k l
     find_left k l e r p s = find-append_past k l (e ∷ r) (find_past k e r p (sorted_back l (e ∷ r) s))
 
-    pub find_middle : (k : K) (l : List (K × X)) (e : K × X) (r : List (K × X)) → R k e.0 ≡ Equal → Sorted (l ++ e ∷ r) → find R k (l ++ e ∷ r) ≡ Some e.1
+    pub find_middle : (k : K) (l : List (K × X)) (e : K × X) (r : List (K × X)) → R k e.0 ≡ Equal → Sorted (l ++ e ∷ r)
+        → find R k (l ++ e ∷ r) ≡ Some e.1
     find_middle k l e r p s =
         find-append_none k l (e ∷ r) (find_before k l e r (ap is_lt p) s) ∙ ap (λ w. cond (is_eq w) (Some e.1) (find R k r)) p
 
-    pub find_right : (k : K) (l : List (K × X)) (e : K × X) (r : List (K × X)) → R k e.0 ≡ Greater → Sorted (l ++ e ∷ r) → find R k (l ++ e ∷ r) ≡ find R k r
+    pub find_right : (k : K) (l : List (K × X)) (e : K × X) (r : List (K × X)) → R k e.0 ≡ Greater → Sorted (l ++ e ∷ r)
+        → find R k (l ++ e ∷ r) ≡ find R k r
     find_right k l e r p s =
         find-append_none k l (e ∷ r) (find_before k l e r (ap is_lt p) s) ∙ ap (λ w. cond (is_eq w) (Some e.1) (find R k r)) p
 
     -- an insertion, likewise
-    pub put_middle : (k : K) (v : X) (l : List (K × X)) (e : K × X) (r : List (K × X)) → R k e.0 ≡ Equal → Sorted (l ++ e ∷ r) → put R k v (l ++ e ∷ r) ≡ l ++ (e.0, v) ∷ r
+    pub put_middle : (k : K) (v : X) (l : List (K × X)) (e : K × X) (r : List (K × X)) → R k e.0 ≡ Equal → Sorted (l ++ e ∷ r)
+        → put R k v (l ++ e ∷ r) ≡ l ++ (e.0, v) ∷ r
     put_middle k v [] e r p s = ap (λ w. by_order w ((k, v) ∷ e ∷ r) ((e.0, v) ∷ r) (e ∷ put R k v r)) p
     put_middle k v (y ∷ t) e r p s =
-        ap (λ w. by_order w ((k, v) ∷ y ∷ (t ++ e ∷ r)) ((y.0, v) ∷ (t ++ e ∷ r)) (y ∷ put R k v (t ++ e ∷ r))) (above_front o k y.0 e.0 (ap is_lt p) (rises_past y e t r s))
+        ap (λ w. by_order w ((k, v) ∷ y ∷ (t ++ e ∷ r)) ((y.0, v) ∷ (t ++ e ∷ r)) (y ∷ put R k v (t ++ e ∷ r)))
+        (above_front o k y.0 e.0 (ap is_lt p) (rises_past y e t r s))
         ∙ ap (λ w. y ∷ w) (put_middle k v t e r p (sorted_tail y (t ++ e ∷ r) s))
 
-    pub put_right : (k : K) (v : X) (l : List (K × X)) (e : K × X) (r : List (K × X)) → R k e.0 ≡ Greater → Sorted (l ++ e ∷ r) → put R k v (l ++ e ∷ r) ≡ l ++ e ∷ put R k v r
+    pub put_right : (k : K) (v : X) (l : List (K × X)) (e : K × X) (r : List (K × X)) → R k e.0 ≡ Greater → Sorted (l ++ e ∷ r)
+        → put R k v (l ++ e ∷ r) ≡ l ++ e ∷ put R k v r
     put_right k v [] e r p s = ap (λ w. by_order w ((k, v) ∷ e ∷ r) ((e.0, v) ∷ r) (e ∷ put R k v r)) p
     put_right k v (y ∷ t) e r p s =
-        ap (λ w. by_order w ((k, v) ∷ y ∷ (t ++ e ∷ r)) ((y.0, v) ∷ (t ++ e ∷ r)) (y ∷ put R k v (t ++ e ∷ r))) (above_front o k y.0 e.0 (ap is_lt p) (rises_past y e t r s))
+        ap (λ w. by_order w ((k, v) ∷ y ∷ (t ++ e ∷ r)) ((y.0, v) ∷ (t ++ e ∷ r)) (y ∷ put R k v (t ++ e ∷ r)))
+        (above_front o k y.0 e.0 (ap is_lt p) (rises_past y e t r s))
         ∙ ap (λ w. y ∷ w) (put_right k v t e r p (sorted_tail y (t ++ e ∷ r) s))
 
     -- a removal, likewise
-    pub without_left : (k : K) (l : List (K × X)) (e : K × X) (r : List (K × X)) → R k e.0 ≡ Less → Sorted (l ++ e ∷ r) → without k (l ++ e ∷ r) ≡ without k l ++ e ∷ r
+    pub without_left : (k : K) (l : List (K × X)) (e : K × X) (r : List (K × X)) → R k e.0 ≡ Less → Sorted (l ++ e ∷ r)
+        → without k (l ++ e ∷ r) ≡ without k l ++ e ∷ r
     without_left k l e r p s =
         filter-append (λ y. not (eq_by_cmp R k y.0)) l (e ∷ r)
         ∙ ap (λ w. without k l ++ w) (without_missing k (e ∷ r) (find_past k e r p (sorted_back l (e ∷ r) s)))
 
-    without_front : (k : K) (l : List (K × X)) (e : K × X) (r : List (K × X)) → is_lt (R k e.0) ≡ false → Sorted (l ++ e ∷ r) → without k (l ++ e ∷ r) ≡ l ++ without k (e ∷ r)
+    without_front : (k : K) (l : List (K × X)) (e : K × X) (r : List (K × X)) → is_lt (R k e.0) ≡ false → Sorted (l ++ e ∷ r)
+        → without k (l ++ e ∷ r) ≡ l ++ without k (e ∷ r)
     without_front k l e r n s =
         filter-append (λ y. not (eq_by_cmp R k y.0)) l (e ∷ r)
         ∙ ap (λ w. w ++ without k (e ∷ r)) (without_missing k l (find_before k l e r n s))
 
-    pub without_middle : (k : K) (l : List (K × X)) (e : K × X) (r : List (K × X)) → R k e.0 ≡ Equal → Sorted (l ++ e ∷ r) → without k (l ++ e ∷ r) ≡ l ++ r
+    pub without_middle : (k : K) (l : List (K × X)) (e : K × X) (r : List (K × X)) → R k e.0 ≡ Equal → Sorted (l ++ e ∷ r)
+        → without k (l ++ e ∷ r) ≡ l ++ r
     without_middle k l e r p s =
         without_front k l e r (ap is_lt p) s
         ∙ ap (λ w. l ++ cond (not (is_eq w)) (e ∷ without k r) (without k r)) p
         ∙ ap (λ w. l ++ w) (without_missing k r (find_after k e r p (sorted_back l (e ∷ r) s)))
 
-    pub without_right : (k : K) (l : List (K × X)) (e : K × X) (r : List (K × X)) → R k e.0 ≡ Greater → Sorted (l ++ e ∷ r) → without k (l ++ e ∷ r) ≡ l ++ e ∷ without k r
+    pub without_right : (k : K) (l : List (K × X)) (e : K × X) (r : List (K × X)) → R k e.0 ≡ Greater → Sorted (l ++ e ∷ r)
+        → without k (l ++ e ∷ r) ≡ l ++ e ∷ without k r
     without_right k l e r p s =
         without_front k l e r (ap is_lt p) s ∙ ap (λ w. l ++ cond (not (is_eq w)) (e ∷ without k r) (without k r)) p

@@ -1,5 +1,6 @@
 -- One branch more or less on an iterator's stack. Serves `next` and `push_left_sides`.
-use Rattle.std.proofs.Common.{◌≡◌, ℕ, ◌+◌, ◌-◌, ◌<◌, ◌≤◌, List, [], ◌∷◌, ◌++◌, length, sym, ap, subst, ◌∙◌, append_assoc, length-append, arith}
+use Rattle.std.proofs.Common.{◌≡◌, ℕ, ◌+◌, ◌-◌, ◌<◌, ◌≤◌, List, [], ◌∷◌, ◌++◌, length, sym, ap, subst, ◌∙◌}
+use Rattle.std.proofs.Common.{append_assoc, length-append, arith}
 use Rattle.std.proofs.lemmas.List.{append-nil}
 use Rattle.std.specs.Borrow.{Bor}
 use Rattle.cs_pmap.specs.Keys.{EntryList}
@@ -8,11 +9,14 @@ use Rattle.cs_pmap.specs.Tree.{IsBalanced, branch_entries}
 use Rattle.cs_pmap.specs.declared.tree.Branch.{Branch}
 
 module _ {V : Type 0} where
-  pub pending-push : (bs : List (Bor (Branch V))) (b : Bor (Branch V)) → pending (bs ++ b ∷ []) ≡ (b.now.key, b.now.value) ∷ (b.now.right.0 ++ pending bs)
+  pub pending-push : (bs : List (Bor (Branch V))) (b : Bor (Branch V))
+      → pending (bs ++ b ∷ []) ≡ (b.now.key, b.now.value) ∷ (b.now.right.0 ++ pending bs)
   pending-push [] b = ap (λ r. (b.now.key, b.now.value) ∷ r) (sym (append-nil b.now.right.0))
-  pending-push (c ∷ cs) b = rw (pending-push cs b) (ap (λ r. (b.now.key, b.now.value) ∷ r) (append_assoc b.now.right.0 (pending cs) ((c.now.key, c.now.value) ∷ c.now.right.0)))
+  pending-push (c ∷ cs) b =
+      rw (pending-push cs b) (ap (λ r. (b.now.key, b.now.value) ∷ r) (append_assoc b.now.right.0 (pending cs) ((c.now.key, c.now.value) ∷ c.now.right.0)))
 
-  pub HasRoom-push : (room : ℕ) (bs : List (Bor (Branch V))) (b : Bor (Branch V)) → HasRoom room bs → b.now.height + length bs ≤ room → IsBalanced b.now → HasRoom room (bs ++ b ∷ [])
+  pub HasRoom-push : (room : ℕ) (bs : List (Bor (Branch V))) (b : Bor (Branch V)) → HasRoom room bs → b.now.height + length bs ≤ room
+      → IsBalanced b.now → HasRoom room (bs ++ b ∷ [])
   HasRoom-push room [] b h fits balanced = (omega arith, balanced, tt)
   HasRoom-push room (c ∷ cs) b h fits balanced = (h.0, h.1, HasRoom-push (room - 1) cs b h.2 (omega arith) balanced)
 
@@ -29,7 +33,8 @@ module _ {V : Type 0} where
       let positive : 0 < b.now.height = omega (arith, under.balanced.height) in
       record { rest = (h.0, h.1, under.rest); fits = omega (arith, under.fits); balanced = under.balanced }
 
-  pub popped : (room same_room : ℕ) (items bs : List (Bor (Branch V))) (b : Bor (Branch V)) → HasRoom room items → items ≡ bs ++ b ∷ [] → same_room ≡ room → Popped same_room bs b.now
+  pub popped : (room same_room : ℕ) (items bs : List (Bor (Branch V))) (b : Bor (Branch V)) → HasRoom room items → items ≡ bs ++ b ∷ []
+      → same_room ≡ room → Popped same_room bs b.now
   popped room same_room items bs b h e r = rw r (HasRoom-pop room bs b (subst (HasRoom room) e h))
 
   HasRoom-wider : (room wider : ℕ) (bs : List (Bor (Branch V))) → room ≤ wider → HasRoom room bs → HasRoom wider bs
@@ -42,16 +47,20 @@ module _ {V : Type 0} where
     pub tree_fits : tree.1 + length bs ≤ room
     pub entries : tree.0 ++ pending bs ≡ all
 
-  pub Descends-push : {all : EntryList V} {tree : EntryList V × ℕ} (room wider : ℕ) (bs more : List (Bor (Branch V))) (b : Bor (Branch V)) → Descends room bs tree all → (tree ≡ (branch_entries b.now, b.now.height)) × IsBalanced b.now → room ≤ wider → more ≡ bs ++ b ∷ [] → Descends wider more b.now.left all
+  pub Descends-push : {all : EntryList V} {tree : EntryList V × ℕ} (room wider : ℕ) (bs more : List (Bor (Branch V))) (b : Bor (Branch V))
+      → Descends room bs tree all → (tree ≡ (branch_entries b.now, b.now.height)) × IsBalanced b.now → room ≤ wider → more ≡ bs ++ b ∷ []
+      → Descends wider more b.now.left all
   Descends-push {all} {tree} room wider bs more b down is w e =
       let tall : tree.1 ≡ b.now.height = ap (λ t. t.1) is.0 in
       let pushed = length-append bs (b ∷ []) in
       record {
         fits = rw e (HasRoom-push wider bs b (HasRoom-wider room wider bs w down.fits) (omega (arith, down.tree_fits)) is.1);
         tree_fits = rw e (omega (arith, down.tree_fits, is.1.height));
-        entries = rw (e, pending-push bs b) (sym (append_assoc b.now.left.0 ((b.now.key, b.now.value) ∷ b.now.right.0) (pending bs)) ∙ ap (λ t. t.0 ++ pending bs) (sym is.0) ∙ down.entries);
+        entries = rw (e, pending-push bs b) (sym (append_assoc b.now.left.0 ((b.now.key, b.now.value) ∷ b.now.right.0) (pending bs))
+            ∙ ap (λ t. t.0 ++ pending bs) (sym is.0) ∙ down.entries);
       }
 
   -- what a step of the iterator gives and leaves, where the branch b left the stack bs and the left sides of its right side went on it
-  pub stepped : {all after : EntryList V} (items bs : List (Bor (Branch V))) (b : Bor (Branch V)) → pending items ≡ all → items ≡ bs ++ b ∷ [] → after ≡ b.now.right.0 ++ pending bs → all ≡ (b.now.key, b.now.value) ∷ after
+  pub stepped : {all after : EntryList V} (items bs : List (Bor (Branch V))) (b : Bor (Branch V)) → pending items ≡ all → items ≡ bs ++ b ∷ []
+      → after ≡ b.now.right.0 ++ pending bs → all ≡ (b.now.key, b.now.value) ∷ after
   stepped items bs b view popped rest = sym view ∙ ap pending popped ∙ pending-push bs b ∙ ap (λ r. (b.now.key, b.now.value) ∷ r) (sym rest)

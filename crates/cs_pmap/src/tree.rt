@@ -122,7 +122,8 @@ impl<V> Tree<V> {
         V: Drop,
         requires sorted { IsTrue (is_sorted key_cmp (left.0 ++ (key, value) ∷ right.0)) }
         requires sides { DifferByAtMost 1 left.1 right.1 }
-        ensures { IfOk result (λ tree. tree ≡ (left.0 ++ (key, value) ∷ right.0, max left.1 right.1 + 1)) }
+        ensures { IfOk result (λ tree.
+            tree ≡ (left.0 ++ (key, value) ∷ right.0, max left.1 right.1 + 1)) }
     {
         let Some(height) = left.height().max(right.height()).checked_add(1) else {
             return Err(AllocError);
@@ -163,9 +164,14 @@ impl<V: Clone + Drop> Branch<V> {
         right: Tree<V>,
     ) -> Result<Tree<V>, AllocError>
         requires clones { ClonesAreEqual V.is_clone }
-        requires sorted { IsTrue (is_sorted key_cmp (left.0 ++ (self.now.key, self.now.value) ∷ right.0)) }
+        requires sorted { IsTrue
+            (is_sorted key_cmp (left.0 ++ (self.now.key, self.now.value) ∷ right.0)) }
         requires sides { DifferByAtMost 1 left.1 right.1 }
-        ensures { IfOk result (λ tree. tree ≡ (left.0 ++ (self.now.key, self.now.value) ∷ right.0, max left.1 right.1 + 1)) }
+        ensures { IfOk result (λ tree.
+            tree ≡ (
+              left.0 ++ (self.now.key, self.now.value) ∷ right.0,
+              max left.1 right.1 + 1,
+            )) }
     {
         Tree::fork(alloc, left, self.key, self.value.clone()?, right)
     }

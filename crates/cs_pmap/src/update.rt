@@ -135,7 +135,8 @@ fn joined<V: Clone + Drop>(
     requires sorted { IsTrue (is_sorted key_cmp (left.now.0 ++ right.now.0)) }
     requires sides { DifferByAtMost 1 left.now.1 right.now.1 }
     ensures entries { IfOk result (λ tree. tree.0 ≡ left.now.0 ++ right.now.0) }
-    ensures height { IfOk result (λ tree. IsRemovedHeight (max left.now.1 right.now.1 + 1) tree.1) }
+    ensures height { IfOk result (λ tree.
+        IsRemovedHeight (max left.now.1 right.now.1 + 1) tree.1) }
 {
     match right.split_first(alloc)? {
         None => left.copy(),

@@ -32,10 +32,12 @@ pub affine-neg_ℤ : (slope at value s : ℤ) → affine (neg_ℤ slope) at (neg
 affine-neg_ℤ slope at value s = omega (arith, ints, neg_ℤ-*ℤ slope (s -ℤ at))
 
 -- a line with the slope and a value of the function has all its values
-pub affine-up : (slope at value first s : ℤ) (k : ℕ) (x y : ℤ) → x ≡ first → y ≡ affine slope at value first → pos k ≡ slope → affine (pos k) x y s ≡ affine slope at value s
+pub affine-up : (slope at value first s : ℤ) (k : ℕ) (x y : ℤ) → x ≡ first → y ≡ affine slope at value first → pos k ≡ slope
+    → affine (pos k) x y s ≡ affine slope at value s
 affine-up slope at value first s k x y e f g = rw (e, f, g) (affine-affine slope at value first s)
 
 -- and one with the negative slope and the negative of a value has the negatives
-pub affine-down : (slope at value first s : ℤ) (k : ℕ) (x y : ℤ) → x ≡ first → y ≡ neg_ℤ (affine slope at value first) → pos k ≡ neg_ℤ slope → affine (pos k) x y s ≡ neg_ℤ (affine slope at value s)
+pub affine-down : (slope at value first s : ℤ) (k : ℕ) (x y : ℤ) → x ≡ first → y ≡ neg_ℤ (affine slope at value first)
+    → pos k ≡ neg_ℤ slope → affine (pos k) x y s ≡ neg_ℤ (affine slope at value s)
 affine-down slope at value first s k x y e f g =
     rw (e, f, g) (affine-neg_ℤ slope first (affine slope at value first) s ∙ ap neg_ℤ (affine-affine slope at value first s))

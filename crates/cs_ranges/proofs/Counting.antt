@@ -1,5 +1,7 @@
 -- The numbers of a set as one rising list, and how many there are: serves `count`.
-use Rattle.std.proofs.Common.{◌≡◌, ◌<◌, ◌+◌, ◌^◌, ℕ, zero, suc, true, inl, inr, ℤ, pos, ◌+ℤ◌, ◌-ℤ◌, ◌<ℤ◌, ◌≤ℤ◌, unsigned_abs, List, [], ◌∷◌, ◌++◌, length, get_or, refl, sym, ap, ◌∙◌, arith, not-suc-le-zero, le_of_suc-le-suc, length-append}
+use Rattle.std.proofs.Common.{◌≡◌, ◌<◌, ◌+◌, ◌^◌, ℕ, zero, suc, true, inl, inr, ℤ, pos, ◌+ℤ◌, ◌-ℤ◌, ◌<ℤ◌, ◌≤ℤ◌}
+use Rattle.std.proofs.Common.{unsigned_abs, List, [], ◌∷◌, ◌++◌, length, get_or, refl, sym, ap, ◌∙◌, arith, not-suc-le-zero, le_of_suc-le-suc}
+use Rattle.std.proofs.Common.{length-append}
 use Rattle.std.specs.List.{Contains}
 use Rattle.std.proofs.lemmas.Int.{ints}
 use Rattle.std.proofs.lemmas.Bool.{both_ways, or_cases, or_left, or_right}
@@ -48,7 +50,8 @@ length-numbers_of (i ∷ s) =
     omega (arith, length-append (numbers_from i.low (size_of i)) (numbers_of s), length-numbers_from i.low (size_of i), length-numbers_of s)
 
 -- a spread list has few enough numbers
-pub total_size-bound : (b : ℤ) (s : List Interval) → IsSpreadFrom b s → b ≤ℤ pos (2 ^ 126 + 3) → (pos (total_size s) +ℤ b) ≤ℤ pos (2 ^ 126 + 3)
+pub total_size-bound : (b : ℤ) (s : List Interval) → IsSpreadFrom b s → b ≤ℤ pos (2 ^ 126 + 3)
+    → (pos (total_size s) +ℤ b) ≤ℤ pos (2 ^ 126 + 3)
 unfolding total_size
 total_size-bound b [] h le = omega (arith, ints)
 total_size-bound b (i ∷ s) h le =

@@ -1,5 +1,6 @@
 -- The numbers at which a line has values in a set, interval by interval: serves `Line::preimage`.
-use Rattle.std.proofs.Common.{◌≡◌, Bool, true, false, ◌||◌, ◌&&◌, ℤ, ◌<ℤ◌, ◌≤ℤ◌, int_le, List, [], ◌∷◌, refl, sym, ap, ap₂, ◌∙◌, arith}
+use Rattle.std.proofs.Common.{◌≡◌, Bool, true, false, ◌||◌, ◌&&◌, ℤ, ◌<ℤ◌, ◌≤ℤ◌, int_le, List, [], ◌∷◌, refl, sym, ap}
+use Rattle.std.proofs.Common.{ap₂, ◌∙◌, arith}
 use Rattle.std.proofs.lemmas.Int.{ints}
 use Rattle.std.proofs.lemmas.Bool.{false≢true, and_right, or_left, or_right}
 use Rattle.cs_ranges.specs.declared.range_set.Interval.{Interval}
@@ -51,7 +52,8 @@ IsProper-numbers line i j h le = record {
   upto = omega (arith, ints, h.upto, line.over);
 }
 
-pub Draws-following : (line : Line) (whole found rest : List Interval) (i j : Interval) → Draws line whole found (i ∷ rest) → IsPreimage line i j → j.low ≤ℤ j.high → last_low found ≤ℤ j.low
+pub Draws-following : (line : Line) (whole found rest : List Interval) (i j : Interval) → Draws line whole found (i ∷ rest) → IsPreimage line i j
+    → j.low ≤ℤ j.high → last_low found ≤ℤ j.low
 Draws-following line whole found rest i j h a le =
     let has = in_interval-low j le in
     let over = over_interval line i j j.low a has in
@@ -67,7 +69,8 @@ int_le-yields : (x y : ℤ) → int_le x y ≡ true → x ≤ℤ y
 int_le-yields x y h = grind (arith, ints)
 
 -- the numbers for the first interval of the rest are added
-pub Draws-more : (line : Line) (whole found new rest : List Interval) (i j : Interval) → Draws line whole found (i ∷ rest) → IsPreimage line i j → ((s : ℤ) → contains new s ≡ (contains found s || in_interval j s)) → last_low new ≤ℤ j.low → Draws line whole new rest
+pub Draws-more : (line : Line) (whole found new rest : List Interval) (i j : Interval) → Draws line whole found (i ∷ rest) → IsPreimage line i j
+    → ((s : ℤ) → contains new s ≡ (contains found s || in_interval j s)) → last_low new ≤ℤ j.low → Draws line whole new rest
 Draws-more line whole found new rest i j h a members last =
     let spread = h.spread in
     record {
@@ -78,13 +81,15 @@ Draws-more line whole found new rest i j h a members last =
           let low : j.low ≤ℤ s = int_le-yields _ _ (sym (a.lows s over) ∙ reached) in
           omega (arith, ints, low, last);
       members = λ s. ap (λ t. t || (is_over line s && contains rest (value_of line s))) (members s)
-          ∙ moved (contains found s) (is_over line s) (in_interval j s) (contains rest (value_of line s)) (in_interval i (value_of line s)) (over_interval line i j s a) (same_test line i j s a)
+          ∙ moved (contains found s) (is_over line s) (in_interval j s) (contains rest (value_of line s)) (in_interval i (value_of line s))
+          (over_interval line i j s a) (same_test line i j s a)
           ∙ ap (λ t. contains found s || (is_over line s && t)) (sym (contains-cons i rest (value_of line s)))
           ∙ h.members s;
     }
 
 -- there are no numbers for the first interval of the rest
-pub Draws-skip : (line : Line) (whole found rest : List Interval) (i j : Interval) → Draws line whole found (i ∷ rest) → IsPreimage line i j → j.high <ℤ j.low → Draws line whole found rest
+pub Draws-skip : (line : Line) (whole found rest : List Interval) (i j : Interval) → Draws line whole found (i ∷ rest) → IsPreimage line i j
+    → j.high <ℤ j.low → Draws line whole found rest
 Draws-skip line whole found rest i j h a lt =
     let spread = h.spread in
     let none = λ (s : ℤ). in_interval-none j s lt in
@@ -92,12 +97,14 @@ Draws-skip line whole found rest i j h a lt =
       spread = IsSpreadFrom-weaker _ _ rest (omega (arith, ints, spread.0, spread.1)) spread.3;
       following = λ s over t. h.following s over (contains-cons i rest _ ∙ or_right _ _ t);
       members = λ s. ap (λ t. t || (is_over line s && contains rest (value_of line s))) (sym (ap (λ b. contains found s || b) (none s) ∙ or-false _))
-          ∙ moved (contains found s) (is_over line s) (in_interval j s) (contains rest (value_of line s)) (in_interval i (value_of line s)) (over_interval line i j s a) (same_test line i j s a)
+          ∙ moved (contains found s) (is_over line s) (in_interval j s) (contains rest (value_of line s)) (in_interval i (value_of line s))
+          (over_interval line i j s a) (same_test line i j s a)
           ∙ ap (λ t. contains found s || (is_over line s && t)) (sym (contains-cons i rest (value_of line s)))
           ∙ h.members s;
     }
 
-pub Draws-end : (line : Line) (whole found rest : List Interval) → Draws line whole found rest → rest ≡ [] → (s : ℤ) → contains found s ≡ (is_over line s && contains whole (value_of line s))
+pub Draws-end : (line : Line) (whole found rest : List Interval) → Draws line whole found rest → rest ≡ []
+    → (s : ℤ) → contains found s ≡ (is_over line s && contains whole (value_of line s))
 Draws-end line whole found rest h e s =
     sym (ap (λ t. contains found s || t) (and_right (is_over line s) _ (ap (λ l. contains l (value_of line s)) e ∙ contains-nil _)) ∙ or-false _)
     ∙ h.members s

@@ -1,5 +1,6 @@
 -- What either of two lists has, as the interval that begins first is taken off in turn: serves `union` and `push_all`.
-use Rattle.std.proofs.Common.{◌≡◌, ◌⊎◌, Bool, true, false, ◌||◌, inl, inr, ℤ, ◌<ℤ◌, ◌≤ℤ◌, List, [], ◌∷◌, refl, sym, ap, ◌∙◌, arith}
+use Rattle.std.proofs.Common.{◌≡◌, ◌⊎◌, Bool, true, false, ◌||◌, inl, inr, ℤ, ◌<ℤ◌, ◌≤ℤ◌, List, [], ◌∷◌, refl, sym, ap}
+use Rattle.std.proofs.Common.{◌∙◌, arith}
 use Rattle.std.proofs.lemmas.Int.{ints}
 use Rattle.cs_ranges.specs.declared.range_set.Interval.{Interval}
 use Rattle.cs_ranges.specs.Interval.{in_interval}
@@ -21,7 +22,8 @@ pub record Adds (one other found rest : List Interval) : Type 0 where
   pub members : (x : ℤ) → (contains found x || contains rest x) ≡ (contains one x || contains other x)
 
 -- the first interval of the rest is added
-pub Adds-more : (one other found new rest : List Interval) (i : Interval) → Adds one other found (i ∷ rest) → ((x : ℤ) → contains new x ≡ (contains found x || in_interval i x)) → last_low new ≤ℤ i.low → Adds one other new rest
+pub Adds-more : (one other found new rest : List Interval) (i : Interval) → Adds one other found (i ∷ rest)
+    → ((x : ℤ) → contains new x ≡ (contains found x || in_interval i x)) → last_low new ≤ℤ i.low → Adds one other new rest
 Adds-more one other found new rest i h members last = record {
   spread = from_rest _ _ i rest h.spread h.spread.0;
   following = from_rest _ _ i rest h.spread last;
@@ -32,7 +34,8 @@ Adds-more one other found new rest i h members last = record {
 }
 
 -- nothing is left
-pub Adds-end : (one other found rest : List Interval) → Adds one other found rest → rest ≡ [] → (x : ℤ) → contains found x ≡ (contains one x || contains other x)
+pub Adds-end : (one other found rest : List Interval) → Adds one other found rest → rest ≡ []
+    → (x : ℤ) → contains found x ≡ (contains one x || contains other x)
 Adds-end one other found rest h e x =
     sym (ap (λ t. contains found x || t) (ap (λ l. contains l x) e ∙ contains-nil x) ∙ or-false _) ∙ h.members x
 
@@ -65,7 +68,8 @@ move_right false true false r = refl
 move_right false false l r = refl
 
 -- the left rest begins first
-pub Joins-left : (one other found new left right : List Interval) (a b : Interval) → Joins one other found (a ∷ left) (b ∷ right) → a.low <ℤ b.low → ((x : ℤ) → contains new x ≡ (contains found x || in_interval a x)) → last_low new ≤ℤ a.low → Joins one other new left (b ∷ right)
+pub Joins-left : (one other found new left right : List Interval) (a b : Interval) → Joins one other found (a ∷ left) (b ∷ right) → a.low <ℤ b.low
+    → ((x : ℤ) → contains new x ≡ (contains found x || in_interval a x)) → last_low new ≤ℤ a.low → Joins one other new left (b ∷ right)
 Joins-left one other found new left right a b h lt members last = record {
   left_spread = from_rest _ _ a left h.left_spread h.left_spread.0;
   right_spread = h.right_spread;
@@ -78,7 +82,8 @@ Joins-left one other found new left right a b h lt members last = record {
 }
 
 -- the right rest begins first, or both at one number
-pub Joins-right : (one other found new left right : List Interval) (a b : Interval) → Joins one other found (a ∷ left) (b ∷ right) → b.low ≤ℤ a.low → ((x : ℤ) → contains new x ≡ (contains found x || in_interval b x)) → last_low new ≤ℤ b.low → Joins one other new (a ∷ left) right
+pub Joins-right : (one other found new left right : List Interval) (a b : Interval) → Joins one other found (a ∷ left) (b ∷ right) → b.low ≤ℤ a.low
+    → ((x : ℤ) → contains new x ≡ (contains found x || in_interval b x)) → last_low new ≤ℤ b.low → Joins one other new (a ∷ left) right
 Joins-right one other found new left right a b h le members last = record {
   left_spread = h.left_spread;
   right_spread = from_rest _ _ b right h.right_spread h.right_spread.0;
@@ -91,13 +96,16 @@ Joins-right one other found new left right a b h le members last = record {
 }
 
 -- both rests are added, of which one is used up
-pub Joins-end : (one other found more all left right : List Interval) → Joins one other found left right → ((x : ℤ) → contains more x ≡ (contains found x || contains left x)) → ((x : ℤ) → contains all x ≡ (contains more x || contains right x)) → (x : ℤ) → contains all x ≡ (contains one x || contains other x)
+pub Joins-end : (one other found more all left right : List Interval) → Joins one other found left right
+    → ((x : ℤ) → contains more x ≡ (contains found x || contains left x)) → ((x : ℤ) → contains all x ≡ (contains more x || contains right x))
+    → (x : ℤ) → contains all x ≡ (contains one x || contains other x)
 Joins-end one other found more all left right h with_left with_right x =
     with_right x ∙ ap (λ t. t || contains right x) (with_left x)
     ∙ sym (or_assoc (contains found x) (contains left x) (contains right x)) ∙ h.members x
 
 -- the right rest lies after what was found and the left rest
-pub Joins-following : (one other found more left right : List Interval) → Joins one other found left right → (left ≡ [] → more ≡ found) → (left ≡ []) ⊎ (right ≡ []) → IsSpreadFrom (last_low more) right
+pub Joins-following : (one other found more left right : List Interval) → Joins one other found left right → (left ≡ [] → more ≡ found)
+    → (left ≡ []) ⊎ (right ≡ []) → IsSpreadFrom (last_low more) right
 Joins-following one other found more left right h kept used = elim used [
   | inl left_used ↦ rw (kept left_used) h.right_after
   | inr right_used ↦ rw right_used tt

@@ -11,14 +11,17 @@ IsNearest-trans : (x y z : ℤ) → IsNearest x y → IsNearest y z → IsNeares
 IsNearest-trans x y z p q = grind (arith, ints)
 
 -- of the first interval
-pub IsLeastAbs-first : (i : Interval) (x : ℤ) → in_interval i x ≡ true → ((y : ℤ) → in_interval i y ≡ true → IsNearest x y) → IsLeastAbs (i ∷ []) x
+pub IsLeastAbs-first : (i : Interval) (x : ℤ) → in_interval i x ≡ true → ((y : ℤ) → in_interval i y ≡ true → IsNearest x y)
+    → IsLeastAbs (i ∷ []) x
 IsLeastAbs-first i x h near = record {
   member = contains-single i x ∙ h;
   nearest = λ y t. near y (sym (contains-single i y) ∙ t);
 }
 
 -- of one interval more: r is the nearer of found and x
-pub IsLeastAbs-push : (s : List Interval) (i : Interval) (found x r : ℤ) → IsLeastAbs s found → in_interval i x ≡ true → ((y : ℤ) → in_interval i y ≡ true → IsNearest x y) → (r ≡ found) ⊎ (r ≡ x) → IsNearest r found → IsNearest r x → IsLeastAbs (s ++ i ∷ []) r
+pub IsLeastAbs-push : (s : List Interval) (i : Interval) (found x r : ℤ) → IsLeastAbs s found → in_interval i x ≡ true
+    → ((y : ℤ) → in_interval i y ≡ true → IsNearest x y) → (r ≡ found) ⊎ (r ≡ x) → IsNearest r found → IsNearest r x
+    → IsLeastAbs (s ++ i ∷ []) r
 IsLeastAbs-push s i found x r h has near one p q = record {
   member = elim one [
     | inl e ↦ contains-push s i r ∙ or_left _ _ (ap (contains s) e ∙ h.member)

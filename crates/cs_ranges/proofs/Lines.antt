@@ -1,5 +1,6 @@
 -- Where a line that doesn't fall reaches a number: serves `first_at_least` and `last_at_most`.
-use Rattle.std.proofs.Common.{◌≡◌, ◌<◌, ◌≤◌, ◌*◌, ◌/◌, ℕ, zero, suc, true, false, ◌&&◌, ℤ, pos, ◌+ℤ◌, ◌-ℤ◌, ◌*ℤ◌, ◌<ℤ◌, ◌≤ℤ◌, int_le, unsigned_abs, sym, ap, ◌∙◌, arith}
+use Rattle.std.proofs.Common.{◌≡◌, ◌<◌, ◌≤◌, ◌*◌, ◌/◌, ℕ, zero, suc, true, false, ◌&&◌, ℤ, pos, ◌+ℤ◌, ◌-ℤ◌}
+use Rattle.std.proofs.Common.{◌*ℤ◌, ◌<ℤ◌, ◌≤ℤ◌, int_le, unsigned_abs, sym, ap, ◌∙◌, arith}
 use Rattle.std.proofs.Math.Nat.{mul-le-mul_left, div-lt_iff_lt-mul}
 use Rattle.std.proofs.lemmas.Int.{ints, by_lt_z}
 use Rattle.cs_ranges.specs.Affine.{affine}
@@ -38,7 +39,8 @@ slope_positive zero first last start end e le lt =
 slope_positive (suc k) first last start end e le lt = omega arith
 
 -- the line comes to `low` one step after those in which it rises by less
-pub reaches_low : (k m : ℕ) (first start low s : ℤ) → 0 < k → low ≡ (start +ℤ pos m) +ℤ pos 1 → first ≤ℤ s → int_le low (affine (pos k) first start s) ≡ int_le ((first +ℤ pos (m / k)) +ℤ pos 1) s
+pub reaches_low : (k m : ℕ) (first start low s : ℤ) → 0 < k → low ≡ (start +ℤ pos m) +ℤ pos 1 → first ≤ℤ s
+    → int_le low (affine (pos k) first start s) ≡ int_le ((first +ℤ pos (m / k)) +ℤ pos 1) s
 reaches_low k m first start low s k_pos e from =
     let u = unsigned_abs (s -ℤ first) in
     let value = affine-steps k first start s from in
@@ -50,7 +52,8 @@ reaches_low k m first start low s k_pos e from =
     omega (arith, ints, few))
 
 -- up to `high` the line has the steps in which it rises no more
-pub stays_high : (k m : ℕ) (first start high s : ℤ) → 0 < k → high ≡ start +ℤ pos m → first ≤ℤ s → int_le (affine (pos k) first start s) high ≡ int_le s (first +ℤ pos (m / k))
+pub stays_high : (k m : ℕ) (first start high s : ℤ) → 0 < k → high ≡ start +ℤ pos m → first ≤ℤ s
+    → int_le (affine (pos k) first start s) high ≡ int_le s (first +ℤ pos (m / k))
 stays_high k m first start high s k_pos e from =
     let u = unsigned_abs (s -ℤ first) in
     let value = affine-steps k first start s from in
@@ -68,20 +71,23 @@ always_low k first start low s le from =
     int_le-true _ _ reached ∙ sym (int_le-true _ _ from)
 
 -- the line never comes to `low`
-pub never_low : (k : ℕ) (first last start end low s : ℤ) → end ≡ affine (pos k) first start last → end <ℤ low → first ≤ℤ s → s ≤ℤ last → int_le low (affine (pos k) first start s) ≡ int_le (last +ℤ pos 1) s
+pub never_low : (k : ℕ) (first last start end low s : ℤ) → end ≡ affine (pos k) first start last → end <ℤ low → first ≤ℤ s → s ≤ℤ last
+    → int_le low (affine (pos k) first start s) ≡ int_le (last +ℤ pos 1) s
 never_low k first last start end low s e lt from upto =
     let below : affine (pos k) first start s <ℤ low = omega (arith, ints, affine-mono k first start s last from upto) in
     let before : s <ℤ (last +ℤ pos 1) = omega (arith, ints) in
     int_le-false _ _ below ∙ sym (int_le-false _ _ before)
 
 -- the line is at most `high` up to the end
-pub always_high : (k : ℕ) (first last start end high s : ℤ) → end ≡ affine (pos k) first start last → end ≤ℤ high → first ≤ℤ s → s ≤ℤ last → int_le (affine (pos k) first start s) high ≡ int_le s last
+pub always_high : (k : ℕ) (first last start end high s : ℤ) → end ≡ affine (pos k) first start last → end ≤ℤ high → first ≤ℤ s
+    → s ≤ℤ last → int_le (affine (pos k) first start s) high ≡ int_le s last
 always_high k first last start end high s e le from upto =
     let below : affine (pos k) first start s ≤ℤ high = omega (arith, ints, affine-mono k first start s last from upto) in
     int_le-true _ _ below ∙ sym (int_le-true _ _ upto)
 
 -- the line is above `high` from the start
-pub never_high : (k : ℕ) (first start high s : ℤ) → high <ℤ start → first ≤ℤ s → int_le (affine (pos k) first start s) high ≡ int_le s (first -ℤ pos 1)
+pub never_high : (k : ℕ) (first start high s : ℤ) → high <ℤ start → first ≤ℤ s
+    → int_le (affine (pos k) first start s) high ≡ int_le s (first -ℤ pos 1)
 never_high k first start high s lt from =
     let above : high <ℤ affine (pos k) first start s = omega (arith, ints, affine-steps k first start s from) in
     let following : (first -ℤ pos 1) <ℤ s = omega (arith, ints) in

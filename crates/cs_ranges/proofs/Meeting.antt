@@ -1,5 +1,6 @@
 -- What two lists have both, as two ends of them are taken off in turn: serves `intersect`.
-use Rattle.std.proofs.Common.{◌≡◌, ◌⊎◌, Bool, true, false, ◌||◌, ◌&&◌, inl, inr, ℤ, pos, ◌+ℤ◌, ◌<ℤ◌, ◌≤ℤ◌, List, [], ◌∷◌, refl, sym, ap, ◌∙◌, ap₂, arith}
+use Rattle.std.proofs.Common.{◌≡◌, ◌⊎◌, Bool, true, false, ◌||◌, ◌&&◌, inl, inr, ℤ, pos, ◌+ℤ◌, ◌<ℤ◌, ◌≤ℤ◌, List, []}
+use Rattle.std.proofs.Common.{◌∷◌, refl, sym, ap, ◌∙◌, ap₂, arith}
 use Rattle.std.specs.Int.{int_max}
 use Rattle.std.proofs.lemmas.Int.{ints, clamps, by_lt_z}
 use Rattle.std.proofs.lemmas.Bool.{and_left, and_right}
@@ -25,7 +26,8 @@ Meets-start one other h k = record {
 }
 
 -- nothing more is common once one rest is used up
-pub Meets-end : (one other found left right : List Interval) → Meets one other found left right → (left ≡ []) ⊎ (right ≡ []) → (x : ℤ) → contains found x ≡ (contains one x && contains other x)
+pub Meets-end : (one other found left right : List Interval) → Meets one other found left right → (left ≡ []) ⊎ (right ≡ [])
+    → (x : ℤ) → contains found x ≡ (contains one x && contains other x)
 Meets-end one other found left right h e x =
     let none : (contains left x && contains right x) ≡ false = elim e [
       | inl left_used ↦ and_left _ _ (ap (λ l. contains l x) left_used ∙ contains-nil x)
@@ -34,14 +36,16 @@ Meets-end one other found left right h e x =
     sym (ap (λ b. contains found x || b) none ∙ or-false _) ∙ h.members x
 
 -- the first interval of the left rest ends first
-left_first : (f l r : Bool) (a b : Interval) (x : ℤ) → (r ≡ true → (b.high +ℤ pos 2) ≤ℤ x) → a.high <ℤ b.high → ((f || (in_interval a x && in_interval b x)) || (l && (in_interval b x || r))) ≡ (f || ((in_interval a x || l) && (in_interval b x || r)))
+left_first : (f l r : Bool) (a b : Interval) (x : ℤ) → (r ≡ true → (b.high +ℤ pos 2) ≤ℤ x) → a.high <ℤ b.high
+    → ((f || (in_interval a x && in_interval b x)) || (l && (in_interval b x || r))) ≡ (f || ((in_interval a x || l) && (in_interval b x || r)))
 left_first true l r a b x h lt = refl
 left_first false true true a b x h lt = grind (arith, ints, in_interval_yields a x, in_interval_yields b x)
 left_first false false true a b x h lt = grind (arith, ints, in_interval_yields a x, in_interval_yields b x, h refl)
 left_first false true false a b x h lt = grind (arith, ints, in_interval_yields a x, in_interval_yields b x)
 left_first false false false a b x h lt = grind (arith, ints, in_interval_yields a x, in_interval_yields b x)
 
-right_first : (f l r : Bool) (a b : Interval) (x : ℤ) → (l ≡ true → (a.high +ℤ pos 2) ≤ℤ x) → b.high ≤ℤ a.high → ((f || (in_interval a x && in_interval b x)) || ((in_interval a x || l) && r)) ≡ (f || ((in_interval a x || l) && (in_interval b x || r)))
+right_first : (f l r : Bool) (a b : Interval) (x : ℤ) → (l ≡ true → (a.high +ℤ pos 2) ≤ℤ x) → b.high ≤ℤ a.high
+    → ((f || (in_interval a x && in_interval b x)) || ((in_interval a x || l) && r)) ≡ (f || ((in_interval a x || l) && (in_interval b x || r)))
 right_first true l r a b x h lt = refl
 right_first false true true a b x h lt = grind (arith, ints, in_interval_yields a x, in_interval_yields b x)
 right_first false false true a b x h lt = grind (arith, ints, in_interval_yields a x, in_interval_yields b x)
@@ -56,7 +60,9 @@ from_rest : (bound n : ℤ) (i : Interval) (rest : List Interval) → IsSpreadFr
 from_rest bound n i rest h le = IsSpreadFrom-weaker _ n rest (omega (arith, ints, h.1)) h.3
 
 -- the left rest loses its first interval
-pub Meets-left : (one other found new left right : List Interval) (a b : Interval) → Meets one other found (a ∷ left) (b ∷ right) → a.high <ℤ b.high → ((x : ℤ) → contains new x ≡ (contains found x || (in_interval a x && in_interval b x))) → last_low new ≤ℤ int_max a.low b.low → Meets one other new left (b ∷ right)
+pub Meets-left : (one other found new left right : List Interval) (a b : Interval) → Meets one other found (a ∷ left) (b ∷ right) → a.high <ℤ b.high
+    → ((x : ℤ) → contains new x ≡ (contains found x || (in_interval a x && in_interval b x))) → last_low new ≤ℤ int_max a.low b.low
+    → Meets one other new left (b ∷ right)
 Meets-left one other found new left right a b h lt members last =
     let spread = h.left_spread in
     record {
@@ -72,7 +78,9 @@ Meets-left one other found new left right a b h lt members last =
     }
 
 -- the right rest loses its first interval
-pub Meets-right : (one other found new left right : List Interval) (a b : Interval) → Meets one other found (a ∷ left) (b ∷ right) → b.high ≤ℤ a.high → ((x : ℤ) → contains new x ≡ (contains found x || (in_interval a x && in_interval b x))) → last_low new ≤ℤ int_max a.low b.low → Meets one other new (a ∷ left) right
+pub Meets-right : (one other found new left right : List Interval) (a b : Interval) → Meets one other found (a ∷ left) (b ∷ right)
+    → b.high ≤ℤ a.high → ((x : ℤ) → contains new x ≡ (contains found x || (in_interval a x && in_interval b x)))
+    → last_low new ≤ℤ int_max a.low b.low → Meets one other new (a ∷ left) right
 Meets-right one other found new left right a b h le members last =
     let spread = h.right_spread in
     record {

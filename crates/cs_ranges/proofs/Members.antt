@@ -1,5 +1,6 @@
 -- Which numbers the intervals of a list have: serves every clause that names `contains`.
-use Rattle.std.proofs.Common.{◌≡◌, ◌⊎◌, ◌+◌, ◌<◌, ℕ, Bool, true, false, ◌||◌, ℤ, ◌<ℤ◌, ◌≤ℤ◌, List, [], ◌∷◌, ◌++◌, length, take, get_or, refl, ap, ◌∙◌, arith}
+use Rattle.std.proofs.Common.{◌≡◌, ◌⊎◌, ◌+◌, ◌<◌, ℕ, Bool, true, false, ◌||◌, ℤ, ◌<ℤ◌, ◌≤ℤ◌, List, [], ◌∷◌}
+use Rattle.std.proofs.Common.{◌++◌, length, take, get_or, refl, ap, ◌∙◌, arith}
 use Rattle.std.proofs.lemmas.Int.{ints}
 use Rattle.std.proofs.lemmas.List.{take_more}
 use Rattle.cs_ranges.specs.declared.range_set.Interval.{Interval}
@@ -7,7 +8,8 @@ use Rattle.cs_ranges.specs.Interval.{in_interval}
 use Rattle.cs_ranges.specs.RangeSet.{contains}
 
 -- the test of an interval, with what it tells
-pub in_interval_yields : (i : Interval) (x : ℤ) → ((in_interval i x ≡ true) × (i.low ≤ℤ x) × (x ≤ℤ i.high)) ⊎ ((in_interval i x ≡ false) × ((x <ℤ i.low) ⊎ (i.high <ℤ x)))
+pub in_interval_yields : (i : Interval) (x : ℤ) → ((in_interval i x ≡ true) × (i.low ≤ℤ x) × (x ≤ℤ i.high))
+    ⊎ ((in_interval i x ≡ false) × ((x <ℤ i.low) ⊎ (i.high <ℤ x)))
 unfolding in_interval
 in_interval_yields i x = grind (arith, ints)
 
@@ -52,5 +54,6 @@ pub contains-push : (s : List Interval) (i : Interval) (x : ℤ) → contains (s
 unfolding contains
 contains-push s i x = contains-append s (i ∷ []) x ∙ ap (λ b. contains s x || b) (or-false (in_interval i x))
 
-pub contains-more : (s : List Interval) (k : ℕ) (d : Interval) (x : ℤ) → k < length s → contains (take (k + 1) s) x ≡ (contains (take k s) x || in_interval (get_or s k d) x)
+pub contains-more : (s : List Interval) (k : ℕ) (d : Interval) (x : ℤ) → k < length s
+    → contains (take (k + 1) s) x ≡ (contains (take k s) x || in_interval (get_or s k d) x)
 contains-more s k d x h = ap (λ l. contains l x) (take_more s k d h) ∙ contains-push (take k s) (get_or s k d) x

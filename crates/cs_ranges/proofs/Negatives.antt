@@ -1,5 +1,6 @@
 -- The negatives of a set, interval by interval from the last one on: serves `negated`.
-use Rattle.std.proofs.Common.{◌≡◌, Bool, true, false, ◌||◌, ℤ, neg_ℤ, ◌≤ℤ◌, List, [], ◌∷◌, ◌++◌, refl, sym, ap, ◌∙◌, arith}
+use Rattle.std.proofs.Common.{◌≡◌, Bool, true, false, ◌||◌, ℤ, neg_ℤ, ◌≤ℤ◌, List, [], ◌∷◌, ◌++◌, refl, sym, ap, ◌∙◌}
+use Rattle.std.proofs.Common.{arith}
 use Rattle.std.proofs.lemmas.Int.{ints}
 use Rattle.std.proofs.lemmas.Bool.{or_right}
 use Rattle.cs_ranges.specs.declared.range_set.Interval.{Interval}
@@ -32,7 +33,9 @@ or_swap false false true = refl
 or_swap false false false = refl
 
 -- the last interval of the rest is turned round
-pub Mirrors-more : (whole found new rest : List Interval) (i j : Interval) → Mirrors whole found (rest ++ i ∷ []) → j.low ≡ neg_ℤ i.high → j.high ≡ neg_ℤ i.low → ((x : ℤ) → contains new x ≡ (contains found x || in_interval j x)) → last_low new ≤ℤ j.low → Mirrors whole new rest
+pub Mirrors-more : (whole found new rest : List Interval) (i j : Interval) → Mirrors whole found (rest ++ i ∷ []) → j.low ≡ neg_ℤ i.high
+    → j.high ≡ neg_ℤ i.low → ((x : ℤ) → contains new x ≡ (contains found x || in_interval j x)) → last_low new ≤ℤ j.low
+    → Mirrors whole new rest
 Mirrors-more whole found new rest i j h e f members last =
     let ends = IsSpreadFrom-last _ rest i h.spread in
     record {
@@ -44,7 +47,8 @@ Mirrors-more whole found new rest i j h e f members last =
           ∙ h.members x;
     }
 
-pub Mirrors-end : (whole found rest : List Interval) → Mirrors whole found rest → rest ≡ [] → (x : ℤ) → contains found x ≡ contains whole (neg_ℤ x)
+pub Mirrors-end : (whole found rest : List Interval) → Mirrors whole found rest → rest ≡ []
+    → (x : ℤ) → contains found x ≡ contains whole (neg_ℤ x)
 Mirrors-end whole found rest h e x =
     sym (ap (λ b. contains found x || b) (ap (λ l. contains l (neg_ℤ x)) e ∙ contains-nil (neg_ℤ x)) ∙ or-false _) ∙ h.members x
 

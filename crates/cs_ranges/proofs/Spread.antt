@@ -1,5 +1,6 @@
 -- Lists of intervals in order and with gaps: serves the invariant of `RangeSet`.
-use Rattle.std.proofs.Common.{◌≡◌, ◌<◌, ◌^◌, ℕ, zero, suc, Bool, true, false, ◌&&◌, not, ℤ, pos, ◌+ℤ◌, ◌<ℤ◌, ◌≤ℤ◌, List, [], ◌∷◌, ◌++◌, length, get_or, inl, inr, refl, sym, ◌∙◌, arith, not-suc-le-zero, le_of_suc-le-suc}
+use Rattle.std.proofs.Common.{◌≡◌, ◌<◌, ◌^◌, ℕ, zero, suc, Bool, true, false, ◌&&◌, not, ℤ, pos, ◌+ℤ◌, ◌<ℤ◌, ◌≤ℤ◌}
+use Rattle.std.proofs.Common.{List, [], ◌∷◌, ◌++◌, length, get_or, inl, inr, refl, sym, ◌∙◌, arith, not-suc-le-zero, le_of_suc-le-suc}
 use Rattle.std.proofs.lemmas.Int.{ints, by_lt_z}
 use Rattle.std.proofs.lemmas.Bool.{or_from, or_cases, both_ways}
 use Rattle.cs_ranges.specs.declared.range_set.Interval.{Interval}
@@ -34,7 +35,8 @@ contains-above b (i ∷ s) x h lt =
     or_from _ _ out (contains-above (i.high +ℤ pos 2) s x h.3 lt)
 
 -- the interval at an index has a number, and lies inside the bounds
-pub IsSpreadFrom-at : (b : ℤ) (s : List Interval) (k : ℕ) (d : Interval) → IsSpreadFrom b s → k < length s → (b ≤ℤ (get_or s k d).low) × ((get_or s k d).low ≤ℤ (get_or s k d).high) × ((get_or s k d).high ≤ℤ pos (2 ^ 126))
+pub IsSpreadFrom-at : (b : ℤ) (s : List Interval) (k : ℕ) (d : Interval) → IsSpreadFrom b s → k < length s
+    → (b ≤ℤ (get_or s k d).low) × ((get_or s k d).low ≤ℤ (get_or s k d).high) × ((get_or s k d).high ≤ℤ pos (2 ^ 126))
 IsSpreadFrom-at b [] k d h lt = absurd (not-suc-le-zero lt)
 IsSpreadFrom-at b (i ∷ s) zero d h lt = (h.0, h.1, h.2)
 IsSpreadFrom-at b (i ∷ s) (suc k) d h lt =
@@ -42,7 +44,8 @@ IsSpreadFrom-at b (i ∷ s) (suc k) d h lt =
     (omega (arith, ints, at.0, h.0, h.1), at.1, at.2)
 
 -- what is known of the last interval
-pub IsSpreadFrom-last : (b : ℤ) (s : List Interval) (i : Interval) → IsSpreadFrom b (s ++ i ∷ []) → IsSpreadFrom b s × (b ≤ℤ i.low) × (i.low ≤ℤ i.high) × (i.high ≤ℤ pos (2 ^ 126))
+pub IsSpreadFrom-last : (b : ℤ) (s : List Interval) (i : Interval) → IsSpreadFrom b (s ++ i ∷ [])
+    → IsSpreadFrom b s × (b ≤ℤ i.low) × (i.low ≤ℤ i.high) × (i.high ≤ℤ pos (2 ^ 126))
 IsSpreadFrom-last b [] i h = (tt, h.0, h.1, h.2)
 IsSpreadFrom-last b (j ∷ s) i h =
     let rest = IsSpreadFrom-last (j.high +ℤ pos 2) s i h.3 in
@@ -54,7 +57,8 @@ IsProper-last s i h =
     record { from = last.1; ordered = last.2; upto = last.3 }
 
 -- the numbers before the last interval lie below it, with a gap
-pub contains-before_last : (b : ℤ) (s : List Interval) (i : Interval) (x : ℤ) → IsSpreadFrom b (s ++ i ∷ []) → contains s x ≡ true → (x +ℤ pos 2) ≤ℤ i.low
+pub contains-before_last : (b : ℤ) (s : List Interval) (i : Interval) (x : ℤ) → IsSpreadFrom b (s ++ i ∷ []) → contains s x ≡ true
+    → (x +ℤ pos 2) ≤ℤ i.low
 contains-before_last b [] i x h t = absurd (both_ways _ (contains-nil x) t)
 contains-before_last b (j ∷ s) i x h t =
     let last = IsSpreadFrom-last (j.high +ℤ pos 2) s i h.3 in
@@ -66,13 +70,15 @@ contains-before_last b (j ∷ s) i x h t =
     ]
 
 -- another last interval that begins at the same number
-pub IsSpreadFrom-replace_last : (b : ℤ) (s : List Interval) (i j : Interval) → IsSpreadFrom b (s ++ i ∷ []) → j.low ≡ i.low → j.low ≤ℤ j.high → j.high ≤ℤ pos (2 ^ 126) → IsSpreadFrom b (s ++ j ∷ [])
+pub IsSpreadFrom-replace_last : (b : ℤ) (s : List Interval) (i j : Interval) → IsSpreadFrom b (s ++ i ∷ []) → j.low ≡ i.low → j.low ≤ℤ j.high
+    → j.high ≤ℤ pos (2 ^ 126) → IsSpreadFrom b (s ++ j ∷ [])
 IsSpreadFrom-replace_last b [] i j h e p q = (omega (arith, ints, h.0, e), p, q, tt)
 IsSpreadFrom-replace_last b (k ∷ s) i j h e p q =
     (h.0, h.1, h.2, IsSpreadFrom-replace_last (k.high +ℤ pos 2) s i j h.3 e p q)
 
 -- an interval after the last one, after a gap
-pub IsSpreadFrom-push : (b : ℤ) (s : List Interval) (i j : Interval) → IsSpreadFrom b (s ++ i ∷ []) → (i.high +ℤ pos 1) <ℤ j.low → j.low ≤ℤ j.high → j.high ≤ℤ pos (2 ^ 126) → IsSpreadFrom b ((s ++ i ∷ []) ++ j ∷ [])
+pub IsSpreadFrom-push : (b : ℤ) (s : List Interval) (i j : Interval) → IsSpreadFrom b (s ++ i ∷ []) → (i.high +ℤ pos 1) <ℤ j.low
+    → j.low ≤ℤ j.high → j.high ≤ℤ pos (2 ^ 126) → IsSpreadFrom b ((s ++ i ∷ []) ++ j ∷ [])
 IsSpreadFrom-push b [] i j h gap p q = (h.0, h.1, h.2, (omega (arith, ints, gap), p, q, tt))
 IsSpreadFrom-push b (k ∷ s) i j h gap p q =
     (h.0, h.1, h.2, IsSpreadFrom-push (k.high +ℤ pos 2) s i j h.3 gap p q)
@@ -98,6 +104,7 @@ and_when true b c h = h refl
 and_when false b c h = refl
 
 -- a set without another one is what it has in common with the numbers inside the bounds that the other one hasn't
-pub minus-by_complement : (one other rest : List Interval) → IsSpread one → ((x : ℤ) → IsInside x → contains rest x ≡ not (contains other x)) → (x : ℤ) → (contains one x && contains rest x) ≡ (contains one x && not (contains other x))
+pub minus-by_complement : (one other rest : List Interval) → IsSpread one → ((x : ℤ) → IsInside x → contains rest x ≡ not (contains other x))
+    → (x : ℤ) → (contains one x && contains rest x) ≡ (contains one x && not (contains other x))
 minus-by_complement one other rest h complement x =
     and_when (contains one x) _ _ (λ t. complement x (IsInside-member one x h t))

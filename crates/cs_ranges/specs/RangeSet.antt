@@ -1,4 +1,5 @@
-use Rattle.std.specs.Prelude.{◌≡◌, ◌≢◌, ◌⊎◌, ◌↔◌, ℕ, ◌^◌, ◌<◌, Bool, false, ◌||◌, IsTrue, IsFalse, ℤ, pos, neg_ℤ, ◌+ℤ◌, ◌≤ℤ◌, unsigned_abs, List, [], ◌∷◌, length, slice_index_or}
+use Rattle.std.specs.Prelude.{◌≡◌, ◌≢◌, ◌⊎◌, ◌↔◌, ℕ, ◌^◌, ◌<◌, Bool, false, ◌||◌, IsTrue, IsFalse, ℤ, pos, neg_ℤ}
+use Rattle.std.specs.Prelude.{◌+ℤ◌, ◌≤ℤ◌, unsigned_abs, List, [], ◌∷◌, length, slice_index_or}
 use Rattle.std.specs.List.{Contains}
 use Rattle.cs_ranges.specs.declared.range_set.Interval.{Interval}
 use Rattle.cs_ranges.specs.Interval.{in_interval}

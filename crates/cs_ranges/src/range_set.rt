@@ -88,7 +88,8 @@ impl RangeSet {
     pub fn of(alloc: Global, low: i128, high: i128) -> Result<RangeSet, AllocError>
         requires low_inside { IsInside low }
         requires high_inside { IsInside high }
-        ensures { IfOk result (λ s. (x : ℤ) → contains s x ≡ (int_le low x && int_le x high)) }
+        ensures { IfOk result (λ s.
+            (x : ℤ) → contains s x ≡ (int_le low x && int_le x high)) }
     {
         let mut intervals = Vec::new(alloc);
         if low <= high {
@@ -118,7 +119,8 @@ impl RangeSet {
     fn push(&mut self, interval: Interval) -> Result<(), AllocError>
         requires proper { IsProper interval }
         requires following { last_low self.old ≤ℤ interval.low }
-        ensures members { OnOk result ((x : ℤ) → contains self.new x ≡ (contains self.old x || in_interval interval x)) }
+        ensures members { OnOk result ((x : ℤ)
+            → contains self.new x ≡ (contains self.old x || in_interval interval x)) }
         ensures last { OnOk result (last_low self.new ≤ℤ interval.low) }
     {
         let len = self.intervals.len();

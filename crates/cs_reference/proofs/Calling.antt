@@ -16,17 +16,22 @@ use Rattle.cs_meaning.specs.Machine.{Operand, Nothing, State, newest, pop_many, 
 use Rattle.cs_reference.specs.Calling.{call_returning, received_result, is_nothing}
 
 -- a function that is there
-pub routine_is : (program : Program) (number : ℕ) (f : Function) → slice_get program.functions.items number ≡ Some f → routine_of (typed_program program) number ≡ routine f
+pub routine_is : (program : Program) (number : ℕ) (f : Function) → slice_get program.functions.items number ≡ Some f
+    → routine_of (typed_program program) number ≡ routine f
 routine_is program number f there =
     ap (λ (r : Option Routine). unwrap_or r (no_routine NOWHERE)) (slice_get-map routine program.functions.items number ∙ ap (option_map routine) there)
 
 -- one that isn't there
-pub routine_none : (program : Program) (number : ℕ) → slice_get program.functions.items number ≡ None → routine_of (typed_program program) number ≡ no_routine NOWHERE
+pub routine_none : (program : Program) (number : ℕ) → slice_get program.functions.items number ≡ None
+    → routine_of (typed_program program) number ≡ no_routine NOWHERE
 routine_none program number none =
     ap (λ (r : Option Routine). unwrap_or r (no_routine NOWHERE)) (slice_get-map routine program.functions.items number ∙ ap (option_map routine) none)
 
 -- a call of a function without a body
-pub call_is : (program : TypedProgram) (budgets : RunBudgets) (at : Place) (function count : ℕ) (r : Routine) (m : State) (written : List Bool) (arguments : List Operand) (left : State) → routine_of program function ≡ r → r.body ≡ None → written ≡ r.written → arguments ≡ newest count m → left ≡ pop_many count m → call program budgets at function count m ≡ call_returning program at function r.returns written arguments left
+pub call_is : (program : TypedProgram) (budgets : RunBudgets) (at : Place) (function count : ℕ) (r : Routine) (m : State) (written : List Bool)
+    (arguments : List Operand) (left : State) → routine_of program function ≡ r → r.body ≡ None → written ≡ r.written
+    → arguments ≡ newest count m → left ≡ pop_many count m
+    → call program budgets at function count m ≡ call_returning program at function r.returns written arguments left
 call_is program budgets at function count r m written arguments left there none may were is =
     ap (λ (x : Routine). call_routine program budgets at function x x.body (newest count m) (pop_many count m)) there
     ∙ (ap (λ (b : Option Statement). call_routine program budgets at function r b (newest count m) (pop_many count m)) none
@@ -36,7 +41,8 @@ call_is program budgets at function count r m written arguments left there none 
 
 module _ (program : TypedProgram) (call : ℕ) (memory : Memory) where
   -- the result where the type is void
-  pub result_nothing : (ty : Shape) → is_nothing ty ≡ true → (onward : Memory → Operand → Act State) → outside_result program ty call memory onward ≡ onward memory Nothing
+  pub result_nothing : (ty : Shape) → is_nothing ty ≡ true → (onward : Memory → Operand → Act State)
+      → outside_result program ty call memory onward ≡ onward memory Nothing
   result_nothing void h onward = refl
   result_nothing (integer ty) h onward = cc
   result_nothing (pointer target) h onward = cc
@@ -44,7 +50,8 @@ module _ (program : TypedProgram) (call : ℕ) (memory : Memory) where
   result_nothing (struct number) h onward = cc
 
   -- the result where it isn't
-  pub result_received : (ty : Shape) → is_nothing ty ≡ false → ◌≡◌ {A = (Memory → Operand → Act State) → Act State} (outside_result program ty call memory) (received_result program ty call memory)
+  pub result_received : (ty : Shape) → is_nothing ty ≡ false
+      → ◌≡◌ {A = (Memory → Operand → Act State) → Act State} (outside_result program ty call memory) (received_result program ty call memory)
   result_received void h = cc
   result_received (integer ty) h = refl
   result_received (pointer target) h = refl

@@ -13,5 +13,8 @@ use Rattle.cs_meaning.specs.Memory.{ZeroFill}
 use Rattle.cs_meaning.specs.Statements.{declare, local_type, refilled, stores_pieces}
 
 -- the pieces of a list are to be stored
-pub declares_list : (program : TypedProgram) (at : Place) (declaration : ℕ) (i : Initial) (parts : Vec Initial Global) (m : State) → i ≡ first.List parts → declare program at declaration (Some (initial i)) m ≡ Goes (to_do (stores_pieces at declaration (pieces program (local_type program declaration m) 0 (initial i)) m.frame.todo) (refilled ZeroFill declaration m))
+pub declares_list : (program : TypedProgram) (at : Place) (declaration : ℕ) (i : Initial) (parts : Vec Initial Global) (m : State) → i ≡ first.List parts
+    → declare program at declaration (Some (initial i)) m
+    ≡ Goes (to_do (stores_pieces at declaration (pieces program (local_type program declaration m) 0 (initial i)) m.frame.todo)
+    (refilled ZeroFill declaration m))
 declares_list program at declaration i parts m is = rw (ap initial is ∙ initial-List parts) refl

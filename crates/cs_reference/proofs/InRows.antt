@@ -12,7 +12,9 @@ use Rattle.cs_meaning.specs.Statements.{executes_from, stores_pieces}
 use Rattle.cs_reference.specs.Storing.{with_piece}
 
 -- statements from the one with a number on
-pub executes_from-drop : (ss : List Stmt) (n counted_point : ℕ) (following : List Item) → n ≤ length ss → executes_from n (statement_list ss) counted_point following ≡ executes (statement_list (drop n ss)) (counted_point + counted_points_in (statement_list (take n ss))) following
+pub executes_from-drop : (ss : List Stmt) (n counted_point : ℕ) (following : List Item) → n ≤ length ss
+    → executes_from n (statement_list ss) counted_point following
+    ≡ executes (statement_list (drop n ss)) (counted_point + counted_points_in (statement_list (take n ss))) following
 executes_from-drop [] zero counted_point following h = refl
 executes_from-drop [] (suc n) counted_point following h = refl
 executes_from-drop (s ∷ ss) zero counted_point following h =
@@ -20,11 +22,13 @@ executes_from-drop (s ∷ ss) zero counted_point following h =
     ap (λ (k : ℕ). executes (statement_list (s ∷ ss)) k following) same
 executes_from-drop (s ∷ ss) (suc n) counted_point following h =
     let rest = executes_from-drop ss n (counted_point + counted_points (statement s)) following (omega arith) in
-    let same : counted_point + counted_points (statement s) + counted_points_in (statement_list (take n ss)) ≡ counted_point + (counted_points (statement s) + counted_points_in (statement_list (take n ss))) = omega arith in
+    let same : counted_point + counted_points (statement s) + counted_points_in (statement_list (take n ss))
+    ≡ counted_point + (counted_points (statement s) + counted_points_in (statement_list (take n ss))) = omega arith in
     rest ∙ ap (λ (k : ℕ). executes (statement_list (drop n ss)) k following) same
 
 -- there are none after all
-pub executes_from-past : (ss : List Stmt) (n counted_point : ℕ) (following : List Item) → length ss < n → executes_from n (statement_list ss) counted_point following ≡ following
+pub executes_from-past : (ss : List Stmt) (n counted_point : ℕ) (following : List Item) → length ss < n
+    → executes_from n (statement_list ss) counted_point following ≡ following
 executes_from-past [] n counted_point following h = refl
 executes_from-past (s ∷ ss) zero counted_point following h = absurd (omega arith)
 executes_from-past (s ∷ ss) (suc n) counted_point following h = executes_from-past ss n (counted_point + counted_points (statement s)) following (omega arith)
@@ -35,7 +39,8 @@ count_of-list [] = refl
 count_of-list (s ∷ ss) = omega (arith, count_of-list ss)
 
 -- a piece before others
-pub piece_before : (at : Place) (declaration : ℕ) (piece : Piece) (others : List Piece) (following : List Item) → stores_pieces at declaration (piece ∷ others) following ≡ with_piece at declaration piece (stores_pieces at declaration others following)
+pub piece_before : (at : Place) (declaration : ℕ) (piece : Piece) (others : List Piece) (following : List Item)
+    → stores_pieces at declaration (piece ∷ others) following ≡ with_piece at declaration piece (stores_pieces at declaration others following)
 piece_before at declaration (Evaluated offset e) others following = refl
 piece_before at declaration (Spelled offset bytes) others following = refl
 

@@ -30,7 +30,8 @@ past_other (item.End place ty) following h = refl
 past_other (item.Give place) following h = refl
 past_other item.Leave following h = refl
 
-pub past_others : (i : Item) (following : List machine.Item) → ((s : _) (counted_point : _) → i ≡ item.Statement stmt_step.Again s counted_point → ⊥) → continued (item_of i ∷ following) ≡ continued following
+pub past_others : (i : Item) (following : List machine.Item) → ((s : _) (counted_point : _) → i ≡ item.Statement stmt_step.Again s counted_point → ⊥)
+    → continued (item_of i ∷ following) ≡ continued following
 past_others (item.Expression expr_step.Evaluate e) following h = refl
 past_others (item.Expression expr_step.EvaluateUnused e) following h = refl
 past_others (item.Expression expr_step.Act e) following h = refl

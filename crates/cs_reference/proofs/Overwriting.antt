@@ -53,17 +53,20 @@ same_is (HeapBlock m) (HeapBlock n) h =
     ap HeapBlock e
 
 -- a change that does to an object what another does
-pub changes_as : (f g : Block → Block) (object : Object) (memory : Memory) (block : Block) → memory object ≡ Some block → f block ≡ g block → changed f object memory ≡ changed g object memory
+pub changes_as : (f g : Block → Block) (object : Object) (memory : Memory) (block : Block) → memory object ≡ Some block → f block ≡ g block
+    → changed f object memory ≡ changed g object memory
 changes_as f g object memory block there same = fun_ext (λ other. at other (same_object object other) refl)
   where
-    at : (other : Object) (b : Bool) → same_object object other ≡ b → (if b then option_map f (memory other) else memory other) ≡ (if b then option_map g (memory other) else memory other)
+    at : (other : Object) (b : Bool) → same_object object other ≡ b
+        → (if b then option_map f (memory other) else memory other) ≡ (if b then option_map g (memory other) else memory other)
     at other false e = refl
     at other true e =
         let here : memory other ≡ Some block = subst (λ (o : Object). memory o ≡ Some block) (same_is object other e) there in
         rw here (ap Some same)
 
 -- a change that does nothing to an object
-pub changes_nothing : (f : Block → Block) (object : Object) (memory : Memory) (block : Block) → memory object ≡ Some block → f block ≡ block → memory ≡ changed f object memory
+pub changes_nothing : (f : Block → Block) (object : Object) (memory : Memory) (block : Block) → memory object ≡ Some block → f block ≡ block
+    → memory ≡ changed f object memory
 changes_nothing f object memory block there same = fun_ext (λ other. at other (same_object object other) refl)
   where
     at : (other : Object) (b : Bool) → same_object object other ≡ b → memory other ≡ (if b then option_map f (memory other) else memory other)

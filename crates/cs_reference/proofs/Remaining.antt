@@ -19,7 +19,10 @@ module _ {State : Type 0} (go : State → Act State) (setting : Setting) where
   steps_in (goes s way) = suc (steps_in way)
 
   -- all ways from a state to an end of the run are equally long
-  equally_long : {m m' last last' : State} {log log' before before' end end' : Log} {outcome outcome' : Outcome} → m ≡ m' → log ≡ log' → (one : Leads go setting m log last before) (other : Leads go setting m' log' last' before') → perform setting before (go last) ≡ Finishes outcome end → perform setting before' (go last') ≡ Finishes outcome' end' → steps_in one ≡ steps_in other
+  equally_long : {m m' last last' : State} {log log' before before' end end' : Log} {outcome outcome' : Outcome} → m ≡ m' → log ≡ log'
+      → (one : Leads go setting m log last before) (other : Leads go setting m' log' last' before')
+      → perform setting before (go last) ≡ Finishes outcome end → perform setting before' (go last') ≡ Finishes outcome' end'
+      → steps_in one ≡ steps_in other
   equally_long same same_log (stays e f) (stays e' f') ends ends' = refl
   equally_long same same_log (stays e f) (goes s way) ends ends' = cc
   equally_long same same_log (goes s way) (stays e f) ends ends' = cc
@@ -29,17 +32,23 @@ module _ {State : Type 0} (go : State → Act State) (setting : Setting) where
       ap suc (equally_long same' same_log' way way' ends ends')
 
   -- after a step there is one step less
-  one_less : {m next : State} {log later : Log} → perform setting log (go m) ≡ Continues next later → (here : Ending go setting m log) (there : Ending go setting next later) → steps_in here.ended.leads ≡ suc (steps_in there.ended.leads)
+  one_less : {m next : State} {log later : Log} → perform setting log (go m) ≡ Continues next later
+      → (here : Ending go setting m log) (there : Ending go setting next later) → steps_in here.ended.leads ≡ suc (steps_in there.ended.leads)
   one_less s here there = equally_long refl refl here.ended.leads (goes s there.ended.leads) here.ended.finishes there.ended.finishes
 
 -- how many steps the run of a program has left in a state
 pub steps_left : TypedProgram → RunBudgets → Setting → machine.State → Log → ℕ
 steps_left program budgets setting m log =
-    steps_in (step program budgets) setting (every_run_ends (step program budgets) setting (turns budgets.visits) weight (lessens program budgets) m log).ended.leads
+    steps_in (step program budgets) setting
+    (every_run_ends (step program budgets) setting (turns budgets.visits) weight (lessens program budgets) m log).ended.leads
 
 -- a step leaves fewer
-pub fewer_left : (program : TypedProgram) (budgets : RunBudgets) (setting : Setting) (m next : machine.State) (log later : Log) → perform setting log (step program budgets m) ≡ Continues next later → steps_left program budgets setting next later < steps_left program budgets setting m log
+pub fewer_left : (program : TypedProgram) (budgets : RunBudgets) (setting : Setting) (m next : machine.State) (log later : Log)
+    → perform setting log (step program budgets m) ≡ Continues next later
+    → steps_left program budgets setting next later < steps_left program budgets setting m log
 unfolding steps_left
 fewer_left program budgets setting m next log later s =
-    let less = one_less (step program budgets) setting s (every_run_ends (step program budgets) setting (turns budgets.visits) weight (lessens program budgets) m log) (every_run_ends (step program budgets) setting (turns budgets.visits) weight (lessens program budgets) next later) in
+    let less = one_less (step program budgets) setting s
+    (every_run_ends (step program budgets) setting (turns budgets.visits) weight (lessens program budgets) m log)
+    (every_run_ends (step program budgets) setting (turns budgets.visits) weight (lessens program budgets) next later) in
     omega arith

@@ -1,5 +1,6 @@
 -- A row of objects that is made one by one, and elements that `get` lends: for the contracts of `local_blocks`, `call` and `start`.
-use Rattle.std.proofs.Common.{◌≡◌, ℕ, zero, suc, ◌+◌, ◌<◌, ◌≤◌, nat_lt, Bool, true, false, List, [], ◌∷◌, ◌++◌, length, Bor, Option, Some, None, refl, sym, ap, ◌∙◌, arith}
+use Rattle.std.proofs.Common.{◌≡◌, ℕ, zero, suc, ◌+◌, ◌<◌, ◌≤◌, nat_lt, Bool, true, false, List, [], ◌∷◌, ◌++◌, length, Bor}
+use Rattle.std.proofs.Common.{Option, Some, None, refl, sym, ap, ◌∙◌, arith}
 use Rattle.std.specs.Prelude.{option_map, option_copied, slice_get}
 use Rattle.std.specs.Slice.{IsItemAt}
 use Rattle.std.proofs.lemmas.Bool.Decides.{nat_tests}
@@ -32,7 +33,8 @@ longer (b ∷ row) more =
     let e = longer row more in
     omega arith
 
-module _ (wanted : ℕ → Option meaning.Block) (row : List Block) (count : ℕ) (long : length row ≡ count) (are : (n : ℕ) → n < count → block_at row n ≡ wanted n) where
+module _ (wanted : ℕ → Option meaning.Block) (row : List Block) (count : ℕ) (long : length row ≡ count) (are : (n : ℕ) → n < count
+    → block_at row n ≡ wanted n) where
   -- one more object, which is as it should be
   pub one_more_block : (more : Block) → Some (block_of more) ≡ wanted count → (n : ℕ) → n < count + 1 → block_at (row ++ more ∷ []) n ≡ wanted n
   one_more_block more new n h = at (nat_lt n count) refl

@@ -1,6 +1,7 @@
 -- Lists that are kept with their first element last, without some of their first elements: for the contracts of `pop_newest` and
 -- `drop_first`.
-use Rattle.std.proofs.Common.{◌≡◌, ℕ, zero, suc, ◌-◌, ◌<◌, ◌≤◌, List, [], ◌∷◌, ◌++◌, map, length, take, drop, reverse, refl, sym, ap, ◌∙◌, arith}
+use Rattle.std.proofs.Common.{◌≡◌, ℕ, zero, suc, ◌-◌, ◌<◌, ◌≤◌, List, [], ◌∷◌, ◌++◌, map, length, take, drop, reverse, refl}
+use Rattle.std.proofs.Common.{sym, ap, ◌∙◌, arith}
 use Rattle.cs_meaning.specs.Machine.{Operand, State, with_stack, pop, pop_many}
 use Rattle.std.proofs.lemmas.List.{reverse-append, reverse-reverse, length-reverse, take-append-drop, length-drop, length-map, take-map, drop-map}
 
@@ -34,12 +35,15 @@ module _ {X : Type 0} where
   -- without the first ones
   pub older_are : (xs : List X) (n : ℕ) → drop n (reverse xs) ≡ reverse (take (length xs - n) xs)
   older_are xs n =
-      ap (drop n) (in_parts xs (length xs - n)) ∙ after_are (reverse (drop (length xs - n) xs)) (reverse (take (length xs - n) xs)) n (within xs n) (none_left xs n)
+      ap (drop n) (in_parts xs (length xs - n))
+      ∙ after_are (reverse (drop (length xs - n) xs)) (reverse (take (length xs - n) xs)) n (within xs n) (none_left xs n)
 
   -- the first ones, from the last of them on
   pub newest_are : (xs : List X) (n : ℕ) → reverse (take n (reverse xs)) ≡ drop (length xs - n) xs
   newest_are xs n =
-      ap reverse (ap (take n) (in_parts xs (length xs - n)) ∙ front_are (reverse (drop (length xs - n) xs)) (reverse (take (length xs - n) xs)) n (within xs n) (none_left xs n)) ∙ reverse-reverse (drop (length xs - n) xs)
+      ap reverse (ap (take n) (in_parts xs (length xs - n))
+      ∙ front_are (reverse (drop (length xs - n) xs)) (reverse (take (length xs - n) xs)) n (within xs n) (none_left xs n))
+      ∙ reverse-reverse (drop (length xs - n) xs)
 
 -- the same of a list that is seen as another
 pub newest_of : {X Y : Type 0} (f : X → Y) (xs : List X) (n : ℕ) → reverse (take n (reverse (map f xs))) ≡ map f (drop (length xs - n) xs)

@@ -12,7 +12,8 @@ use Rattle.cs_run_state.specs.declared.blocks.Block.{Block}
 use Rattle.cs_run_state.specs.MemoryView.{block_of, block_at, memory_of}
 
 -- what stands in a row that is made of a list
-row_of : {A : Type 0} (f : A → meaning.Block) (row : List Block) (from : List A) → map block_of row ≡ map f from → (n : ℕ) → block_at row n ≡ option_map f (slice_get from n)
+row_of : {A : Type 0} (f : A → meaning.Block) (row : List Block) (from : List A) → map block_of row ≡ map f from
+    → (n : ℕ) → block_at row n ≡ option_map f (slice_get from n)
 row_of f [] [] e n = refl
 row_of f [] (x ∷ xs) e n = cc
 row_of f (b ∷ row) [] e n = cc
@@ -23,7 +24,10 @@ row_of f (b ∷ row) (x ∷ xs) e (suc n) =
     let tail : map block_of row ≡ map f xs = cc in
     row_of f row xs tail n
 
-pub statics_are : (program : Program) (memory : Memory) → memory.starts.entries ≡ [] → map block_of memory.globals.items ≡ map (global_block (typed_program program)) (map file_object program.globals.items) → map block_of memory.literals.items ≡ map literal_block program.literals.items → memory.frames.items ≡ [] → memory.heap.items ≡ [] → memory_of memory ≡ static_memory (typed_program program)
+pub statics_are : (program : Program) (memory : Memory) → memory.starts.entries ≡ []
+    → map block_of memory.globals.items ≡ map (global_block (typed_program program)) (map file_object program.globals.items)
+    → map block_of memory.literals.items ≡ map literal_block program.literals.items → memory.frames.items ≡ [] → memory.heap.items ≡ []
+    → memory_of memory ≡ static_memory (typed_program program)
 statics_are program memory starts globals literals frames heap = fun_ext (λ object. at object)
   where
     at : (object : Object) → memory_of memory object ≡ static_memory (typed_program program) object

@@ -60,7 +60,8 @@ compare_act at op m = compare at op (cell_at m 1) (cell_at m 0) (λ number. Goes
 
 abbrev pub sum_act : TypedProgram → Place → Shape → Direction → Order → State → Act State
 sum_act program at ty direction order m =
-    sum program.model at (cell_at m (pointer_age order)) (directed direction (number_at m (amount_age order))) (size_of program (target_of ty)) (λ cell. Goes (push_cell cell (pop_many 2 m)))
+    sum program.model at (cell_at m (pointer_age order)) (directed direction (number_at m (amount_age order))) (size_of program (target_of ty))
+    (λ cell. Goes (push_cell cell (pop_many 2 m)))
 
 abbrev pub difference_act : TypedProgram → Place → Shape → State → Act State
 difference_act program at ty m =

@@ -30,7 +30,9 @@ impl<'a> Runner<'a> {
     /// Does what an expression does with its parts.
     pub fn act(&mut self, e: &'a Expr) -> Result<(), Stop>
         requires { IsReady self.old }
-        ensures { Performs self.old self.new result (expressions.act (program_of self.old) (budgets_of self.old) (typed e.now) (state_in self.old)) }
+        ensures { Performs self.old self.new result
+            (expressions.act (program_of self.old) (budgets_of self.old) (typed e.now)
+            (state_in self.old)) }
     {
         let place = e.place;
         match &*e.kind {
@@ -68,7 +70,8 @@ impl<'a> Runner<'a> {
 
     // A scalar is left.
     fn act_cell(&mut self, cell: Cell) -> Result<(), Stop>
-        ensures { Performs self.old self.new result (Goes (machine.push_cell (cell_of cell) (state_in self.old))) }
+        ensures { Performs self.old self.new result
+            (Goes (machine.push_cell (cell_of cell) (state_in self.old))) }
     {
         self.machine.push_cell(cell)?;
         Ok(())
@@ -76,7 +79,8 @@ impl<'a> Runner<'a> {
 
     // The place of a local is left.
     fn act_local(&mut self, declaration: u32) -> Result<(), Stop>
-        ensures { Performs self.old self.new result (Goes (local_place declaration (state_in self.old))) }
+        ensures { Performs self.old self.new result
+            (Goes (local_place declaration (state_in self.old))) }
     {
         let object = Object::Local(number_of(&self.machine), declaration);
         self.machine.push_cell(Cell::Pointer(object, 0))?;
@@ -85,7 +89,8 @@ impl<'a> Runner<'a> {
 
     // The place of a member is left.
     fn act_member(&mut self, offset: u64) -> Result<(), Stop>
-        ensures { Performs self.old self.new result (Goes (member_place offset (state_in self.old))) }
+        ensures { Performs self.old self.new result
+            (Goes (member_place offset (state_in self.old))) }
     {
         let place = self.machine.pop_cell().further(offset)?;
         self.machine.push_cell(place)?;
@@ -95,7 +100,8 @@ impl<'a> Runner<'a> {
     // The element of an array: a pointer sum.
     fn act_index(&mut self, place: Place, ty: &CType, order: Order) -> Result<(), Stop>
         requires { IsReady self.old }
-        ensures { Performs self.old self.new result (index_act (program_of self.old) place (shape_of ty.now) order (state_in self.old)) }
+        ensures { Performs self.old self.new result
+            (index_act (program_of self.old) place (shape_of ty.now) order (state_in self.old)) }
     {
         let size = size_of(self.setting.program, ty)?;
         let (pointer, amount) = self.machine.pop_both(order);
@@ -119,7 +125,8 @@ impl<'a> Runner<'a> {
     fn act_load(&mut self, object: &Expr) -> Result<(), Stop>
         requires { IsReady self.old }
         ensures { Performs self.old self.new result
-            (load_act (program_of self.old) (loads.access_of (typed object.now)) (state_in self.old)) }
+            (load_act (program_of self.old) (loads.access_of (typed object.now))
+            (state_in self.old)) }
     {
         let access = access_of(object);
         self.machine.load_from(&mut self.log, self.setting, access)
@@ -127,7 +134,9 @@ impl<'a> Runner<'a> {
 
     // A conversion.
     fn act_convert(&mut self, place: Place, from: &CType, to: &CType) -> Result<(), Stop>
-        ensures { Performs self.old self.new result (convert_act (program_of self.old) place (shape_of from.now) (shape_of to.now) (state_in self.old)) }
+        ensures { Performs self.old self.new result
+            (convert_act (program_of self.old) place (shape_of from.now) (shape_of to.now)
+            (state_in self.old)) }
     {
         let operand = self.machine.pop();
         let made = self.log.convert(self.setting, place, from, to, operand)?;
@@ -137,7 +146,8 @@ impl<'a> Runner<'a> {
 
     // An operator of one integer.
     fn act_unary(&mut self, place: Place, ty: &CType, operator: UnOp) -> Result<(), Stop>
-        ensures { Performs self.old self.new result (unary_act place (shape_of ty.now) operator (state_in self.old)) }
+        ensures { Performs self.old self.new result
+            (unary_act place (shape_of ty.now) operator (state_in self.old)) }
     {
         let operand = self.machine.pop_number();
         let operation = unary_operation(operator, integer_of(ty), &operand);
@@ -159,7 +169,9 @@ impl<'a> Runner<'a> {
 
     // An operator of two integers.
     fn act_binary(&mut self, place: Place, ty: &CType, operator: BinOp) -> Result<(), Stop>
-        ensures { Performs self.old self.new result (binary_act (program_of self.old) place (shape_of ty.now) operator (state_in self.old)) }
+        ensures { Performs self.old self.new result
+            (binary_act (program_of self.old) place (shape_of ty.now) operator
+            (state_in self.old)) }
     {
         let (left, right) = self.machine.pop_numbers();
         let ty = integer_of(ty);
@@ -172,7 +184,8 @@ impl<'a> Runner<'a> {
 
     // A comparison.
     fn act_compare(&mut self, place: Place, operator: CmpOp) -> Result<(), Stop>
-        ensures { Performs self.old self.new result (compare_act place operator (state_in self.old)) }
+        ensures { Performs self.old self.new result
+            (compare_act place operator (state_in self.old)) }
     {
         let (left, right) = self.machine.pop_two();
         let number = self
@@ -191,7 +204,9 @@ impl<'a> Runner<'a> {
         order: Order,
     ) -> Result<(), Stop>
         requires { IsReady self.old }
-        ensures { Performs self.old self.new result (sum_act (program_of self.old) place (shape_of ty.now) direction order (state_in self.old)) }
+        ensures { Performs self.old self.new result
+            (sum_act (program_of self.old) place (shape_of ty.now) direction order
+            (state_in self.old)) }
     {
         let size = target_size(self.setting.program, ty)?;
         let (pointer, amount) = self.machine.pop_both(order);
@@ -204,7 +219,8 @@ impl<'a> Runner<'a> {
     // How many elements lie between two pointers.
     fn act_difference(&mut self, place: Place, ty: &CType) -> Result<(), Stop>
         requires { IsReady self.old }
-        ensures { Performs self.old self.new result (difference_act (program_of self.old) place (shape_of ty.now) (state_in self.old)) }
+        ensures { Performs self.old self.new result
+            (difference_act (program_of self.old) place (shape_of ty.now) (state_in self.old)) }
     {
         let size = target_size(self.setting.program, ty)?;
         let (left, right) = self.machine.pop_two();
@@ -219,7 +235,8 @@ impl<'a> Runner<'a> {
     fn act_assign(&mut self, place: Place, object: &Expr) -> Result<(), Stop>
         requires { IsReady self.old }
         ensures { Performs self.old self.new result
-            (assign_act (program_of self.old) place (loads.access_of (typed object.now)) (state_in self.old)) }
+            (assign_act (program_of self.old) place (loads.access_of (typed object.now))
+            (state_in self.old)) }
     {
         let access = access_of(object);
         self.machine
@@ -237,7 +254,8 @@ impl<'a> Runner<'a> {
     ) -> Result<(), Stop>
         requires { IsReady self.old }
         ensures { Performs self.old self.new result
-            (update_act (program_of self.old) place operator (loads.access_of (typed object.now)) works_in gives (state_in self.old)) }
+            (update_act (program_of self.old) place operator (loads.access_of (typed object.now))
+            works_in gives (state_in self.old)) }
     {
         let access = access_of(object);
         self.machine.update(
@@ -261,7 +279,9 @@ impl<'a> Runner<'a> {
     ) -> Result<(), Stop>
         requires { IsReady self.old }
         ensures { Performs self.old self.new result
-            (move_act (program_of self.old) place (loads.access_of (typed object.now)) (size_of_target (program_of self.old) (typed object.now)) direction gives (state_in self.old)) }
+            (move_act (program_of self.old) place (loads.access_of (typed object.now))
+            (size_of_target (program_of self.old) (typed object.now)) direction gives
+            (state_in self.old)) }
     {
         let bytes = target_size(self.setting.program, &object.ty)?;
         let access = access_of(object);

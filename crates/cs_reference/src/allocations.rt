@@ -38,7 +38,9 @@ impl<'a> Runner<'a> {
         allocator: Allocator,
         element: &'a CType,
     ) -> Result<(), Stop>
-        ensures { Performs self.old self.new result (calls.allocate (program_of self.old) place allocator (shape_of element.now) (state_in self.old)) }
+        ensures { Performs self.old self.new result
+            (calls.allocate (program_of self.old) place allocator (shape_of element.now)
+            (state_in self.old)) }
     {
         match allocator {
             Allocator::Malloc => {
@@ -60,7 +62,9 @@ impl<'a> Runner<'a> {
         bytes: i128,
         fill: Fill<'a>,
     ) -> Result<(), Stop>
-        ensures { Performs self.old self.new result (calls.allocate_bytes place (shape_of element.now) bytes (fill_of fill.entry) (state_in self.old)) }
+        ensures { Performs self.old self.new result
+            (calls.allocate_bytes place (shape_of element.now) bytes (fill_of fill.entry)
+            (state_in self.old)) }
     {
         let alloc = *self.machine.callers.allocator();
         let allocation = next_allocation(&self.machine)?;
@@ -84,7 +88,9 @@ impl<'a> Runner<'a> {
         count: &i128,
         size: &i128,
     ) -> Result<(), Stop>
-        ensures { Performs self.old self.new result (calls.allocate_zeros (program_of self.old) place (shape_of element.now) count.now size.now (state_in self.old)) }
+        ensures { Performs self.old self.new result
+            (calls.allocate_zeros (program_of self.old) place (shape_of element.now) count.now
+            size.now (state_in self.old)) }
     {
         let ty = size_type(self.setting.program.model);
         let holds = self.log.ask(self.setting, place, product(count, size))?;
@@ -101,7 +107,8 @@ impl<'a> Runner<'a> {
 
     /// A call of `free`.
     pub fn release(&mut self, place: Place, pointer: Cell) -> Result<(), Stop>
-        ensures { Performs self.old self.new result (calls.release place (cell_of pointer) (state_in self.old)) }
+        ensures { Performs self.old self.new result
+            (calls.release place (cell_of pointer) (state_in self.old)) }
     {
         match pointer {
             Cell::Null => {
@@ -126,7 +133,8 @@ impl<'a> Runner<'a> {
 
     // Only start and heap blocks that stand can be freed, through a pointer to their beginning alone (C11 7.22.3.3).
     fn release_object(&mut self, place: Place, object: &Object, offset: i128) -> Result<(), Stop>
-        ensures { Performs self.old self.new result (calls.release_object place (object_of object.now) offset (state_in self.old)) }
+        ensures { Performs self.old self.new result
+            (calls.release_object place (object_of object.now) offset (state_in self.old)) }
     {
         if let Some(kind) = refused_release(&self.machine, object, offset) {
             return Err(fault(kind, place));
@@ -155,7 +163,14 @@ fn add_block<'a>(
     block: Block<'a>,
 ) -> Result<(), AllocError>
     requires { allocation ≡ (state_of state.old).allocations + 1 }
-    ensures { OnOk result (state_of state.new ≡ machine.push_cell (PointerCell (HeapBlock allocation) (pos 0)) (record (state_of state.old) { allocations = allocation; memory = meaning.with_block (HeapBlock allocation) (block_of block.entry) (state_of state.old).memory })) }
+    ensures { OnOk result (state_of state.new
+        ≡ machine.push_cell (PointerCell (HeapBlock allocation) (pos 0))
+        (record (state_of state.old) {
+          allocations = allocation;
+          memory =
+              meaning.with_block (HeapBlock allocation) (block_of block.entry)
+              (state_of state.old).memory;
+        })) }
 {
     state.memory.allocate(block)?;
     state.push_cell(Cell::Pointer(Object::Heap(allocation), 0))?;
@@ -165,7 +180,9 @@ fn add_block<'a>(
 // An allocation gives none.
 #[tactic(auto, unfolding(cs_run_state::specs::MachineView::state_of))]
 fn add_none(state: &mut Machine) -> Result<(), AllocError>
-    ensures { OnOk result (state_of state.new ≡ machine.push_cell NullCell (record (state_of state.old) { allocations = (state_of state.old).allocations + 1 })) }
+    ensures { OnOk result (state_of state.new
+        ≡ machine.push_cell NullCell
+        (record (state_of state.old) { allocations = (state_of state.old).allocations + 1 })) }
 {
     state.memory.allocate_none()?;
     state.push_cell(Cell::Null)?;
@@ -175,7 +192,9 @@ fn add_none(state: &mut Machine) -> Result<(), AllocError>
 // A block is freed.
 #[tactic(auto, unfolding(cs_run_state::specs::MachineView::state_of))]
 fn free(state: &mut Machine, object: &Object) -> Result<(), AllocError>
-    ensures { OnOk result (state_of state.new ≡ machine.with_memory (meaning.changed (meaning.stand Standing.Freed) (object_of object.now) (state_of state.old).memory) (state_of state.old)) }
+    ensures { OnOk result (state_of state.new
+        ≡ machine.with_memory (meaning.changed (meaning.stand Standing.Freed)
+        (object_of object.now) (state_of state.old).memory) (state_of state.old)) }
 {
     state.memory.change(object, Change::Stand(Standing::Freed))?;
     Ok(())
@@ -183,7 +202,13 @@ fn free(state: &mut Machine, object: &Object) -> Result<(), AllocError>
 
 // The fault by which `free` refuses a pointer, if it does.
 fn refused_release(state: &Machine, object: &Object, offset: i128) -> Option<Kind>
-    ensures { (place : Place) → calls.release_object place (object_of object.now) offset (state_of state.now) ≡ or_fault place result (Goes (machine.push machine.Nothing (machine.with_memory (meaning.changed (meaning.stand Standing.Freed) (object_of object.now) (state_of state.now).memory) (state_of state.now)))) }
+    ensures { (place : Place)
+        → calls.release_object place (object_of object.now) offset (state_of state.now)
+        ≡ or_fault place result
+        (Goes (machine.push machine.Nothing
+        (machine.with_memory
+        (meaning.changed (meaning.stand Standing.Freed) (object_of object.now)
+        (state_of state.now).memory) (state_of state.now)))) }
 {
     match object {
         Object::Start(_) => refused_standing(state.memory.block(object), offset),
@@ -196,7 +221,11 @@ fn refused_release(state: &Machine, object: &Object, offset: i128) -> Option<Kin
 
 // The same by what is known of the block.
 fn refused_standing(block: Option<&Block>, offset: i128) -> Option<Kind>
-    ensures { (place : Place) (object : PlainObject) (m : State) → calls.release_known place (option_map block_of (option_copied block.entry)) object offset m ≡ or_fault place result (Goes (machine.push machine.Nothing (machine.with_memory (meaning.changed (meaning.stand Standing.Freed) object m.memory) m))) }
+    ensures { (place : Place) (object : PlainObject) (m : State)
+        → calls.release_known place (option_map block_of (option_copied block.entry)) object
+        offset m ≡ or_fault place result
+        (Goes (machine.push machine.Nothing
+        (machine.with_memory (meaning.changed (meaning.stand Standing.Freed) object m.memory) m))) }
 {
     match block {
         Some(block) => match block.standing {

@@ -25,7 +25,9 @@ impl<'a> Runner<'a> {
     /// A call with so many arguments, which are on the stack.
     pub fn call(&mut self, place: Place, function: u32, count: usize) -> Result<(), Stop>
         requires { IsReady self.old }
-        ensures { Performs self.old self.new result (calls.call (program_of self.old) (budgets_of self.old) place function count (state_in self.old)) }
+        ensures { Performs self.old self.new result
+            (calls.call (program_of self.old) (budgets_of self.old) place function count
+            (state_in self.old)) }
     {
         let arguments = pop_newest(&mut self.machine, count)?;
         match self.setting.program.functions.get(function as usize) {
@@ -49,7 +51,9 @@ impl<'a> Runner<'a> {
         arguments: Vec<Operand>,
     ) -> Result<(), Stop>
         requires { IsReady self.old }
-        ensures { Performs self.old self.new result (calls.enter (program_of self.old) (budgets_of self.old) place function (routine callee.now) (map operand_of arguments.items) (state_in self.old)) }
+        ensures { Performs self.old self.new result
+            (calls.enter (program_of self.old) (budgets_of self.old) place function
+            (routine callee.now) (map operand_of arguments.items) (state_in self.old)) }
     {
         if callers_of(&self.machine) >= u64::from(self.setting.budgets.depth.saturating_sub(1)) {
             return Err(Stop::Outcome(Outcome::Over(Budget::Depth, place)));
@@ -73,7 +77,9 @@ impl<'a> Runner<'a> {
         arguments: Vec<Operand>,
     ) -> Result<(), Stop>
         requires { IsReady self.old }
-        ensures { Performs self.old self.new result (call_returning (program_of self.old) place function (type_of returns.entry) written.now (map operand_of arguments.items) (state_in self.old)) }
+        ensures { Performs self.old self.new result
+            (call_returning (program_of self.old) place function (type_of returns.entry) written.now
+            (map operand_of arguments.items) (state_in self.old)) }
     {
         let call = self.machine.calls.checked_add(1).ok_or(AllocError)?;
         self.log.show(self.setting, place, Label::Callee(function))?;
@@ -95,7 +101,8 @@ impl<'a> Runner<'a> {
 
     /// The frame that runs ends, and gives a value to the one that called it; the run is done where none did.
     pub fn leave(&mut self, value: Operand) -> Result<(), Stop>
-        ensures { Performs self.old self.new result (calls.leave (operand_of value) (state_in self.old)) }
+        ensures { Performs self.old self.new result
+            (calls.leave (operand_of value) (state_in self.old)) }
     {
         match pop_caller(&mut self.machine) {
             Some(caller) => {
@@ -114,7 +121,8 @@ fn go_inside<'a>(
     frame: Frame<'a>,
     locals: Vec<Block<'a>>,
 ) -> Result<(), AllocError>
-    ensures { OnOk result (state_of state.new ≡ inside_with (frame_of frame.entry) (block_at locals.entry.items) (state_of state.old)) }
+    ensures { OnOk result (state_of state.new
+        ≡ inside_with (frame_of frame.entry) (block_at locals.entry.items) (state_of state.old)) }
 {
     state.memory.add_frame(locals)?;
     let caller = std::mem::replace(&mut state.frame, frame);
@@ -141,7 +149,8 @@ fn frames_of(state: &Machine) -> u64
 // Takes the nearest of the frames that called the one that runs.
 #[tactic(auto, using(cs_run_state::proofs::States::states), unfolding(cs_run_state::specs::MachineView::state_of))]
 fn pop_caller<'a>(state: &mut Machine<'a>) -> Option<Frame<'a>>
-    ensures some { IfSome result (λ caller. state_of state.old ≡ called_by (frame_of caller) (state_of state.new)) }
+    ensures some { IfSome result (λ caller.
+        state_of state.old ≡ called_by (frame_of caller) (state_of state.new)) }
     ensures none { IfNone result ((state_of state.old).callers ≡ []) }
     ensures same { IfNone result (state_of state.new ≡ state_of state.old) }
 {
@@ -158,7 +167,8 @@ fn come_back<'a>(
     caller: Frame<'a>,
     value: Operand,
 ) -> Result<(), AllocError>
-    ensures { OnOk result (state_of state.new ≡ back_in (frame_of caller.entry) (operand_of value) (state_of state.old)) }
+    ensures { OnOk result (state_of state.new
+        ≡ back_in (frame_of caller.entry) (operand_of value) (state_of state.old)) }
 {
     state.memory.end_frame(state.frame.number);
     state.frame = caller;

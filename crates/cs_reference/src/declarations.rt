@@ -40,7 +40,9 @@ impl<'a> Runner<'a> {
         first: Option<&'a Initial>,
     ) -> Result<(), Stop>
         requires { IsReady self.old }
-        ensures { Performs self.old self.new result (meaning.declare (program_of self.old) place declaration (option_map initial (option_copied first.entry)) (state_in self.old)) }
+        ensures { Performs self.old self.new result
+            (meaning.declare (program_of self.old) place declaration
+            (option_map initial (option_copied first.entry)) (state_in self.old)) }
     {
         match first {
             None => self.clear_local(place, declaration),
@@ -51,7 +53,9 @@ impl<'a> Runner<'a> {
     // A declaration with an initializer is reached: the object takes a value, or becomes zero before its pieces are stored.
     fn set_local(&mut self, place: Place, declaration: u32, first: &'a Initial) -> Result<(), Stop>
         requires { IsReady self.old }
-        ensures { Performs self.old self.new result (meaning.declare (program_of self.old) place declaration (Some (initial first.now)) (state_in self.old)) }
+        ensures { Performs self.old self.new result
+            (meaning.declare (program_of self.old) place declaration (Some (initial first.now))
+            (state_in self.old)) }
     {
         let program = self.setting.program;
         match first {
@@ -74,7 +78,8 @@ impl<'a> Runner<'a> {
 
     // A declaration without an initializer is reached: the object becomes unset, which is a touch where it is a scalar.
     fn clear_local(&mut self, place: Place, declaration: u32) -> Result<(), Stop>
-        ensures { Performs self.old self.new result (meaning.clear_local (program_of self.old) place declaration (state_in self.old)) }
+        ensures { Performs self.old self.new result
+            (meaning.clear_local (program_of self.old) place declaration (state_in self.old)) }
     {
         let frame = number_of(&self.machine);
         if let Some(local) = scalar_local(&self.machine, self.setting.program, declaration) {
@@ -93,7 +98,9 @@ impl<'a> Runner<'a> {
         ty: &'a CType,
     ) -> Result<(), Stop>
         requires { IsReady self.old }
-        ensures { Performs self.old self.new result (meaning.store_local (program_of self.old) place declaration offset (shape_of ty.now) (state_in self.old)) }
+        ensures { Performs self.old self.new result
+            (meaning.store_local (program_of self.old) place declaration offset (shape_of ty.now)
+            (state_in self.old)) }
     {
         let frame = number_of(&self.machine);
         let local = scalar_local(&self.machine, self.setting.program, declaration);
@@ -119,7 +126,12 @@ fn store_newest(
     offset: u64,
 ) -> Result<(), AllocError>
     requires { IsLaidOut program.now.model program.now.table.list }
-    ensures { OnOk result (state_of state.new ≡ machine.with_memory (memory.changed (access.write_operand (typed_program program.now) (shape_of ty.now) offset (machine.operand_at (state_of state.old) 0)) (LocalObject (state_of state.old).frame.number declaration) (state_of state.old).memory) (machine.pop (state_of state.old))) }
+    ensures { OnOk result (state_of state.new
+        ≡ machine.with_memory (memory.changed
+        (access.write_operand (typed_program program.now) (shape_of ty.now) offset
+        (machine.operand_at (state_of state.old) 0))
+        (LocalObject (state_of state.old).frame.number declaration) (state_of state.old).memory)
+        (machine.pop (state_of state.old))) }
 {
     let operand = state.pop();
     let object = Object::Local(state.frame.number, declaration);
@@ -139,7 +151,9 @@ pub fn spell_local<'a>(
     bytes: &[u8],
 ) -> Result<(), AllocError>
     requires { IsLaidOut program.now.model program.now.table.list }
-    ensures { OnOk result (Goes (state_of state.new) ≡ meaning.spell_local (typed_program program.now) declaration offset bytes.now (state_of state.old)) }
+    ensures { OnOk result (Goes (state_of state.new)
+        ≡ meaning.spell_local (typed_program program.now) declaration offset bytes.now
+        (state_of state.old)) }
 {
     let object = Object::Local(state.frame.number, declaration);
     state.memory.write_bytes(program, &object, offset, bytes)?;
@@ -155,7 +169,12 @@ fn initialize<'a>(
     first: &'a Initial,
 ) -> Result<(), AllocError>
     requires { IsLaidOut program.now.model program.now.table.list }
-    ensures { OnOk result (state_of state.new ≡ machine.to_do (meaning.stores_pieces place declaration (initials.pieces (typed_program program.now) (meaning.local_type (typed_program program.now) declaration (state_of state.old)) 0 (initial first.now)) (state_of state.old).frame.todo) (meaning.refilled memory.ZeroFill declaration (state_of state.old))) }
+    ensures { OnOk result (state_of state.new
+        ≡ machine.to_do (meaning.stores_pieces place declaration
+        (initials.pieces (typed_program program.now)
+        (meaning.local_type (typed_program program.now) declaration (state_of state.old)) 0
+        (initial first.now)) (state_of state.old).frame.todo)
+        (meaning.refilled memory.ZeroFill declaration (state_of state.old))) }
 {
     let alloc = *state.frame.todo.allocator();
     let ty = local_type(state, program, declaration);
@@ -172,7 +191,9 @@ fn put_pieces<'a>(
     declaration: u32,
     pieces: &[Piece<'a>],
 ) -> Result<(), AllocError>
-    ensures { OnOk result (state_of state.new ≡ machine.to_do (meaning.stores_pieces place declaration (map piece_of pieces.now) (state_of state.old).frame.todo) (state_of state.old)) }
+    ensures { OnOk result (state_of state.new
+        ≡ machine.to_do (meaning.stores_pieces place declaration (map piece_of pieces.now)
+        (state_of state.old).frame.todo) (state_of state.old)) }
 {
     let mut left = pieces.len();
     while left > 0 {
@@ -189,7 +210,9 @@ fn put_piece<'a>(
     declaration: u32,
     piece: Piece<'a>,
 ) -> Result<(), AllocError>
-    ensures { OnOk result (state_of state.new ≡ machine.to_do (with_piece place declaration (piece_of piece.entry) (state_of state.old).frame.todo) (state_of state.old)) }
+    ensures { OnOk result (state_of state.new
+        ≡ machine.to_do (with_piece place declaration (piece_of piece.entry)
+        (state_of state.old).frame.todo) (state_of state.old)) }
 {
     match piece {
         Piece::Value(offset, value) => {
@@ -206,7 +229,8 @@ fn refill_local<'a>(
     declaration: u32,
     fill: Fill<'a>,
 ) -> Result<(), AllocError>
-    ensures { OnOk result (state_of state.new ≡ meaning.refilled (fill_of fill.entry) declaration (state_of state.old)) }
+    ensures { OnOk result (state_of state.new
+        ≡ meaning.refilled (fill_of fill.entry) declaration (state_of state.old)) }
 {
     let local = Object::Local(state.frame.number, declaration);
     state.memory.change(&local, Change::Refill(fill))?;
@@ -216,7 +240,8 @@ fn refill_local<'a>(
 // The type of a local of the function that runs.
 #[tactic(auto, using(cs_run_state::proofs::States::states), unfolding(cs_run_state::specs::MachineView::state_of))]
 fn local_type<'a>(state: &Machine, program: &'a Program, declaration: u32) -> BlockType<'a>
-    ensures { type_of result ≡ meaning.local_type (typed_program program.now) declaration (state_of state.now) }
+    ensures { type_of result ≡ meaning.local_type (typed_program program.now) declaration
+        (state_of state.now) }
 {
     match program.functions.get(state.frame.function as usize) {
         Some(function) => match function.locals.get(declaration as usize) {
@@ -229,7 +254,9 @@ fn local_type<'a>(state: &Machine, program: &'a Program, declaration: u32) -> Bl
 
 // A local of the frame that runs, if it is a scalar.
 fn scalar_local(state: &Machine, program: &Program, declaration: u32) -> Option<u32>
-    ensures { result ≡ meaning.if_scalar (meaning.local_type (typed_program program.now) declaration (state_of state.now)) declaration }
+    ensures { result ≡ meaning.if_scalar
+        (meaning.local_type (typed_program program.now) declaration (state_of state.now))
+        declaration }
 {
     if is_scalar_type(local_type(state, program, declaration)) {
         Some(declaration)

@@ -17,7 +17,8 @@ impl<'a> Runner<'a> {
     /// The load of an update, whose place stays below the value. A number is converted to the type in which the operator works.
     pub fn fetch(&mut self, e: &'a Expr) -> Result<(), Stop>
         requires { IsReady self.old }
-        ensures { Performs self.old self.new result (expressions.fetch (program_of self.old) (typed e.now) (state_in self.old)) }
+        ensures { Performs self.old self.new result
+            (expressions.fetch (program_of self.old) (typed e.now) (state_in self.old)) }
     {
         match &*e.kind {
             ExprKind::Update(_, object, _, works_in, _) => {
@@ -41,7 +42,8 @@ impl<'a> Runner<'a> {
     fn fetch_number(&mut self, place: Place, object: &Expr, works_in: IntType) -> Result<(), Stop>
         requires { IsReady self.old }
         ensures { Performs self.old self.new result
-            (fetch_number_act (program_of self.old) place (access_of (typed object.now)) works_in (state_in self.old)) }
+            (fetch_number_act (program_of self.old) place (access_of (typed object.now)) works_in
+            (state_in self.old)) }
     {
         let access = access_of(object);
         self.machine
@@ -52,7 +54,8 @@ impl<'a> Runner<'a> {
     fn fetch_pointer(&mut self, object: &Expr) -> Result<(), Stop>
         requires { IsReady self.old }
         ensures { Performs self.old self.new result
-            (fetch_pointer_act (program_of self.old) (access_of (typed object.now)) (state_in self.old)) }
+            (fetch_pointer_act (program_of self.old) (access_of (typed object.now))
+            (state_in self.old)) }
     {
         let access = access_of(object);
         self.machine

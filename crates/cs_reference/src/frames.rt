@@ -40,7 +40,8 @@ pub fn new_frame<'a>(
     number: u64,
     callee: &'a Function,
 ) -> Result<Frame<'a>, AllocError>
-    ensures { IfOk result (λ frame. frame_of frame ≡ calls.new_frame function number (routine callee.now)) }
+    ensures { IfOk result (λ frame.
+        frame_of frame ≡ calls.new_frame function number (routine callee.now)) }
 {
     let mut todo = Vec::new(alloc);
     todo.push(Item::End(callee.end, BlockType::Of(&callee.result)))?;
@@ -64,7 +65,8 @@ pub fn new_frame<'a>(
 
 /// A frame of a function that isn't there: it has no body and gives nothing.
 pub fn no_frame<'a>(alloc: Global, function: u32, number: u64) -> Result<Frame<'a>, AllocError>
-    ensures { IfOk result (λ frame. frame_of frame ≡ calls.new_frame function number (machine.no_routine machine.NOWHERE)) }
+    ensures { IfOk result (λ frame.
+        frame_of frame ≡ calls.new_frame function number (machine.no_routine machine.NOWHERE)) }
 {
     let mut todo = Vec::new(alloc);
     todo.push(Item::End(NOWHERE, BlockType::Void))?;
@@ -98,7 +100,10 @@ pub fn local_blocks<'a>(
     arguments: &[Operand],
 ) -> Result<Vec<Block<'a>>, AllocError>
     requires { IsLaidOut program.now.model program.now.table.list }
-    ensures { IfOk result (λ made. (n : ℕ) → block_at made.items n ≡ option_map (calls.local_block (typed_program program.now) (slice_get (map operand_of arguments.now) n)) (slice_get (map variable locals.now) n)) }
+    ensures { IfOk result (λ made.
+        (n : ℕ) → block_at made.items n
+        ≡ option_map (calls.local_block (typed_program program.now)
+        (slice_get (map operand_of arguments.now) n)) (slice_get (map variable locals.now) n)) }
 {
     let mut made = Vec::new(alloc);
     for (number, local) in locals.iter().enumerate() {
@@ -117,7 +122,9 @@ fn local_block<'a>(
     argument: Option<&Operand>,
 ) -> Result<Block<'a>, AllocError>
     requires { IsLaidOut program.now.model program.now.table.list }
-    ensures { IfOk result (λ made. block_of made ≡ calls.local_block (typed_program program.now) (option_map operand_of (option_copied argument.entry)) (variable local.now)) }
+    ensures { IfOk result (λ made.
+        block_of made ≡ calls.local_block (typed_program program.now)
+        (option_map operand_of (option_copied argument.entry)) (variable local.now)) }
 {
     let size = size_of(program, &local.ty)?;
     let mut block = Block::new(alloc, BlockType::Of(&local.ty), size, Fill::Unset);

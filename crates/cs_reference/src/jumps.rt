@@ -35,7 +35,8 @@ pub struct Landing {
 /// Leaves the nearest loop or `switch`.
 #[tactic(auto, unfolding(cs_run_state::specs::MachineView::state_of))]
 pub fn break_out(state: &mut Machine)
-    ensures { state_of state.new ≡ machine.to_do (jumps.broken_out (state_of state.old).frame.todo) (state_of state.old) }
+    ensures { state_of state.new ≡ machine.to_do
+        (jumps.broken_out (state_of state.old).frame.todo) (state_of state.old) }
 {
     drop_past_out(&mut state.frame.todo);
 }
@@ -43,7 +44,8 @@ pub fn break_out(state: &mut Machine)
 /// Leaves the body of the nearest loop.
 #[tactic(auto, unfolding(cs_run_state::specs::MachineView::state_of))]
 pub fn go_on(state: &mut Machine)
-    ensures { state_of state.new ≡ machine.to_do (jumps.continued (state_of state.old).frame.todo) (state_of state.old) }
+    ensures { state_of state.new ≡ machine.to_do (jumps.continued (state_of state.old).frame.todo)
+        (state_of state.old) }
 {
     drop_to_again(&mut state.frame.todo);
 }
@@ -51,7 +53,10 @@ pub fn go_on(state: &mut Machine)
 impl<'a> Runner<'a> {
     /// Goes to a label of the function that runs, which is reached; one that isn't there leads on.
     pub fn go_to(&mut self, label: u32) -> Result<(), Stop>
-        ensures { Performs self.old self.new result (statements.go_to (program_of self.old) (budgets_of self.old) label (steps.at_end (machine.routine_of (program_of self.old) (state_in self.old).frame.function)) (state_in self.old)) }
+        ensures { Performs self.old self.new result
+            (statements.go_to (program_of self.old) (budgets_of self.old) label
+            (steps.at_end (machine.routine_of (program_of self.old)
+            (state_in self.old).frame.function)) (state_in self.old)) }
     {
         let number = function_of(&self.machine) as usize;
         match self.setting.program.functions.get(number) {
@@ -65,7 +70,10 @@ impl<'a> Runner<'a> {
 
     // The same in the body of the function that runs.
     fn go_to_in(&mut self, label: u32, function: &'a Function, body: &'a Stmt) -> Result<(), Stop>
-        ensures { Performs self.old self.new result (statements.lands (budgets_of self.old) (jumps.landing label (statement body.now) 0 (steps.at_end (routine function.now))) (state_in self.old)) }
+        ensures { Performs self.old self.new result
+            (statements.lands (budgets_of self.old)
+            (jumps.landing label (statement body.now) 0 (steps.at_end (routine function.now)))
+            (state_in self.old)) }
     {
         let mut todo = Vec::new(*self.machine.frame.todo.allocator());
         put_first(
@@ -107,7 +115,9 @@ fn seek<'a>(
     counted_point: u64,
     todo: &mut Vec<Item<'a>>,
 ) -> Result<Option<Landing>, AllocError>
-    ensures { IfOk result (lands_at (jumps.landing label (statement s.now) counted_point (todo_of todo.old.items)) todo.old todo.new) }
+    ensures { IfOk result
+        (lands_at (jumps.landing label (statement s.now) counted_point (todo_of todo.old.items))
+        todo.old todo.new) }
 {
     match &*s.kind {
         StmtKind::Block(statements) => seek_in(label, statements, counted_point, todo),
@@ -147,7 +157,8 @@ fn seek_at_label<'a>(
 ) -> Result<Option<Landing>, AllocError>
     ensures { IfOk result
         (lands_at
-        (label_landing label number place (statement body.now) counted_point (todo_of todo.old.items))
+        (label_landing label number place (statement body.now) counted_point
+        (todo_of todo.old.items))
         todo.old todo.new) }
 {
     let inner = together(counted_point, 1)?;
@@ -173,7 +184,9 @@ fn seek_after_head<'a>(
 ) -> Result<Option<Landing>, AllocError>
     ensures { IfOk result
         (lands_at
-        (jumps.landing label (statement body.now) (counted_point + 1) (machine.Again (statement s.now) counted_point ∷ (machine.Out ∷ todo_of todo.old.items)))
+        (jumps.landing label (statement body.now) (counted_point + 1)
+        (machine.Again (statement s.now) counted_point
+        ∷ (machine.Out ∷ todo_of todo.old.items)))
         todo.old todo.new) }
 {
     let inner = together(counted_point, 1)?;
@@ -192,7 +205,10 @@ fn seek_in_for<'a>(
 ) -> Result<Option<Landing>, AllocError>
     ensures { IfOk result
         (lands_at
-        (jumps.landing label (statement body.now) (counted_point + 1 + counted_points_in (statement_list first.now)) (machine.Again (statement s.now) counted_point ∷ (machine.Out ∷ todo_of todo.old.items)))
+        (jumps.landing label (statement body.now)
+        (counted_point + 1 + counted_points_in (statement_list first.now))
+        (machine.Again (statement s.now) counted_point
+        ∷ (machine.Out ∷ todo_of todo.old.items)))
         todo.old todo.new) }
 {
     let inner = point_of_body(counted_point, first)?;
@@ -209,7 +225,10 @@ fn seek_in_loop<'a>(
     counted_point: u64,
     todo: &mut Vec<Item<'a>>,
 ) -> Result<Option<Landing>, AllocError>
-    ensures { IfOk result (lands_at (jumps.landing label (statement body.now) inner (machine.Again (statement s.now) counted_point ∷ (machine.Out ∷ todo_of todo.old.items))) todo.old todo.new) }
+    ensures { IfOk result
+        (lands_at (jumps.landing label (statement body.now) inner
+        (machine.Again (statement s.now) counted_point
+        ∷ (machine.Out ∷ todo_of todo.old.items))) todo.old todo.new) }
 {
     put_first(todo, Item::Out)?;
     put_first(todo, Item::Statement(StmtStep::Again, s, counted_point))?;
@@ -231,7 +250,9 @@ fn seek_in_switch<'a>(
     counted_point: u64,
     todo: &mut Vec<Item<'a>>,
 ) -> Result<Option<Landing>, AllocError>
-    ensures { IfOk result (lands_at (jumps.landing_in label (statement_list statements.now) counted_point (machine.Out ∷ todo_of todo.old.items)) todo.old todo.new) }
+    ensures { IfOk result
+        (lands_at (jumps.landing_in label (statement_list statements.now) counted_point
+        (machine.Out ∷ todo_of todo.old.items)) todo.old todo.new) }
 {
     put_first(todo, Item::Out)?;
     match seek_in(label, statements, counted_point, todo)? {
@@ -251,7 +272,9 @@ fn seek_in<'a>(
     counted_point: u64,
     todo: &mut Vec<Item<'a>>,
 ) -> Result<Option<Landing>, AllocError>
-    ensures { IfOk result (lands_at (jumps.landing_in label (statement_list statements.now) counted_point (todo_of todo.old.items)) todo.old todo.new) }
+    ensures { IfOk result
+        (lands_at (jumps.landing_in label (statement_list statements.now) counted_point
+        (todo_of todo.old.items)) todo.old todo.new) }
 {
     put_statements(todo, statements, counted_point)?;
     let mut at = counted_point;

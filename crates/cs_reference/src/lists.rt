@@ -14,7 +14,8 @@ use std::alloc::AllocError;
 
 /// Puts a thing before what is to be done.
 pub fn put_first<'a>(todo: &mut Vec<Item<'a>>, item: Item<'a>) -> Result<(), AllocError>
-    ensures { OnOk result (todo_of todo.new.items ≡ item_of item.entry ∷ todo_of todo.old.items) }
+    ensures { OnOk result (todo_of todo.new.items
+        ≡ item_of item.entry ∷ todo_of todo.old.items) }
 {
     todo.push(item)?;
     Ok(())
@@ -53,14 +54,18 @@ pub fn drop_to_again(todo: &mut Vec<Item>)
 
 // Whether `break` leads there.
 fn is_out(item: &Item) -> bool
-    ensures { (following : List machine.Item) → jumps.broken_out (item_of item.now ∷ following) ≡ (if result then following else jumps.broken_out following) }
+    ensures { (following : List machine.Item)
+        → jumps.broken_out (item_of item.now ∷ following)
+        ≡ (if result then following else jumps.broken_out following) }
 {
     matches!(item, Item::Out)
 }
 
 // Whether `continue` leads there.
 fn is_again(item: &Item) -> bool
-    ensures { (following : List machine.Item) → jumps.continued (item_of item.now ∷ following) ≡ (if result then item_of item.now ∷ following else jumps.continued following) }
+    ensures { (following : List machine.Item)
+        → jumps.continued (item_of item.now ∷ following)
+        ≡ (if result then item_of item.now ∷ following else jumps.continued following) }
 {
     matches!(item, Item::Statement(StmtStep::Again, _, _))
 }
@@ -71,7 +76,8 @@ pub fn put_statements<'a>(
     statements: &'a [Stmt],
     counted_point: u64,
 ) -> Result<(), AllocError>
-    ensures { OnOk result (todo_of todo.new.items ≡ jumps.executes (statement_list statements.now) counted_point (todo_of todo.old.items)) }
+    ensures { OnOk result (todo_of todo.new.items
+        ≡ jumps.executes (statement_list statements.now) counted_point (todo_of todo.old.items)) }
 {
     let mut following = together(counted_point, counted_points_in(statements)?)?;
     let mut left = statements.len();

@@ -23,7 +23,8 @@ use std::alloc::AllocError;
 impl<'a> Runner<'a> {
     /// The newest value, which is a test's or a `switch`'s, says the way.
     pub fn decide(&mut self, s: &'a Stmt, counted_point: u64) -> Result<(), Stop>
-        ensures { Performs self.old self.new result (meaning.decide (statement s.now) counted_point (state_in self.old)) }
+        ensures { Performs self.old self.new result
+            (meaning.decide (statement s.now) counted_point (state_in self.old)) }
     {
         match &*s.kind {
             StmtKind::If(_, body) => self.decide_if(s.place, body, counted_point),
@@ -55,7 +56,10 @@ impl<'a> Runner<'a> {
 
     // A statement is executed where the newest value holds.
     fn decide_if(&mut self, place: Place, body: &'a Stmt, counted_point: u64) -> Result<(), Stop>
-        ensures { Performs self.old self.new result (decides place (machine.Execute (statement body.now) counted_point ∷ (state_in self.old).frame.todo) (state_in self.old).frame.todo (state_in self.old)) }
+        ensures { Performs self.old self.new result
+            (decides place (machine.Execute (statement body.now) counted_point
+            ∷ (state_in self.old).frame.todo) (state_in self.old).frame.todo
+            (state_in self.old)) }
     {
         if self.machine.test(&mut self.log, self.setting, place)? {
             put_stmt(&mut self.machine, StmtStep::Execute, body, counted_point)?;
@@ -71,7 +75,12 @@ impl<'a> Runner<'a> {
         other: &'a Stmt,
         counted_point: u64,
     ) -> Result<(), Stop>
-        ensures { Performs self.old self.new result (decides place (machine.Execute (statement body.now) counted_point ∷ (state_in self.old).frame.todo) (machine.Execute (statement other.now) (counted_point + points.counted_points (statement body.now)) ∷ (state_in self.old).frame.todo) (state_in self.old)) }
+        ensures { Performs self.old self.new result
+            (decides place (machine.Execute (statement body.now) counted_point
+            ∷ (state_in self.old).frame.todo)
+            (machine.Execute (statement other.now)
+            (counted_point + points.counted_points (statement body.now))
+            ∷ (state_in self.old).frame.todo) (state_in self.old)) }
     {
         if self.machine.test(&mut self.log, self.setting, place)? {
             put_stmt(&mut self.machine, StmtStep::Execute, body, counted_point)?;
@@ -90,7 +99,10 @@ impl<'a> Runner<'a> {
         body: &'a Stmt,
         inner: u64,
     ) -> Result<(), Stop>
-        ensures { Performs self.old self.new result (decides s.now.place (machine.Execute (statement body.now) inner ∷ (machine.Again (statement s.now) counted_point ∷ (state_in self.old).frame.todo)) (state_in self.old).frame.todo (state_in self.old)) }
+        ensures { Performs self.old self.new result
+            (decides s.now.place (machine.Execute (statement body.now) inner
+            ∷ (machine.Again (statement s.now) counted_point ∷ (state_in self.old).frame.todo))
+            (state_in self.old).frame.todo (state_in self.old)) }
     {
         if self.machine.test(&mut self.log, self.setting, s.place)? {
             put_body(&mut self.machine, s, counted_point, body, inner)?;
@@ -100,7 +112,10 @@ impl<'a> Runner<'a> {
 
     // A loop turns where the newest value holds.
     fn decide_turn(&mut self, s: &'a Stmt, counted_point: u64) -> Result<(), Stop>
-        ensures { Performs self.old self.new result (decides s.now.place (machine.Turn (statement s.now) counted_point ∷ (state_in self.old).frame.todo) (state_in self.old).frame.todo (state_in self.old)) }
+        ensures { Performs self.old self.new result
+            (decides s.now.place (machine.Turn (statement s.now) counted_point
+            ∷ (state_in self.old).frame.todo) (state_in self.old).frame.todo
+            (state_in self.old)) }
     {
         if self.machine.test(&mut self.log, self.setting, s.place)? {
             put_stmt(&mut self.machine, StmtStep::Turn, s, counted_point)?;
@@ -110,7 +125,9 @@ impl<'a> Runner<'a> {
 
     /// The head of a loop is reached; any other statement has none.
     pub fn turn(&mut self, s: &'a Stmt, counted_point: u64) -> Result<(), Stop>
-        ensures { Performs self.old self.new result (meaning.turn (budgets_of self.old) (statement s.now) counted_point (state_in self.old)) }
+        ensures { Performs self.old self.new result
+            (meaning.turn (budgets_of self.old) (statement s.now) counted_point
+            (state_in self.old)) }
     {
         match &*s.kind {
             StmtKind::While(test, _) => self.turn_to_test(s, counted_point, test),
@@ -136,7 +153,11 @@ impl<'a> Runner<'a> {
 
     // The head of a loop is reached, and then its test is evaluated.
     fn turn_to_test(&mut self, s: &'a Stmt, counted_point: u64, test: &'a Expr) -> Result<(), Stop>
-        ensures { Performs self.old self.new result (turns (budgets_of self.old) s.now.place counted_point (machine.Evaluate (typed test.now) ∷ (machine.Decide (statement s.now) counted_point ∷ (state_in self.old).frame.todo)) (state_in self.old)) }
+        ensures { Performs self.old self.new result
+            (turns (budgets_of self.old) s.now.place counted_point
+            (machine.Evaluate (typed test.now)
+            ∷ (machine.Decide (statement s.now) counted_point ∷ (state_in self.old).frame.todo))
+            (state_in self.old)) }
     {
         put_test(&mut self.machine, test, s, counted_point)?;
         self.reach_counted_point(s.place, PointKind::Head, counted_point)
@@ -150,7 +171,11 @@ impl<'a> Runner<'a> {
         body: &'a Stmt,
         inner: u64,
     ) -> Result<(), Stop>
-        ensures { Performs self.old self.new result (turns (budgets_of self.old) s.now.place counted_point (machine.Execute (statement body.now) inner ∷ (machine.Again (statement s.now) counted_point ∷ (state_in self.old).frame.todo)) (state_in self.old)) }
+        ensures { Performs self.old self.new result
+            (turns (budgets_of self.old) s.now.place counted_point
+            (machine.Execute (statement body.now) inner
+            ∷ (machine.Again (statement s.now) counted_point ∷ (state_in self.old).frame.todo))
+            (state_in self.old)) }
     {
         put_body(&mut self.machine, s, counted_point, body, inner)?;
         self.reach_counted_point(s.place, PointKind::Head, counted_point)
@@ -163,7 +188,9 @@ pub fn go_again<'a>(
     s: &'a Stmt,
     counted_point: u64,
 ) -> Result<(), AllocError>
-    ensures { OnOk result (state_of state.new ≡ machine.to_do (meaning.again (statement s.now) counted_point (state_of state.old).frame.todo) (state_of state.old)) }
+    ensures { OnOk result (state_of state.new
+        ≡ machine.to_do (meaning.again (statement s.now) counted_point
+        (state_of state.old).frame.todo) (state_of state.old)) }
 {
     match &*s.kind {
         StmtKind::While(_, _) => put_stmt(state, StmtStep::Turn, s, counted_point),
@@ -181,7 +208,9 @@ pub fn go_again<'a>(
 
 // The last part of a `for`, whose value is dropped.
 fn put_last<'a>(state: &mut Machine<'a>, last: Option<&'a Expr>) -> Result<(), AllocError>
-    ensures { OnOk result (state_of state.new ≡ machine.to_do (meaning.last_part (option_map typed (option_copied last.entry)) (state_of state.old).frame.todo) (state_of state.old)) }
+    ensures { OnOk result (state_of state.new
+        ≡ machine.to_do (meaning.last_part (option_map typed (option_copied last.entry))
+        (state_of state.old).frame.todo) (state_of state.old)) }
 {
     match last {
         Some(last) => {

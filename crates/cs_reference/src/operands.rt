@@ -11,8 +11,10 @@ use std::alloc::AllocError;
 /// Takes so many of the newest operands, the oldest of them first.
 #[tactic(auto, using(crate::proofs::Stacks::stacks), unfolding(cs_run_state::specs::MachineView::state_of))]
 pub fn pop_newest(state: &mut Machine, count: usize) -> Result<Vec<Operand>, AllocError>
-    ensures operands { IfOk result (λ taken. map operand_of taken.items ≡ machine.newest count (state_of state.old)) }
-    ensures state { IfOk result (λ _. state_of state.new ≡ machine.pop_many count (state_of state.old)) }
+    ensures operands { IfOk result (λ taken.
+        map operand_of taken.items ≡ machine.newest count (state_of state.old)) }
+    ensures state { IfOk result (λ _.
+        state_of state.new ≡ machine.pop_many count (state_of state.old)) }
 {
     let left = state.frame.stack.len().saturating_sub(count);
     let taken = state.frame.stack.split_off(left)?;

@@ -33,8 +33,14 @@ pub fn outside_result<'a>(
     call: u64,
 ) -> Result<Operand, Stop>
     requires { IsLaidOut setting.now.program.now.model setting.now.program.now.table.list }
-    ensures ok { IfOk result (λ given. GivesBoth setting.now log.old log.new (calls.outside_result (typed_program setting.now.program.now) (type_of returns.entry) call (memory_of memory.old)) (memory_of memory.new) (operand_of given)) }
-    ensures err { IfErr result (StopsInBoth setting.now log.old log.new (calls.outside_result (typed_program setting.now.program.now) (type_of returns.entry) call (memory_of memory.old))) }
+    ensures ok { IfOk result (λ given.
+        GivesBoth setting.now log.old log.new
+        (calls.outside_result (typed_program setting.now.program.now) (type_of returns.entry) call
+        (memory_of memory.old)) (memory_of memory.new) (operand_of given)) }
+    ensures err { IfErr result
+        (StopsInBoth setting.now log.old log.new
+        (calls.outside_result (typed_program setting.now.program.now) (type_of returns.entry) call
+        (memory_of memory.old))) }
     ensures counts { IfOk result (λ _. KeepsCounts memory.old memory.new) }
 {
     if gives_nothing(returns) {
@@ -69,8 +75,14 @@ fn received<'a>(
     call: u64,
 ) -> Result<Operand, Stop>
     requires { IsLaidOut setting.now.program.now.model setting.now.program.now.table.list }
-    ensures ok { IfOk result (λ given. GivesBoth setting.now log.old log.new (received_result (typed_program setting.now.program.now) (type_of returns.entry) call (memory_of memory.old)) (memory_of memory.new) (operand_of given)) }
-    ensures err { IfErr result (StopsInBoth setting.now log.old log.new (received_result (typed_program setting.now.program.now) (type_of returns.entry) call (memory_of memory.old))) }
+    ensures ok { IfOk result (λ given.
+        GivesBoth setting.now log.old log.new
+        (received_result (typed_program setting.now.program.now) (type_of returns.entry) call
+        (memory_of memory.old)) (memory_of memory.new) (operand_of given)) }
+    ensures err { IfErr result
+        (StopsInBoth setting.now log.old log.new
+        (received_result (typed_program setting.now.program.now) (type_of returns.entry) call
+        (memory_of memory.old))) }
     ensures counts { IfOk result (λ _. KeepsCounts memory.old memory.new) }
 {
     let path = root_path(*memory.heap.allocator(), Root::Call(call));
@@ -88,8 +100,14 @@ pub fn write_arguments<'a>(
     written: &[bool],
     arguments: &[Operand],
 ) -> Result<(), Stop>
-    ensures ok { OnOk result (Gives setting.now log.old log.new (calls.write_arguments (typed_program setting.now.program.now) place call 0 written.now (map operand_of arguments.now) (memory_of memory.old)) (memory_of memory.new)) }
-    ensures err { IfErr result (StopsIn setting.now log.old log.new (calls.write_arguments (typed_program setting.now.program.now) place call 0 written.now (map operand_of arguments.now) (memory_of memory.old))) }
+    ensures ok { OnOk result
+        (Gives setting.now log.old log.new
+        (calls.write_arguments (typed_program setting.now.program.now) place call 0 written.now
+        (map operand_of arguments.now) (memory_of memory.old)) (memory_of memory.new)) }
+    ensures err { IfErr result
+        (StopsIn setting.now log.old log.new
+        (calls.write_arguments (typed_program setting.now.program.now) place call 0 written.now
+        (map operand_of arguments.now) (memory_of memory.old))) }
     ensures counts { OnOk result (KeepsCounts memory.old memory.new) }
 {
     let mut argument = 0;
@@ -113,8 +131,15 @@ fn write_argument<'a>(
     path: Path,
     argument: &Operand,
 ) -> Result<(), Stop>
-    ensures ok { OnOk result (Gives setting.now log.old log.new (calls.write_through (typed_program setting.now.program.now) place path (machine.cell_of (operand_of argument.now)) (memory_of memory.old)) (memory_of memory.new)) }
-    ensures err { IfErr result (StopsIn setting.now log.old log.new (calls.write_through (typed_program setting.now.program.now) place path (machine.cell_of (operand_of argument.now)) (memory_of memory.old))) }
+    ensures ok { OnOk result
+        (Gives setting.now log.old log.new
+        (calls.write_through (typed_program setting.now.program.now) place path
+        (machine.cell_of (operand_of argument.now)) (memory_of memory.old))
+        (memory_of memory.new)) }
+    ensures err { IfErr result
+        (StopsIn setting.now log.old log.new
+        (calls.write_through (typed_program setting.now.program.now) place path
+        (machine.cell_of (operand_of argument.now)) (memory_of memory.old))) }
     ensures counts { OnOk result (KeepsCounts memory.old memory.new) }
 {
     match argument {
@@ -133,8 +158,14 @@ fn write_through<'a>(
     path: Path,
     pointer: &Cell,
 ) -> Result<(), Stop>
-    ensures ok { OnOk result (Gives setting.now log.old log.new (calls.write_through (typed_program setting.now.program.now) place path (cell_of pointer.now) (memory_of memory.old)) (memory_of memory.new)) }
-    ensures err { IfErr result (StopsIn setting.now log.old log.new (calls.write_through (typed_program setting.now.program.now) place path (cell_of pointer.now) (memory_of memory.old))) }
+    ensures ok { OnOk result
+        (Gives setting.now log.old log.new
+        (calls.write_through (typed_program setting.now.program.now) place path
+        (cell_of pointer.now) (memory_of memory.old)) (memory_of memory.new)) }
+    ensures err { IfErr result
+        (StopsIn setting.now log.old log.new
+        (calls.write_through (typed_program setting.now.program.now) place path
+        (cell_of pointer.now) (memory_of memory.old))) }
     ensures counts { OnOk result (KeepsCounts memory.old memory.new) }
 {
     match pointer {
@@ -159,7 +190,9 @@ fn overwrite(
     object: &Object,
     path: Path,
 ) -> Result<(), AllocError>
-    ensures memory { OnOk result (memory_of memory.new ≡ meaning.changed (calls.overwrite (typed_program program.now) (object_of object.now) path) (object_of object.now) (memory_of memory.old)) }
+    ensures memory { OnOk result (memory_of memory.new
+        ≡ meaning.changed (calls.overwrite (typed_program program.now) (object_of object.now)
+        path) (object_of object.now) (memory_of memory.old)) }
     ensures counts { OnOk result (KeepsCounts memory.old memory.new) }
 {
     match memory.block(object) {
@@ -175,7 +208,8 @@ fn overwrite(
 
 // Whether what a block holds may be written by a function without a body.
 fn is_writable(program: &Program, object: &Object, standing: Standing) -> bool
-    ensures { result ≡ calls.is_writable (typed_program program.now) (object_of object.now) standing }
+    ensures { result ≡ calls.is_writable (typed_program program.now) (object_of object.now)
+        standing }
 {
     match standing {
         Standing::Live => !is_constant(program, object),

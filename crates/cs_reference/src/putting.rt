@@ -19,7 +19,9 @@ pub fn put_stmt<'a>(
     s: &'a Stmt,
     counted_point: u64,
 ) -> Result<(), AllocError>
-    ensures { OnOk result (state_of state.new ≡ machine.to_do (statement_item step (statement s.now) counted_point ∷ (state_of state.old).frame.todo) (state_of state.old)) }
+    ensures { OnOk result (state_of state.new
+        ≡ machine.to_do (statement_item step (statement s.now) counted_point
+        ∷ (state_of state.old).frame.todo) (state_of state.old)) }
 {
     state.put(Item::Statement(step, s, counted_point))?;
     Ok(())
@@ -32,7 +34,9 @@ pub fn put_all<'a>(
     statements: &'a [Stmt],
     counted_point: u64,
 ) -> Result<(), AllocError>
-    ensures { OnOk result (state_of state.new ≡ machine.to_do (jumps.executes (statement_list statements.now) counted_point (state_of state.old).frame.todo) (state_of state.old)) }
+    ensures { OnOk result (state_of state.new
+        ≡ machine.to_do (jumps.executes (statement_list statements.now) counted_point
+        (state_of state.old).frame.todo) (state_of state.old)) }
 {
     put_statements(&mut state.frame.todo, statements, counted_point)?;
     Ok(())
@@ -45,7 +49,10 @@ pub fn put_test<'a>(
     s: &'a Stmt,
     counted_point: u64,
 ) -> Result<(), AllocError>
-    ensures { OnOk result (state_of state.new ≡ machine.to_do (machine.Evaluate (typed test.now) ∷ (machine.Decide (statement s.now) counted_point ∷ (state_of state.old).frame.todo)) (state_of state.old)) }
+    ensures { OnOk result (state_of state.new
+        ≡ machine.to_do (machine.Evaluate (typed test.now)
+        ∷ (machine.Decide (statement s.now) counted_point ∷ (state_of state.old).frame.todo))
+        (state_of state.old)) }
 {
     put_stmt(state, StmtStep::Decide, s, counted_point)?;
     state.put_expr(ExprStep::Evaluate, test)?;
@@ -58,7 +65,9 @@ pub fn put_loop<'a>(
     s: &'a Stmt,
     counted_point: u64,
 ) -> Result<(), AllocError>
-    ensures { OnOk result (state_of state.new ≡ machine.to_do (machine.Turn (statement s.now) counted_point ∷ (machine.Out ∷ (state_of state.old).frame.todo)) (state_of state.old)) }
+    ensures { OnOk result (state_of state.new
+        ≡ machine.to_do (machine.Turn (statement s.now) counted_point
+        ∷ (machine.Out ∷ (state_of state.old).frame.todo)) (state_of state.old)) }
 {
     state.put(Item::Out)?;
     put_stmt(state, StmtStep::Turn, s, counted_point)?;
@@ -73,7 +82,10 @@ pub fn put_body<'a>(
     body: &'a Stmt,
     inner: u64,
 ) -> Result<(), AllocError>
-    ensures { OnOk result (state_of state.new ≡ machine.to_do (machine.Execute (statement body.now) inner ∷ (machine.Again (statement s.now) counted_point ∷ (state_of state.old).frame.todo)) (state_of state.old)) }
+    ensures { OnOk result (state_of state.new
+        ≡ machine.to_do (machine.Execute (statement body.now) inner
+        ∷ (machine.Again (statement s.now) counted_point ∷ (state_of state.old).frame.todo))
+        (state_of state.old)) }
 {
     put_stmt(state, StmtStep::Again, s, counted_point)?;
     put_stmt(state, StmtStep::Execute, body, inner)?;

@@ -22,7 +22,9 @@ pub struct Ended {
 /// Runs a function of a program as the reference machine does, until the run ends.
 pub fn run(alloc: Global, setting: &Setting, entry: u32) -> Result<Ended, AllocError>
     requires { IsLaidOut setting.now.program.now.model setting.now.program.now.table.list }
-    ensures { IfOk result (λ ended. RunGives (typed_program setting.now.program.now) entry (run_of setting.now) setting.now.budgets ended.outcome (log_of ended.log)) }
+    ensures { IfOk result (λ ended.
+        RunGives (typed_program setting.now.program.now) entry (run_of setting.now)
+        setting.now.budgets ended.outcome (log_of ended.log)) }
 {
     let mut runner = Runner {
         machine: start(alloc, setting, entry)?,

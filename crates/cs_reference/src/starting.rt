@@ -31,7 +31,9 @@ pub fn start<'a>(
     entry: u32,
 ) -> Result<Machine<'a>, AllocError>
     requires { IsLaidOut setting.now.program.now.model setting.now.program.now.table.list }
-    ensures { IfOk result (λ machine. state_of machine ≡ steps.start (typed_program setting.now.program.now) (number_at setting.now.inputs.now) entry) }
+    ensures { IfOk result (λ machine.
+        state_of machine ≡ steps.start (typed_program setting.now.program.now)
+        (number_at setting.now.inputs.now) entry) }
 {
     match setting.program.functions.get(entry as usize) {
         Some(function) => start_function(alloc, setting, entry, function),
@@ -47,7 +49,9 @@ fn start_function<'a>(
     function: &'a Function,
 ) -> Result<Machine<'a>, AllocError>
     requires { IsLaidOut setting.now.program.now.model setting.now.program.now.table.list }
-    ensures { IfOk result (λ machine. state_of machine ≡ steps.started (typed_program setting.now.program.now) (number_at setting.now.inputs.now) entry (routine function.now)) }
+    ensures { IfOk result (λ machine.
+        state_of machine ≡ steps.started (typed_program setting.now.program.now)
+        (number_at setting.now.inputs.now) entry (routine function.now)) }
 {
     let mut memory = static_memory(alloc, setting.program)?;
     let parameters = parameters_of(function);
@@ -70,7 +74,9 @@ fn start_nowhere<'a>(
     entry: u32,
 ) -> Result<Machine<'a>, AllocError>
     requires { IsLaidOut setting.now.program.now.model setting.now.program.now.table.list }
-    ensures { IfOk result (λ machine. state_of machine ≡ steps.started (typed_program setting.now.program.now) (number_at setting.now.inputs.now) entry (meaning.no_routine meaning.NOWHERE)) }
+    ensures { IfOk result (λ machine.
+        state_of machine ≡ steps.started (typed_program setting.now.program.now)
+        (number_at setting.now.inputs.now) entry (meaning.no_routine meaning.NOWHERE)) }
 {
     let mut memory = static_memory(alloc, setting.program)?;
     memory.add_frame(Vec::new(alloc))?;
@@ -86,7 +92,8 @@ fn start_nowhere<'a>(
 // The file-scope objects and the literals.
 fn static_memory(alloc: Global, program: &Program) -> Result<Memory<'_>, AllocError>
     requires { IsLaidOut program.now.model program.now.table.list }
-    ensures memory { IfOk result (λ memory. memory_of memory ≡ steps.static_memory (typed_program program.now)) }
+    ensures memory { IfOk result (λ memory.
+        memory_of memory ≡ steps.static_memory (typed_program program.now)) }
     ensures frames { IfOk result (λ memory. memory.frames.items ≡ []) }
     ensures heap { IfOk result (λ memory. memory.heap.items ≡ []) }
 {
@@ -102,7 +109,9 @@ fn static_memory(alloc: Global, program: &Program) -> Result<Memory<'_>, AllocEr
 // The file-scope objects.
 fn global_blocks(alloc: Global, program: &Program) -> Result<Vec<Block<'_>>, AllocError>
     requires { IsLaidOut program.now.model program.now.table.list }
-    ensures { IfOk result (λ made. map block_of made.items ≡ map (steps.global_block (typed_program program.now)) (map file_object program.now.globals.items)) }
+    ensures { IfOk result (λ made.
+        map block_of made.items ≡ map (steps.global_block (typed_program program.now))
+        (map file_object program.now.globals.items)) }
 {
     let mut made = Vec::new(alloc);
     for object in &program.globals {
@@ -120,7 +129,9 @@ fn global_fill<'a>(
     object: &'a FileObject,
 ) -> Result<Fill<'a>, AllocError>
     requires { IsLaidOut program.now.model program.now.table.list }
-    ensures { IfOk result (λ fill. fill_of fill ≡ steps.global_fill (typed_program program.now) (file_object object.now) object.now.constant (file_object object.now).initial) }
+    ensures { IfOk result (λ fill.
+        fill_of fill ≡ steps.global_fill (typed_program program.now) (file_object object.now)
+        object.now.constant (file_object object.now).initial) }
 {
     if !object.constant {
         let name = object.name.copy()?;
@@ -137,7 +148,8 @@ fn global_fill<'a>(
 
 // The literals.
 fn literal_blocks(alloc: Global, program: &Program) -> Result<Vec<Block<'_>>, AllocError>
-    ensures { IfOk result (λ made. map block_of made.items ≡ map steps.literal_block program.now.literals.items) }
+    ensures { IfOk result (λ made.
+        map block_of made.items ≡ map steps.literal_block program.now.literals.items) }
 {
     let mut made = Vec::new(alloc);
     for literal in &program.literals {
@@ -179,8 +191,13 @@ fn received<'a>(
     memory: &mut Memory<'a>,
 ) -> Result<Vec<Operand>, AllocError>
     requires { IsLaidOut setting.now.program.now.model setting.now.program.now.table.list }
-    ensures values { IfOk result (λ made. map operand_of made.items ≡ map (steps.received (typed_program setting.now.program.now) (number_at setting.now.inputs.now)) (map variable parameters.now)) }
-    ensures memory { IfOk result (λ _. memory_of memory.new ≡ steps.with_received (typed_program setting.now.program.now) (number_at setting.now.inputs.now) (map variable parameters.now) (memory_of memory.old)) }
+    ensures values { IfOk result (λ made.
+        map operand_of made.items
+        ≡ map (steps.received (typed_program setting.now.program.now)
+        (number_at setting.now.inputs.now)) (map variable parameters.now)) }
+    ensures memory { IfOk result (λ _.
+        memory_of memory.new ≡ steps.with_received (typed_program setting.now.program.now)
+        (number_at setting.now.inputs.now) (map variable parameters.now) (memory_of memory.old)) }
     ensures counts { IfOk result (λ _. KeepsCounts memory.old memory.new) }
 {
     let mut made = Vec::new(alloc);

@@ -25,7 +25,11 @@ impl<'a> Runner<'a> {
     /// A statement begins, the first counted point of which has a number.
     pub fn execute(&mut self, s: &'a Stmt, counted_point: u64) -> Result<(), Stop>
         requires { IsReady self.old }
-        ensures { Performs self.old self.new result (meaning.execute (program_of self.old) (budgets_of self.old) (steps.at_end (machine.routine_of (program_of self.old) (state_in self.old).frame.function)) (statement s.now) counted_point (state_in self.old)) }
+        ensures { Performs self.old self.new result
+            (meaning.execute (program_of self.old) (budgets_of self.old)
+            (steps.at_end (machine.routine_of (program_of self.old)
+            (state_in self.old).frame.function)) (statement s.now) counted_point
+            (state_in self.old)) }
     {
         match &*s.kind {
             StmtKind::Block(statements) => Ok(put_all(
@@ -88,7 +92,10 @@ fn put_for<'a>(
     counted_point: u64,
     first: &'a [Stmt],
 ) -> Result<(), AllocError>
-    ensures { OnOk result (state_of state.new ≡ machine.to_do (jumps.executes (statement_list first.now) (counted_point + 1) (machine.Turn (statement s.now) counted_point ∷ (machine.Out ∷ (state_of state.old).frame.todo))) (state_of state.old)) }
+    ensures { OnOk result (state_of state.new
+        ≡ machine.to_do (jumps.executes (statement_list first.now) (counted_point + 1)
+        (machine.Turn (statement s.now) counted_point
+        ∷ (machine.Out ∷ (state_of state.old).frame.todo))) (state_of state.old)) }
 {
     put_loop(state, s, counted_point)?;
     put_all(state, first, together(counted_point, 1)?)?;
@@ -102,7 +109,10 @@ fn put_switch<'a>(
     counted_point: u64,
     value: &'a Expr,
 ) -> Result<(), AllocError>
-    ensures { OnOk result (state_of state.new ≡ machine.to_do (machine.Evaluate (typed value.now) ∷ (machine.Decide (statement s.now) counted_point ∷ (machine.Out ∷ (state_of state.old).frame.todo))) (state_of state.old)) }
+    ensures { OnOk result (state_of state.new
+        ≡ machine.to_do (machine.Evaluate (typed value.now)
+        ∷ (machine.Decide (statement s.now) counted_point
+        ∷ (machine.Out ∷ (state_of state.old).frame.todo))) (state_of state.old)) }
 {
     state.put(Item::Out)?;
     put_test(state, value, s, counted_point)?;
@@ -111,7 +121,9 @@ fn put_switch<'a>(
 
 // An expression is evaluated, and its value dropped.
 fn put_run<'a>(state: &mut Machine<'a>, e: &'a Expr) -> Result<(), AllocError>
-    ensures { OnOk result (state_of state.new ≡ machine.to_do (machine.EvaluateUnused (typed e.now) ∷ (machine.Drop ∷ (state_of state.old).frame.todo)) (state_of state.old)) }
+    ensures { OnOk result (state_of state.new
+        ≡ machine.to_do (machine.EvaluateUnused (typed e.now)
+        ∷ (machine.Drop ∷ (state_of state.old).frame.todo)) (state_of state.old)) }
 {
     state.put(Item::Discard)?;
     state.put_expr(ExprStep::EvaluateUnused, e)?;
@@ -124,7 +136,9 @@ fn put_return<'a>(
     place: Place,
     value: Option<&'a Expr>,
 ) -> Result<(), AllocError>
-    ensures { OnOk result (state_of state.new ≡ meaning.returns place (option_map typed (option_copied value.entry)) (state_of state.old)) }
+    ensures { OnOk result (state_of state.new
+        ≡ meaning.returns place (option_map typed (option_copied value.entry))
+        (state_of state.old)) }
 {
     state.put(Item::Give(place))?;
     match value {

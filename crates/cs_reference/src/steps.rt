@@ -27,7 +27,8 @@ impl<'a> Runner<'a> {
     /// One step.
     pub fn step(&mut self) -> Result<(), Stop>
         requires { IsReady self.old }
-        ensures { Performs self.old self.new result (steps.step (program_of self.old) (budgets_of self.old) (state_in self.old)) }
+        ensures { Performs self.old self.new result
+            (steps.step (program_of self.old) (budgets_of self.old) (state_in self.old)) }
     {
         match self.machine.next() {
             Some(item) => self.perform(item),
@@ -38,7 +39,9 @@ impl<'a> Runner<'a> {
     // What a thing to do does, with the other things left to be done.
     fn perform(&mut self, item: Item<'a>) -> Result<(), Stop>
         requires { IsReady self.old }
-        ensures { Performs self.old self.new result (steps.do_item (program_of self.old) (budgets_of self.old) (item_of item.entry) (state_in self.old)) }
+        ensures { Performs self.old self.new result
+            (steps.do_item (program_of self.old) (budgets_of self.old) (item_of item.entry)
+            (state_in self.old)) }
     {
         match item {
             Item::Expression(step, e) => self.perform_expr(step, e),
@@ -79,7 +82,9 @@ impl<'a> Runner<'a> {
     // A step of an expression.
     fn perform_expr(&mut self, step: ExprStep, e: &'a Expr) -> Result<(), Stop>
         requires { IsReady self.old }
-        ensures { Performs self.old self.new result (steps.do_item (program_of self.old) (budgets_of self.old) (expression_item step (typed e.now)) (state_in self.old)) }
+        ensures { Performs self.old self.new result
+            (steps.do_item (program_of self.old) (budgets_of self.old)
+            (expression_item step (typed e.now)) (state_in self.old)) }
     {
         match step {
             ExprStep::Evaluate => {
@@ -99,7 +104,9 @@ impl<'a> Runner<'a> {
     // A step of a statement.
     fn perform_stmt(&mut self, step: StmtStep, s: &'a Stmt, counted_point: u64) -> Result<(), Stop>
         requires { IsReady self.old }
-        ensures { Performs self.old self.new result (steps.do_item (program_of self.old) (budgets_of self.old) (statement_item step (statement s.now) counted_point) (state_in self.old)) }
+        ensures { Performs self.old self.new result
+            (steps.do_item (program_of self.old) (budgets_of self.old)
+            (statement_item step (statement s.now) counted_point) (state_in self.old)) }
     {
         match step {
             StmtStep::Execute => self.execute(s, counted_point),
@@ -114,7 +121,9 @@ impl<'a> Runner<'a> {
 
     // The end of a function's body is reached.
     fn come_to_end(&mut self, place: Place, ty: BlockType) -> Result<(), Stop>
-        ensures { Performs self.old self.new result (steps.do_item (program_of self.old) (budgets_of self.old) (machine.End place (calls.falls_off (type_of ty.entry))) (state_in self.old)) }
+        ensures { Performs self.old self.new result
+            (steps.do_item (program_of self.old) (budgets_of self.old)
+            (machine.End place (calls.falls_off (type_of ty.entry))) (state_in self.old)) }
     {
         self.log.touch(Touch::Meets(PointKind::End, place))?;
         self.machine.push(falls_off(ty))?;
@@ -126,7 +135,8 @@ impl<'a> Runner<'a> {
 // Nothing is left to be done but to leave the frame.
 #[tactic(auto, using(cs_run_state::proofs::States::states), unfolding(cs_run_state::specs::MachineView::state_of))]
 fn leave_next(state: &mut Machine) -> Result<(), AllocError>
-    ensures { OnOk result (state_of state.new ≡ machine.to_do (machine.Leave ∷ []) (state_of state.old)) }
+    ensures { OnOk result (state_of state.new
+        ≡ machine.to_do (machine.Leave ∷ []) (state_of state.old)) }
 {
     state.frame.todo.clear();
     state.frame.todo.push(Item::Leave)?;

@@ -35,7 +35,11 @@ impl<'a> Runner<'a> {
         statements: &'a [Stmt],
         counted_point: u64,
     ) -> Result<(), Stop>
-        ensures { Performs self.old self.new result (meaning.switch_to place (statement_list statements.now) counted_point (meaning.chosen_case cases.now (statement_list statements.now) (meaning.case_of cases.now (number_in (machine.cell_at (state_in self.old) 0)) 0)) (machine.pop (state_in self.old))) }
+        ensures { Performs self.old self.new result
+            (meaning.switch_to place (statement_list statements.now) counted_point
+            (meaning.chosen_case cases.now (statement_list statements.now)
+            (meaning.case_of cases.now (number_in (machine.cell_at (state_in self.old) 0)) 0))
+            (machine.pop (state_in self.old))) }
     {
         let number = self.machine.pop_cell().number();
         let chosen = chosen_case(cases, statements, number)?;
@@ -54,7 +58,9 @@ fn put_from<'a>(
     number: u32,
     counted_point: u64,
 ) -> Result<(), AllocError>
-    ensures { OnOk result (state_of state.new ≡ machine.to_do (meaning.executes_from number (statement_list statements.now) counted_point (state_of state.old).frame.todo) (state_of state.old)) }
+    ensures { OnOk result (state_of state.new
+        ≡ machine.to_do (meaning.executes_from number (statement_list statements.now)
+        counted_point (state_of state.old).frame.todo) (state_of state.old)) }
 {
     let number = number as usize;
     if number <= statements.len() {
@@ -70,7 +76,9 @@ fn put_from<'a>(
 
 // The case that a `switch` takes: that of its number, else `default`, else none, which leads after all statements.
 fn chosen_case(cases: &[Case], statements: &[Stmt], number: i128) -> Result<Chosen, AllocError>
-    ensures { IfOk result (λ chosen. chosen_of chosen ≡ meaning.chosen_case cases.now (statement_list statements.now) (meaning.case_of cases.now number 0)) }
+    ensures { IfOk result (λ chosen.
+        chosen_of chosen ≡ meaning.chosen_case cases.now (statement_list statements.now)
+        (meaning.case_of cases.now number 0)) }
 {
     match case_of(cases, number)? {
         Some(chosen) => Ok(chosen),
@@ -80,7 +88,8 @@ fn chosen_case(cases: &[Case], statements: &[Stmt], number: i128) -> Result<Chos
 
 // The case that a `switch` takes where none stands for its number.
 fn otherwise(cases: &[Case], statements: &[Stmt]) -> Result<Chosen, AllocError>
-    ensures { IfOk result (λ chosen. chosen_of chosen ≡ meaning.chosen_case cases.now (statement_list statements.now) None) }
+    ensures { IfOk result (λ chosen.
+        chosen_of chosen ≡ meaning.chosen_case cases.now (statement_list statements.now) None) }
 {
     let number = values_in(cases)?;
     let following = count_of(statements)?;
@@ -98,7 +107,8 @@ fn count_of(statements: &[Stmt]) -> Result<u32, AllocError>
 
 // The case that stands for a number.
 fn case_of(cases: &[Case], number: i128) -> Result<Option<Chosen>, AllocError>
-    ensures { IfOk result (λ found. option_map chosen_of found ≡ meaning.case_of cases.now number 0) }
+    ensures { IfOk result (λ found.
+        option_map chosen_of found ≡ meaning.case_of cases.now number 0) }
 {
     let mut count: u32 = 0;
     for case in cases {
@@ -131,7 +141,8 @@ fn values_in(cases: &[Case]) -> Result<u32, AllocError>
 
 // Where `default` leads, if there is one.
 fn default_item(cases: &[Case]) -> Option<u32>
-    ensures { (otherwise : ℕ) → meaning.default_item cases.now otherwise ≡ unwrap_or result otherwise }
+    ensures { (otherwise : ℕ)
+        → meaning.default_item cases.now otherwise ≡ unwrap_or result otherwise }
 {
     for case in cases {
         if case.value.is_none() {

@@ -19,7 +19,9 @@ impl<'a> Runner<'a> {
         kind: PointKind,
         counted_point: u64,
     ) -> Result<(), Stop>
-        ensures { Performs self.old self.new result (meaning.reach_counted_point (budgets_of self.old) place kind counted_point (state_in self.old)) }
+        ensures { Performs self.old self.new result
+            (meaning.reach_counted_point (budgets_of self.old) place kind counted_point
+            (state_in self.old)) }
     {
         match visits_of(&self.machine, counted_point) {
             Some(count) => {

@@ -1,5 +1,6 @@
 -- The places of keys in a list in which each stands once: for the contract of `number_of`.
-use Rattle.std.proofs.Common.{◌≡◌, ◌⊎◌, ◌+◌, ℕ, zero, suc, Bool, true, false, Some, List, [], ◌∷◌, ◌++◌, slice_get, refl, sym, ap, ◌∙◌, inl, inr, subst, true≢false, arith}
+use Rattle.std.proofs.Common.{◌≡◌, ◌⊎◌, ◌+◌, ℕ, zero, suc, Bool, true, false, Some, List, [], ◌∷◌, ◌++◌, slice_get, refl, sym, ap}
+use Rattle.std.proofs.Common.{◌∙◌, inl, inr, subst, true≢false, arith}
 use Rattle.std.specs.List.{Contains, IsDistinct, position_or_len, AllByRecursion}
 use Rattle.std.specs.Map.{keys_of}
 use Rattle.std.proofs.lemmas.Option.{none-some, same_Some}

@@ -21,11 +21,18 @@ abbrev pub at_block : ℕ → Position
 at_block block = record { block = block; done = 0 }
 
 -- the first state of the reference machine, in the frame of an entry's graph instead
-pub started_is : (code : Code) (program : TypedProgram) (inputs : Path → ℤ) (entry : ℕ) (routine : Routine) (block : ℕ) (machine : Machine) (frame : f.Frame) → block ≡ (unwrap_or (flow_of (view.code code) entry) no_flow).entry → frame_of frame ≡ begun entry 0 (unwrap_or (flow_of (view.code code) entry) no_flow).counted_points → state_of machine ≡ started program inputs entry routine → code_state (point_of code (at_block block)) [] (state_of (record machine { frame = frame })) ≡ code_started (view.code code) program inputs entry routine
+pub started_is : (code : Code) (program : TypedProgram) (inputs : Path
+    → ℤ) (entry : ℕ) (routine : Routine) (block : ℕ) (machine : Machine) (frame : f.Frame)
+    → block ≡ (unwrap_or (flow_of (view.code code) entry) no_flow).entry
+    → frame_of frame ≡ begun entry 0 (unwrap_or (flow_of (view.code code) entry) no_flow).counted_points
+    → state_of machine ≡ started program inputs entry routine
+    → code_state (point_of code (at_block block)) [] (state_of (record machine { frame = frame }))
+    ≡ code_started (view.code code) program inputs entry routine
 unfolding state_of
 started_is code program inputs entry routine block machine frame at is begins =
     let flow : Flow = unwrap_or (flow_of (view.code code) entry) no_flow in
-    let reported : Point → Frame → State → CodeState = λ p one m. record { frame = at_point p one; callers = []; memory = m.memory; frames = m.frames; allocations = m.allocations; calls = m.calls } in
+    let reported : Point → Frame → State → CodeState =
+    λ p one m. record { frame = at_point p one; callers = []; memory = m.memory; frames = m.frames; allocations = m.allocations; calls = m.calls } in
     ap (λ (one : Frame). reported (point_of code (at_block block) one.function) one (state_of machine)) is
     ∙ (ap (λ (b : ℕ). reported (block_of flow b) (begun entry 0 flow.counted_points) (state_of machine)) at
     ∙ ap (λ (m : State). reported (block_of flow flow.entry) (begun entry 0 flow.counted_points) m) begins)

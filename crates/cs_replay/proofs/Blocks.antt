@@ -5,7 +5,8 @@ use Rattle.std.specs.Slice.{IsItemAt}
 use Rattle.std.proofs.lemmas.Option.{slice_get-get_or}
 
 -- what is left after so many elements, where there is one more
-pub after_one : {X Y : Type 0} (seen : X → Y) (xs : List X) (n : ℕ) (x : X) → slice_get xs n ≡ Some x → drop n (map seen xs) ≡ seen x ∷ drop (n + 1) (map seen xs)
+pub after_one : {X Y : Type 0} (seen : X → Y) (xs : List X) (n : ℕ) (x : X) → slice_get xs n ≡ Some x
+    → drop n (map seen xs) ≡ seen x ∷ drop (n + 1) (map seen xs)
 after_one seen [] n x is = cc
 after_one seen (y ∷ ys) zero x is =
     let same : y ≡ x = cc in

@@ -50,30 +50,39 @@ module _ (course : Course) where
     pub few : steps ≤ course.ends.0
     pub left : HasLeft step_of goes_by steps (next_of run)
 
-  pub begins : (run : Replayer) → run.runner.setting.now ≡ course.setting.now → run.code.now ≡ course.code.now → state_in run ≡ first_of → log_of run.runner.log ≡ empty → OnWay run
+  pub begins : (run : Replayer) → run.runner.setting.now ≡ course.setting.now → run.code.now ≡ course.code.now → state_in run ≡ first_of
+      → log_of run.runner.log ≡ empty → OnWay run
   begins run setting code state log = record {
     setting = setting;
     code = code;
     leads = stays (sym state) (sym log);
     steps = course.ends.0;
     few = omega arith;
-    left = subst (λ (m : CodeState). HasLeft step_of goes_by course.ends.0 (perform goes_by (log_of run.runner.log) (step_of m))) (sym state) (subst (λ (l : Log). HasLeft step_of goes_by course.ends.0 (perform goes_by l (step_of first_of))) (sym log) course.ends.1);
+    left = subst (λ (m : CodeState). HasLeft step_of goes_by course.ends.0 (perform goes_by (log_of run.runner.log) (step_of m))) (sym state)
+        (subst (λ (l : Log). HasLeft step_of goes_by course.ends.0 (perform goes_by l (step_of first_of))) (sym log) course.ends.1);
   }
 
   -- it is ready for a step where the course's program is laid out and has its graphs
-  pub ready : (run : Replayer) → OnWay run → IsLaidOut course.setting.now.program.now.model course.setting.now.program.now.table.list → HasGraphs (view.code course.code.now) (typed_program course.setting.now.program.now) → IsReady run
+  pub ready : (run : Replayer) → OnWay run → IsLaidOut course.setting.now.program.now.model course.setting.now.program.now.table.list
+      → HasGraphs (view.code course.code.now) (typed_program course.setting.now.program.now) → IsReady run
   ready run way laid_out graphs = record {
     laid_out = subst (λ (s : Setting). IsLaidOut s.program.now.model s.program.now.table.list) (sym way.setting) laid_out;
-    graphs = subst (λ (k : Code). HasGraphs (view.code k) (typed_program run.runner.setting.now.program.now)) (sym way.code) (subst (λ (s : Setting). HasGraphs (view.code course.code.now) (typed_program s.program.now)) (sym way.setting) graphs);
+    graphs = subst (λ (k : Code). HasGraphs (view.code k) (typed_program run.runner.setting.now.program.now)) (sym way.code)
+        (subst (λ (s : Setting). HasGraphs (view.code course.code.now) (typed_program s.program.now)) (sym way.setting) graphs);
   }
 
   -- what the run's step comes to is what that of the course does
-  comes_to : (run : Replayer) (done : Performed CodeState) → OnWay run → perform (setting_of run.runner.setting.now) (log_of run.runner.log) (code_step (code_of run) (program_of run) (budgets_of run) (state_in run)) ≡ done → next_of run ≡ done
+  comes_to : (run : Replayer) (done : Performed CodeState) → OnWay run
+      → perform (setting_of run.runner.setting.now) (log_of run.runner.log) (code_step (code_of run) (program_of run) (budgets_of run) (state_in run))
+      ≡ done → next_of run ≡ done
   comes_to run done way e =
-      let at : Setting → Code → Type 0 = λ s k. perform (setting_of s) (log_of run.runner.log) (code_step (view.code k) (typed_program s.program.now) s.budgets (state_in run)) ≡ done in
+      let at : Setting → Code → Type 0 = λ s k.
+      perform (setting_of s) (log_of run.runner.log) (code_step (view.code k) (typed_program s.program.now) s.budgets (state_in run)) ≡ done in
       subst (λ (k : Code). at course.setting.now k) way.code (subst (λ (s : Setting). at s run.code.now) way.setting e)
 
-  module _ (run new : Replayer) (way : OnWay run) (kept : KeepsSetting run new) (leads : perform (setting_of run.runner.setting.now) (log_of run.runner.log) (code_step (code_of run) (program_of run) (budgets_of run) (state_in run)) ≡ Continues (state_in new) (log_of new.runner.log)) where
+  module _ (run new : Replayer) (way : OnWay run) (kept : KeepsSetting run new)
+      (leads : perform (setting_of run.runner.setting.now) (log_of run.runner.log) (code_step (code_of run) (program_of run) (budgets_of run) (state_in run))
+      ≡ Continues (state_in new) (log_of new.runner.log)) where
     -- after a step it is still on its way
     pub goes_on : OnWay new
     goes_on =
@@ -105,5 +114,14 @@ module _ (course : Course) where
         omega arith
 
   -- a run that finishes has the end that the code's run has
-  pub gives : (run : Replayer) (outcome : Outcome) (end : Log) → OnWay run → perform (setting_of run.runner.setting.now) (log_of run.runner.log) (code_step (code_of run) (program_of run) (budgets_of run) (state_in run)) ≡ Finishes outcome end → CodeGives (view.code course.code.now) (typed_program course.setting.now.program.now) course.entry (run_of course.setting.now) course.setting.now.budgets outcome end
-  gives run outcome end way e = record { last = state_in run; before = log_of run.runner.log; leads = way.leads; finishes = comes_to run (Finishes outcome end) way e }
+  pub gives : (run : Replayer) (outcome : Outcome) (end : Log) → OnWay run
+      → perform (setting_of run.runner.setting.now) (log_of run.runner.log) (code_step (code_of run) (program_of run) (budgets_of run) (state_in run))
+      ≡ Finishes outcome end
+      → CodeGives (view.code course.code.now) (typed_program course.setting.now.program.now) course.entry (run_of course.setting.now)
+      course.setting.now.budgets outcome end
+  gives run outcome end way e = record {
+    last = state_in run;
+    before = log_of run.runner.log;
+    leads = way.leads;
+    finishes = comes_to run (Finishes outcome end) way e;
+  }

@@ -1,5 +1,6 @@
 -- Temporaries below a number, which are kept with the newest last: for the contract of `cut`.
-use Rattle.std.proofs.Common.{◌≡◌, ℕ, ◌-◌, ◌≤◌, nat_le, Bool, true, false, List, map, take, drop, reverse, length, sym, ap, ◌∙◌, refl, arith}
+use Rattle.std.proofs.Common.{◌≡◌, ℕ, ◌-◌, ◌≤◌, nat_le, Bool, true, false, List, map, take, drop, reverse, length, sym, ap, ◌∙◌, refl}
+use Rattle.std.proofs.Common.{arith}
 use Rattle.std.proofs.lemmas.Bool.Decides.{nat_tests}
 use Rattle.std.proofs.lemmas.List.{length-map, length-reverse, take_all}
 use Rattle.cs_reference.proofs.Stacks.{older_of}
@@ -18,7 +19,8 @@ first_are xs n = at (nat_le n (length xs)) refl
         take_all (length xs - (length xs - n)) xs (omega arith) ∙ sym (take_all n xs past)
 
 -- those below a number
-pub below_are : {X Y : Type 0} (seen : X → Y) (xs : List X) (n : ℕ) → reverse (map seen (take n xs)) ≡ drop (length (reverse (map seen xs)) - n) (reverse (map seen xs))
+pub below_are : {X Y : Type 0} (seen : X → Y) (xs : List X) (n : ℕ)
+    → reverse (map seen (take n xs)) ≡ drop (length (reverse (map seen xs)) - n) (reverse (map seen xs))
 below_are seen xs n =
     let long : length (reverse (map seen xs)) ≡ length xs = length-reverse (map seen xs) ∙ length-map xs seen in
     ap (λ (l : List _). reverse (map seen l)) (sym (first_are xs n))

@@ -16,16 +16,28 @@ use Rattle.cs_replay.specs.FrameChanges.{inside_with}
 use Rattle.cs_reference.proofs.Locals.{locals_are}
 
 -- the run in a new frame, which is as it should be
-pub entered_is : (code : Code) (program : TypedProgram) (function : ℕ) (flow : Flow) (routine : Routine) (arguments : List Operand) (frame : Frame) (locals : ℕ → Option Block) (m : CodeState) → frame ≡ begun function m.frames flow.counted_points → flow_of code function ≡ Some flow → ((n : ℕ) → locals n ≡ option_map (local_block program (slice_get arguments n)) (slice_get routine.variables n)) → inside_with (block_in code frame.function flow.entry) frame locals m ≡ inside program (code_frame function flow m.frames) routine arguments m
+pub entered_is : (code : Code) (program : TypedProgram) (function : ℕ) (flow : Flow) (routine : Routine) (arguments : List Operand) (frame : Frame)
+    (locals : ℕ → Option Block) (m : CodeState) → frame ≡ begun function m.frames flow.counted_points → flow_of code function ≡ Some flow
+    → ((n : ℕ) → locals n ≡ option_map (local_block program (slice_get arguments n)) (slice_get routine.variables n))
+    → inside_with (block_in code frame.function flow.entry) frame locals m ≡ inside program (code_frame function flow m.frames) routine arguments m
 entered_is code program function flow routine arguments frame locals m is there are =
     let new = begun function m.frames flow.counted_points in
     ap (λ (f : Frame). inside_with (block_in code f.function flow.entry) f locals m) is
     ∙ (ap (λ (found : Option Flow). inside_with (block_of (unwrap_or found no_flow) flow.entry) new locals m) there
-    ∙ ap (λ (memory : Memory). record m { frame = at_point (block_of flow flow.entry) new; callers = m.frame ∷ m.callers; memory = memory; frames = m.frames + 1 }) (locals_are program m.frames routine.variables arguments locals m.memory are))
+    ∙ ap (λ (memory : Memory).
+    record m {
+      frame = at_point (block_of flow flow.entry) new;
+      callers = m.frame ∷ m.callers;
+      memory = memory;
+      frames = m.frames + 1;
+    }) (locals_are program m.frames routine.variables arguments locals m.memory are))
 
-module _ (program : TypedProgram) (budgets : RunBudgets) (at : Place) (function count : ℕ) (routine : Routine) (found : Option Flow) (m left : CodeState) (arguments : List Operand) where
+module _ (program : TypedProgram) (budgets : RunBudgets) (at : Place) (function count : ℕ) (routine : Routine) (found : Option Flow) (m left : CodeState)
+    (arguments : List Operand) where
   -- a call of a function with a graph
-  pub enters_is : (flow : Flow) → found ≡ Some flow → arguments ≡ newest count m → left ≡ pop_many count m → call_flow program budgets at function routine found (newest count m) (pop_many count m) ≡ enter_as program budgets (code_frame function flow) at function routine arguments left
+  pub enters_is : (flow : Flow) → found ≡ Some flow → arguments ≡ newest count m → left ≡ pop_many count m
+      → call_flow program budgets at function routine found (newest count m) (pop_many count m)
+      ≡ enter_as program budgets (code_frame function flow) at function routine arguments left
   enters_is flow there were is =
       ap (λ (f : Option Flow). call_flow program budgets at function routine f (newest count m) (pop_many count m)) there
       ∙ (ap (λ (l : List Operand). enter_as program budgets (code_frame function flow) at function routine l (pop_many count m)) (sym were)

@@ -14,6 +14,12 @@ use Rattle.cs_replay.specs.FrameChanges.{inside_with}
 use Rattle.cs_replay.specs.Points.{point_of}
 use Rattle.cs_replay.specs.ReplayerView.{caller_of, callers_of}
 
-pub inside_state : (code : Code) (before new : Position) (machine : Machine) (frame : Frame) (callers following : List Caller) (memory : Memory) (locals : ℕ → Option meaning.Block) → callers_of code callers ≡ caller_of code (record { frame = machine.frame; position = before }) ∷ callers_of code following → memory_of memory ≡ with_frame (length machine.memory.frames.items) locals (memory_of machine.memory) → length memory.frames.items ≡ length machine.memory.frames.items + 1 → length memory.heap.items ≡ length machine.memory.heap.items → code_state (point_of code new) (callers_of code callers) (state_of (record machine { frame = frame; memory = memory })) ≡ inside_with (point_of code new frame.function) (frame_of frame) locals (code_state (point_of code before) (callers_of code following) (state_of machine))
+pub inside_state : (code : Code) (before new : Position) (machine : Machine) (frame : Frame) (callers following : List Caller) (memory : Memory) (locals : ℕ
+    → Option meaning.Block) → callers_of code callers ≡ caller_of code (record { frame = machine.frame; position = before }) ∷ callers_of code following
+    → memory_of memory ≡ with_frame (length machine.memory.frames.items) locals (memory_of machine.memory)
+    → length memory.frames.items ≡ length machine.memory.frames.items + 1 → length memory.heap.items ≡ length machine.memory.heap.items
+    → code_state (point_of code new) (callers_of code callers) (state_of (record machine { frame = frame; memory = memory }))
+    ≡ inside_with (point_of code new frame.function) (frame_of frame) locals
+    (code_state (point_of code before) (callers_of code following) (state_of machine))
 unfolding state_of
 inside_state code before new machine frame callers following memory locals called is f a = cc

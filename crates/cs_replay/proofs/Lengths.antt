@@ -27,7 +27,8 @@ module _ {State : Type 0} (step : State → Act State) (setting : Setting) where
     pub one_more : steps ≡ suc fewer
     pub left : HasLeft step setting fewer (perform setting later (step next))
 
-  pub one_less : (steps : ℕ) (done : Performed State) (next : State) (later : Log) → done ≡ Continues next later → HasLeft step setting steps done → OneLess steps next later
+  pub one_less : (steps : ℕ) (done : Performed State) (next : State) (later : Log) → done ≡ Continues next later → HasLeft step setting steps done
+      → OneLess steps next later
   one_less zero (Finishes outcome log) next later e left = cc
   one_less (suc steps) (Finishes outcome log) next later e left = cc
   one_less zero (Continues other log) next later e left = absurd left
@@ -37,7 +38,8 @@ module _ {State : Type 0} (step : State → Act State) (setting : Setting) where
       record {
         fewer = steps;
         one_more = refl;
-        left = subst (λ (l : Log). HasLeft step setting steps (perform setting l (step next))) same_log (subst (λ (x : State). HasLeft step setting steps (perform setting log (step x))) same left);
+        left = subst (λ (l : Log). HasLeft step setting steps (perform setting l (step next))) same_log
+            (subst (λ (x : State). HasLeft step setting steps (perform setting log (step x))) same left);
       }
 
   -- a run that ends has a number of steps
@@ -45,12 +47,17 @@ module _ {State : Type 0} (step : State → Act State) (setting : Setting) where
   finished_left (Finishes o l) outcome end e = tt
   finished_left (Continues next log) outcome end e = cc
 
-  more_left : (done : Performed State) (next : State) (later : Log) → done ≡ Continues next later → (steps : ℕ) → HasLeft step setting steps (perform setting later (step next)) → HasLeft step setting (suc steps) done
+  more_left : (done : Performed State) (next : State) (later : Log) → done ≡ Continues next later
+      → (steps : ℕ) → HasLeft step setting steps (perform setting later (step next)) → HasLeft step setting (suc steps) done
   more_left done next later e steps left = subst (λ (d : Performed State). HasLeft step setting (suc steps) d) (sym e) left
 
-  length_by : {m last : State} {log before end : Log} {outcome : Outcome} → Leads step setting m log last before → perform setting before (step last) ≡ Finishes outcome end → HasLength step setting m log
-  length_by {m = m} {log = log} {before = before} {end = end} {outcome = outcome} (stays e f) finish =
-      (zero, finished_left (perform setting log (step m)) outcome end ((ap (λ (l : Log). perform setting l (step m)) f ∙ ap (λ (x : State). perform setting before (step x)) e) ∙ finish))
+  length_by : {m last : State} {log before end : Log} {outcome : Outcome} → Leads step setting m log last before
+      → perform setting before (step last) ≡ Finishes outcome end → HasLength step setting m log
+  length_by {m = m} {log = log} {before = before} {end = end} {outcome = outcome} (stays e f) finish = (
+    zero,
+    finished_left (perform setting log (step m)) outcome end
+        ((ap (λ (l : Log). perform setting l (step m)) f ∙ ap (λ (x : State). perform setting before (step x)) e) ∙ finish),
+  )
   length_by {m = m} {log = log} (goes {next = next} {later = later} s way) finish =
       let rest = length_by way finish in
       (suc rest.0, more_left (perform setting log (step m)) next later s rest.0 rest.1)

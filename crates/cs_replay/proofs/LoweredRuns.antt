@@ -15,12 +15,14 @@ use Rattle.cs_replay.specs.RunLengths.{HasLength}
 use Rattle.cs_replay.proofs.Lengths.{has_length}
 
 -- a body is there where a graph is
-has_body : (flow : Option Flow) (body : Option Statement) (found : Flow) → is_there flow ≡ is_there body → flow ≡ Some found → (b : Statement) × (body ≡ Some b)
+has_body : (flow : Option Flow) (body : Option Statement) (found : Flow) → is_there flow ≡ is_there body → flow ≡ Some found
+    → (b : Statement) × (body ≡ Some b)
 has_body None body found same there = cc
 has_body (Some flow) None found same there = cc
 has_body (Some flow) (Some b) found same there = (b, refl)
 
-module _ (code : Code) (program : TypedProgram) (entry : ℕ) (run : ProgramRun) (budgets : RunBudgets) (found : Flow) (lowered : IsLowered code program) (there : flow_of code entry ≡ Some found) where
+module _ (code : Code) (program : TypedProgram) (entry : ℕ) (run : ProgramRun) (budgets : RunBudgets) (found : Flow) (lowered : IsLowered code program)
+    (there : flow_of code entry ≡ Some found) where
   -- the run of an entry with a graph ends
   pub lowered_ends : HasLength (code_step code program budgets) (setting_of program run budgets) (code_start code program entry run) empty
   lowered_ends =

@@ -3,7 +3,8 @@ use Rattle.std.proofs.Common.{◌≡◌, Bool, true, false, if◌then◌else◌,
 use Rattle.cs_events.specs.declared.outcome.Outcome.{Outcome}
 use Rattle.cs_events.specs.Operations.{is_true}
 use Rattle.cs_events.specs.Acts.{Act}
-use Rattle.cs_events.specs.Runs.{Setting, Log, Performed, Continues, Finishes, perform, with_event, with_read, with_touch, has_room, operation_event, number_of, allocation_event, access_event}
+use Rattle.cs_events.specs.Runs.{Setting, Log, Performed, Continues, Finishes, perform, with_event, with_read, with_touch, has_room, operation_event, number_of}
+use Rattle.cs_events.specs.Runs.{allocation_event, access_event}
 use Rattle.cs_events.specs.Simulation.{Yields, both_go, both_stop, both_read, both_ask, both_allocate, both_reach, both_touch}
 
 -- a state is another one seen in some way
@@ -16,7 +17,8 @@ module _ {S T : Type 0} (seen : S → T) where
   seen_so (Continues next log) = Continues (seen next) log
   seen_so (Finishes outcome log) = Finishes outcome log
 
-  if_room : (room : Bool) (a : Performed S) (b : Performed T) (outcome : Outcome) (log : Log) → b ≡ seen_so a → (if room then b else Finishes outcome log) ≡ seen_so (if room then a else Finishes outcome log)
+  if_room : (room : Bool) (a : Performed S) (b : Performed T) (outcome : Outcome) (log : Log) → b ≡ seen_so a
+      → (if room then b else Finishes outcome log) ≡ seen_so (if room then a else Finishes outcome log)
   if_room true a b outcome log same = same
   if_room false a b outcome log same = refl
 
@@ -26,17 +28,21 @@ module _ {S T : Type 0} (seen : S → T) where
   performs setting log both_stop = refl
   performs setting log (both_read {path = path} same) = performs setting (with_read log path) (same (setting.inputs path))
   performs setting log (both_ask {at = at} {operation = operation} same) =
-      if_room (has_room setting log) _ _ _ log (performs setting (with_event log (operation_event setting log at operation)) (same (number_of setting log operation)))
+      if_room (has_room setting log) _ _ _ log
+      (performs setting (with_event log (operation_event setting log at operation)) (same (number_of setting log operation)))
   performs setting log (both_allocate {at = at} {path = path} same) =
-      if_room (has_room setting log) _ _ _ log (performs setting (with_event (with_read log path) (allocation_event setting at path)) (same (is_true (setting.inputs path))))
+      if_room (has_room setting log) _ _ _ log
+      (performs setting (with_event (with_read log path) (allocation_event setting at path)) (same (is_true (setting.inputs path))))
   performs setting log (both_reach {at = at} {offset = offset} same) =
       if_room (has_room setting log) _ _ _ log (performs setting (with_event log (access_event at offset)) same)
   performs setting log (both_touch {touch = touch} same) = performs setting (with_touch log touch) same
 
   -- where one act leads on, so does the other
-  pub leads_so : (setting : Setting) (log later : Log) (a : Act S) (b : Act T) (m : S) → Yields (Seen seen) a b → perform setting log a ≡ Continues m later → perform setting log b ≡ Continues (seen m) later
+  pub leads_so : (setting : Setting) (log later : Log) (a : Act S) (b : Act T) (m : S) → Yields (Seen seen) a b
+      → perform setting log a ≡ Continues m later → perform setting log b ≡ Continues (seen m) later
   leads_so setting log later a b m same leads = performs setting log same ∙ ap seen_so leads
 
   -- where one act ends the run, so does the other
-  pub finishes_so : (setting : Setting) (log later : Log) (a : Act S) (b : Act T) (outcome : Outcome) → Yields (Seen seen) a b → perform setting log a ≡ Finishes outcome later → perform setting log b ≡ Finishes outcome later
+  pub finishes_so : (setting : Setting) (log later : Log) (a : Act S) (b : Act T) (outcome : Outcome) → Yields (Seen seen) a b
+      → perform setting log a ≡ Finishes outcome later → perform setting log b ≡ Finishes outcome later
   finishes_so setting log later a b outcome same ends = performs setting log same ∙ ap seen_so ends

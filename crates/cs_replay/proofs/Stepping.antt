@@ -20,8 +20,11 @@ use Rattle.cs_replay.specs.ReplayerView.{program_of, budgets_of, code_of, state_
 
 module _ (code : Code) (program : TypedProgram) (budgets : RunBudgets) (m : CodeState) where
   -- an operation comes next
-  pub step_works : (operation : Operation) (following : Point) → m.frame.todo ≡ before operation following → code_step code program budgets m ≡ do_operation code program budgets operation (to_do following m)
-  step_works operation following is = subst (λ (p : Point). code_step code program budgets (to_do p m) ≡ do_operation code program budgets operation (to_do following (to_do p m))) (sym is) refl
+  pub step_works : (operation : Operation) (following : Point) → m.frame.todo ≡ before operation following
+      → code_step code program budgets m ≡ do_operation code program budgets operation (to_do following m)
+  step_works operation following is =
+      subst (λ (p : Point). code_step code program budgets (to_do p m) ≡ do_operation code program budgets operation (to_do following (to_do p m))) (sym is)
+      refl
 
   -- the end of the block comes next
   pub step_ends : (end : BlockEnd) → m.frame.todo ≡ record { operations = []; end = end } → code_step code program budgets m ≡ do_end code end m
@@ -39,21 +42,26 @@ next_of run position = point_of run.code.now position run.runner.machine.frame.f
 abbrev pub one_more : Replayer → Position
 one_more run = record run.position { done = run.position.done + 1 }
 
-module _ (old moved new : Replayer) (operation : Operation) (is : moved ≡ record old { position = one_more old }) (next : next_of old old.position ≡ before operation (next_of old (one_more old))) where
-  works_next : code_step (code_of old) (program_of old) (budgets_of old) (state_in old) ≡ do_operation (code_of old) (program_of old) (budgets_of old) operation (state_in (record old { position = one_more old }))
+module _ (old moved new : Replayer) (operation : Operation) (is : moved ≡ record old { position = one_more old })
+    (next : next_of old old.position ≡ before operation (next_of old (one_more old))) where
+  works_next : code_step (code_of old) (program_of old) (budgets_of old) (state_in old)
+      ≡ do_operation (code_of old) (program_of old) (budgets_of old) operation (state_in (record old { position = one_more old }))
   unfolding state_of
   works_next = step_works (code_of old) (program_of old) (budgets_of old) (state_in old) operation (next_of old (one_more old)) next
 
   -- where the operation after it leads on, so does the step
-  pub leads_after : LeadsOn moved new (do_operation (code_of moved) (program_of moved) (budgets_of moved) operation (state_in moved)) → LeadsOn old new (code_step (code_of old) (program_of old) (budgets_of old) (state_in old))
+  pub leads_after : LeadsOn moved new (do_operation (code_of moved) (program_of moved) (budgets_of moved) operation (state_in moved))
+      → LeadsOn old new (code_step (code_of old) (program_of old) (budgets_of old) (state_in old))
   leads_after leads =
       ap (λ (act : Act CodeState). perform (setting_of old.runner.setting.now) (log_of old.runner.log) act) works_next
       ∙ subst (λ (run : Replayer). LeadsOn run new (do_operation (code_of run) (program_of run) (budgets_of run) operation (state_in run))) is leads
 
   -- where it ends the run, so does the step
-  pub ends_after : (stop : Stop) → Ends moved new (do_operation (code_of moved) (program_of moved) (budgets_of moved) operation (state_in moved)) stop → Ends old new (code_step (code_of old) (program_of old) (budgets_of old) (state_in old)) stop
+  pub ends_after : (stop : Stop) → Ends moved new (do_operation (code_of moved) (program_of moved) (budgets_of moved) operation (state_in moved)) stop
+      → Ends old new (code_step (code_of old) (program_of old) (budgets_of old) (state_in old)) stop
   ends_after stop ends =
-      let ended_so = subst (λ (run : Replayer). Ends run new (do_operation (code_of run) (program_of run) (budgets_of run) operation (state_in run)) stop) is ends in
+      let ended_so = subst (λ (run : Replayer). Ends run new (do_operation (code_of run) (program_of run) (budgets_of run) operation (state_in run)) stop) is
+      ends in
       subst (λ (act : Act CodeState). Ends old new act stop) (sym works_next) ended_so
 
   pub kept_after : KeepsSetting moved new → KeepsSetting old new

@@ -10,7 +10,14 @@ at_point p frame = record { function = frame.function; number = frame.number; to
 
 -- a state whose frame has come to a point of its function, with these callers
 abbrev pub code_state : (ℕ → Point) → List (CallFrame Point) → State → CodeState
-code_state p callers m = record { frame = at_point (p m.frame.function) m.frame; callers = callers; memory = m.memory; frames = m.frames; allocations = m.allocations; calls = m.calls }
+code_state p callers m = record {
+  frame = at_point (p m.frame.function) m.frame;
+  callers = callers;
+  memory = m.memory;
+  frames = m.frames;
+  allocations = m.allocations;
+  calls = m.calls;
+}
 
 -- a frame with nothing to do, in which no counted point was reached of so many
 abbrev pub begun : ℕ → ℕ → ℕ → Frame

@@ -61,7 +61,8 @@ module _ (old new : Replayer) where
 
   -- an act ends the run
   abbrev pub Ends : Act CodeState → Stop → Type 0
-  Ends act stop = perform (setting_of old.runner.setting.now) (log_of old.runner.log) act ≡ ended stop (log_of new.runner.log) (perform (setting_of old.runner.setting.now) (log_of old.runner.log) act)
+  Ends act stop = perform (setting_of old.runner.setting.now) (log_of old.runner.log) act
+      ≡ ended stop (log_of new.runner.log) (perform (setting_of old.runner.setting.now) (log_of old.runner.log) act)
 
   -- the same program, inputs, guesses, budgets and code
   pub record KeepsSetting : Type 0 where

@@ -35,4 +35,5 @@ module _ {State : Type 0} (step : State → Act State) (setting : Setting) where
 
   -- there is one such number at most
   pub HasLength-prop : (m : State) (log : Log) → IsProp (HasLength m log)
-  HasLength-prop m log = λ one other. Σ_prop_path (λ steps. left_prop steps (perform setting log (step m))) (one_left one.0 other.0 (perform setting log (step m)) one.1 other.1)
+  HasLength-prop m log = λ one other.
+      Σ_prop_path (λ steps. left_prop steps (perform setting log (step m))) (one_left one.0 other.0 (perform setting log (step m)) one.1 other.1)

@@ -15,12 +15,15 @@ use Rattle.cs_meaning.specs.Types.{integer_of}
 use Rattle.cs_meaning.specs.Memory.{UnsetFill, ZeroFill, changed}
 use Rattle.cs_meaning.specs.Access.{shows_then, touches_then, load_object, write_operand}
 use Rattle.cs_meaning.specs.Operators.{truth, operate, convert_number, convert, sum, compare, difference, arrow}
-use Rattle.cs_meaning.specs.Machine.{Scalar, Nothing as NoOperand, Running, push, push_cell, pop, pop_many, with_stack, with_memory, operand_at, cell_of, cell_at}
+use Rattle.cs_meaning.specs.Machine.{Scalar, Nothing as NoOperand, Running, push, push_cell, pop, pop_many, with_stack, with_memory, operand_at, cell_of}
+use Rattle.cs_meaning.specs.Machine.{cell_at}
 use Rattle.cs_meaning.specs.CountedPoints.{reach_counted_point}
 use Rattle.cs_meaning.specs.Calls.{allocate, release}
 use Rattle.cs_meaning.specs.Expressions.{pointer_age, amount_age, given, number_at, stores_to, judge, use_result}
 use Rattle.cs_meaning.specs.Statements.{refilled, spell_local}
-use Rattle.cs_cfg.specs.Graph.{Work, Number, Null, Text, Local, Global, Nothing, Sum, Member, Arrow, Load, Convert, Unary, Not, Binary, Compare, Difference, Judge, Store, FetchNumber, Update, FetchPointer, Move, Call, Allocate, Free, Use, Drop, Clear, Zero, StoreLocal, Spell, Reach, Meet, Close}
+use Rattle.cs_cfg.specs.Graph.{Work, Number, Null, Text, Local, Global, Nothing, Sum, Member, Arrow, Load, Convert, Unary, Not, Binary, Compare, Difference}
+use Rattle.cs_cfg.specs.Graph.{Judge, Store, FetchNumber, Update, FetchPointer, Move, Call, Allocate, Free, Use, Drop, Clear, Zero, StoreLocal, Spell, Reach}
+use Rattle.cs_cfg.specs.Graph.{Meet, Close}
 use Rattle.cs_cfg.specs.Working.{below, if_local, closed_with}
 
 -- the machine whose frame has the temporaries below a number alone
@@ -36,10 +39,12 @@ works program budgets at (Local declaration) m = Goes (push_cell (PointerCell (L
 works program budgets at (Global global) m = Goes (push_cell (PointerCell (GlobalObject global) (pos 0)) m)
 works program budgets at Nothing m = Goes (push NoOperand m)
 works program budgets at (Sum bytes direction order) m =
-    sum program.model at (cell_at m (pointer_age order)) (directed direction (number_at m (amount_age order))) bytes (λ cell. Goes (push_cell cell (pop_many 2 m)))
+    sum program.model at (cell_at m (pointer_age order)) (directed direction (number_at m (amount_age order))) bytes
+    (λ cell. Goes (push_cell cell (pop_many 2 m)))
 works program budgets at (Member offset) m = Goes (push_cell (further (cell_at m 0) offset) (pop m))
 works program budgets at (Arrow offset) m = arrow at (cell_at m 0) offset (λ cell. Goes (push_cell cell (pop m)))
-works program budgets at (Load access) m = load_object program m.memory m.frame.number access (cell_at m 0) (λ memory operand. Goes (push operand (with_memory memory (pop m))))
+works program budgets at (Load access) m =
+    load_object program m.memory m.frame.number access (cell_at m 0) (λ memory operand. Goes (push operand (with_memory memory (pop m))))
 works program budgets at (Convert from to) m = convert program.model at from to (operand_at m 0) (λ operand. Goes (push operand (pop m)))
 works program budgets at (Unary operator ty) m = Asks at (operation.Unary operator ty (number_at m 0)) (λ number. Goes (push_cell (NumberCell number) (pop m)))
 works program budgets at Not m = truth at (cell_at m 0) (λ holds. shows_then at (label.Truth (not holds)) (Goes (push_cell (truth_cell (not holds)) (pop m))))

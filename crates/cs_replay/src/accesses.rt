@@ -17,7 +17,8 @@ use cs_types::IntType;
 pub fn load(run: &mut Runner, place: Place, object: &Access) -> Result<(), Stop>
     requires { IsReady run.old }
     ensures { Performs run.old run.new result
-        (works (program_of run.old) (budgets_of run.old) place (graph.Load (access object.now)) (state_in run.old)) }
+        (works (program_of run.old) (budgets_of run.old) place (graph.Load (access object.now))
+        (state_in run.old)) }
 {
     let access = access_to(object);
     run.machine.load_from(&mut run.log, run.setting, access)
@@ -32,7 +33,8 @@ pub fn fetch_number(
 ) -> Result<(), Stop>
     requires { IsReady run.old }
     ensures { Performs run.old run.new result
-        (works (program_of run.old) (budgets_of run.old) place (graph.FetchNumber (access object.now) works_in) (state_in run.old)) }
+        (works (program_of run.old) (budgets_of run.old) place
+        (graph.FetchNumber (access object.now) works_in) (state_in run.old)) }
 {
     let access = access_to(object);
     run.machine
@@ -43,7 +45,8 @@ pub fn fetch_number(
 pub fn fetch_pointer(run: &mut Runner, place: Place, object: &Access) -> Result<(), Stop>
     requires { IsReady run.old }
     ensures { Performs run.old run.new result
-        (works (program_of run.old) (budgets_of run.old) place (graph.FetchPointer (access object.now)) (state_in run.old)) }
+        (works (program_of run.old) (budgets_of run.old) place
+        (graph.FetchPointer (access object.now)) (state_in run.old)) }
 {
     let access = access_to(object);
     run.machine.fetch_pointer(&mut run.log, run.setting, access)
@@ -53,7 +56,8 @@ pub fn fetch_pointer(run: &mut Runner, place: Place, object: &Access) -> Result<
 pub fn assign(run: &mut Runner, place: Place, object: &Access) -> Result<(), Stop>
     requires { IsReady run.old }
     ensures { Performs run.old run.new result
-        (works (program_of run.old) (budgets_of run.old) place (graph.Store (access object.now)) (state_in run.old)) }
+        (works (program_of run.old) (budgets_of run.old) place (graph.Store (access object.now))
+        (state_in run.old)) }
 {
     let access = access_to(object);
     run.machine.assign(&mut run.log, run.setting, place, access)
@@ -70,7 +74,8 @@ pub fn update(
 ) -> Result<(), Stop>
     requires { IsReady run.old }
     ensures { Performs run.old run.new result
-        (works (program_of run.old) (budgets_of run.old) place (graph.Update operator (access object.now) works_in gives) (state_in run.old)) }
+        (works (program_of run.old) (budgets_of run.old) place
+        (graph.Update operator (access object.now) works_in gives) (state_in run.old)) }
 {
     let access = access_to(object);
     run.machine.update(
@@ -95,7 +100,8 @@ pub fn move_pointer(
 ) -> Result<(), Stop>
     requires { IsReady run.old }
     ensures { Performs run.old run.new result
-        (works (program_of run.old) (budgets_of run.old) place (graph.Move (access object.now) bytes direction gives) (state_in run.old)) }
+        (works (program_of run.old) (budgets_of run.old) place
+        (graph.Move (access object.now) bytes direction gives) (state_in run.old)) }
 {
     let access = access_to(object);
     run.machine.move_pointer(

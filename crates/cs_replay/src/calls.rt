@@ -31,7 +31,11 @@ impl<'a> Replayer<'a> {
     /// A call with so many arguments, which are the newest temporaries. A function without a graph has no body.
     pub fn call(&mut self, place: Place, function: u32, count: u32) -> Result<(), Stop>
         requires { IsReady self.old }
-        ensures { Performs self.old self.new result (working.call_flow (program_of self.old) (budgets_of self.old) place function (machine.routine_of (program_of self.old) function) (graph.flow_of (code_of self.old) function) (machine.newest count (state_in self.old)) (machine.pop_many count (state_in self.old))) }
+        ensures { Performs self.old self.new result
+            (working.call_flow (program_of self.old) (budgets_of self.old) place function
+            (machine.routine_of (program_of self.old) function)
+            (graph.flow_of (code_of self.old) function) (machine.newest count (state_in self.old))
+            (machine.pop_many count (state_in self.old))) }
     {
         match flow_at(self.code, function) {
             Some(flow) => {
@@ -55,7 +59,11 @@ impl<'a> Replayer<'a> {
     ) -> Result<(), Stop>
         requires ready { IsReady self.old }
         requires graph { graph.flow_of (code_of self.old) function ≡ Some (view.flow flow.now) }
-        ensures { Performs self.old self.new result (calls.enter_as (program_of self.old) (budgets_of self.old) (working.code_frame function (view.flow flow.now)) place function (machine.routine_of (program_of self.old) function) (map operand_of arguments.items) (state_in self.old)) }
+        ensures { Performs self.old self.new result
+            (calls.enter_as (program_of self.old) (budgets_of self.old)
+            (working.code_frame function (view.flow flow.now)) place function
+            (machine.routine_of (program_of self.old) function) (map operand_of arguments.items)
+            (state_in self.old)) }
     {
         let setting = self.runner.setting;
         if self.callers.len() as u64 >= u64::from(setting.budgets.depth.saturating_sub(1)) {
@@ -81,7 +89,10 @@ impl<'a> Replayer<'a> {
         locals: Vec<Block<'a>>,
         block: u32,
     ) -> Result<(), AllocError>
-        ensures state { OnOk result (state_in self.new ≡ inside_with (graph.block_in (code_of self.old) frame.entry.function block) (frame_of frame.entry) (block_at locals.entry.items) (state_in self.old)) }
+        ensures state { OnOk result
+            (state_in self.new ≡ inside_with
+            (graph.block_in (code_of self.old) frame.entry.function block) (frame_of frame.entry)
+            (block_at locals.entry.items) (state_in self.old)) }
         ensures log { self.new.runner.log ≡ self.old.runner.log }
         ensures kept { OnOk result (KeepsSetting self.old self.new) }
     {
@@ -97,7 +108,8 @@ impl<'a> Replayer<'a> {
 
     /// The frame that runs ends, and gives a value to the one that called it; the run is done where none did.
     pub fn leave(&mut self, value: Operand) -> Result<(), Stop>
-        ensures { Performs self.old self.new result (calls.leave (operand_of value) (state_in self.old)) }
+        ensures { Performs self.old self.new result
+            (calls.leave (operand_of value) (state_in self.old)) }
     {
         match self.pop_caller() {
             Some(caller) => {
@@ -111,7 +123,9 @@ impl<'a> Replayer<'a> {
     // Takes the nearest of the frames that called the one that runs.
     #[tactic(auto, using(cs_run_state::proofs::States::states))]
     fn pop_caller(&mut self) -> Option<Caller<'a>>
-        ensures some { IfSome result (λ caller. state_in self.old ≡ called_by (caller_of self.old.code.now caller) (state_in self.new)) }
+        ensures some { IfSome result (λ caller.
+            state_in self.old ≡ called_by (caller_of self.old.code.now caller)
+            (state_in self.new)) }
         ensures none { IfNone result ((state_in self.old).callers ≡ []) }
         ensures log { self.new.runner ≡ self.old.runner }
         ensures kept { KeepsSetting self.old self.new }
@@ -125,7 +139,9 @@ impl<'a> Replayer<'a> {
     // The frame that runs has ended, and gives a value to this one, which runs on.
     #[tactic(auto, using(cs_run_state::proofs::States::states), unfolding(cs_run_state::specs::MachineView::state_of))]
     fn come_back(&mut self, caller: Caller<'a>, value: Operand) -> Result<(), AllocError>
-        ensures state { OnOk result (state_in self.new ≡ back_in (caller_of self.old.code.now caller.entry) (operand_of value) (state_in self.old)) }
+        ensures state { OnOk result
+            (state_in self.new ≡ back_in (caller_of self.old.code.now caller.entry)
+            (operand_of value) (state_in self.old)) }
         ensures log { self.new.runner.log ≡ self.old.runner.log }
         ensures kept { OnOk result (KeepsSetting self.old self.new) }
     {
@@ -140,7 +156,8 @@ impl<'a> Replayer<'a> {
 
 // The locals of a function, the parameters first; one that isn't there has none.
 fn locals_of(program: &Program, function: u32) -> &[Local]
-    ensures { map variable result.now ≡ (machine.routine_of (typed_program program.now) function).variables }
+    ensures { map variable result.now
+        ≡ (machine.routine_of (typed_program program.now) function).variables }
 {
     match program.functions.get(function as usize) {
         Some(function) => &function.locals,

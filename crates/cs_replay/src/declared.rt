@@ -29,7 +29,9 @@ use std::alloc::AllocError;
 
 /// A local becomes unset, which is a touch where it is a scalar (C11 6.2.4, paragraph 6).
 pub fn clear(run: &mut Runner, place: Place, declaration: u32, scalar: bool) -> Result<(), Stop>
-    ensures { Performs run.old run.new result (works (program_of run.old) (budgets_of run.old) place (graph.Clear declaration scalar) (state_in run.old)) }
+    ensures { Performs run.old run.new result
+        (works (program_of run.old) (budgets_of run.old) place (graph.Clear declaration scalar)
+        (state_in run.old)) }
 {
     let frame = number_of(&run.machine);
     if let Some(local) = if_local(scalar, declaration) {
@@ -41,7 +43,9 @@ pub fn clear(run: &mut Runner, place: Place, declaration: u32, scalar: bool) -> 
 
 /// A local becomes zero, before the pieces of its initializer are stored (C11 6.7.9).
 pub fn zero(run: &mut Runner, place: Place, declaration: u32) -> Result<(), Stop>
-    ensures { Performs run.old run.new result (works (program_of run.old) (budgets_of run.old) place (graph.Zero declaration) (state_in run.old)) }
+    ensures { Performs run.old run.new result
+        (works (program_of run.old) (budgets_of run.old) place (graph.Zero declaration)
+        (state_in run.old)) }
 {
     refill(&mut run.machine, declaration, Fill::Zero)?;
     Ok(())
@@ -57,7 +61,9 @@ pub fn store_local(
     scalar: bool,
 ) -> Result<(), Stop>
     requires { IsReady run.old }
-    ensures { Performs run.old run.new result (works (program_of run.old) (budgets_of run.old) place (graph.StoreLocal declaration offset (shape_of ty.now) scalar) (state_in run.old)) }
+    ensures { Performs run.old run.new result
+        (works (program_of run.old) (budgets_of run.old) place
+        (graph.StoreLocal declaration offset (shape_of ty.now) scalar) (state_in run.old)) }
 {
     let frame = number_of(&run.machine);
     touch_store(&mut run.log, frame, place, if_local(scalar, declaration))?;
@@ -75,7 +81,9 @@ pub fn spell(
     bytes: &[u8],
 ) -> Result<(), Stop>
     requires { IsReady run.old }
-    ensures { Performs run.old run.new result (works (program_of run.old) (budgets_of run.old) place (graph.Spell declaration offset bytes.now) (state_in run.old)) }
+    ensures { Performs run.old run.new result
+        (works (program_of run.old) (budgets_of run.old) place
+        (graph.Spell declaration offset bytes.now) (state_in run.old)) }
 {
     let program = run.setting.program;
     spell_local(&mut run.machine, program, declaration, offset, bytes)?;
@@ -99,7 +107,12 @@ fn store_newest(
     offset: u64,
 ) -> Result<(), AllocError>
     requires { IsLaidOut program.now.model program.now.table.list }
-    ensures { OnOk result (state_of state.new ≡ machine.with_memory (memory.changed (access.write_operand (typed_program program.now) (shape_of ty.now) offset (machine.operand_at (state_of state.old) 0)) (LocalObject (state_of state.old).frame.number declaration) (state_of state.old).memory) (machine.pop (state_of state.old))) }
+    ensures { OnOk result (state_of state.new
+        ≡ machine.with_memory (memory.changed
+        (access.write_operand (typed_program program.now) (shape_of ty.now) offset
+        (machine.operand_at (state_of state.old) 0))
+        (LocalObject (state_of state.old).frame.number declaration) (state_of state.old).memory)
+        (machine.pop (state_of state.old))) }
 {
     let operand = state.pop();
     let object = Object::Local(state.frame.number, declaration);
@@ -111,7 +124,8 @@ fn store_newest(
 
 // A local of the frame that runs holds what a fill gives.
 fn refill<'a>(state: &mut Machine<'a>, declaration: u32, fill: Fill<'a>) -> Result<(), AllocError>
-    ensures { OnOk result (state_of state.new ≡ meaning.refilled (fill_of fill.entry) declaration (state_of state.old)) }
+    ensures { OnOk result (state_of state.new
+        ≡ meaning.refilled (fill_of fill.entry) declaration (state_of state.old)) }
 {
     let local = Object::Local(state.frame.number, declaration);
     state.memory.change(&local, Change::Refill(fill))?;

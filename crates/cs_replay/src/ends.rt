@@ -17,7 +17,8 @@ use cs_run_state::{Cell, Operand, Stop, Touch};
 impl<'a> Replayer<'a> {
     /// The end of a block: to another one, or out of the frame.
     pub fn end_block(&mut self, end: &BlockEnd) -> Result<(), Stop>
-        ensures { Performs self.old self.new result (steps.do_end (code_of self.old) (view.block_end end.now) (state_in self.old)) }
+        ensures { Performs self.old self.new result
+            (steps.do_end (code_of self.old) (view.block_end end.now) (state_in self.old)) }
     {
         match end {
             BlockEnd::Jump(block) => {
@@ -37,7 +38,8 @@ impl<'a> Replayer<'a> {
 
     // The run goes on with a block of the function that runs.
     fn enter_block(&mut self, block: u32)
-        ensures state { state_in self.new ≡ steps.enters (code_of self.old) block (state_in self.old) }
+        ensures state { state_in self.new
+            ≡ steps.enters (code_of self.old) block (state_in self.old) }
         ensures log { self.new.runner.log ≡ self.old.runner.log }
         ensures kept { KeepsSetting self.old self.new }
     {
@@ -46,7 +48,9 @@ impl<'a> Replayer<'a> {
 
     // A test: the way that it takes shows (C11 6.8.4.1, 6.8.5).
     fn branch(&mut self, place: Place, temporary: u32, one: u32, other: u32) -> Result<(), Stop>
-        ensures { Performs self.old self.new result (steps.do_end (code_of self.old) (graph.Branch place temporary one other) (state_in self.old)) }
+        ensures { Performs self.old self.new result
+            (steps.do_end (code_of self.old) (graph.Branch place temporary one other)
+            (state_in self.old)) }
     {
         cut(&mut self.runner.machine, u64::from(temporary) + 1);
         let runner = &mut self.runner;
@@ -64,7 +68,10 @@ impl<'a> Replayer<'a> {
         cases: &[SwitchCase],
         otherwise: u32,
     ) -> Result<(), Stop>
-        ensures { Performs self.old self.new result (steps.do_end (code_of self.old) (graph.Switch place temporary (map view.switch_case cases.now) otherwise) (state_in self.old)) }
+        ensures { Performs self.old self.new result
+            (steps.do_end (code_of self.old)
+            (graph.Switch place temporary (map view.switch_case cases.now) otherwise)
+            (state_in self.old)) }
     {
         cut(&mut self.runner.machine, u64::from(temporary) + 1);
         let number = self.runner.machine.pop_cell().number();
@@ -79,7 +86,8 @@ impl<'a> Replayer<'a> {
 
     // The frame is left with a temporary.
     fn give_back(&mut self, temporary: u32) -> Result<(), Stop>
-        ensures { Performs self.old self.new result (steps.do_end (code_of self.old) (graph.Return temporary) (state_in self.old)) }
+        ensures { Performs self.old self.new result
+            (steps.do_end (code_of self.old) (graph.Return temporary) (state_in self.old)) }
     {
         cut(&mut self.runner.machine, u64::from(temporary) + 1);
         let value = self.runner.machine.pop();

@@ -21,7 +21,8 @@ pub enum Next<'a> {
 
 /// What a frame of a function does next, that has come to a position.
 pub fn next_at(code: &Code, function: u32, position: Position) -> Next<'_>
-    ensures { IsNext result (point_of code.now position function) (point_of code.now (record position { done = position.done + 1 }) function) }
+    ensures { IsNext result (point_of code.now position function)
+        (point_of code.now (record position { done = position.done + 1 }) function) }
 {
     match block_at(code, function, position.block) {
         Some(block) => next_in(block, position.done),
@@ -52,7 +53,8 @@ pub fn flow_at(code: &Code, function: u32) -> Option<&Flow>
 
 // What comes next in a block of which so many things are done.
 fn next_in(block: &Block, done: usize) -> Next<'_>
-    ensures { IsNext result (left_of done (view.block block.now)) (left_of (done + 1) (view.block block.now)) }
+    ensures { IsNext result (left_of done (view.block block.now))
+        (left_of (done + 1) (view.block block.now)) }
 {
     match &block.counted_point {
         Some(counted_point) => {
@@ -68,7 +70,8 @@ fn next_in(block: &Block, done: usize) -> Next<'_>
 
 // The operation with a number in a block, or the block's end.
 fn operation_at(block: &Block, number: usize) -> Next<'_>
-    ensures { IsNext result (left_of number (without_counted_point block.now)) (left_of (number + 1) (without_counted_point block.now)) }
+    ensures { IsNext result (left_of number (without_counted_point block.now))
+        (left_of (number + 1) (without_counted_point block.now)) }
 {
     match block.operations.get(number) {
         Some(operation) => Next::Operation(operation),

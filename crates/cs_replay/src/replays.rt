@@ -45,8 +45,11 @@ pub fn replay(
 ) -> Result<Replayed, ReplayRefusal>
     requires laid_out { IsLaidOut setting.now.program.now.model setting.now.program.now.table.list }
     requires lowered { IsLowered (view.code code.now) (typed_program setting.now.program.now) }
-    ensures gives { IfOk result (λ replayed. meaning.RunGives (typed_program setting.now.program.now) entry (run_of setting.now) setting.now.budgets replayed.outcome (log_of replayed.log)) }
-    ensures no_entry { (result ≡ Err ReplayRefusal.NoEntry) ↔ ((routine_of (typed_program setting.now.program.now) entry).body ≡ None) }
+    ensures gives { IfOk result (λ replayed.
+        meaning.RunGives (typed_program setting.now.program.now) entry (run_of setting.now)
+        setting.now.budgets replayed.outcome (log_of replayed.log)) }
+    ensures no_entry { (result ≡ Err ReplayRefusal.NoEntry)
+        ↔ ((routine_of (typed_program setting.now.program.now) entry).body ≡ None) }
 {
     match flow_at(code, entry) {
         Some(_) => {
@@ -66,9 +69,14 @@ pub fn replay(
 
 // Follows a run to its end.
 fn follow(alloc: Global, course: &Course) -> Result<Replayed, AllocError>
-    requires laid_out { IsLaidOut course.now.setting.now.program.now.model course.now.setting.now.program.now.table.list }
-    requires graphs { HasGraphs (view.code course.now.code.now) (typed_program course.now.setting.now.program.now) }
-    ensures { IfOk result (λ replayed. CodeGives (view.code course.now.code.now) (typed_program course.now.setting.now.program.now) course.now.entry (run_of course.now.setting.now) course.now.setting.now.budgets replayed.outcome (log_of replayed.log)) }
+    requires laid_out { IsLaidOut course.now.setting.now.program.now.model
+        course.now.setting.now.program.now.table.list }
+    requires graphs { HasGraphs (view.code course.now.code.now)
+        (typed_program course.now.setting.now.program.now) }
+    ensures { IfOk result (λ replayed.
+        CodeGives (view.code course.now.code.now) (typed_program course.now.setting.now.program.now)
+        course.now.entry (run_of course.now.setting.now) course.now.setting.now.budgets
+        replayed.outcome (log_of replayed.log)) }
 {
     let mut replayer = begin(alloc, course.setting, course.code, course.entry)?;
     loop {

@@ -30,9 +30,12 @@ pub fn begin<'a>(
     entry: u32,
 ) -> Result<Replayer<'a>, AllocError>
     requires { IsLaidOut setting.now.program.now.model setting.now.program.now.table.list }
-    ensures state { IfOk result (λ run. state_in run ≡ code_start (view.code code.now) (typed_program setting.now.program.now) entry (run_of setting.now)) }
+    ensures state { IfOk result (λ run.
+        state_in run ≡ code_start (view.code code.now) (typed_program setting.now.program.now)
+        entry (run_of setting.now)) }
     ensures log { IfOk result (λ run. log_of run.runner.log ≡ empty) }
-    ensures kept { IfOk result (λ run. (run.runner.setting.now ≡ setting.now) × (run.code.now ≡ code.now)) }
+    ensures kept { IfOk result (λ run.
+        (run.runner.setting.now ≡ setting.now) × (run.code.now ≡ code.now)) }
 {
     let (block, counted_points) = beginning(flow_at(code, entry));
     let mut machine = start(alloc, setting, entry)?;
@@ -55,7 +58,8 @@ pub fn begin<'a>(
 // The block in which a graph begins, and how many counted points it has.
 fn beginning(flow: Option<&Flow>) -> (u32, u32)
     ensures entry { result.0 ≡ (unwrap_or (flow_found flow.entry) no_flow).entry }
-    ensures counted_points { result.1 ≡ (unwrap_or (flow_found flow.entry) no_flow).counted_points }
+    ensures counted_points { result.1
+        ≡ (unwrap_or (flow_found flow.entry) no_flow).counted_points }
 {
     match flow {
         Some(flow) => (flow.entry, flow.counted_points),

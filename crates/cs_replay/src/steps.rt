@@ -19,7 +19,9 @@ impl<'a> Replayer<'a> {
     /// One step: the next operation of the block, or its end.
     pub fn step(&mut self) -> Result<(), Stop>
         requires { IsReady self.old }
-        ensures { Performs self.old self.new result (steps.code_step (code_of self.old) (program_of self.old) (budgets_of self.old) (state_in self.old)) }
+        ensures { Performs self.old self.new result
+            (steps.code_step (code_of self.old) (program_of self.old) (budgets_of self.old)
+            (state_in self.old)) }
     {
         let function = self.runner.machine.frame.function;
         match next_at(self.code, function, self.position) {
@@ -38,7 +40,10 @@ impl<'a> Replayer<'a> {
 
     // One more of the things that the block does is done.
     fn advance(&mut self) -> Result<(), AllocError>
-        ensures { OnOk result (self.new ≡ record self.old { position = record self.old.position { done = self.old.position.done + 1 } }) }
+        ensures { OnOk result (self.new
+            ≡ record self.old {
+              position = record self.old.position { done = self.old.position.done + 1 };
+            }) }
     {
         self.position.done = self.position.done.checked_add(1).ok_or(AllocError)?;
         Ok(())
@@ -46,7 +51,9 @@ impl<'a> Replayer<'a> {
 
     // A loop head or a label is reached.
     fn reach(&mut self, counted_point: &CountedPoint) -> Result<(), Stop>
-        ensures { Performs self.old self.new result (steps.do_operation (code_of self.old) (program_of self.old) (budgets_of self.old) (reaching counted_point.now) (state_in self.old)) }
+        ensures { Performs self.old self.new result
+            (steps.do_operation (code_of self.old) (program_of self.old) (budgets_of self.old)
+            (reaching counted_point.now) (state_in self.old)) }
     {
         cut(&mut self.runner.machine, 0);
         self.runner.reach_counted_point(
@@ -60,7 +67,9 @@ impl<'a> Replayer<'a> {
     // An operation works on the temporaries from its number on; those after its operands are dropped.
     fn operate(&mut self, operation: &'a Operation) -> Result<(), Stop>
         requires { IsReady self.old }
-        ensures { Performs self.old self.new result (steps.do_operation (code_of self.old) (program_of self.old) (budgets_of self.old) (view.operation operation.now) (state_in self.old)) }
+        ensures { Performs self.old self.new result
+            (steps.do_operation (code_of self.old) (program_of self.old) (budgets_of self.old)
+            (view.operation operation.now) (state_in self.old)) }
     {
         let needed = u64::from(operation.temporary) + u64::from(takes(&operation.work));
         cut(&mut self.runner.machine, needed);
@@ -70,7 +79,9 @@ impl<'a> Replayer<'a> {
     // An operation works, whose operands are the newest temporaries.
     fn work(&mut self, place: Place, one: &'a Work) -> Result<(), Stop>
         requires { IsReady self.old }
-        ensures { Performs self.old self.new result (working.do_work (code_of self.old) (program_of self.old) (budgets_of self.old) place (view.work one.now) (state_in self.old)) }
+        ensures { Performs self.old self.new result
+            (working.do_work (code_of self.old) (program_of self.old) (budgets_of self.old) place
+            (view.work one.now) (state_in self.old)) }
     {
         match one {
             Work::Call(function, count) => self.call(place, *function, *count),

@@ -19,7 +19,8 @@ use cs_types::{CType, IntType};
 
 /// A scalar is left.
 pub fn give(run: &mut Runner, cell: Cell) -> Result<(), Stop>
-    ensures { Performs run.old run.new result (Goes (machine.push_cell (cell_of cell) (state_in run.old))) }
+    ensures { Performs run.old run.new result
+        (Goes (machine.push_cell (cell_of cell) (state_in run.old))) }
 {
     run.machine.push_cell(cell)?;
     Ok(())
@@ -27,7 +28,9 @@ pub fn give(run: &mut Runner, cell: Cell) -> Result<(), Stop>
 
 /// The place of a local of the frame is left.
 pub fn local_place(run: &mut Runner, place: Place, declaration: u32) -> Result<(), Stop>
-    ensures { Performs run.old run.new result (works (program_of run.old) (budgets_of run.old) place (graph.Local declaration) (state_in run.old)) }
+    ensures { Performs run.old run.new result
+        (works (program_of run.old) (budgets_of run.old) place (graph.Local declaration)
+        (state_in run.old)) }
 {
     let object = Object::Local(number_of(&run.machine), declaration);
     run.machine.push_cell(Cell::Pointer(object, 0))?;
@@ -36,7 +39,8 @@ pub fn local_place(run: &mut Runner, place: Place, declaration: u32) -> Result<(
 
 /// No value is left.
 pub fn give_nothing(run: &mut Runner, place: Place) -> Result<(), Stop>
-    ensures { Performs run.old run.new result (works (program_of run.old) (budgets_of run.old) place graph.Nothing (state_in run.old)) }
+    ensures { Performs run.old run.new result
+        (works (program_of run.old) (budgets_of run.old) place graph.Nothing (state_in run.old)) }
 {
     run.machine.push(Operand::Nothing)?;
     Ok(())
@@ -50,7 +54,9 @@ pub fn sum(
     direction: Direction,
     order: Order,
 ) -> Result<(), Stop>
-    ensures { Performs run.old run.new result (works (program_of run.old) (budgets_of run.old) place (graph.Sum bytes direction order) (state_in run.old)) }
+    ensures { Performs run.old run.new result
+        (works (program_of run.old) (budgets_of run.old) place (graph.Sum bytes direction order)
+        (state_in run.old)) }
 {
     let (pointer, amount) = run.machine.pop_both(order);
     let stride = stride_of(&amount, direction, bytes)?;
@@ -61,7 +67,9 @@ pub fn sum(
 
 /// The place of a member (C11 6.5.2.3).
 pub fn member(run: &mut Runner, place: Place, offset: u64) -> Result<(), Stop>
-    ensures { Performs run.old run.new result (works (program_of run.old) (budgets_of run.old) place (graph.Member offset) (state_in run.old)) }
+    ensures { Performs run.old run.new result
+        (works (program_of run.old) (budgets_of run.old) place (graph.Member offset)
+        (state_in run.old)) }
 {
     let member = run.machine.pop_cell().further(offset)?;
     run.machine.push_cell(member)?;
@@ -70,7 +78,9 @@ pub fn member(run: &mut Runner, place: Place, offset: u64) -> Result<(), Stop>
 
 /// The member of what a pointer points to (C11 6.5.2.3).
 pub fn arrow(run: &mut Runner, place: Place, offset: u64) -> Result<(), Stop>
-    ensures { Performs run.old run.new result (works (program_of run.old) (budgets_of run.old) place (graph.Arrow offset) (state_in run.old)) }
+    ensures { Performs run.old run.new result
+        (works (program_of run.old) (budgets_of run.old) place (graph.Arrow offset)
+        (state_in run.old)) }
 {
     let pointer = run.machine.pop_cell();
     let member = run.log.arrow(run.setting, place, pointer, offset)?;
@@ -80,7 +90,9 @@ pub fn arrow(run: &mut Runner, place: Place, offset: u64) -> Result<(), Stop>
 
 /// A conversion (C11 6.3).
 pub fn convert(run: &mut Runner, place: Place, from: &CType, to: &CType) -> Result<(), Stop>
-    ensures { Performs run.old run.new result (works (program_of run.old) (budgets_of run.old) place (graph.Convert (shape_of from.now) (shape_of to.now)) (state_in run.old)) }
+    ensures { Performs run.old run.new result
+        (works (program_of run.old) (budgets_of run.old) place
+        (graph.Convert (shape_of from.now) (shape_of to.now)) (state_in run.old)) }
 {
     let operand = run.machine.pop();
     let made = run.log.convert(run.setting, place, from, to, operand)?;
@@ -90,7 +102,9 @@ pub fn convert(run: &mut Runner, place: Place, from: &CType, to: &CType) -> Resu
 
 /// An operator of one integer (C11 6.5.3.3).
 pub fn unary(run: &mut Runner, place: Place, operator: UnOp, ty: IntType) -> Result<(), Stop>
-    ensures { Performs run.old run.new result (works (program_of run.old) (budgets_of run.old) place (graph.Unary operator ty) (state_in run.old)) }
+    ensures { Performs run.old run.new result
+        (works (program_of run.old) (budgets_of run.old) place (graph.Unary operator ty)
+        (state_in run.old)) }
 {
     let operand = run.machine.pop_number();
     let operation = unary_operation(operator, ty, &operand);
@@ -101,7 +115,8 @@ pub fn unary(run: &mut Runner, place: Place, operator: UnOp, ty: IntType) -> Res
 
 /// Whether an operand doesn't hold (C11 6.5.3.3).
 pub fn not(run: &mut Runner, place: Place) -> Result<(), Stop>
-    ensures { Performs run.old run.new result (works (program_of run.old) (budgets_of run.old) place graph.Not (state_in run.old)) }
+    ensures { Performs run.old run.new result
+        (works (program_of run.old) (budgets_of run.old) place graph.Not (state_in run.old)) }
 {
     let operand = run.machine.pop_cell();
     let holds = run.log.truth(run.setting, place, &operand)?;
@@ -112,7 +127,9 @@ pub fn not(run: &mut Runner, place: Place) -> Result<(), Stop>
 
 /// An operator of two integers (C11 6.5.5 to 6.5.7, 6.5.10 to 6.5.12).
 pub fn binary(run: &mut Runner, place: Place, operator: BinOp, ty: IntType) -> Result<(), Stop>
-    ensures { Performs run.old run.new result (works (program_of run.old) (budgets_of run.old) place (graph.Binary operator ty) (state_in run.old)) }
+    ensures { Performs run.old run.new result
+        (works (program_of run.old) (budgets_of run.old) place (graph.Binary operator ty)
+        (state_in run.old)) }
 {
     let (left, right) = run.machine.pop_numbers();
     let number = run
@@ -124,7 +141,9 @@ pub fn binary(run: &mut Runner, place: Place, operator: BinOp, ty: IntType) -> R
 
 /// A comparison (C11 6.5.8, 6.5.9).
 pub fn compare(run: &mut Runner, place: Place, operator: CmpOp) -> Result<(), Stop>
-    ensures { Performs run.old run.new result (works (program_of run.old) (budgets_of run.old) place (graph.Compare operator) (state_in run.old)) }
+    ensures { Performs run.old run.new result
+        (works (program_of run.old) (budgets_of run.old) place (graph.Compare operator)
+        (state_in run.old)) }
 {
     let (left, right) = run.machine.pop_two();
     let number = run
@@ -136,7 +155,9 @@ pub fn compare(run: &mut Runner, place: Place, operator: CmpOp) -> Result<(), St
 
 /// How many elements of so many bytes lie between two pointers (C11 6.5.6).
 pub fn difference(run: &mut Runner, place: Place, bytes: u64) -> Result<(), Stop>
-    ensures { Performs run.old run.new result (works (program_of run.old) (budgets_of run.old) place (graph.Difference bytes) (state_in run.old)) }
+    ensures { Performs run.old run.new result
+        (works (program_of run.old) (budgets_of run.old) place (graph.Difference bytes)
+        (state_in run.old)) }
 {
     let (left, right) = run.machine.pop_two();
     let number = run

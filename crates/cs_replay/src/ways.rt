@@ -16,7 +16,8 @@ pub struct Way {
 
 /// The way that a number leads: that of the first case with it.
 pub fn way_of(cases: &[SwitchCase], otherwise: u32, number: i128) -> Result<Way, AllocError>
-    ensures { IfOk result (λ way. way_seen way ≡ steps.way_of (map view.switch_case cases.now) otherwise number 0) }
+    ensures { IfOk result (λ way.
+        way_seen way ≡ steps.way_of (map view.switch_case cases.now) otherwise number 0) }
 {
     let mut count = 0;
     for case in cases {

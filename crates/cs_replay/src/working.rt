@@ -25,7 +25,9 @@ use cs_run_state::{Cell, Object, Operand, Stop, Touch};
 /// Does what an operation does that is no call; a call goes on in another frame, and here does nothing.
 pub fn work<'a>(run: &mut Runner<'a>, place: Place, one: &'a Work) -> Result<(), Stop>
     requires { IsReady run.old }
-    ensures { Performs run.old run.new result (works (program_of run.old) (budgets_of run.old) place (view.work one.now) (state_in run.old)) }
+    ensures { Performs run.old run.new result
+        (works (program_of run.old) (budgets_of run.old) place (view.work one.now)
+        (state_in run.old)) }
 {
     match one {
         Work::Number(number) => give(run, Cell::Number(*number)),
@@ -74,7 +76,8 @@ fn drop_newest(run: &mut Runner) -> Result<(), Stop>
 
 // A call of `free`, whose argument is the newest temporary (C11 7.22.3.3).
 fn free(run: &mut Runner, place: Place) -> Result<(), Stop>
-    ensures { Performs run.old run.new result (works (program_of run.old) (budgets_of run.old) place graph.Free (state_in run.old)) }
+    ensures { Performs run.old run.new result
+        (works (program_of run.old) (budgets_of run.old) place graph.Free (state_in run.old)) }
 {
     let pointer = run.machine.pop_cell();
     run.release(place, pointer)
@@ -82,7 +85,9 @@ fn free(run: &mut Runner, place: Place) -> Result<(), Stop>
 
 // The run meets a control point.
 fn meet(run: &mut Runner, place: Place, kind: PointKind) -> Result<(), Stop>
-    ensures { Performs run.old run.new result (works (program_of run.old) (budgets_of run.old) place (graph.Meet kind) (state_in run.old)) }
+    ensures { Performs run.old run.new result
+        (works (program_of run.old) (budgets_of run.old) place (graph.Meet kind)
+        (state_in run.old)) }
 {
     run.log.touch(Touch::Meets(kind, place))?;
     Ok(())
@@ -90,7 +95,9 @@ fn meet(run: &mut Runner, place: Place, kind: PointKind) -> Result<(), Stop>
 
 // The run meets the end of a function's body.
 fn close(run: &mut Runner, place: Place, nothing: bool) -> Result<(), Stop>
-    ensures { Performs run.old run.new result (works (program_of run.old) (budgets_of run.old) place (graph.Close nothing) (state_in run.old)) }
+    ensures { Performs run.old run.new result
+        (works (program_of run.old) (budgets_of run.old) place (graph.Close nothing)
+        (state_in run.old)) }
 {
     run.log.touch(Touch::Meets(PointKind::End, place))?;
     run.machine.push(closed_with(nothing))?;

@@ -19,7 +19,8 @@ pub fn append_entry(
     name: &Name,
     entry: &EntryResult,
 ) -> Result<(), AllocError>
-    ensures { OnOk result (text.new.items ≡ text.old.items ++ entry_lines files.now name.now entry.now) }
+    ensures { OnOk result (text.new.items
+        ≡ text.old.items ++ entry_lines files.now name.now entry.now) }
 {
     append(text, "entry ")?;
     text.extend_from_slice(name.as_bytes())?;
@@ -45,7 +46,8 @@ fn append_findings(
     files: &[Name],
     findings: &[Finding],
 ) -> Result<(), AllocError>
-    ensures { OnOk result (text.new.items ≡ text.old.items ++ flat_map (finding_lines files.now) findings.now) }
+    ensures { OnOk result (text.new.items
+        ≡ text.old.items ++ flat_map (finding_lines files.now) findings.now) }
 {
     for finding in findings {
         append_finding(text, files, finding)?;

@@ -17,7 +17,8 @@ pub(crate) fn append_finding(
     files: &[Name],
     finding: &Finding,
 ) -> Result<(), AllocError>
-    ensures { OnOk result (text.new.items ≡ text.old.items ++ finding_lines files.now finding.now) }
+    ensures { OnOk result (text.new.items
+        ≡ text.old.items ++ finding_lines files.now finding.now) }
 {
     append_outcome(text, files, finding.what)?;
     append(text, " confirmed\n")?;
@@ -63,7 +64,9 @@ fn append_input(text: &mut Vec<u8>, input: &Input) -> Result<(), AllocError>
 
 /// Appends a line for each event that is a step.
 fn append_steps(text: &mut Vec<u8>, files: &[Name], events: &[Event]) -> Result<(), AllocError>
-    ensures { OnOk result (text.new.items ≡ text.old.items ++ flat_map (λ (event : Event). step_line files.now event.place event.label) events.now) }
+    ensures { OnOk result (text.new.items
+        ≡ text.old.items ++ flat_map (λ (event : Event).
+        step_line files.now event.place event.label) events.now) }
 {
     for event in events {
         append_step(text, files, *event)?;
@@ -73,7 +76,8 @@ fn append_steps(text: &mut Vec<u8>, files: &[Name], events: &[Event]) -> Result<
 
 /// Appends `  step PLACE branch WAY` for the way of a test, and nothing for other events.
 fn append_step(text: &mut Vec<u8>, files: &[Name], event: Event) -> Result<(), AllocError>
-    ensures { OnOk result (text.new.items ≡ text.old.items ++ step_line files.now event.place event.label) }
+    ensures { OnOk result (text.new.items
+        ≡ text.old.items ++ step_line files.now event.place event.label) }
 {
     match event.label {
         Label::Branch(way) => {

@@ -15,7 +15,8 @@ pub fn append_refusal(
     file: &Name,
     place: Place,
 ) -> Result<(), AllocError>
-    ensures { OnOk result (text.new.items ≡ text.old.items ++ refusal_line words.now file.now place) }
+    ensures { OnOk result (text.new.items
+        ≡ text.old.items ++ refusal_line words.now file.now place) }
 {
     append(text, words)?;
     append_located(text, file.as_bytes(), place)?;

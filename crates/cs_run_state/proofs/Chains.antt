@@ -6,5 +6,6 @@ use Rattle.cs_run_state.specs.declared.logs.Stop.{Stop}
 use Rattle.cs_run_state.specs.Pieces.{finished}
 
 -- what comes to where a run ends, ends so itself
-pub ends_following : (stop : Stop) (log : Log) {first last : Performed State} → first ≡ last → last ≡ finished stop log last → first ≡ finished stop log first
+pub ends_following : (stop : Stop) (log : Log) {first last : Performed State} → first ≡ last → last ≡ finished stop log last
+    → first ≡ finished stop log first
 ends_following stop log same ends = subst (λ (p : Performed State). p ≡ finished stop log p) (sym same) ends

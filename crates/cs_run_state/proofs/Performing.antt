@@ -12,7 +12,8 @@ use Rattle.cs_events.specs.Operations.{is_true}
 use Rattle.cs_events.specs.Objects.{Object}
 use Rattle.cs_events.specs.Touches.{Touch}
 use Rattle.cs_events.specs.Acts.{Act, Goes, Stops, Reads, Asks, Allocates, Reaches, Touches}
-use Rattle.cs_events.specs.Runs.{Setting, Log, Continues, Finishes, perform, with_event, with_read, with_touch, has_room, operation_event, number_of, allocation_event, access_event}
+use Rattle.cs_events.specs.Runs.{Setting, Log, Continues, Finishes, perform, with_event, with_read, with_touch, has_room, operation_event, number_of}
+use Rattle.cs_events.specs.Runs.{allocation_event, access_event}
 use Rattle.cs_meaning.specs.Machine.{State}
 
 pub perform-Goes : (s : Setting) (log : Log) (next : State) → perform s log (Goes next) ≡ Continues next log
@@ -23,7 +24,8 @@ pub perform-Stops : (s : Setting) (log : Log) (outcome : Outcome) → perform {S
 unfolding perform
 perform-Stops s log outcome = refl
 
-pub perform-Reads : (s : Setting) (log : Log) (path : Path) (onward : ℤ → Act State) → perform s log (Reads path onward) ≡ perform s (with_read log path) (onward (s.inputs path))
+pub perform-Reads : (s : Setting) (log : Log) (path : Path) (onward : ℤ → Act State)
+    → perform s log (Reads path onward) ≡ perform s (with_read log path) (onward (s.inputs path))
 unfolding perform
 perform-Reads s log path onward = refl
 
@@ -31,15 +33,23 @@ pub perform-Touches : (s : Setting) (log : Log) (touch : Touch) (act : Act State
 unfolding perform
 perform-Touches s log touch act = refl
 
-pub perform-Asks : (s : Setting) (log : Log) (at : Place) (operation : Operation) (onward : ℤ → Act State) → perform s log (Asks at operation onward) ≡ (if has_room s log then perform s (with_event log (operation_event s log at operation)) (onward (number_of s log operation)) else Finishes (Over Events at) log)
+pub perform-Asks : (s : Setting) (log : Log) (at : Place) (operation : Operation) (onward : ℤ → Act State)
+    → perform s log (Asks at operation onward)
+    ≡ (if has_room s log then perform s (with_event log (operation_event s log at operation)) (onward (number_of s log operation))
+    else Finishes (Over Events at) log)
 unfolding perform
 perform-Asks s log at operation onward = refl
 
-pub perform-Allocates : (s : Setting) (log : Log) (at : Place) (path : Path) (onward : Bool → Act State) → perform s log (Allocates at path onward) ≡ (if has_room s log then perform s (with_event (with_read log path) (allocation_event s at path)) (onward (is_true (s.inputs path))) else Finishes (Over Events at) log)
+pub perform-Allocates : (s : Setting) (log : Log) (at : Place) (path : Path) (onward : Bool → Act State)
+    → perform s log (Allocates at path onward)
+    ≡ (if has_room s log then perform s (with_event (with_read log path) (allocation_event s at path)) (onward (is_true (s.inputs path)))
+    else Finishes (Over Events at) log)
 unfolding perform
 perform-Allocates s log at path onward = refl
 
-pub perform-Reaches : (s : Setting) (log : Log) (at : Place) (object : Object) (offset : ℤ) (act : Act State) → perform s log (Reaches at object offset act) ≡ (if has_room s log then perform s (with_event log (access_event at offset)) act else Finishes (Over Events at) log)
+pub perform-Reaches : (s : Setting) (log : Log) (at : Place) (object : Object) (offset : ℤ) (act : Act State)
+    → perform s log (Reaches at object offset act)
+    ≡ (if has_room s log then perform s (with_event log (access_event at offset)) act else Finishes (Over Events at) log)
 unfolding perform
 perform-Reaches s log at object offset act = refl
 

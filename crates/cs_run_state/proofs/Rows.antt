@@ -1,5 +1,6 @@
 -- Rows of objects, one of which is changed: for the contracts of memory.
-use Rattle.std.proofs.Common.{◌≡◌, ℕ, zero, suc, ◌+◌, ◌<◌, ◌≤◌, ◌==◌, List, [], ◌∷◌, length, set, get_or, Some, Vec, refl, ◌++◌, Bool, true, false, arith}
+use Rattle.std.proofs.Common.{◌≡◌, ℕ, zero, suc, ◌+◌, ◌<◌, ◌≤◌, ◌==◌, List, [], ◌∷◌, length, set, get_or, Some, Vec, refl}
+use Rattle.std.proofs.Common.{◌++◌, Bool, true, false, arith}
 use Rattle.std.specs.declared.alloc.Global.{Global}
 use mathlib.Core.Path.{fun_ext}
 use Rattle.std.specs.Prelude.{option_map, slice_get, nat_lt, if◌then◌else◌}
@@ -13,7 +14,8 @@ use Rattle.cs_run_state.specs.declared.blocks.Block.{Block}
 use Rattle.cs_run_state.specs.MemoryView.{block_of, block_at, local_in, changed_at, memory_of, with_frame}
 
 -- what stands in a list once an element was set
-pub slice_get-set : {A : Type 0} (xs : List A) (i n : ℕ) (x : A) → i < length xs → slice_get (set xs i x) n ≡ (if i == n then Some x else slice_get xs n)
+pub slice_get-set : {A : Type 0} (xs : List A) (i n : ℕ) (x : A) → i < length xs
+    → slice_get (set xs i x) n ≡ (if i == n then Some x else slice_get xs n)
 slice_get-set [] i n x h = absurd (omega (arith, h))
 slice_get-set (y ∷ ys) zero zero x h = refl
 slice_get-set (y ∷ ys) zero (suc n) x h = grind arith
@@ -21,11 +23,13 @@ slice_get-set (y ∷ ys) (suc i) zero x h = grind arith
 slice_get-set (y ∷ ys) (suc i) (suc n) x h = grind (arith, slice_get-set ys i n x (omega (arith, h)))
 
 -- an object of a row was changed
-pub row_changed : (xs : List Block) (i : ℕ) (old new : Block) (f : meaning.Block → meaning.Block) → i < length xs → old ≡ get_or xs i old → block_of new ≡ f (block_of old) → (n : ℕ) → block_at (set xs i new) n ≡ changed_at f i (block_at xs) n
+pub row_changed : (xs : List Block) (i : ℕ) (old new : Block) (f : meaning.Block → meaning.Block) → i < length xs → old ≡ get_or xs i old
+    → block_of new ≡ f (block_of old) → (n : ℕ) → block_at (set xs i new) n ≡ changed_at f i (block_at xs) n
 row_changed xs i old new f inside is same n = grind (arith, slice_get-set xs i n new inside, slice_get-get_or xs i old inside)
 
 -- an object that isn't in a row wasn't changed
-pub row_stays : (xs : List Block) (i : ℕ) (f : meaning.Block → meaning.Block) → length xs ≤ i → (n : ℕ) → block_at xs n ≡ changed_at f i (block_at xs) n
+pub row_stays : (xs : List Block) (i : ℕ) (f : meaning.Block → meaning.Block) → length xs ≤ i
+    → (n : ℕ) → block_at xs n ≡ changed_at f i (block_at xs) n
 row_stays xs i f past n = grind (arith, slice_get_past xs i past)
 
 -- what stands in a list once an element was added
@@ -36,13 +40,21 @@ slice_get-push (y ∷ ys) x zero = grind arith
 slice_get-push (y ∷ ys) x (suc n) = grind (arith, slice_get-push ys x n)
 
 -- the locals of one more frame
-pub frame_added : (memory : Memory) (frames : Vec (Vec Block Global) Global) (locals : Vec Block Global) → frames.items ≡ memory.frames.items ++ locals ∷ [] → memory_of (record memory { frames = frames }) ≡ with_frame (length memory.frames.items) (block_at locals.items) (memory_of memory)
+pub frame_added : (memory : Memory) (frames : Vec (Vec Block Global) Global) (locals : Vec Block Global)
+    → frames.items ≡ memory.frames.items ++ locals ∷ []
+    → memory_of (record memory { frames = frames }) ≡ with_frame (length memory.frames.items) (block_at locals.items) (memory_of memory)
 frame_added memory frames locals is = fun_ext (λ object. at object)
   where
-    local : (n d : ℕ) → local_in frames.items n d ≡ (if n == length memory.frames.items then block_at locals.items d else local_in memory.frames.items n d)
-    local n d = rw is (rw slice_get-push (elim (n == length memory.frames.items) as (λ (b : Bool). option_and_then (λ (row : Vec Block Global). block_at row.items d) (if b then Some locals else slice_get memory.frames.items n) ≡ (if b then block_at locals.items d else local_in memory.frames.items n d)) [ true ↦ refl | false ↦ refl ]))
+    local : (n d : ℕ) → local_in frames.items n d
+        ≡ (if n == length memory.frames.items then block_at locals.items d else local_in memory.frames.items n d)
+    local n d =
+        rw is (rw slice_get-push
+        (elim (n == length memory.frames.items) as (λ (b : Bool).
+        option_and_then (λ (row : Vec Block Global). block_at row.items d) (if b then Some locals else slice_get memory.frames.items n)
+        ≡ (if b then block_at locals.items d else local_in memory.frames.items n d)) [ true ↦ refl | false ↦ refl ]))
 
-    at : (object : Object) → memory_of (record memory { frames = frames }) object ≡ with_frame (length memory.frames.items) (block_at locals.items) (memory_of memory) object
+    at : (object : Object) → memory_of (record memory { frames = frames }) object
+        ≡ with_frame (length memory.frames.items) (block_at locals.items) (memory_of memory) object
     at (StartBlock path) = refl
     at (GlobalObject global) = refl
     at (LiteralObject literal) = refl
@@ -54,9 +66,11 @@ abbrev pub EndedBelow : List Block → ℕ → List Block → Type 0
 EndedBelow old i row = (n : ℕ) → block_at row n ≡ (if nat_lt n i then option_map (meaning.stand Ended) (block_at old n) else block_at old n)
 
 -- one more has ended
-pub one_more : (old row : List Block) (i : ℕ) (here ended : Block) → i < length row → here ≡ get_or row i here → block_of ended ≡ meaning.stand Ended (block_of here) → EndedBelow old i row → EndedBelow old (i + 1) (set row i ended)
+pub one_more : (old row : List Block) (i : ℕ) (here ended : Block) → i < length row → here ≡ get_or row i here
+    → block_of ended ≡ meaning.stand Ended (block_of here) → EndedBelow old i row → EndedBelow old (i + 1) (set row i ended)
 one_more old row i here ended inside is same below n = grind (arith, below n, slice_get-set row i n ended inside, slice_get-get_or row i here inside)
 
 -- all have ended
-pub all_ended : (old row : List Block) (i : ℕ) → length row ≤ i → EndedBelow old i row → (n : ℕ) → block_at row n ≡ option_map (meaning.stand Ended) (block_at old n)
+pub all_ended : (old row : List Block) (i : ℕ) → length row ≤ i → EndedBelow old i row
+    → (n : ℕ) → block_at row n ≡ option_map (meaning.stand Ended) (block_at old n)
 all_ended old row i past below n = grind (arith, below n, slice_get_past row n)

@@ -15,7 +15,11 @@ use Rattle.cs_run_state.specs.declared.blocks.Block.{Block}
 use Rattle.cs_run_state.specs.MemoryView.{block_of, start_in}
 
 -- the block was there and was changed
-pub start_changed : (cmp : Path → Path → Ordering) (compare found : Path → Ordering) (m n : BTreeMap Path Block) (path : Path) (old new : Block) (f : meaning.Block → meaning.Block) → ((p q : Path) → cmp p q ≡ path_order p q) → ((q : Path) → compare q ≡ path_order path q) → ((q : Path) → found q ≡ path_order path q) → WritesThrough cmp compare m new n → Some old ≡ get_by found m → block_of new ≡ f (block_of old) → (other : Path) → start_in n other ≡ (if is_equal (path_order path other) then option_map f (start_in m other) else start_in m other)
+pub start_changed : (cmp : Path → Path → Ordering) (compare found : Path
+    → Ordering) (m n : BTreeMap Path Block) (path : Path) (old new : Block) (f : meaning.Block → meaning.Block)
+    → ((p q : Path) → cmp p q ≡ path_order p q) → ((q : Path) → compare q ≡ path_order path q) → ((q : Path) → found q ≡ path_order path q)
+    → WritesThrough cmp compare m new n → Some old ≡ get_by found m → block_of new ≡ f (block_of old)
+    → (other : Path) → start_in n other ≡ (if is_equal (path_order path other) then option_map f (start_in m other) else start_in m other)
 start_changed cmp compare found m n path old new f orders compares finds writes there same other =
     let e : cmp ≡ path_order = fun_ext (λ p. fun_ext (orders p)) in
     let e' : compare ≡ path_order path = fun_ext compares in
@@ -26,7 +30,9 @@ start_changed cmp compare found m n path old new f orders compares finds writes 
     let some : IsSome (get_by (path_order path) m) = subst (λ (o : Option Block). IsSome o) there' refl in
     by_order there' (path_order path other) refl ((w'.3 some).0 other)
   where
-    by_order : Some old ≡ get_by (path_order path) m → (o : Ordering) → path_order path other ≡ o → get_by (path_order other) n ≡ cond (is_eq o) (Some new) (get_by (path_order other) m) → start_in n other ≡ (if is_equal o then option_map f (start_in m other) else start_in m other)
+    by_order : Some old ≡ get_by (path_order path) m → (o : Ordering) → path_order path other ≡ o
+        → get_by (path_order other) n ≡ cond (is_eq o) (Some new) (get_by (path_order other) m)
+        → start_in n other ≡ (if is_equal o then option_map f (start_in m other) else start_in m other)
     by_order here Less e u = ap (option_map block_of) u
     by_order here Greater e u = ap (option_map block_of) u
     by_order here Equal e u =
@@ -34,12 +40,15 @@ start_changed cmp compare found m n path old new f orders compares finds writes 
         ap (option_map block_of) u ∙ (ap Some same ∙ ap (λ (b : Option Block). option_map f (option_map block_of b)) found)
 
 -- the block wasn't there
-pub start_stays : (found : Path → Ordering) (m : BTreeMap Path Block) (path : Path) (f : meaning.Block → meaning.Block) → ((q : Path) → found q ≡ path_order path q) → None ≡ get_by found m → (other : Path) → start_in m other ≡ (if is_equal (path_order path other) then option_map f (start_in m other) else start_in m other)
+pub start_stays : (found : Path → Ordering) (m : BTreeMap Path Block) (path : Path) (f : meaning.Block → meaning.Block)
+    → ((q : Path) → found q ≡ path_order path q) → None ≡ get_by found m
+    → (other : Path) → start_in m other ≡ (if is_equal (path_order path other) then option_map f (start_in m other) else start_in m other)
 start_stays found m path f finds none other =
     let e : found ≡ path_order path = fun_ext finds in
     by_order (subst (λ (k : Path → Ordering). None ≡ get_by k m) e none) (path_order path other) refl
   where
-    by_order : None ≡ get_by (path_order path) m → (o : Ordering) → path_order path other ≡ o → start_in m other ≡ (if is_equal o then option_map f (start_in m other) else start_in m other)
+    by_order : None ≡ get_by (path_order path) m → (o : Ordering) → path_order path other ≡ o
+        → start_in m other ≡ (if is_equal o then option_map f (start_in m other) else start_in m other)
     by_order none' Less e = refl
     by_order none' Greater e = refl
     by_order none' Equal e =
@@ -47,7 +56,9 @@ start_stays found m path f finds none other =
         ap (option_map block_of) (sym here) ∙ ap (λ (b : Option Block). option_map f (option_map block_of b)) here
 
 -- the block was there, and stays
-pub start_there : (found : Path → Ordering) (m : BTreeMap Path Block) (path : Path) (block : meaning.Block) → ((q : Path) → found q ≡ path_order path q) → true ≡ is_some (get_by found m) → (other : Path) → start_in m other ≡ (if is_equal (path_order path other) then meaning.or_new block (start_in m other) else start_in m other)
+pub start_there : (found : Path → Ordering) (m : BTreeMap Path Block) (path : Path) (block : meaning.Block) → ((q : Path) → found q ≡ path_order path q)
+    → true ≡ is_some (get_by found m) → (other : Path)
+    → start_in m other ≡ (if is_equal (path_order path other) then meaning.or_new block (start_in m other) else start_in m other)
 start_there found m path block finds some other =
     let e : found ≡ path_order path = fun_ext finds in
     by_order (subst (λ (k : Path → Ordering). true ≡ is_some (get_by k m)) e some) (path_order path other) refl
@@ -56,13 +67,18 @@ start_there found m path block finds some other =
     stays (Some b) h = refl
     stays None h = cc
 
-    by_order : true ≡ is_some (get_by (path_order path) m) → (o : Ordering) → path_order path other ≡ o → start_in m other ≡ (if is_equal o then meaning.or_new block (start_in m other) else start_in m other)
+    by_order : true ≡ is_some (get_by (path_order path) m) → (o : Ordering) → path_order path other ≡ o
+        → start_in m other ≡ (if is_equal o then meaning.or_new block (start_in m other) else start_in m other)
     by_order some' Less e = refl
     by_order some' Greater e = refl
-    by_order some' Equal e = stays (get_by (path_order other) m) (subst (λ (p : Path). true ≡ is_some (get_by (path_order p) m)) (path_order-tie path other e) some')
+    by_order some' Equal e = stays (get_by (path_order other) m)
+        (subst (λ (p : Path). true ≡ is_some (get_by (path_order p) m)) (path_order-tie path other e) some')
 
 -- the block wasn't there, and is added
-pub start_added : (cmp : Path → Path → Ordering) (found : Path → Ordering) (m n : BTreeMap Path Block) (path : Path) (new : Block) → ((p q : Path) → cmp p q ≡ path_order p q) → ((q : Path) → found q ≡ path_order path q) → false ≡ is_some (get_by found m) → Updates cmp m n path (Some new) → (other : Path) → start_in n other ≡ (if is_equal (path_order path other) then meaning.or_new (block_of new) (start_in m other) else start_in m other)
+pub start_added : (cmp : Path → Path → Ordering) (found : Path → Ordering) (m n : BTreeMap Path Block) (path : Path) (new : Block)
+    → ((p q : Path) → cmp p q ≡ path_order p q) → ((q : Path) → found q ≡ path_order path q) → false ≡ is_some (get_by found m)
+    → Updates cmp m n path (Some new) → (other : Path)
+    → start_in n other ≡ (if is_equal (path_order path other) then meaning.or_new (block_of new) (start_in m other) else start_in m other)
 start_added cmp found m n path new orders finds none updates other =
     let e : cmp ≡ path_order = fun_ext (λ p. fun_ext (orders p)) in
     let e' : found ≡ path_order path = fun_ext finds in
@@ -73,7 +89,10 @@ start_added cmp found m n path new orders finds none updates other =
     comes (Some b) h = cc
     comes None h = refl
 
-    by_order : false ≡ is_some (get_by (path_order path) m) → (o : Ordering) → path_order path other ≡ o → get_by (path_order other) n ≡ cond (is_eq o) (Some new) (get_by (path_order other) m) → start_in n other ≡ (if is_equal o then meaning.or_new (block_of new) (start_in m other) else start_in m other)
+    by_order : false ≡ is_some (get_by (path_order path) m) → (o : Ordering) → path_order path other ≡ o
+        → get_by (path_order other) n ≡ cond (is_eq o) (Some new) (get_by (path_order other) m)
+        → start_in n other ≡ (if is_equal o then meaning.or_new (block_of new) (start_in m other) else start_in m other)
     by_order none' Less e u = ap (option_map block_of) u
     by_order none' Greater e u = ap (option_map block_of) u
-    by_order none' Equal e u = ap (option_map block_of) u ∙ comes (get_by (path_order other) m) (subst (λ (p : Path). false ≡ is_some (get_by (path_order p) m)) (path_order-tie path other e) none')
+    by_order none' Equal e u = ap (option_map block_of) u
+        ∙ comes (get_by (path_order other) m) (subst (λ (p : Path). false ≡ is_some (get_by (path_order p) m)) (path_order-tie path other e) none')

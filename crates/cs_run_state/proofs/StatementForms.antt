@@ -13,10 +13,12 @@ module _ (s : Stmt) where
   pub block_is : (items : Vec Stmt Global) → s.kind.value ≡ kind.Block items → statement s ≡ Block s.place (statement_list items.items)
   block_is items is = ap (statement_at s.place) is ∙ statement_at-Block s.place items
 
-  pub for_is : (first : Vec Stmt Global) (test last : Option Expr) (body : Stmt) → s.kind.value ≡ kind.For first test last body → statement s ≡ For s.place (statement_list first.items) (some_typed test) (some_typed last) (statement body)
+  pub for_is : (first : Vec Stmt Global) (test last : Option Expr) (body : Stmt) → s.kind.value ≡ kind.For first test last body
+      → statement s ≡ For s.place (statement_list first.items) (some_typed test) (some_typed last) (statement body)
   for_is first test last body is = ap (statement_at s.place) is ∙ statement_at-For s.place first test last body
 
-  pub switch_is : (value : Expr) (cases : Vec Case Global) (items : Vec Stmt Global) → s.kind.value ≡ kind.Switch value cases items → statement s ≡ Switch s.place (typed value) cases.items (statement_list items.items)
+  pub switch_is : (value : Expr) (cases : Vec Case Global) (items : Vec Stmt Global) → s.kind.value ≡ kind.Switch value cases items
+      → statement s ≡ Switch s.place (typed value) cases.items (statement_list items.items)
   switch_is value cases items is = ap (statement_at s.place) is ∙ statement_at-Switch s.place value cases items
 
 -- as many as there are

@@ -32,7 +32,8 @@ scalar_value program memory at object offset onward =
 -- bytes of a text written from an offset on of an object of a type
 abbrev pub spells : TypedProgram → Shape → ℕ → List ℕ → Block → Block
 spells program ty from [] block = block
-spells program ty from (byte ∷ bytes) block = spells program ty (from + 1) bytes (write_cell from (byte_cell program.model (unwrap_or (scalar_of program ty from) void) byte) block)
+spells program ty from (byte ∷ bytes) block =
+    spells program ty (from + 1) bytes (write_cell from (byte_cell program.model (unwrap_or (scalar_of program ty from) void) byte) block)
 
 -- the scalars of a struct of an object, set or not
 abbrev pub struct_value : TypedProgram → Memory → Shape → Object → ℕ → (Memory → Operand → Act State) → Act State

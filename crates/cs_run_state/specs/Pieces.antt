@@ -1,5 +1,6 @@
 -- What a piece of a step does, told by every way to go on from it.
-use Rattle.std.specs.Prelude.{◌≡◌, ℕ, ℤ, pos, neg_ℤ, ◌+ℤ◌, ◌-ℤ◌, ◌*ℤ◌, true, Option, Some, None, if◌then◌else◌, Result, ⊤, OnOk, IfErr}
+use Rattle.std.specs.Prelude.{◌≡◌, ℕ, ℤ, pos, neg_ℤ, ◌+ℤ◌, ◌-ℤ◌, ◌*ℤ◌, true, Option, Some, None, if◌then◌else◌, Result, ⊤}
+use Rattle.std.specs.Prelude.{OnOk, IfErr}
 use Rattle.cs_types.specs.declared.data_model.DataModel.{DataModel}
 use Rattle.cs_types.specs.DataModel.{offset_bound_of}
 use Rattle.cs_events.specs.declared.event.Label.TheVariants.{Look}
@@ -36,24 +37,31 @@ module _ (setting : Setting) (before following : Log) where
 
   -- the same of a piece that has an answer
   abbrev pub Gives : {A : Type 0} → ((A → Act State) → Act State) → A → Type 0
-  Gives {A = A} piece answer = (onward : A → Act State) → perform (setting_of setting) (log_of before) (piece onward) ≡ perform (setting_of setting) (log_of following) (onward answer)
+  Gives {A = A} piece answer = (onward : A → Act State)
+      → perform (setting_of setting) (log_of before) (piece onward) ≡ perform (setting_of setting) (log_of following) (onward answer)
 
   -- however it would be gone on: the run ends in the piece
   abbrev pub EndsIn : (Act State → Act State) → Stop → Type 0
-  EndsIn piece stop = (onward : Act State) → perform (setting_of setting) (log_of before) (piece onward) ≡ finished stop (log_of following) (perform (setting_of setting) (log_of before) (piece onward))
+  EndsIn piece stop = (onward : Act State) → perform (setting_of setting) (log_of before) (piece onward)
+      ≡ finished stop (log_of following) (perform (setting_of setting) (log_of before) (piece onward))
 
   -- the same of a piece that would have an answer
   abbrev pub StopsIn : {A : Type 0} → ((A → Act State) → Act State) → Stop → Type 0
-  StopsIn {A = A} piece stop = (onward : A → Act State) → perform (setting_of setting) (log_of before) (piece onward) ≡ finished stop (log_of following) (perform (setting_of setting) (log_of before) (piece onward))
+  StopsIn {A = A} piece stop = (onward : A → Act State)
+      → perform (setting_of setting) (log_of before) (piece onward)
+      ≡ finished stop (log_of following) (perform (setting_of setting) (log_of before) (piece onward))
 
 module _ (setting : Setting) (before following : Log) where
   -- the same of a piece that has two answers, of which the first may be memory
   abbrev pub GivesBoth : {A B : Type 0} → ((A → B → Act State) → Act State) → A → B → Type 0
-  GivesBoth {A = A} {B = B} piece one other = (onward : A → B → Act State) → perform (setting_of setting) (log_of before) (piece onward) ≡ perform (setting_of setting) (log_of following) (onward one other)
+  GivesBoth {A = A} {B = B} piece one other = (onward : A → B → Act State)
+      → perform (setting_of setting) (log_of before) (piece onward) ≡ perform (setting_of setting) (log_of following) (onward one other)
 
   -- the same of a piece that would have two answers
   abbrev pub StopsInBoth : {A B : Type 0} → ((A → B → Act State) → Act State) → Stop → Type 0
-  StopsInBoth {A = A} {B = B} piece stop = (onward : A → B → Act State) → perform (setting_of setting) (log_of before) (piece onward) ≡ finished stop (log_of following) (perform (setting_of setting) (log_of before) (piece onward))
+  StopsInBoth {A = A} {B = B} piece stop = (onward : A → B → Act State)
+      → perform (setting_of setting) (log_of before) (piece onward)
+      ≡ finished stop (log_of following) (perform (setting_of setting) (log_of before) (piece onward))
 
   -- an act leads to this state
   abbrev pub LeadsTo : Act State → State → Type 0

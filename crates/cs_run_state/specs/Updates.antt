@@ -61,13 +61,15 @@ computes program at op access works_in left right onward =
     convert_number program.model at (integer works_in) (integer_of access.ty) number onward)
 
 -- what an update computes is stored in a frame's object
-abbrev pub stores_computed : TypedProgram → Memory → ℕ → Place → BinOp → Access → IntType → Cell → ℤ → ℤ → (Memory → ℤ → Act State) → Act State
+abbrev pub stores_computed : TypedProgram → Memory → ℕ → Place → BinOp → Access → IntType → Cell → ℤ → ℤ
+    → (Memory → ℤ → Act State) → Act State
 stores_computed program memory frame at op access works_in target left right onward =
     computes program at op access works_in left right (λ stored.
     store_object program memory frame at access target (Scalar (NumberCell stored)) (λ after. onward after stored))
 
 -- a pointer that has moved is stored in a frame's object
-abbrev pub stores_moved : TypedProgram → Memory → ℕ → Place → Access → Cell → Cell → ℤ → ℕ → (Memory → Cell → Act State) → Act State
+abbrev pub stores_moved : TypedProgram → Memory → ℕ → Place → Access → Cell → Cell → ℤ → ℕ → (Memory → Cell → Act State)
+    → Act State
 stores_moved program memory frame at access target pointer amount bytes onward =
     sum program.model at pointer amount bytes (λ moved.
     store_object program memory frame at access target (Scalar moved) (λ after. onward after moved))

@@ -126,7 +126,8 @@ fn offset_number(offset: i128) -> Result<u64, AllocError>
 
 // The fault by which an object that is there no more refuses an access, if it does (C11 6.2.4, paragraph 2).
 fn refused(standing: Standing) -> Option<Kind>
-    ensures { (place : Place) (act : Act State) → loads.stands place standing act ≡ or_fault place result act }
+    ensures { (place : Place) (act : Act State)
+        → loads.stands place standing act ≡ or_fault place result act }
 {
     match standing {
         Standing::Live => None,
@@ -144,7 +145,9 @@ fn begins_at(
     offset: i128,
 ) -> Result<bool, AllocError>
     requires { IsLaidOut program.now.model program.now.table.list }
-    ensures { IfOk result (λ holds. holds ≡ meaning.begins_at (typed_program program.now) (shape_of ty.now) (object_of object.now) (block_of block.now) offset) }
+    ensures { IfOk result (λ holds.
+        holds ≡ meaning.begins_at (typed_program program.now) (shape_of ty.now)
+        (object_of object.now) (block_of block.now) offset) }
 {
     if offset < 0 {
         return Ok(false);
@@ -156,7 +159,8 @@ fn begins_at(
 
 // How far an object's last byte lies after those of a type at its beginning, and whether an offset lies that far or less.
 fn ends_within(offset: i128, extent: u64, size: u64) -> Result<Operation, AllocError>
-    ensures { IfOk result (λ test. test ≡ Operation.Order (neg_ℤ offset) (pos extent -ℤ pos size)) }
+    ensures { IfOk result (λ test.
+        test ≡ Operation.Order (neg_ℤ offset) (pos extent -ℤ pos size)) }
 {
     let back = offset.checked_neg().ok_or(AllocError)?;
     Ok(Operation::Order(back, i128::from(extent) - i128::from(size)))
@@ -180,8 +184,14 @@ fn reach_block(
     offset: i128,
 ) -> Result<u64, Stop>
     requires { IsLaidOut setting.now.program.now.model setting.now.program.now.table.list }
-    ensures ok { IfOk result (Gives setting.now log.old log.new (loads.reach_in (typed_program setting.now.program.now) access.entry.place (shape_of access.entry.ty.now) (object_of object.now) offset (Some (block_of block.now)))) }
-    ensures err { IfErr result (StopsIn setting.now log.old log.new (loads.reach_in (typed_program setting.now.program.now) access.entry.place (shape_of access.entry.ty.now) (object_of object.now) offset (Some (block_of block.now)))) }
+    ensures ok { IfOk result
+        (Gives setting.now log.old log.new
+        (loads.reach_in (typed_program setting.now.program.now) access.entry.place
+        (shape_of access.entry.ty.now) (object_of object.now) offset (Some (block_of block.now)))) }
+    ensures err { IfErr result
+        (StopsIn setting.now log.old log.new
+        (loads.reach_in (typed_program setting.now.program.now) access.entry.place
+        (shape_of access.entry.ty.now) (object_of object.now) offset (Some (block_of block.now)))) }
 {
     match refused(block.standing) {
         Some(kind) => Err(fault(kind, access.place)),
@@ -202,8 +212,14 @@ fn reach_standing(
     offset: i128,
 ) -> Result<u64, Stop>
     requires { IsLaidOut setting.now.program.now.model setting.now.program.now.table.list }
-    ensures ok { IfOk result (Gives setting.now log.old log.new (reach_standing (typed_program setting.now.program.now) access.entry.place (shape_of access.entry.ty.now) (object_of object.now) offset (block_of block.now))) }
-    ensures err { IfErr result (StopsIn setting.now log.old log.new (reach_standing (typed_program setting.now.program.now) access.entry.place (shape_of access.entry.ty.now) (object_of object.now) offset (block_of block.now))) }
+    ensures ok { IfOk result
+        (Gives setting.now log.old log.new
+        (reach_standing (typed_program setting.now.program.now) access.entry.place
+        (shape_of access.entry.ty.now) (object_of object.now) offset (block_of block.now))) }
+    ensures err { IfErr result
+        (StopsIn setting.now log.old log.new
+        (reach_standing (typed_program setting.now.program.now) access.entry.place
+        (shape_of access.entry.ty.now) (object_of object.now) offset (block_of block.now))) }
 {
     let size = size_of(setting.program, access.ty)?;
     let ends = ends_within(offset, block.extent, size)?;
@@ -221,7 +237,9 @@ fn reach_standing(
 
 // A load of a scalar local is a touch.
 fn touch_load(log: &mut Log, frame: u64, access: Access) -> Result<(), AllocError>
-    ensures { OnOk result ((setting : SettingOfRun) → GoesOn setting log.old log.new (loads.touches_then (load_touch frame access.entry.place) access.entry.local)) }
+    ensures { OnOk result ((setting : SettingOfRun)
+        → GoesOn setting log.old log.new
+        (loads.touches_then (load_touch frame access.entry.place) access.entry.local)) }
 {
     if let Some(declaration) = access.local {
         log.touch(Touch::Loads(frame, declaration, access.place))?;
@@ -236,7 +254,8 @@ pub fn touch_store(
     place: Place,
     local: Option<u32>,
 ) -> Result<(), AllocError>
-    ensures { OnOk result ((setting : SettingOfRun) → GoesOn setting log.old log.new (loads.touches_then (store_touch frame place) local)) }
+    ensures { OnOk result ((setting : SettingOfRun)
+        → GoesOn setting log.old log.new (loads.touches_then (store_touch frame place) local)) }
 {
     if let Some(declaration) = local {
         log.touch(Touch::Stores(frame, declaration, place))?;
@@ -269,8 +288,16 @@ impl<'a> Memory<'a> {
         offset: i128,
     ) -> Result<u64, Stop>
         requires { IsLaidOut setting.now.program.now.model setting.now.program.now.table.list }
-        ensures ok { IfOk result (Gives setting.now log.old log.new (loads.reach_in (typed_program setting.now.program.now) access.entry.place (shape_of access.entry.ty.now) (object_of object.now) offset (memory_of self.now (object_of object.now)))) }
-        ensures err { IfErr result (StopsIn setting.now log.old log.new (loads.reach_in (typed_program setting.now.program.now) access.entry.place (shape_of access.entry.ty.now) (object_of object.now) offset (memory_of self.now (object_of object.now)))) }
+        ensures ok { IfOk result
+            (Gives setting.now log.old log.new
+            (loads.reach_in (typed_program setting.now.program.now) access.entry.place
+            (shape_of access.entry.ty.now) (object_of object.now) offset
+            (memory_of self.now (object_of object.now)))) }
+        ensures err { IfErr result
+            (StopsIn setting.now log.old log.new
+            (loads.reach_in (typed_program setting.now.program.now) access.entry.place
+            (shape_of access.entry.ty.now) (object_of object.now) offset
+            (memory_of self.now (object_of object.now)))) }
     {
         match self.block(object) {
             Some(block) => {
@@ -290,8 +317,15 @@ impl<'a> Memory<'a> {
         place: &'p Cell,
     ) -> Result<(&'p Object, u64), Stop>
         requires { IsLaidOut setting.now.program.now.model setting.now.program.now.table.list }
-        ensures ok { IfOk result (λ found. GivesBoth setting.now log.old log.new (loads.reach (typed_program setting.now.program.now) (memory_of self.now) access.entry.place (shape_of access.entry.ty.now) (cell_of place.now)) (object_of found.0.now) found.1) }
-        ensures err { IfErr result (StopsInBoth setting.now log.old log.new (loads.reach (typed_program setting.now.program.now) (memory_of self.now) access.entry.place (shape_of access.entry.ty.now) (cell_of place.now))) }
+        ensures ok { IfOk result (λ found.
+            GivesBoth setting.now log.old log.new
+            (loads.reach (typed_program setting.now.program.now) (memory_of self.now)
+            access.entry.place (shape_of access.entry.ty.now) (cell_of place.now))
+            (object_of found.0.now) found.1) }
+        ensures err { IfErr result
+            (StopsInBoth setting.now log.old log.new
+            (loads.reach (typed_program setting.now.program.now) (memory_of self.now)
+            access.entry.place (shape_of access.entry.ty.now) (cell_of place.now))) }
     {
         match place {
             Cell::Null => {
@@ -317,8 +351,14 @@ impl<'a> Memory<'a> {
         place: &'p Cell,
     ) -> Result<(&'p Object, u64), Stop>
         requires { IsLaidOut setting.now.program.now.model setting.now.program.now.table.list }
-        ensures ok { IfOk result (λ found. GivesBoth setting.now log.old log.new (loads.locate_object (typed_program setting.now.program.now) (memory_of self.now) (access_of access.entry) (cell_of place.now)) (object_of found.0.now) found.1) }
-        ensures err { IfErr result (StopsInBoth setting.now log.old log.new (loads.locate_object (typed_program setting.now.program.now) (memory_of self.now) (access_of access.entry) (cell_of place.now))) }
+        ensures ok { IfOk result (λ found.
+            GivesBoth setting.now log.old log.new
+            (loads.locate_object (typed_program setting.now.program.now) (memory_of self.now)
+            (access_of access.entry) (cell_of place.now)) (object_of found.0.now) found.1) }
+        ensures err { IfErr result
+            (StopsInBoth setting.now log.old log.new
+            (loads.locate_object (typed_program setting.now.program.now) (memory_of self.now)
+            (access_of access.entry) (cell_of place.now))) }
     {
         if access.direct {
             let found = direct(log, setting, access.place, place)?;
@@ -339,8 +379,15 @@ impl<'a> Memory<'a> {
         offset: u64,
     ) -> Result<Operand, Stop>
         requires { IsLaidOut setting.now.program.now.model setting.now.program.now.table.list }
-        ensures ok { IfOk result (λ operand. GivesBoth setting.now log.old log.new (loads.value_at (typed_program setting.now.program.now) (memory_of self.old) access.entry.place (shape_of access.entry.ty.now) (object_of object.now) offset) (memory_of self.new) (operand_of operand)) }
-        ensures err { IfErr result (StopsInBoth setting.now log.old log.new (loads.value_at (typed_program setting.now.program.now) (memory_of self.old) access.entry.place (shape_of access.entry.ty.now) (object_of object.now) offset)) }
+        ensures ok { IfOk result (λ operand.
+            GivesBoth setting.now log.old log.new
+            (loads.value_at (typed_program setting.now.program.now) (memory_of self.old)
+            access.entry.place (shape_of access.entry.ty.now) (object_of object.now) offset)
+            (memory_of self.new) (operand_of operand)) }
+        ensures err { IfErr result
+            (StopsInBoth setting.now log.old log.new
+            (loads.value_at (typed_program setting.now.program.now) (memory_of self.old)
+            access.entry.place (shape_of access.entry.ty.now) (object_of object.now) offset)) }
         ensures counts { IfOk result (λ _. KeepsCounts self.old self.new) }
     {
         match access.ty {
@@ -365,8 +412,15 @@ impl<'a> Memory<'a> {
         offset: u64,
     ) -> Result<Operand, Stop>
         requires { IsLaidOut setting.now.program.now.model setting.now.program.now.table.list }
-        ensures ok { IfOk result (λ operand. GivesBoth setting.now log.old log.new (struct_value (typed_program setting.now.program.now) (memory_of self.old) (shape_of ty.now) (object_of object.now) offset) (memory_of self.new) (operand_of operand)) }
-        ensures err { IfErr result (StopsInBoth setting.now log.old log.new (struct_value (typed_program setting.now.program.now) (memory_of self.old) (shape_of ty.now) (object_of object.now) offset)) }
+        ensures ok { IfOk result (λ operand.
+            GivesBoth setting.now log.old log.new
+            (struct_value (typed_program setting.now.program.now) (memory_of self.old)
+            (shape_of ty.now) (object_of object.now) offset) (memory_of self.new)
+            (operand_of operand)) }
+        ensures err { IfErr result
+            (StopsInBoth setting.now log.old log.new
+            (struct_value (typed_program setting.now.program.now) (memory_of self.old)
+            (shape_of ty.now) (object_of object.now) offset)) }
         ensures counts { IfOk result (λ _. KeepsCounts self.old self.new) }
     {
         let offsets = scalar_offsets(setting.program, ty)?;
@@ -384,8 +438,14 @@ impl<'a> Memory<'a> {
         offset: u64,
     ) -> Result<Operand, Stop>
         requires { IsLaidOut setting.now.program.now.model setting.now.program.now.table.list }
-        ensures ok { IfOk result (λ operand. GivesBoth setting.now log.old log.new (scalar_value (typed_program setting.now.program.now) (memory_of self.old) place (object_of object.now) offset) (memory_of self.new) (operand_of operand)) }
-        ensures err { IfErr result (StopsInBoth setting.now log.old log.new (scalar_value (typed_program setting.now.program.now) (memory_of self.old) place (object_of object.now) offset)) }
+        ensures ok { IfOk result (λ operand.
+            GivesBoth setting.now log.old log.new
+            (scalar_value (typed_program setting.now.program.now) (memory_of self.old) place
+            (object_of object.now) offset) (memory_of self.new) (operand_of operand)) }
+        ensures err { IfErr result
+            (StopsInBoth setting.now log.old log.new
+            (scalar_value (typed_program setting.now.program.now) (memory_of self.old) place
+            (object_of object.now) offset)) }
         ensures counts { IfOk result (λ _. KeepsCounts self.old self.new) }
     {
         let cell = self.read(log, setting, object, offset)?;
@@ -405,8 +465,15 @@ impl<'a> Memory<'a> {
         offsets: &[u64],
     ) -> Result<Vec<Cell>, Stop>
         requires { IsLaidOut setting.now.program.now.model setting.now.program.now.table.list }
-        ensures ok { IfOk result (λ cells. GivesBoth setting.now log.old log.new (loads.read_all (typed_program setting.now.program.now) (memory_of self.old) (object_of object.now) from offsets.now) (memory_of self.new) (map cell_of cells.items)) }
-        ensures err { IfErr result (StopsInBoth setting.now log.old log.new (loads.read_all (typed_program setting.now.program.now) (memory_of self.old) (object_of object.now) from offsets.now)) }
+        ensures ok { IfOk result (λ cells.
+            GivesBoth setting.now log.old log.new
+            (loads.read_all (typed_program setting.now.program.now) (memory_of self.old)
+            (object_of object.now) from offsets.now) (memory_of self.new)
+            (map cell_of cells.items)) }
+        ensures err { IfErr result
+            (StopsInBoth setting.now log.old log.new
+            (loads.read_all (typed_program setting.now.program.now) (memory_of self.old)
+            (object_of object.now) from offsets.now)) }
         ensures counts { IfOk result (λ _. KeepsCounts self.old self.new) }
     {
         let mut cells = Vec::new(*self.heap.allocator());
@@ -428,8 +495,15 @@ impl<'a> Memory<'a> {
         place: &Cell,
     ) -> Result<Operand, Stop>
         requires { IsLaidOut setting.now.program.now.model setting.now.program.now.table.list }
-        ensures ok { IfOk result (λ operand. GivesBoth setting.now log.old log.new (loads.load_object (typed_program setting.now.program.now) (memory_of self.old) frame (access_of access.entry) (cell_of place.now)) (memory_of self.new) (operand_of operand)) }
-        ensures err { IfErr result (StopsInBoth setting.now log.old log.new (loads.load_object (typed_program setting.now.program.now) (memory_of self.old) frame (access_of access.entry) (cell_of place.now))) }
+        ensures ok { IfOk result (λ operand.
+            GivesBoth setting.now log.old log.new
+            (loads.load_object (typed_program setting.now.program.now) (memory_of self.old) frame
+            (access_of access.entry) (cell_of place.now)) (memory_of self.new)
+            (operand_of operand)) }
+        ensures err { IfErr result
+            (StopsInBoth setting.now log.old log.new
+            (loads.load_object (typed_program setting.now.program.now) (memory_of self.old) frame
+            (access_of access.entry) (cell_of place.now))) }
         ensures counts { IfOk result (λ _. KeepsCounts self.old self.new) }
     {
         let found = self.locate(log, setting, access, place)?;
@@ -450,8 +524,15 @@ impl<'a> Memory<'a> {
         operand: &Operand,
     ) -> Result<(), Stop>
         requires { IsLaidOut setting.now.program.now.model setting.now.program.now.table.list }
-        ensures ok { OnOk result (Gives setting.now log.old log.new (loads.store_object (typed_program setting.now.program.now) (memory_of self.old) frame at (access_of access.entry) (cell_of place.now) (operand_of operand.now)) (memory_of self.new)) }
-        ensures err { IfErr result (StopsIn setting.now log.old log.new (loads.store_object (typed_program setting.now.program.now) (memory_of self.old) frame at (access_of access.entry) (cell_of place.now) (operand_of operand.now))) }
+        ensures ok { OnOk result
+            (Gives setting.now log.old log.new
+            (loads.store_object (typed_program setting.now.program.now) (memory_of self.old) frame
+            at (access_of access.entry) (cell_of place.now) (operand_of operand.now))
+            (memory_of self.new)) }
+        ensures err { IfErr result
+            (StopsIn setting.now log.old log.new
+            (loads.store_object (typed_program setting.now.program.now) (memory_of self.old) frame
+            at (access_of access.entry) (cell_of place.now) (operand_of operand.now))) }
         ensures counts { OnOk result (KeepsCounts self.old self.new) }
     {
         let found = self.locate(log, setting, access, place)?;
@@ -471,8 +552,11 @@ fn direct<'p>(
     place: Place,
     cell: &'p Cell,
 ) -> Result<(&'p Object, u64), Stop>
-    ensures ok { IfOk result (λ found. GivesBoth setting.now log.now log.now (loads.direct place (cell_of cell.now)) (object_of found.0.now) found.1) }
-    ensures err { IfErr result (StopsInBoth setting.now log.now log.now (loads.direct place (cell_of cell.now))) }
+    ensures ok { IfOk result (λ found.
+        GivesBoth setting.now log.now log.now (loads.direct place (cell_of cell.now))
+        (object_of found.0.now) found.1) }
+    ensures err { IfErr result
+        (StopsInBoth setting.now log.now log.now (loads.direct place (cell_of cell.now))) }
 {
     match cell {
         Cell::Pointer(object, offset) => {
@@ -487,7 +571,8 @@ fn direct<'p>(
 
 /// The fault by which a scalar that was never set refuses a use, if it does.
 pub fn refused_use(cell: &Cell) -> Option<Kind>
-    ensures { (place : Place) (act : Act State) → loads.set_then place (cell_of cell.now) act ≡ or_fault place result act }
+    ensures { (place : Place) (act : Act State)
+        → loads.set_then place (cell_of cell.now) act ≡ or_fault place result act }
 {
     match cell {
         Cell::Unset => Some(Kind::Unset),

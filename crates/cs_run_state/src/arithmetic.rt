@@ -150,7 +150,8 @@ fn is_of_c(number: i128) -> bool
 
 // What the wrap quotient of a product shows.
 fn near_wrap(quotient: Option<i128>) -> Wrap
-    ensures { (exact : ℤ) → quotient ≡ near_quotient exact → result ≡ operations.wrap_of exact }
+    ensures { (exact : ℤ) → quotient ≡ near_quotient exact
+        → result ≡ operations.wrap_of exact }
 {
     match quotient {
         Some(quotient) => wrap_of(quotient),
@@ -222,7 +223,8 @@ fn order(first: i128, second: i128) -> Option<bool>
 
 // Whether so many elements of so many bytes are at most what one allocation may ask for.
 fn product_fits(model: DataModel, count: i128, size: i128) -> Option<bool>
-    ensures { IfSome result (λ fits. fits ≡ int_le (count *ℤ size) (pos (product_bound_of model))) }
+    ensures { IfSome result (λ fits.
+        fits ≡ int_le (count *ℤ size) (pos (product_bound_of model))) }
 {
     let product = count.checked_mul(size)?;
     Some(product <= i128::from(product_bound(model)))
@@ -230,7 +232,8 @@ fn product_fits(model: DataModel, count: i128, size: i128) -> Option<bool>
 
 // The offset of a pointer that is moved: 0 in place of one past the bounds.
 fn moved(model: DataModel, offset: i128, amount: i128, size: u64) -> Option<i128>
-    ensures { IfSome result (λ n. n ≡ operations.within_bound model (offset +ℤ amount *ℤ pos size)) }
+    ensures { IfSome result (λ n.
+        n ≡ operations.within_bound model (offset +ℤ amount *ℤ pos size)) }
 {
     let by = amount.checked_mul(i128::from(size))?;
     let moved = offset.checked_add(by)?;

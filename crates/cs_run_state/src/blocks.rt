@@ -68,7 +68,8 @@ pub enum Change<'a> {
 impl<'a> Block<'a> {
     /// An object that is there and was not written.
     pub fn new(alloc: Global, ty: BlockType<'a>, extent: u64, fill: Fill<'a>) -> Block<'a>
-        ensures { block_of result ≡ meaning.new_block (type_of ty.entry) extent (fill_of fill.entry) }
+        ensures { block_of result ≡ meaning.new_block (type_of ty.entry) extent
+            (fill_of fill.entry) }
     {
         Block {
             ty,
@@ -98,7 +99,8 @@ impl<'a> Block<'a> {
 
     // Writes a scalar at an offset.
     fn write(&mut self, offset: u64, cell: Cell) -> Result<(), AllocError>
-        ensures { OnOk result (block_of self.new ≡ meaning.write_cell offset (cell_of cell) (block_of self.old)) }
+        ensures { OnOk result (block_of self.new
+            ≡ meaning.write_cell offset (cell_of cell) (block_of self.old)) }
     {
         match self.written.insert(offset, cell) {
             Ok(_) => Ok(()),

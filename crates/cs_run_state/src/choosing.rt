@@ -28,8 +28,12 @@ use std::alloc::AllocError;
 impl<'a> Machine<'a> {
     /// Goes the way that the first part of `&&`, `||` or `?:` says (C11 6.5.13 to 6.5.15).
     pub fn choose(&mut self, log: &mut Log, setting: &Setting<'a>, e: &'a Expr) -> Result<(), Stop>
-        ensures ok { OnOk result (LeadsTo setting.now log.old log.new (expressions.choose (typed e.now) (state_of self.old)) (state_of self.new)) }
-        ensures err { IfErr result (EndsBy setting.now log.old log.new (expressions.choose (typed e.now) (state_of self.old))) }
+        ensures ok { OnOk result
+            (LeadsTo setting.now log.old log.new
+            (expressions.choose (typed e.now) (state_of self.old)) (state_of self.new)) }
+        ensures err { IfErr result
+            (EndsBy setting.now log.old log.new
+            (expressions.choose (typed e.now) (state_of self.old))) }
     {
         let place = e.place;
         match &*e.kind {
@@ -63,8 +67,13 @@ impl<'a> Machine<'a> {
 
     /// The newest value is taken as a test's: the way that it takes shows.
     pub fn test(&mut self, log: &mut Log, setting: &Setting<'a>, place: Place) -> Result<bool, Stop>
-        ensures ok { IfOk result (λ holds. (state_of self.new ≡ machine.pop (state_of self.old)) × Gives setting.now log.old log.new (operators.branch place (machine.cell_at (state_of self.old) 0)) holds) }
-        ensures err { IfErr result (StopsIn setting.now log.old log.new (operators.branch place (machine.cell_at (state_of self.old) 0))) }
+        ensures ok { IfOk result (λ holds.
+            (state_of self.new ≡ machine.pop (state_of self.old))
+            × Gives setting.now log.old log.new
+            (operators.branch place (machine.cell_at (state_of self.old) 0)) holds) }
+        ensures err { IfErr result
+            (StopsIn setting.now log.old log.new
+            (operators.branch place (machine.cell_at (state_of self.old) 0))) }
     {
         let value = self.pop_cell();
         let holds = log.branch(setting, place, &value)?;
@@ -79,7 +88,8 @@ impl<'a> Machine<'a> {
         part: &'a Expr,
         known: bool,
     ) -> Result<(), AllocError>
-        ensures { OnOk result (state_of self.new ≡ expressions.goes_on_to needed place (typed part.now) known (state_of self.old)) }
+        ensures { OnOk result (state_of self.new
+            ≡ expressions.goes_on_to needed place (typed part.now) known (state_of self.old)) }
     {
         if needed {
             self.put(Item::Judge(place))?;
@@ -92,8 +102,11 @@ impl<'a> Machine<'a> {
 
     /// The right part of `&&` or `||`: whether it holds shows, and is the value.
     pub fn judge(&mut self, log: &mut Log, setting: &Setting<'a>, place: Place) -> Result<(), Stop>
-        ensures ok { OnOk result (LeadsTo setting.now log.old log.new (expressions.judge place (state_of self.old)) (state_of self.new)) }
-        ensures err { IfErr result (EndsBy setting.now log.old log.new (expressions.judge place (state_of self.old))) }
+        ensures ok { OnOk result
+            (LeadsTo setting.now log.old log.new (expressions.judge place (state_of self.old))
+            (state_of self.new)) }
+        ensures err { IfErr result
+            (EndsBy setting.now log.old log.new (expressions.judge place (state_of self.old))) }
     {
         let value = self.pop_cell();
         let holds = log.truth(setting, place, &value)?;
@@ -104,8 +117,14 @@ impl<'a> Machine<'a> {
 
     /// The result of a call that is used was set (C11 6.9.1, paragraph 12).
     pub fn use_result(&self, log: &Log, setting: &Setting<'a>, place: Place) -> Result<(), Stop>
-        ensures ok { OnOk result (LeadsTo setting.now log.now log.now (expressions.use_result place (machine.operand_at (state_of self.now) 0) (state_of self.now)) (state_of self.now)) }
-        ensures err { IfErr result (EndsBy setting.now log.now log.now (expressions.use_result place (machine.operand_at (state_of self.now) 0) (state_of self.now))) }
+        ensures ok { OnOk result
+            (LeadsTo setting.now log.now log.now
+            (expressions.use_result place (machine.operand_at (state_of self.now) 0)
+            (state_of self.now)) (state_of self.now)) }
+        ensures err { IfErr result
+            (EndsBy setting.now log.now log.now
+            (expressions.use_result place (machine.operand_at (state_of self.now) 0)
+            (state_of self.now))) }
     {
         match self.refused_result() {
             Some(kind) => Err(fault(kind, place)),
@@ -116,7 +135,9 @@ impl<'a> Machine<'a> {
     // The fault by which the newest value refuses a use, if it does.
     #[tactic(auto, using(crate::proofs::States::states), unfolding(crate::specs::MachineView::state_of))]
     fn refused_result(&self) -> Option<Kind>
-        ensures { (place : Place) (act : Act State) → result_act place (machine.operand_at (state_of self.now) 0) act ≡ or_fault place result act }
+        ensures { (place : Place) (act : Act State)
+            → result_act place (machine.operand_at (state_of self.now) 0) act
+            ≡ or_fault place result act }
     {
         match self.frame.stack.last() {
             Some(operand) => refused_operand(operand),
@@ -127,7 +148,8 @@ impl<'a> Machine<'a> {
 
 // The fault by which a value refuses a use, if it does.
 fn refused_operand(operand: &Operand) -> Option<Kind>
-    ensures { (place : Place) (act : Act State) → result_act place (operand_of operand.now) act ≡ or_fault place result act }
+    ensures { (place : Place) (act : Act State)
+        → result_act place (operand_of operand.now) act ≡ or_fault place result act }
 {
     match operand {
         Operand::Scalar(cell) => refused_use(cell),

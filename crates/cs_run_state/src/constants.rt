@@ -25,7 +25,8 @@ use std::alloc::AllocError;
 #[cycle(constant)]
 pub fn constant(program: &Program, e: &Expr) -> Result<Cell, AllocError>
     requires { IsLaidOut program.now.model program.now.table.list }
-    ensures { IfOk result (λ cell. cell_of cell ≡ initials.constant (typed_program program.now) (typed e.now)) }
+    ensures { IfOk result (λ cell.
+        cell_of cell ≡ initials.constant (typed_program program.now) (typed e.now)) }
 {
     let model = program.model;
     match &*e.kind {
@@ -104,7 +105,8 @@ pub fn constant(program: &Program, e: &Expr) -> Result<Cell, AllocError>
 fn constant_number(program: &Program, e: &Expr) -> Result<i128, AllocError>
     requires { IsLaidOut program.now.model program.now.table.list }
     ensures { IfOk result (λ number.
-        number ≡ initials.number_in (initials.constant (typed_program program.now) (typed e.now))) }
+        number ≡ initials.number_in
+        (initials.constant (typed_program program.now) (typed e.now))) }
 {
     let cell = constant(program, e)?;
     Ok(cell.number())
@@ -141,7 +143,8 @@ pub fn integer_of(ty: &CType) -> IntType
 /// The bytes of what a pointer of a type points to (C11 6.2.5, paragraph 20).
 pub fn target_size(program: &Program, ty: &CType) -> Result<u64, AllocError>
     requires { IsLaidOut program.now.model program.now.table.list }
-    ensures { IfOk result (λ bytes. bytes ≡ types.size_of (typed_program program.now) (types.target_of (shape_of ty.now))) }
+    ensures { IfOk result (λ bytes.
+        bytes ≡ types.size_of (typed_program program.now) (types.target_of (shape_of ty.now))) }
 {
     match ty {
         CType::Pointer(target) => size_of(program, target),
@@ -158,7 +161,8 @@ pub fn truth_cell(holds: bool) -> Cell
 
 // The number of an operation's own result.
 fn own_number(model: DataModel, operation: Operation) -> Result<Cell, AllocError>
-    ensures { IfOk result (λ cell. cell_of cell ≡ NumberCell (operations.own_result model operation)) }
+    ensures { IfOk result (λ cell.
+        cell_of cell ≡ NumberCell (operations.own_result model operation)) }
 {
     let own = own_result(model, operation)?;
     Ok(Cell::Number(own.number))
@@ -187,7 +191,9 @@ fn moved(model: DataModel, pointer: Cell, stride: Stride) -> Result<Cell, AllocE
 
 // The offset of a pointer that is moved.
 fn moved_offset(model: DataModel, offset: &i128, stride: Stride) -> Result<i128, AllocError>
-    ensures { IfOk result (λ moved. moved ≡ operations.own_result model (Operation.Sum offset.now stride.amount stride.size)) }
+    ensures { IfOk result (λ moved.
+        moved ≡ operations.own_result model
+        (Operation.Sum offset.now stride.amount stride.size)) }
 {
     let own = own_result(model, pointer_sum(offset, stride))?;
     Ok(own.number)
@@ -195,7 +201,8 @@ fn moved_offset(model: DataModel, offset: &i128, stride: Stride) -> Result<i128,
 
 // A cell converted to a type.
 fn converted(model: DataModel, ty: &CType, cell: Cell) -> Result<Cell, AllocError>
-    ensures { IfOk result (λ made. cell_of made ≡ initials.converted model (shape_of ty.now) (cell_of cell)) }
+    ensures { IfOk result (λ made.
+        cell_of made ≡ initials.converted model (shape_of ty.now) (cell_of cell)) }
 {
     match ty {
         CType::Int(ty) => converted_to(model, *ty, cell),
@@ -208,7 +215,8 @@ fn converted(model: DataModel, ty: &CType, cell: Cell) -> Result<Cell, AllocErro
 
 // A cell converted to an integer type.
 fn converted_to(model: DataModel, ty: IntType, cell: Cell) -> Result<Cell, AllocError>
-    ensures { IfOk result (λ made. cell_of made ≡ initials.converted model (integer ty) (cell_of cell)) }
+    ensures { IfOk result (λ made.
+        cell_of made ≡ initials.converted model (integer ty) (cell_of cell)) }
 {
     match cell {
         Cell::Number(number) => own_number(model, conversion(ty, &number)),

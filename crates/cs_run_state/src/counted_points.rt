@@ -50,7 +50,8 @@ pub fn counted_points(s: &Stmt) -> Result<u64, AllocError>
 /// How many there are in statements one after another.
 #[cycle(counted_points)]
 pub fn counted_points_in(statements: &[Stmt]) -> Result<u64, AllocError>
-    ensures { IfOk result (λ count. count ≡ meaning.counted_points_in (statement_list statements.now)) }
+    ensures { IfOk result (λ count.
+        count ≡ meaning.counted_points_in (statement_list statements.now)) }
 {
     let mut count = 0;
     for s in statements {

@@ -16,7 +16,9 @@ use std::alloc::AllocError;
 impl<'a> Machine<'a> {
     /// Puts a step of an expression before what is to be done.
     pub fn put_expr(&mut self, step: ExprStep, e: &'a Expr) -> Result<(), AllocError>
-        ensures { OnOk result (state_of self.new ≡ machine.to_do (expression_item step (typed e.now) ∷ (state_of self.old).frame.todo) (state_of self.old)) }
+        ensures { OnOk result (state_of self.new
+            ≡ machine.to_do (expression_item step (typed e.now)
+            ∷ (state_of self.old).frame.todo) (state_of self.old)) }
     {
         self.put(Item::Expression(step, e))?;
         Ok(())
@@ -25,7 +27,9 @@ impl<'a> Machine<'a> {
     /// Puts the parts of an expression and what it does with them before what is to be done, and after them that the result of a
     /// call is used.
     pub fn evaluate(&mut self, e: &'a Expr) -> Result<(), AllocError>
-        ensures { OnOk result (state_of self.new ≡ machine.to_do (expressions.evaluates (typed e.now) (expressions.uses (typed e.now) (state_of self.old).frame.todo)) (state_of self.old)) }
+        ensures { OnOk result (state_of self.new
+            ≡ machine.to_do (expressions.evaluates (typed e.now)
+            (expressions.uses (typed e.now) (state_of self.old).frame.todo)) (state_of self.old)) }
     {
         if is_call(e) {
             self.put(Item::Use(e.place))?;
@@ -36,7 +40,9 @@ impl<'a> Machine<'a> {
 
     /// Puts the parts of an expression and what it does with them before what is to be done.
     pub fn evaluate_parts(&mut self, e: &'a Expr) -> Result<(), AllocError>
-        ensures { OnOk result (state_of self.new ≡ machine.to_do (expressions.evaluates (typed e.now) (state_of self.old).frame.todo) (state_of self.old)) }
+        ensures { OnOk result (state_of self.new
+            ≡ machine.to_do (expressions.evaluates (typed e.now) (state_of self.old).frame.todo)
+            (state_of self.old)) }
     {
         match &*e.kind {
             ExprKind::Number(_) => self.put_expr(ExprStep::Act, e),
@@ -80,7 +86,10 @@ impl<'a> Machine<'a> {
         part: &'a Expr,
         step: ExprStep,
     ) -> Result<(), AllocError>
-        ensures { OnOk result (state_of self.new ≡ machine.to_do (machine.Evaluate (typed part.now) ∷ (expression_item step (typed e.now) ∷ (state_of self.old).frame.todo)) (state_of self.old)) }
+        ensures { OnOk result (state_of self.new
+            ≡ machine.to_do (machine.Evaluate (typed part.now)
+            ∷ (expression_item step (typed e.now) ∷ (state_of self.old).frame.todo))
+            (state_of self.old)) }
     {
         self.put_expr(step, e)?;
         self.put_expr(ExprStep::Evaluate, part)?;
@@ -94,7 +103,11 @@ impl<'a> Machine<'a> {
         left: &'a Expr,
         right: &'a Expr,
     ) -> Result<(), AllocError>
-        ensures { OnOk result (state_of self.new ≡ machine.to_do (machine.Evaluate (typed left.now) ∷ (machine.Evaluate (typed right.now) ∷ (machine.Act (typed e.now) ∷ (state_of self.old).frame.todo))) (state_of self.old)) }
+        ensures { OnOk result (state_of self.new
+            ≡ machine.to_do (machine.Evaluate (typed left.now)
+            ∷ (machine.Evaluate (typed right.now)
+            ∷ (machine.Act (typed e.now) ∷ (state_of self.old).frame.todo)))
+            (state_of self.old)) }
     {
         self.evaluate_one(e, right, ExprStep::Act)?;
         self.put_expr(ExprStep::Evaluate, left)?;
@@ -109,7 +122,10 @@ impl<'a> Machine<'a> {
         amount: &'a Expr,
         order: Order,
     ) -> Result<(), AllocError>
-        ensures { OnOk result (state_of self.new ≡ machine.to_do (expressions.evaluates_both (typed pointer.now) (typed amount.now) order (machine.Act (typed e.now) ∷ (state_of self.old).frame.todo)) (state_of self.old)) }
+        ensures { OnOk result (state_of self.new
+            ≡ machine.to_do (expressions.evaluates_both (typed pointer.now) (typed amount.now)
+            order (machine.Act (typed e.now) ∷ (state_of self.old).frame.todo))
+            (state_of self.old)) }
     {
         match order {
             Order::PointerFirst => self.evaluate_two(e, pointer, amount),
@@ -119,7 +135,9 @@ impl<'a> Machine<'a> {
 
     // A conversion's operand: to void, its value isn't used.
     fn evaluate_operand(&mut self, e: &'a Expr, value: &'a Expr) -> Result<(), AllocError>
-        ensures { OnOk result (state_of self.new ≡ machine.to_do (expressions.evaluates_operand (shape_of e.now.ty) (typed value.now) (machine.Act (typed e.now) ∷ (state_of self.old).frame.todo)) (state_of self.old)) }
+        ensures { OnOk result (state_of self.new
+            ≡ machine.to_do (expressions.evaluates_operand (shape_of e.now.ty) (typed value.now)
+            (machine.Act (typed e.now) ∷ (state_of self.old).frame.todo)) (state_of self.old)) }
     {
         self.put_expr(ExprStep::Act, e)?;
         match &e.ty {
@@ -133,7 +151,11 @@ impl<'a> Machine<'a> {
 
     // The left operand of a comma, whose value is dropped, and the right one.
     fn evaluate_comma(&mut self, first: &'a Expr, second: &'a Expr) -> Result<(), AllocError>
-        ensures { OnOk result (state_of self.new ≡ machine.to_do (machine.EvaluateUnused (typed first.now) ∷ (machine.Drop ∷ (machine.Evaluate (typed second.now) ∷ (state_of self.old).frame.todo))) (state_of self.old)) }
+        ensures { OnOk result (state_of self.new
+            ≡ machine.to_do (machine.EvaluateUnused (typed first.now)
+            ∷ (machine.Drop
+            ∷ (machine.Evaluate (typed second.now) ∷ (state_of self.old).frame.todo)))
+            (state_of self.old)) }
     {
         self.put_expr(ExprStep::Evaluate, second)?;
         self.put(Item::Discard)?;
@@ -148,7 +170,12 @@ impl<'a> Machine<'a> {
         object: &'a Expr,
         value: &'a Expr,
     ) -> Result<(), AllocError>
-        ensures { OnOk result (state_of self.new ≡ machine.to_do (machine.Evaluate (typed object.now) ∷ (machine.Fetch (typed e.now) ∷ (machine.Evaluate (typed value.now) ∷ (machine.Act (typed e.now) ∷ (state_of self.old).frame.todo)))) (state_of self.old)) }
+        ensures { OnOk result (state_of self.new
+            ≡ machine.to_do (machine.Evaluate (typed object.now)
+            ∷ (machine.Fetch (typed e.now)
+            ∷ (machine.Evaluate (typed value.now)
+            ∷ (machine.Act (typed e.now) ∷ (state_of self.old).frame.todo))))
+            (state_of self.old)) }
     {
         self.evaluate_one(e, value, ExprStep::Act)?;
         self.evaluate_one(e, object, ExprStep::Fetch)?;
@@ -157,7 +184,9 @@ impl<'a> Machine<'a> {
 
     // Arguments, from the first on.
     fn evaluate_all(&mut self, e: &'a Expr, arguments: &'a [Expr]) -> Result<(), AllocError>
-        ensures { OnOk result (state_of self.new ≡ machine.to_do (expressions.evaluates_all (typed_list arguments.now) (machine.Act (typed e.now) ∷ (state_of self.old).frame.todo)) (state_of self.old)) }
+        ensures { OnOk result (state_of self.new
+            ≡ machine.to_do (expressions.evaluates_all (typed_list arguments.now)
+            (machine.Act (typed e.now) ∷ (state_of self.old).frame.todo)) (state_of self.old)) }
     {
         self.put_expr(ExprStep::Act, e)?;
         let mut left = arguments.len();
@@ -171,7 +200,9 @@ impl<'a> Machine<'a> {
 
 // Whether an expression is a call of a function.
 fn is_call(e: &Expr) -> bool
-    ensures { (following : List machine.Item) → expressions.uses (typed e.now) following ≡ (if result then machine.Use e.now.place ∷ following else following) }
+    ensures { (following : List machine.Item)
+        → expressions.uses (typed e.now) following
+        ≡ (if result then machine.Use e.now.place ∷ following else following) }
 {
     matches!(&*e.kind, ExprKind::Call(_, _))
 }

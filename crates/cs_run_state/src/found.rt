@@ -36,7 +36,9 @@ pub fn position(
     offset: u64,
 ) -> Result<u64, AllocError>
     requires { IsLaidOut program.now.model program.now.table.list }
-    ensures { IfOk result (λ position. position ≡ meaning.position (typed_program program.now) (object_of object.now) (block_of block.now) offset) }
+    ensures { IfOk result (λ position.
+        position ≡ meaning.position (typed_program program.now) (object_of object.now)
+        (block_of block.now) offset) }
 {
     match object {
         Object::Start(_) => {
@@ -68,7 +70,9 @@ fn scalar_at<'a>(
     offset: u64,
 ) -> Result<BlockType<'a>, AllocError>
     requires { IsLaidOut program.now.model program.now.table.list }
-    ensures { IfOk result (λ found. type_of found ≡ meaning.scalar_at (typed_program program.now) (object_of object.now) (block_of block.now) offset) }
+    ensures { IfOk result (λ found.
+        type_of found ≡ meaning.scalar_at (typed_program program.now) (object_of object.now)
+        (block_of block.now) offset) }
 {
     let at = position(program, object, block, offset)?;
     let found = block.ty.scalar(program, at)?;
@@ -83,7 +87,9 @@ fn filled<'a>(
     offset: u64,
 ) -> Result<Found<'a>, AllocError>
     requires { IsLaidOut program.now.model program.now.table.list }
-    ensures { IfOk result (λ found. found_of found ≡ meaning.filled (typed_program program.now) (fill_of fill.now) (type_of scalar.entry) offset) }
+    ensures { IfOk result (λ found.
+        found_of found ≡ meaning.filled (typed_program program.now) (fill_of fill.now)
+        (type_of scalar.entry) offset) }
 {
     match fill {
         Fill::Unset => Ok(Found::Holds(Cell::Unset)),
@@ -116,7 +122,9 @@ fn found_in<'a>(
     offset: u64,
 ) -> Result<Found<'a>, AllocError>
     requires { IsLaidOut program.now.model program.now.table.list }
-    ensures { IfOk result (λ found. found_of found ≡ meaning.found_in (typed_program program.now) (object_of object.now) (Some (block_of block.now)) offset) }
+    ensures { IfOk result (λ found.
+        found_of found ≡ meaning.found_in (typed_program program.now) (object_of object.now)
+        (Some (block_of block.now)) offset) }
 {
     match block.written.get(&offset) {
         Some(cell) => {
@@ -139,7 +147,9 @@ impl<'a> Memory<'a> {
         offset: u64,
     ) -> Result<Found<'a>, AllocError>
         requires { IsLaidOut program.now.model program.now.table.list }
-        ensures { IfOk result (λ found. found_of found ≡ meaning.found_in (typed_program program.now) (object_of object.now) (memory_of self.now (object_of object.now)) offset) }
+        ensures { IfOk result (λ found.
+            found_of found ≡ meaning.found_in (typed_program program.now) (object_of object.now)
+            (memory_of self.now (object_of object.now)) offset) }
     {
         match self.block(object) {
             Some(block) => found_in(program, object, block, offset),
@@ -155,8 +165,14 @@ impl<'a> Memory<'a> {
         found: Found<'a>,
     ) -> Result<Cell, Stop>
         requires { IsLaidOut setting.now.program.now.model setting.now.program.now.table.list }
-        ensures ok { IfOk result (λ cell. GivesBoth setting.now log.old log.new (access.receive (typed_program setting.now.program.now) (memory_of self.old) (found_of found.entry)) (memory_of self.new) (cell_of cell)) }
-        ensures err { IfErr result (StopsInBoth setting.now log.old log.new (access.receive (typed_program setting.now.program.now) (memory_of self.old) (found_of found.entry))) }
+        ensures ok { IfOk result (λ cell.
+            GivesBoth setting.now log.old log.new
+            (access.receive (typed_program setting.now.program.now) (memory_of self.old)
+            (found_of found.entry)) (memory_of self.new) (cell_of cell)) }
+        ensures err { IfErr result
+            (StopsInBoth setting.now log.old log.new
+            (access.receive (typed_program setting.now.program.now) (memory_of self.old)
+            (found_of found.entry))) }
         ensures counts { IfOk result (λ _. KeepsCounts self.old self.new) }
     {
         match found {
@@ -177,8 +193,14 @@ impl<'a> Memory<'a> {
         scalar: BlockType<'a>,
     ) -> Result<Cell, Stop>
         requires { IsLaidOut setting.now.program.now.model setting.now.program.now.table.list }
-        ensures ok { IfOk result (λ cell. GivesBoth setting.now log.old log.new (access.receive (typed_program setting.now.program.now) (memory_of self.old) (meaning.Unknown path (type_of scalar.entry))) (memory_of self.new) (cell_of cell)) }
-        ensures err { IfErr result (StopsInBoth setting.now log.old log.new (access.receive (typed_program setting.now.program.now) (memory_of self.old) (meaning.Unknown path (type_of scalar.entry)))) }
+        ensures ok { IfOk result (λ cell.
+            GivesBoth setting.now log.old log.new
+            (access.receive (typed_program setting.now.program.now) (memory_of self.old)
+            (meaning.Unknown path (type_of scalar.entry))) (memory_of self.new) (cell_of cell)) }
+        ensures err { IfErr result
+            (StopsInBoth setting.now log.old log.new
+            (access.receive (typed_program setting.now.program.now) (memory_of self.old)
+            (meaning.Unknown path (type_of scalar.entry)))) }
         ensures counts { IfOk result (λ _. KeepsCounts self.old self.new) }
     {
         let number = log.read_input(setting, path.copy()?)?;
@@ -195,8 +217,14 @@ impl<'a> Memory<'a> {
         offset: u64,
     ) -> Result<Cell, Stop>
         requires { IsLaidOut setting.now.program.now.model setting.now.program.now.table.list }
-        ensures ok { IfOk result (λ cell. GivesBoth setting.now log.old log.new (access.read (typed_program setting.now.program.now) (memory_of self.old) (object_of object.now) offset) (memory_of self.new) (cell_of cell)) }
-        ensures err { IfErr result (StopsInBoth setting.now log.old log.new (access.read (typed_program setting.now.program.now) (memory_of self.old) (object_of object.now) offset)) }
+        ensures ok { IfOk result (λ cell.
+            GivesBoth setting.now log.old log.new
+            (access.read (typed_program setting.now.program.now) (memory_of self.old)
+            (object_of object.now) offset) (memory_of self.new) (cell_of cell)) }
+        ensures err { IfErr result
+            (StopsInBoth setting.now log.old log.new
+            (access.read (typed_program setting.now.program.now) (memory_of self.old)
+            (object_of object.now) offset)) }
         ensures counts { IfOk result (λ _. KeepsCounts self.old self.new) }
     {
         let found = self.found(setting.program, object, offset)?;

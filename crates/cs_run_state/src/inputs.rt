@@ -49,7 +49,8 @@ fn typed_cell(model: DataModel, path: Path, ty: &CType, number: &i128) -> Cell
 
 // The value of a scalar of an integer type.
 fn integer_cell(model: DataModel, ty: IntType, number: &i128) -> Cell
-    ensures { cell_of result ≡ NumberCell (if runs.lies_in (operations.numbers_of model ty) number.now then number.now else pos 0) }
+    ensures { cell_of result ≡ NumberCell
+        (if runs.lies_in (operations.numbers_of model ty) number.now then number.now else pos 0) }
 {
     if lies_in(numbers_of(model, ty), *number) {
         Cell::Number(*number)
@@ -60,7 +61,9 @@ fn integer_cell(model: DataModel, ty: IntType, number: &i128) -> Cell
 
 // The value of a pointer.
 fn pointer_cell(path: Path, number: &i128) -> Cell
-    ensures { cell_of result ≡ (if operations.is_true number.now then PointerCell (StartBlock path) (pos 0) else NullCell) }
+    ensures { cell_of result
+        ≡ (if operations.is_true number.now then PointerCell (StartBlock path) (pos 0)
+        else NullCell) }
 {
     if is_true(*number) {
         Cell::Pointer(Object::Start(path), 0)
@@ -85,7 +88,8 @@ pub fn element_of(target: &CType) -> BlockType<'_>
 // The bytes of the block after an unknown pointer: so many elements, or as many as such a block has.
 fn start_bytes(program: &Program, element: BlockType, count: Option<u64>) -> Result<u64, AllocError>
     requires { IsLaidOut program.now.model program.now.table.list }
-    ensures { IfOk result (λ bytes. bytes ≡ meaning.start_extent (typed_program program.now) (type_of element.entry) count) }
+    ensures { IfOk result (λ bytes.
+        bytes ≡ meaning.start_extent (typed_program program.now) (type_of element.entry) count) }
 {
     let size = element.size(program)?;
     match count {
@@ -108,7 +112,9 @@ fn start_block<'a>(
     count: Option<u64>,
 ) -> Result<Block<'a>, AllocError>
     requires { IsLaidOut program.now.model program.now.table.list }
-    ensures { IfOk result (λ made. block_of made ≡ meaning.start_block (typed_program program.now) path (shape_of target.now) count) }
+    ensures { IfOk result (λ made.
+        block_of made ≡ meaning.start_block (typed_program program.now) path (shape_of target.now)
+        count) }
 {
     let element = element_of(target);
     let bytes = start_bytes(program, element, count)?;
@@ -127,7 +133,9 @@ impl<'a> Memory<'a> {
         number: &i128,
     ) -> Result<(), AllocError>
         requires { IsLaidOut program.now.model program.now.table.list }
-        ensures memory { OnOk result (memory_of self.new ≡ inputs.opened (typed_program program.now) path.now (type_of scalar.entry) count number.now (memory_of self.old)) }
+        ensures memory { OnOk result
+            (memory_of self.new ≡ inputs.opened (typed_program program.now) path.now
+            (type_of scalar.entry) count number.now (memory_of self.old)) }
         ensures counts { OnOk result (KeepsCounts self.old self.new) }
     {
         match scalar {
@@ -148,7 +156,9 @@ impl<'a> Memory<'a> {
         number: &i128,
     ) -> Result<(), AllocError>
         requires { IsLaidOut program.now.model program.now.table.list }
-        ensures memory { OnOk result (memory_of self.new ≡ inputs.opened (typed_program program.now) path.now (shape_of ty.now) count number.now (memory_of self.old)) }
+        ensures memory { OnOk result
+            (memory_of self.new ≡ inputs.opened (typed_program program.now) path.now
+            (shape_of ty.now) count number.now (memory_of self.old)) }
         ensures counts { OnOk result (KeepsCounts self.old self.new) }
     {
         match ty {
@@ -170,7 +180,9 @@ impl<'a> Memory<'a> {
         number: &i128,
     ) -> Result<(), AllocError>
         requires { IsLaidOut program.now.model program.now.table.list }
-        ensures memory { OnOk result (memory_of self.new ≡ inputs.opened (typed_program program.now) path.now (pointer (shape_of target.now)) count number.now (memory_of self.old)) }
+        ensures memory { OnOk result
+            (memory_of self.new ≡ inputs.opened (typed_program program.now) path.now
+            (pointer (shape_of target.now)) count number.now (memory_of self.old)) }
         ensures counts { OnOk result (KeepsCounts self.old self.new) }
     {
         if has_target(number) {

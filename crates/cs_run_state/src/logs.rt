@@ -147,8 +147,10 @@ impl Log {
         object: &Object,
         offset: i128,
     ) -> Result<(), Stop>
-        ensures ok { OnOk result (GoesOn setting.now self.old self.new (Reaches place (object_of object.now) offset)) }
-        ensures err { IfErr result (EndsIn setting.now self.old self.new (Reaches place (object_of object.now) offset)) }
+        ensures ok { OnOk result
+            (GoesOn setting.now self.old self.new (Reaches place (object_of object.now) offset)) }
+        ensures err { IfErr result
+            (EndsIn setting.now self.old self.new (Reaches place (object_of object.now) offset)) }
     {
         if !self.has_room(setting) {
             return Err(Stop::Outcome(Outcome::Over(Budget::Events, place)));
@@ -159,7 +161,8 @@ impl Log {
 
     /// A touch, which shows nothing.
     pub fn touch(&mut self, touch: Touch) -> Result<(), AllocError>
-        ensures { OnOk result ((setting : SettingOfRun) → GoesOn setting self.old self.new (Touches (touch_of touch))) }
+        ensures { OnOk result ((setting : SettingOfRun)
+            → GoesOn setting self.old self.new (Touches (touch_of touch))) }
     {
         self.touches.push(touch)?;
         Ok(())
@@ -174,7 +177,8 @@ impl Log {
 
     // One more event.
     fn push(&mut self, place: Place, label: Label) -> Result<(), AllocError>
-        ensures { OnOk result (log_of self.new ≡ runs.with_event (log_of self.old) (record { place = place; label = label })) }
+        ensures { OnOk result (log_of self.new
+            ≡ runs.with_event (log_of self.old) (record { place = place; label = label })) }
     {
         self.events.push(Event { place, label })?;
         Ok(())
@@ -215,7 +219,9 @@ fn guess_at(guesses: &[Guess], event: u64) -> Option<i128>
 
 // The number that leads on: the guess, or the operation's own result.
 fn leading(number: i128, guess: Option<i128>) -> i128
-    ensures { (model : DataModel) (operation : Operation) → number ≡ operations.own_result model operation → result ≡ operations.result_with model operation guess }
+    ensures { (model : DataModel) (operation : Operation)
+        → number ≡ operations.own_result model operation
+        → result ≡ operations.result_with model operation guess }
 {
     match guess {
         Some(guess) => guess,
@@ -232,7 +238,8 @@ fn truth_label(number: i128) -> Label
 
 // What an operation shows.
 fn label(operation: Operation, own: Computed, guess: Option<i128>) -> Label
-    ensures { (model : DataModel) → IsOwn model operation own → result ≡ operations.shows model operation guess }
+    ensures { (model : DataModel) → IsOwn model operation own
+        → result ≡ operations.shows model operation guess }
 {
     match operation {
         Operation::Show(label) => label,
@@ -249,7 +256,9 @@ fn label(operation: Operation, own: Computed, guess: Option<i128>) -> Label
 
 // How a result lies to its type, or that it is guessed.
 fn wrap_or_guess(wrap: Wrap, guess: Option<i128>) -> Wrap
-    ensures { (model : DataModel) (operation : Operation) → wrap ≡ operations.wrap_of (operations.own_quotient model operation) → result ≡ operations.wrap_or_guess model operation guess }
+    ensures { (model : DataModel) (operation : Operation)
+        → wrap ≡ operations.wrap_of (operations.own_quotient model operation)
+        → result ≡ operations.wrap_or_guess model operation guess }
 {
     match guess {
         Some(_) => Wrap::Guessed,

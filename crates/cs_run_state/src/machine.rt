@@ -52,7 +52,9 @@ pub struct Machine<'a> {
 impl<'a> Machine<'a> {
     /// Puts a thing before what is to be done.
     pub fn put(&mut self, item: Item<'a>) -> Result<(), AllocError>
-        ensures { OnOk result (state_of self.new ≡ machine.to_do (item_of item.entry ∷ (state_of self.old).frame.todo) (state_of self.old)) }
+        ensures { OnOk result (state_of self.new
+            ≡ machine.to_do (item_of item.entry ∷ (state_of self.old).frame.todo)
+            (state_of self.old)) }
     {
         self.frame.todo.push(item)?;
         Ok(())
@@ -60,7 +62,9 @@ impl<'a> Machine<'a> {
 
     /// Takes the first thing that is to be done.
     pub fn next(&mut self) -> Option<Item<'a>>
-        ensures some { IfSome result (λ item. state_of self.old ≡ machine.to_do (item_of item ∷ (state_of self.new).frame.todo) (state_of self.new)) }
+        ensures some { IfSome result (λ item.
+            state_of self.old ≡ machine.to_do (item_of item ∷ (state_of self.new).frame.todo)
+            (state_of self.new)) }
         ensures none { IfNone result ((state_of self.old).frame.todo ≡ []) }
         ensures same { IfNone result (state_of self.new ≡ state_of self.old) }
     {
@@ -72,7 +76,8 @@ impl<'a> Machine<'a> {
 
     /// Leaves one more operand.
     pub fn push(&mut self, operand: Operand) -> Result<(), AllocError>
-        ensures { OnOk result (state_of self.new ≡ machine.push (operand_of operand) (state_of self.old)) }
+        ensures { OnOk result (state_of self.new
+            ≡ machine.push (operand_of operand) (state_of self.old)) }
     {
         self.frame.stack.push(operand)?;
         Ok(())
@@ -80,7 +85,8 @@ impl<'a> Machine<'a> {
 
     /// Leaves one more scalar.
     pub fn push_cell(&mut self, cell: Cell) -> Result<(), AllocError>
-        ensures { OnOk result (state_of self.new ≡ machine.push_cell (cell_of cell) (state_of self.old)) }
+        ensures { OnOk result (state_of self.new
+            ≡ machine.push_cell (cell_of cell) (state_of self.old)) }
     {
         self.push(Operand::Scalar(cell))?;
         Ok(())
@@ -137,8 +143,10 @@ impl<'a> Machine<'a> {
 
     /// Takes a pointer and an amount, of which one was evaluated after the other.
     pub fn pop_both(&mut self, order: Order) -> (Cell, i128)
-        ensures pointer { cell_of result.0 ≡ machine.cell_at (state_of self.old) (expressions.pointer_age order) }
-        ensures amount { result.1 ≡ expressions.number_at (state_of self.old) (expressions.amount_age order) }
+        ensures pointer { cell_of result.0
+            ≡ machine.cell_at (state_of self.old) (expressions.pointer_age order) }
+        ensures amount { result.1 ≡ expressions.number_at (state_of self.old)
+            (expressions.amount_age order) }
         ensures state { state_of self.new ≡ machine.pop_many 2 (state_of self.old) }
     {
         let (older, newer) = self.pop_two();
@@ -170,9 +178,18 @@ impl<'a> Machine<'a> {
         place: &Cell,
     ) -> Result<Operand, Stop>
         requires { IsLaidOut setting.now.program.now.model setting.now.program.now.table.list }
-        ensures ok { IfOk result (λ operand. GivesBoth setting.now log.old log.new (loads.load_object (typed_program setting.now.program.now) (state_of self.old).memory (state_of self.old).frame.number (access_of access.entry) (cell_of place.now)) (state_of self.new).memory (operand_of operand)) }
-        ensures err { IfErr result (StopsInBoth setting.now log.old log.new (loads.load_object (typed_program setting.now.program.now) (state_of self.old).memory (state_of self.old).frame.number (access_of access.entry) (cell_of place.now))) }
-        ensures state { IfOk result (λ _. state_of self.new ≡ machine.with_memory (state_of self.new).memory (state_of self.old)) }
+        ensures ok { IfOk result (λ operand.
+            GivesBoth setting.now log.old log.new
+            (loads.load_object (typed_program setting.now.program.now) (state_of self.old).memory
+            (state_of self.old).frame.number (access_of access.entry) (cell_of place.now))
+            (state_of self.new).memory (operand_of operand)) }
+        ensures err { IfErr result
+            (StopsInBoth setting.now log.old log.new
+            (loads.load_object (typed_program setting.now.program.now) (state_of self.old).memory
+            (state_of self.old).frame.number (access_of access.entry) (cell_of place.now))) }
+        ensures state { IfOk result (λ _.
+            state_of self.new ≡ machine.with_memory (state_of self.new).memory
+            (state_of self.old)) }
     {
         let frame = self.frame.number;
         let operand = self.memory.load(log, setting, frame, access, place)?;
@@ -190,9 +207,19 @@ impl<'a> Machine<'a> {
         operand: &Operand,
     ) -> Result<(), Stop>
         requires { IsLaidOut setting.now.program.now.model setting.now.program.now.table.list }
-        ensures ok { OnOk result (Gives setting.now log.old log.new (loads.store_object (typed_program setting.now.program.now) (state_of self.old).memory (state_of self.old).frame.number at (access_of access.entry) (cell_of place.now) (operand_of operand.now)) (state_of self.new).memory) }
-        ensures err { IfErr result (StopsIn setting.now log.old log.new (loads.store_object (typed_program setting.now.program.now) (state_of self.old).memory (state_of self.old).frame.number at (access_of access.entry) (cell_of place.now) (operand_of operand.now))) }
-        ensures state { OnOk result (state_of self.new ≡ machine.with_memory (state_of self.new).memory (state_of self.old)) }
+        ensures ok { OnOk result
+            (Gives setting.now log.old log.new
+            (loads.store_object (typed_program setting.now.program.now) (state_of self.old).memory
+            (state_of self.old).frame.number at (access_of access.entry) (cell_of place.now)
+            (operand_of operand.now)) (state_of self.new).memory) }
+        ensures err { IfErr result
+            (StopsIn setting.now log.old log.new
+            (loads.store_object (typed_program setting.now.program.now) (state_of self.old).memory
+            (state_of self.old).frame.number at (access_of access.entry) (cell_of place.now)
+            (operand_of operand.now))) }
+        ensures state { OnOk result
+            (state_of self.new ≡ machine.with_memory (state_of self.new).memory
+            (state_of self.old)) }
     {
         let frame = self.frame.number;
         self.memory

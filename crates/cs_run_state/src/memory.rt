@@ -31,7 +31,8 @@ pub struct Memory<'a> {
 impl<'a> Memory<'a> {
     /// What is known of an object.
     pub fn block(&self, object: &Object) -> Option<&Block<'a>>
-        ensures { option_map block_of (option_copied result) ≡ memory_of self.now (object_of object.now) }
+        ensures { option_map block_of (option_copied result)
+            ≡ memory_of self.now (object_of object.now) }
     {
         match object {
             Object::Start(path) => self.starts.get(path),
@@ -49,7 +50,9 @@ impl<'a> Memory<'a> {
 
     /// Changes an object, if it is there.
     pub fn change(&mut self, object: &Object, change: Change<'a>) -> Result<(), AllocError>
-        ensures memory { OnOk result (memory_of self.new ≡ meaning.changed (change_of change.entry) (object_of object.now) (memory_of self.old)) }
+        ensures memory { OnOk result
+            (memory_of self.new ≡ meaning.changed (change_of change.entry) (object_of object.now)
+            (memory_of self.old)) }
         ensures counts { OnOk result (KeepsCounts self.old self.new) }
     {
         match object {
@@ -71,7 +74,9 @@ impl<'a> Memory<'a> {
 
     /// Adds the block after an unknown pointer with a path, unless it is there.
     pub fn add_start(&mut self, path: Path, block: Block<'a>) -> Result<(), AllocError>
-        ensures memory { OnOk result (memory_of self.new ≡ meaning.with_new_block (StartBlock path) (block_of block.entry) (memory_of self.old)) }
+        ensures memory { OnOk result
+            (memory_of self.new ≡ meaning.with_new_block (StartBlock path) (block_of block.entry)
+            (memory_of self.old)) }
         ensures counts { OnOk result (KeepsCounts self.old self.new) }
     {
         add_if_new(&mut self.starts, path, block)?;
@@ -80,9 +85,13 @@ impl<'a> Memory<'a> {
 
     /// Adds what one more allocation gave.
     pub fn allocate(&mut self, block: Block<'a>) -> Result<(), AllocError>
-        ensures memory { OnOk result (memory_of self.new ≡ meaning.with_block (HeapBlock (length self.old.heap.items + 1)) (block_of block.entry) (memory_of self.old)) }
-        ensures allocations { OnOk result (length self.new.heap.items ≡ length self.old.heap.items + 1) }
-        ensures frames { OnOk result (length self.new.frames.items ≡ length self.old.frames.items) }
+        ensures memory { OnOk result
+            (memory_of self.new ≡ meaning.with_block (HeapBlock (length self.old.heap.items + 1))
+            (block_of block.entry) (memory_of self.old)) }
+        ensures allocations { OnOk result
+            (length self.new.heap.items ≡ length self.old.heap.items + 1) }
+        ensures frames { OnOk result
+            (length self.new.frames.items ≡ length self.old.frames.items) }
     {
         self.heap.push(Some(block))?;
         Ok(())
@@ -91,8 +100,10 @@ impl<'a> Memory<'a> {
     /// Counts one more allocation, which gave none.
     pub fn allocate_none(&mut self) -> Result<(), AllocError>
         ensures memory { OnOk result (memory_of self.new ≡ memory_of self.old) }
-        ensures allocations { OnOk result (length self.new.heap.items ≡ length self.old.heap.items + 1) }
-        ensures frames { OnOk result (length self.new.frames.items ≡ length self.old.frames.items) }
+        ensures allocations { OnOk result
+            (length self.new.heap.items ≡ length self.old.heap.items + 1) }
+        ensures frames { OnOk result
+            (length self.new.frames.items ≡ length self.old.frames.items) }
     {
         self.heap.push(None)?;
         Ok(())
@@ -100,9 +111,13 @@ impl<'a> Memory<'a> {
 
     /// Adds the locals of one more frame.
     pub fn add_frame(&mut self, locals: Vec<Block<'a>>) -> Result<(), AllocError>
-        ensures memory { OnOk result (memory_of self.new ≡ with_frame (length self.old.frames.items) (block_at locals.entry.items) (memory_of self.old)) }
-        ensures frames { OnOk result (length self.new.frames.items ≡ length self.old.frames.items + 1) }
-        ensures allocations { OnOk result (length self.new.heap.items ≡ length self.old.heap.items) }
+        ensures memory { OnOk result
+            (memory_of self.new ≡ with_frame (length self.old.frames.items)
+            (block_at locals.entry.items) (memory_of self.old)) }
+        ensures frames { OnOk result
+            (length self.new.frames.items ≡ length self.old.frames.items + 1) }
+        ensures allocations { OnOk result
+            (length self.new.heap.items ≡ length self.old.heap.items) }
     {
         self.frames.push(locals)?;
         Ok(())
@@ -121,7 +136,8 @@ impl<'a> Memory<'a> {
 
 // Ends all objects of a row.
 fn end_all(row: &mut Vec<Block>)
-    ensures { (n : ℕ) → block_at row.new.items n ≡ option_map (meaning.stand Standing.Ended) (block_at row.old.items n) }
+    ensures { (n : ℕ) → block_at row.new.items n
+        ≡ option_map (meaning.stand Standing.Ended) (block_at row.old.items n) }
 {
     let mut ended = 0;
     while ended < row.len() {
@@ -136,7 +152,11 @@ fn add_if_new<'a>(
     path: Path,
     block: Block<'a>,
 ) -> Result<(), AllocError>
-    ensures { OnOk result ((other : Path) → start_in starts.new other ≡ (if is_equal (path_order path other) then meaning.or_new (block_of block.entry) (start_in starts.old other) else start_in starts.old other)) }
+    ensures { OnOk result ((other : Path)
+        → start_in starts.new other
+        ≡ (if is_equal (path_order path other)
+        then meaning.or_new (block_of block.entry) (start_in starts.old other)
+        else start_in starts.old other)) }
 {
     if starts.contains_key(&path) {
         return Ok(());
@@ -153,7 +173,11 @@ fn change_start<'a>(
     path: &Path,
     change: Change<'a>,
 ) -> Result<(), AllocError>
-    ensures { OnOk result ((other : Path) → start_in starts.new other ≡ (if is_equal (path_order path.now other) then option_map (change_of change.entry) (start_in starts.old other) else start_in starts.old other)) }
+    ensures { OnOk result ((other : Path)
+        → start_in starts.new other
+        ≡ (if is_equal (path_order path.now other)
+        then option_map (change_of change.entry) (start_in starts.old other)
+        else start_in starts.old other)) }
 {
     match starts.get_mut(path) {
         Some(block) => block.change(change),
@@ -163,7 +187,9 @@ fn change_start<'a>(
 
 // Changes the object at a place of a row, if it is there.
 fn change_at<'a>(row: &mut Vec<Block<'a>>, at: usize, change: Change<'a>) -> Result<(), AllocError>
-    ensures { OnOk result ((n : ℕ) → block_at row.new.items n ≡ changed_at (change_of change.entry) at (block_at row.old.items) n) }
+    ensures { OnOk result ((n : ℕ)
+        → block_at row.new.items n
+        ≡ changed_at (change_of change.entry) at (block_at row.old.items) n) }
 {
     if at < row.len() {
         row[at].change(change)?;
@@ -179,7 +205,11 @@ fn change_local<'a>(
     change: Change<'a>,
 ) -> Result<(), AllocError>
     ensures frames { OnOk result (length frames.new.items ≡ length frames.old.items) }
-    ensures locals { OnOk result ((n d : ℕ) → local_in frames.new.items n d ≡ (if (frame == n) && (declaration == d) then option_map (change_of change.entry) (local_in frames.old.items n d) else local_in frames.old.items n d)) }
+    ensures locals { OnOk result ((n d : ℕ)
+        → local_in frames.new.items n d
+        ≡ (if (frame == n) && (declaration == d)
+        then option_map (change_of change.entry) (local_in frames.old.items n d)
+        else local_in frames.old.items n d)) }
 {
     if frame < frames.len() {
         change_at(&mut frames[frame], declaration, change)?;
@@ -194,7 +224,9 @@ fn change_given<'a>(
     change: Change<'a>,
 ) -> Result<(), AllocError>
     ensures allocations { OnOk result (length heap.new.items ≡ length heap.old.items) }
-    ensures given { OnOk result ((n : ℕ) → given_in heap.new.items n ≡ changed_at (change_of change.entry) allocation (given_in heap.old.items) n) }
+    ensures given { OnOk result ((n : ℕ)
+        → given_in heap.new.items n
+        ≡ changed_at (change_of change.entry) allocation (given_in heap.old.items) n) }
 {
     if 0 < allocation && allocation <= heap.len() as u64 {
         change_if_given(&mut heap[allocation as usize - 1], change)?;
@@ -204,7 +236,8 @@ fn change_given<'a>(
 
 // Changes a block, if it was given.
 fn change_if_given<'a>(given: &mut Option<Block<'a>>, change: Change<'a>) -> Result<(), AllocError>
-    ensures { OnOk result (option_map block_of given.new ≡ option_map (change_of change.entry) (option_map block_of given.old)) }
+    ensures { OnOk result (option_map block_of given.new
+        ≡ option_map (change_of change.entry) (option_map block_of given.old)) }
 {
     match given {
         Some(block) => block.change(change),

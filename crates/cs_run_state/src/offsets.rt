@@ -14,7 +14,8 @@ use std::alloc::AllocError;
 /// The offsets of a type's scalars, in order (C11 6.7.2.1).
 pub fn scalar_offsets(program: &Program, ty: &CType) -> Result<Vec<u64>, AllocError>
     requires { IsLaidOut program.now.model program.now.table.list }
-    ensures { IfOk result (λ offsets. offsets.items ≡ types.scalar_offsets (typed_program program.now) (shape_of ty.now)) }
+    ensures { IfOk result (λ offsets.
+        offsets.items ≡ types.scalar_offsets (typed_program program.now) (shape_of ty.now)) }
 {
     let mut offsets = Vec::new(*program.functions.allocator());
     let bytes = size_of(program, ty)?;
@@ -30,7 +31,9 @@ pub fn scalar_offsets(program: &Program, ty: &CType) -> Result<Vec<u64>, AllocEr
 // Whether a scalar begins at an offset of a type.
 fn has_scalar(program: &Program, ty: &CType, offset: u64) -> Result<bool, AllocError>
     requires { IsLaidOut program.now.model program.now.table.list }
-    ensures { IfOk result (λ found. found ≡ is_some (leaf_of program.now.model program.now.table.list (shape_of ty.now) offset)) }
+    ensures { IfOk result (λ found.
+        found ≡ is_some (leaf_of program.now.model program.now.table.list (shape_of ty.now)
+        offset)) }
 {
     if !is_small(program.model, &program.table, ty) {
         return Err(AllocError);

@@ -52,7 +52,8 @@ pub fn comparison(operator: CmpOp, left: &i128, right: &i128) -> Operation
 
 /// A comparison of two numbers that cells hold.
 pub fn cell_comparison(operator: CmpOp, left: &Cell, right: &Cell) -> Operation
-    ensures { result ≡ Operation.Compare operator (number_in (cell_of left.now)) (number_in (cell_of right.now)) }
+    ensures { result ≡ Operation.Compare operator (number_in (cell_of left.now))
+        (number_in (cell_of right.now)) }
 {
     Operation::Compare(operator, left.number(), right.number())
 }
@@ -80,7 +81,9 @@ pub fn pointer_sum(offset: &i128, stride: Stride) -> Operation
 
 /// Whether a pointer that is moved stays at or above the least offset.
 pub fn stays_above(model: DataModel, offset: &i128, stride: Stride) -> Result<Operation, AllocError>
-    ensures { IfOk result (λ test. test ≡ Operation.Order (offset.now +ℤ pos (offset_bound_of model)) (stride.amount *ℤ pos stride.size)) }
+    ensures { IfOk result (λ test.
+        test ≡ Operation.Order (offset.now +ℤ pos (offset_bound_of model))
+        (stride.amount *ℤ pos stride.size)) }
 {
     let room = offset.checked_add(offset_bound(model)).ok_or(AllocError)?;
     let by = stride
@@ -92,7 +95,9 @@ pub fn stays_above(model: DataModel, offset: &i128, stride: Stride) -> Result<Op
 
 /// Whether a pointer that is moved stays at or below the greatest offset.
 pub fn stays_below(model: DataModel, offset: &i128, stride: Stride) -> Result<Operation, AllocError>
-    ensures { IfOk result (λ test. test ≡ Operation.Order (pos (offset_bound_of model) -ℤ offset.now) (neg_ℤ (stride.amount *ℤ pos stride.size))) }
+    ensures { IfOk result (λ test.
+        test ≡ Operation.Order (pos (offset_bound_of model) -ℤ offset.now)
+        (neg_ℤ (stride.amount *ℤ pos stride.size))) }
 {
     let room = offset_bound(model).checked_sub(*offset).ok_or(AllocError)?;
     let by = stride

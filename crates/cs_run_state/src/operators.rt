@@ -33,8 +33,10 @@ pub fn fault(kind: Kind, place: Place) -> Stop
 impl Log {
     /// A pointer shows whether it is null; nothing else shows.
     pub fn look(&mut self, setting: &Setting, place: Place, cell: &Cell) -> Result<(), Stop>
-        ensures ok { OnOk result (GoesOn setting.now self.old self.new (operators.look place (cell_of cell.now))) }
-        ensures err { IfErr result (EndsIn setting.now self.old self.new (operators.look place (cell_of cell.now))) }
+        ensures ok { OnOk result
+            (GoesOn setting.now self.old self.new (operators.look place (cell_of cell.now))) }
+        ensures err { IfErr result
+            (EndsIn setting.now self.old self.new (operators.look place (cell_of cell.now))) }
     {
         match cell {
             Cell::Null => {
@@ -52,8 +54,10 @@ impl Log {
 
     /// Whether a value counts as true (C11 6.8.4.1, paragraph 2).
     pub fn truth(&mut self, setting: &Setting, place: Place, cell: &Cell) -> Result<bool, Stop>
-        ensures ok { IfOk result (Gives setting.now self.old self.new (operators.truth place (cell_of cell.now))) }
-        ensures err { IfErr result (StopsIn setting.now self.old self.new (operators.truth place (cell_of cell.now))) }
+        ensures ok { IfOk result
+            (Gives setting.now self.old self.new (operators.truth place (cell_of cell.now))) }
+        ensures err { IfErr result
+            (StopsIn setting.now self.old self.new (operators.truth place (cell_of cell.now))) }
     {
         match cell {
             Cell::Number(number) => Ok(is_true(*number)),
@@ -71,8 +75,10 @@ impl Log {
 
     /// A test: the way that it takes shows.
     pub fn branch(&mut self, setting: &Setting, place: Place, cell: &Cell) -> Result<bool, Stop>
-        ensures ok { IfOk result (Gives setting.now self.old self.new (operators.branch place (cell_of cell.now))) }
-        ensures err { IfErr result (StopsIn setting.now self.old self.new (operators.branch place (cell_of cell.now))) }
+        ensures ok { IfOk result
+            (Gives setting.now self.old self.new (operators.branch place (cell_of cell.now))) }
+        ensures err { IfErr result
+            (StopsIn setting.now self.old self.new (operators.branch place (cell_of cell.now))) }
     {
         let holds = self.truth(setting, place, cell)?;
         self.touch(Touch::Meets(PointKind::Branch, place))?;
@@ -82,8 +88,10 @@ impl Log {
 
     /// An order test, which is a fault where it doesn't hold.
     pub fn order(&mut self, setting: &Setting, place: Place, test: Operation) -> Result<(), Stop>
-        ensures ok { OnOk result (GoesOn setting.now self.old self.new (holds_or_faults place test)) }
-        ensures err { IfErr result (EndsIn setting.now self.old self.new (holds_or_faults place test)) }
+        ensures ok { OnOk result
+            (GoesOn setting.now self.old self.new (holds_or_faults place test)) }
+        ensures err { IfErr result
+            (EndsIn setting.now self.old self.new (holds_or_faults place test)) }
     {
         let number = self.ask(setting, place, test)?;
         if is_true(number) {
@@ -103,8 +111,14 @@ impl Log {
         left: &i128,
         right: &i128,
     ) -> Result<i128, Stop>
-        ensures ok { IfOk result (Gives setting.now self.old self.new (operators.operate setting.now.program.now.model place operator ty left.now right.now)) }
-        ensures err { IfErr result (StopsIn setting.now self.old self.new (operators.operate setting.now.program.now.model place operator ty left.now right.now)) }
+        ensures ok { IfOk result
+            (Gives setting.now self.old self.new
+            (operators.operate setting.now.program.now.model place operator ty left.now
+            right.now)) }
+        ensures err { IfErr result
+            (StopsIn setting.now self.old self.new
+            (operators.operate setting.now.program.now.model place operator ty left.now
+            right.now)) }
     {
         if let Some(kind) = refused(setting.program.model, operator, ty, right) {
             return Err(fault(kind, place));
@@ -123,8 +137,14 @@ impl Log {
         to: IntType,
         number: &i128,
     ) -> Result<i128, Stop>
-        ensures ok { IfOk result (Gives setting.now self.old self.new (operators.convert_number setting.now.program.now.model place (shape_of from.now) to number.now)) }
-        ensures err { IfErr result (StopsIn setting.now self.old self.new (operators.convert_number setting.now.program.now.model place (shape_of from.now) to number.now)) }
+        ensures ok { IfOk result
+            (Gives setting.now self.old self.new
+            (operators.convert_number setting.now.program.now.model place (shape_of from.now) to
+            number.now)) }
+        ensures err { IfErr result
+            (StopsIn setting.now self.old self.new
+            (operators.convert_number setting.now.program.now.model place (shape_of from.now) to
+            number.now)) }
     {
         if takes_all(setting.program.model, from, to) {
             Ok(*number)
@@ -144,8 +164,14 @@ impl Log {
         to: &CType,
         operand: Operand,
     ) -> Result<Operand, Stop>
-        ensures ok { IfOk result (λ made. Gives setting.now self.old self.new (operators.convert setting.now.program.now.model place (shape_of from.now) (shape_of to.now) (operand_of operand)) (operand_of made)) }
-        ensures err { IfErr result (StopsIn setting.now self.old self.new (operators.convert setting.now.program.now.model place (shape_of from.now) (shape_of to.now) (operand_of operand))) }
+        ensures ok { IfOk result (λ made.
+            Gives setting.now self.old self.new
+            (operators.convert setting.now.program.now.model place (shape_of from.now)
+            (shape_of to.now) (operand_of operand)) (operand_of made)) }
+        ensures err { IfErr result
+            (StopsIn setting.now self.old self.new
+            (operators.convert setting.now.program.now.model place (shape_of from.now)
+            (shape_of to.now) (operand_of operand))) }
     {
         match to {
             CType::Void => Ok(Operand::Nothing),
@@ -168,8 +194,14 @@ impl Log {
         ty: IntType,
         operand: Operand,
     ) -> Result<Operand, Stop>
-        ensures ok { IfOk result (λ made. Gives setting.now self.old self.new (operators.convert setting.now.program.now.model place (shape_of from.now) (integer ty) (operand_of operand)) (operand_of made)) }
-        ensures err { IfErr result (StopsIn setting.now self.old self.new (operators.convert setting.now.program.now.model place (shape_of from.now) (integer ty) (operand_of operand))) }
+        ensures ok { IfOk result (λ made.
+            Gives setting.now self.old self.new
+            (operators.convert setting.now.program.now.model place (shape_of from.now) (integer ty)
+            (operand_of operand)) (operand_of made)) }
+        ensures err { IfErr result
+            (StopsIn setting.now self.old self.new
+            (operators.convert setting.now.program.now.model place (shape_of from.now) (integer ty)
+            (operand_of operand))) }
     {
         match operand {
             Operand::Scalar(cell) => {
@@ -190,8 +222,14 @@ impl Log {
         ty: IntType,
         cell: Cell,
     ) -> Result<Cell, Stop>
-        ensures ok { IfOk result (λ made. Gives setting.now self.old self.new (operators.convert setting.now.program.now.model place (shape_of from.now) (integer ty) (Scalar (cell_of cell))) (Scalar (cell_of made))) }
-        ensures err { IfErr result (StopsIn setting.now self.old self.new (operators.convert setting.now.program.now.model place (shape_of from.now) (integer ty) (Scalar (cell_of cell)))) }
+        ensures ok { IfOk result (λ made.
+            Gives setting.now self.old self.new
+            (operators.convert setting.now.program.now.model place (shape_of from.now) (integer ty)
+            (Scalar (cell_of cell))) (Scalar (cell_of made))) }
+        ensures err { IfErr result
+            (StopsIn setting.now self.old self.new
+            (operators.convert setting.now.program.now.model place (shape_of from.now) (integer ty)
+            (Scalar (cell_of cell)))) }
     {
         match cell {
             Cell::Number(number) => {
@@ -212,8 +250,14 @@ impl Log {
         pointer: Cell,
         stride: Stride,
     ) -> Result<Cell, Stop>
-        ensures ok { IfOk result (λ made. Gives setting.now self.old self.new (operators.sum setting.now.program.now.model place (cell_of pointer) stride.amount stride.size) (cell_of made)) }
-        ensures err { IfErr result (StopsIn setting.now self.old self.new (operators.sum setting.now.program.now.model place (cell_of pointer) stride.amount stride.size)) }
+        ensures ok { IfOk result (λ made.
+            Gives setting.now self.old self.new
+            (operators.sum setting.now.program.now.model place (cell_of pointer) stride.amount
+            stride.size) (cell_of made)) }
+        ensures err { IfErr result
+            (StopsIn setting.now self.old self.new
+            (operators.sum setting.now.program.now.model place (cell_of pointer) stride.amount
+            stride.size)) }
     {
         match pointer {
             Cell::Null => {
@@ -241,8 +285,14 @@ impl Log {
         offset: &i128,
         stride: Stride,
     ) -> Result<i128, Stop>
-        ensures ok { IfOk result (Gives setting.now self.old self.new (moves_offset setting.now.program.now.model place offset.now stride.amount stride.size)) }
-        ensures err { IfErr result (StopsIn setting.now self.old self.new (moves_offset setting.now.program.now.model place offset.now stride.amount stride.size)) }
+        ensures ok { IfOk result
+            (Gives setting.now self.old self.new
+            (moves_offset setting.now.program.now.model place offset.now stride.amount
+            stride.size)) }
+        ensures err { IfErr result
+            (StopsIn setting.now self.old self.new
+            (moves_offset setting.now.program.now.model place offset.now stride.amount
+            stride.size)) }
     {
         let above = stays_above(setting.program.model, offset, stride)?;
         let below = stays_below(setting.program.model, offset, stride)?;
@@ -262,8 +312,12 @@ impl Log {
         left: &Cell,
         right: &Cell,
     ) -> Result<i128, Stop>
-        ensures ok { IfOk result (Gives setting.now self.old self.new (operators.compare place operator (cell_of left.now) (cell_of right.now))) }
-        ensures err { IfErr result (StopsIn setting.now self.old self.new (operators.compare place operator (cell_of left.now) (cell_of right.now))) }
+        ensures ok { IfOk result
+            (Gives setting.now self.old self.new
+            (operators.compare place operator (cell_of left.now) (cell_of right.now))) }
+        ensures err { IfErr result
+            (StopsIn setting.now self.old self.new
+            (operators.compare place operator (cell_of left.now) (cell_of right.now))) }
     {
         if left.is_pointer() || right.is_pointer() {
             let number = self.compare_pointers(setting, place, operator, left, right)?;
@@ -283,8 +337,12 @@ impl Log {
         left: &Cell,
         right: &Cell,
     ) -> Result<i128, Stop>
-        ensures ok { IfOk result (Gives setting.now self.old self.new (operators.compare_pointers place operator (cell_of left.now) (cell_of right.now))) }
-        ensures err { IfErr result (StopsIn setting.now self.old self.new (operators.compare_pointers place operator (cell_of left.now) (cell_of right.now))) }
+        ensures ok { IfOk result
+            (Gives setting.now self.old self.new
+            (operators.compare_pointers place operator (cell_of left.now) (cell_of right.now))) }
+        ensures err { IfErr result
+            (StopsIn setting.now self.old self.new
+            (operators.compare_pointers place operator (cell_of left.now) (cell_of right.now))) }
     {
         self.look(setting, place, left)?;
         self.look(setting, place, right)?;
@@ -301,8 +359,12 @@ impl Log {
         left: &Cell,
         right: &Cell,
     ) -> Result<i128, Stop>
-        ensures ok { IfOk result (Gives setting.now self.old self.new (compares_seen place operator (cell_of left.now) (cell_of right.now))) }
-        ensures err { IfErr result (StopsIn setting.now self.old self.new (compares_seen place operator (cell_of left.now) (cell_of right.now))) }
+        ensures ok { IfOk result
+            (Gives setting.now self.old self.new
+            (compares_seen place operator (cell_of left.now) (cell_of right.now))) }
+        ensures err { IfErr result
+            (StopsIn setting.now self.old self.new
+            (compares_seen place operator (cell_of left.now) (cell_of right.now))) }
     {
         if asks_order(operator) {
             let offsets = in_relation(place, related(left, right))?;
@@ -325,8 +387,11 @@ impl Log {
         same: bool,
         offsets: Option<(i128, i128)>,
     ) -> Result<i128, Stop>
-        ensures ok { IfOk result (Gives setting.now self.old self.new (operators.equality place operator same offsets)) }
-        ensures err { IfErr result (StopsIn setting.now self.old self.new (operators.equality place operator same offsets)) }
+        ensures ok { IfOk result
+            (Gives setting.now self.old self.new (operators.equality place operator same offsets)) }
+        ensures err { IfErr result
+            (StopsIn setting.now self.old self.new
+            (operators.equality place operator same offsets)) }
     {
         match offsets {
             Some(offsets) => {
@@ -350,8 +415,12 @@ impl Log {
         right: &Cell,
         size: u64,
     ) -> Result<i128, Stop>
-        ensures ok { IfOk result (Gives setting.now self.old self.new (operators.difference place (cell_of left.now) (cell_of right.now) size)) }
-        ensures err { IfErr result (StopsIn setting.now self.old self.new (operators.difference place (cell_of left.now) (cell_of right.now) size)) }
+        ensures ok { IfOk result
+            (Gives setting.now self.old self.new
+            (operators.difference place (cell_of left.now) (cell_of right.now) size)) }
+        ensures err { IfErr result
+            (StopsIn setting.now self.old self.new
+            (operators.difference place (cell_of left.now) (cell_of right.now) size)) }
     {
         self.look(setting, place, left)?;
         self.look(setting, place, right)?;
@@ -368,8 +437,12 @@ impl Log {
         pointer: Cell,
         bytes: u64,
     ) -> Result<Cell, Stop>
-        ensures ok { IfOk result (λ made. Gives setting.now self.old self.new (operators.arrow place (cell_of pointer) bytes) (cell_of made)) }
-        ensures err { IfErr result (StopsIn setting.now self.old self.new (operators.arrow place (cell_of pointer) bytes)) }
+        ensures ok { IfOk result (λ made.
+            Gives setting.now self.old self.new (operators.arrow place (cell_of pointer) bytes)
+            (cell_of made)) }
+        ensures err { IfErr result
+            (StopsIn setting.now self.old self.new
+            (operators.arrow place (cell_of pointer) bytes)) }
     {
         match pointer {
             Cell::Null => {
@@ -390,7 +463,8 @@ impl Log {
 // The fault by which an operator of two integers refuses its right operand, if it does (C11 6.5.5, paragraph 5; 6.5.7,
 // paragraph 3).
 fn refused(model: DataModel, operator: BinOp, ty: IntType, right: &i128) -> Option<Kind>
-    ensures { (place : Place) (act : Act State) → operators.checked model place operator ty right.now act ≡ or_fault place result act }
+    ensures { (place : Place) (act : Act State)
+        → operators.checked model place operator ty right.now act ≡ or_fault place result act }
 {
     match operator {
         BinOp::Div => refused_divisor(right),
@@ -403,7 +477,8 @@ fn refused(model: DataModel, operator: BinOp, ty: IntType, right: &i128) -> Opti
 
 // A division by 0 is refused.
 fn refused_divisor(divisor: &i128) -> Option<Kind>
-    ensures { (place : Place) (act : Act State) → operators.divide place divisor.now act ≡ or_fault place result act }
+    ensures { (place : Place) (act : Act State)
+        → operators.divide place divisor.now act ≡ or_fault place result act }
 {
     if *divisor == 0 {
         Some(Kind::Divide)
@@ -414,7 +489,8 @@ fn refused_divisor(divisor: &i128) -> Option<Kind>
 
 // A shift by a count below 0, or not below the width, is refused.
 fn refused_count(model: DataModel, ty: IntType, count: &i128) -> Option<Kind>
-    ensures { (place : Place) (act : Act State) → operators.shift model place ty count.now act ≡ or_fault place result act }
+    ensures { (place : Place) (act : Act State)
+        → operators.shift model place ty count.now act ≡ or_fault place result act }
 {
     let count = *count;
     if 0 <= count && count < i128::from(8 * bytes(model, ty)) {
@@ -474,7 +550,8 @@ fn related(left: &Cell, right: &Cell) -> Option<(i128, i128)>
 // What two pointers need one object for (C11 6.5.6, paragraph 9; 6.5.8, paragraph 5).
 fn in_relation(place: Place, offsets: Option<(i128, i128)>) -> Result<(i128, i128), Stop>
     ensures ok { IfOk result (λ both. offsets ≡ Some both) }
-    ensures err { IfErr result (λ stop. (offsets ≡ None) × (stop ≡ Stop.Outcome (Outcome.Fault Kind.Unrelated place))) }
+    ensures err { IfErr result (λ stop.
+        (offsets ≡ None) × (stop ≡ Stop.Outcome (Outcome.Fault Kind.Unrelated place))) }
 {
     offsets.ok_or(fault(Kind::Unrelated, place))
 }

@@ -27,7 +27,9 @@ pub fn pieces<'a>(
     first: &'a Initial,
 ) -> Result<Vec<Piece<'a>>, AllocError>
     requires { IsLaidOut program.now.model program.now.table.list }
-    ensures { IfOk result (λ made. map piece_of made.items ≡ initials.pieces (typed_program program.now) (type_of ty.entry) 0 (initial first.now)) }
+    ensures { IfOk result (λ made.
+        map piece_of made.items ≡ initials.pieces (typed_program program.now) (type_of ty.entry) 0
+        (initial first.now)) }
 {
     let mut made = Vec::new(alloc);
     push_pieces(program, ty, 0, first, &mut made)?;
@@ -44,7 +46,10 @@ fn push_pieces<'a>(
     made: &mut Vec<Piece<'a>>,
 ) -> Result<(), AllocError>
     requires { IsLaidOut program.now.model program.now.table.list }
-    ensures { OnOk result (map piece_of made.new.items ≡ map piece_of made.old.items ++ initials.pieces (typed_program program.now) (type_of ty.entry) from (initial first.now)) }
+    ensures { OnOk result (map piece_of made.new.items
+        ≡ map piece_of made.old.items
+        ++ initials.pieces (typed_program program.now) (type_of ty.entry) from
+        (initial first.now)) }
 {
     match first {
         Initial::Value(value) => {
@@ -69,7 +74,10 @@ fn push_parts<'a>(
     made: &mut Vec<Piece<'a>>,
 ) -> Result<(), AllocError>
     requires { IsLaidOut program.now.model program.now.table.list }
-    ensures { OnOk result (map piece_of made.new.items ≡ map piece_of made.old.items ++ initials.pieces_from (typed_program program.now) (type_of ty.entry) from 0 (initial_list parts.now)) }
+    ensures { OnOk result (map piece_of made.new.items
+        ≡ map piece_of made.old.items
+        ++ initials.pieces_from (typed_program program.now) (type_of ty.entry) from 0
+        (initial_list parts.now)) }
 {
     for (number, part) in parts.iter().enumerate() {
         let number = number as u64;
@@ -99,7 +107,8 @@ impl<'a> BlockType<'a> {
 
     // The type of a part of an array or of a struct, by its number (C11 6.7.9, paragraph 17).
     fn part(self, program: &'a Program, number: u64) -> BlockType<'a>
-        ensures { type_of result ≡ types.part_type (typed_program program.now) (type_of self.entry) number }
+        ensures { type_of result ≡ types.part_type (typed_program program.now)
+            (type_of self.entry) number }
     {
         match self {
             BlockType::Of(CType::Array(element, _)) => BlockType::Of(element),
@@ -116,7 +125,8 @@ impl<'a> BlockType<'a> {
     // Where a part of an array or of a struct begins.
     fn part_offset(self, program: &'a Program, number: u64) -> Result<u64, AllocError>
         requires { IsLaidOut program.now.model program.now.table.list }
-        ensures { IfOk result (λ offset. offset ≡ types.part_offset (typed_program program.now) (type_of self.entry) number) }
+        ensures { IfOk result (λ offset.
+            offset ≡ types.part_offset (typed_program program.now) (type_of self.entry) number) }
     {
         match self {
             BlockType::Of(CType::Array(element, _)) => {
@@ -179,7 +189,9 @@ pub fn initial_cell(
     offset: u64,
 ) -> Result<Cell, AllocError>
     requires { IsLaidOut program.now.model program.now.table.list }
-    ensures { IfOk result (λ cell. cell_of cell ≡ initials.initial_cell (typed_program program.now) (type_of scalar.entry) (map piece_of pieces.now) offset) }
+    ensures { IfOk result (λ cell.
+        cell_of cell ≡ initials.initial_cell (typed_program program.now) (type_of scalar.entry)
+        (map piece_of pieces.now) offset) }
 {
     for piece in pieces {
         if let Some(cell) = piece_cell(program, scalar, piece, offset)? {
@@ -197,7 +209,12 @@ fn piece_cell(
     offset: u64,
 ) -> Result<Option<Cell>, AllocError>
     requires { IsLaidOut program.now.model program.now.table.list }
-    ensures { IfOk result (λ found. (others : List initials.Piece) → initials.initial_cell (typed_program program.now) (type_of scalar.entry) (piece_of piece.now ∷ others) offset ≡ or_cell found (initials.initial_cell (typed_program program.now) (type_of scalar.entry) others offset)) }
+    ensures { IfOk result (λ found.
+        (others : List initials.Piece)
+        → initials.initial_cell (typed_program program.now) (type_of scalar.entry)
+        (piece_of piece.now ∷ others) offset
+        ≡ or_cell found (initials.initial_cell (typed_program program.now) (type_of scalar.entry)
+        others offset)) }
 {
     match piece {
         Piece::Value(from, value) => {

@@ -17,7 +17,8 @@ impl<'a> BlockType<'a> {
     /// The bytes of the type; an incomplete one has none (C11 6.5.3.4).
     pub fn size(self, program: &Program) -> Result<u64, AllocError>
         requires { IsLaidOut program.now.model program.now.table.list }
-        ensures { IfOk result (λ bytes. bytes ≡ types.size_of (typed_program program.now) (type_of self.entry)) }
+        ensures { IfOk result (λ bytes.
+            bytes ≡ types.size_of (typed_program program.now) (type_of self.entry)) }
     {
         match self {
             BlockType::Of(ty) => size_of(program, ty),
@@ -34,7 +35,9 @@ impl<'a> BlockType<'a> {
         offset: u64,
     ) -> Result<Option<BlockType<'a>>, AllocError>
         requires { IsLaidOut program.now.model program.now.table.list }
-        ensures { IfOk result (λ found. option_map type_of found ≡ types.scalar_of (typed_program program.now) (type_of self.entry) offset) }
+        ensures { IfOk result (λ found.
+            option_map type_of found ≡ types.scalar_of (typed_program program.now)
+            (type_of self.entry) offset) }
     {
         match self {
             BlockType::Of(ty) => {
@@ -76,7 +79,9 @@ impl<'a> BlockType<'a> {
     /// Whether an object of a type begins at an offset of this one: a scalar of that very type, or that struct.
     pub fn begins(self, program: &'a Program, ty: &CType, offset: u64) -> Result<bool, AllocError>
         requires { IsLaidOut program.now.model program.now.table.list }
-        ensures { IfOk result (λ holds. holds ≡ types.begins (typed_program program.now) (shape_of ty.now) (type_of self.entry) offset) }
+        ensures { IfOk result (λ holds.
+            holds ≡ types.begins (typed_program program.now) (shape_of ty.now)
+            (type_of self.entry) offset) }
     {
         match ty {
             CType::Struct(wanted) => self.begins_struct(program, *wanted, offset),
@@ -90,7 +95,9 @@ impl<'a> BlockType<'a> {
     // Whether a struct begins at an offset of this type.
     fn begins_struct(self, program: &Program, wanted: u32, offset: u64) -> Result<bool, AllocError>
         requires { IsLaidOut program.now.model program.now.table.list }
-        ensures { IfOk result (λ holds. holds ≡ types.begins (typed_program program.now) (struct wanted) (type_of self.entry) offset) }
+        ensures { IfOk result (λ holds.
+            holds ≡ types.begins (typed_program program.now) (struct wanted) (type_of self.entry)
+            offset) }
     {
         match self {
             BlockType::Of(ty) => {
@@ -107,7 +114,8 @@ impl<'a> BlockType<'a> {
 
 // The character that begins at an offset of so many characters, if one does.
 fn character<'a>(count: u64, offset: u64) -> Option<BlockType<'a>>
-    ensures { option_map type_of result ≡ (if nat_lt offset count then Some (integer IntType.Char) else None) }
+    ensures { option_map type_of result
+        ≡ (if nat_lt offset count then Some (integer IntType.Char) else None) }
 {
     if offset < count {
         Some(BlockType::Integer(IntType::Char))
@@ -146,7 +154,8 @@ fn complete_structs(program: &Program) -> usize
 
 // The members of a struct; none where it is incomplete.
 pub fn members_of(program: &Program, number: u32) -> Option<&[Member]>
-    ensures { option_map (λ members. members.now) result ≡ members_of program.now.table.list number }
+    ensures { option_map (λ members. members.now) result
+        ≡ members_of program.now.table.list number }
 {
     let structs = program.table.list.as_slice();
     let members = structs.get(number as usize)?.members.as_ref()?;
@@ -156,7 +165,10 @@ pub fn members_of(program: &Program, number: u32) -> Option<&[Member]>
 // The struct in which an offset of a type lies, once the arrays around it are divided away, and the offset there.
 fn struct_at(program: &Program, ty: &CType, offset: u64) -> Result<Option<(u32, u64)>, AllocError>
     requires { IsLaidOut program.now.model program.now.table.list }
-    ensures { IfOk result (λ found. (in_struct : ℕ → ℕ → Bool) → types.begins_in (typed_program program.now) in_struct (shape_of ty.now) offset ≡ in_found in_struct found) }
+    ensures { IfOk result (λ found.
+        (in_struct : ℕ → ℕ → Bool)
+        → types.begins_in (typed_program program.now) in_struct (shape_of ty.now) offset
+        ≡ in_found in_struct found) }
 {
     match ty {
         CType::Void => Ok(None),
@@ -184,7 +196,8 @@ fn begins_in_struct(
     offset: u64,
 ) -> Result<bool, AllocError>
     requires { IsLaidOut program.now.model program.now.table.list }
-    ensures { IfOk result (λ holds. holds ≡ types.begins_in_struct (typed_program program.now) wanted depth number offset) }
+    ensures { IfOk result (λ holds.
+        holds ≡ types.begins_in_struct (typed_program program.now) wanted depth number offset) }
 {
     if depth == 0 {
         return Ok(false);
@@ -215,7 +228,9 @@ fn begins_in_members(
     offset: u64,
 ) -> Result<bool, AllocError>
     requires { IsLaidOut program.now.model program.now.table.list }
-    ensures { IfOk result (λ holds. holds ≡ types.some_member (in_member (typed_program program.now) wanted depth offset) members.now) }
+    ensures { IfOk result (λ holds.
+        holds ≡ types.some_member (in_member (typed_program program.now) wanted depth offset)
+        members.now) }
 {
     for member in members {
         if member.offset() <= offset {

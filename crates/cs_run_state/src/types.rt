@@ -12,7 +12,8 @@ use std::alloc::AllocError;
 /// The bytes of a type; an incomplete one has none (C11 6.5.3.4). More than 2^40 bytes are want of memory.
 pub fn size_of(program: &Program, ty: &CType) -> Result<u64, AllocError>
     requires { IsLaidOut program.now.model program.now.table.list }
-    ensures { IfOk result (λ bytes. bytes ≡ types.size_of (typed_program program.now) (shape_of ty.now)) }
+    ensures { IfOk result (λ bytes.
+        bytes ≡ types.size_of (typed_program program.now) (shape_of ty.now)) }
 {
     if !is_small(program.model, &program.table, ty) {
         return Err(AllocError);

@@ -34,7 +34,9 @@ impl<'a> Machine<'a> {
         access: Access,
     ) -> Result<(), Stop>
         requires { IsLaidOut setting.now.program.now.model setting.now.program.now.table.list }
-        ensures { LeadsOrEnds setting.now log.old log.new result (load_act (typed_program setting.now.program.now) (access_of access.entry) (state_of self.old)) (state_of self.new) }
+        ensures { LeadsOrEnds setting.now log.old log.new result
+            (load_act (typed_program setting.now.program.now) (access_of access.entry)
+            (state_of self.old)) (state_of self.new) }
     {
         let target = self.pop_cell();
         let operand = self.load(log, setting, access, &target)?;
@@ -50,7 +52,9 @@ impl<'a> Machine<'a> {
         access: Access,
     ) -> Result<(), Stop>
         requires { IsLaidOut setting.now.program.now.model setting.now.program.now.table.list }
-        ensures { LeadsOrEnds setting.now log.old log.new result (fetch_pointer_act (typed_program setting.now.program.now) (access_of access.entry) (state_of self.old)) (state_of self.new) }
+        ensures { LeadsOrEnds setting.now log.old log.new result
+            (fetch_pointer_act (typed_program setting.now.program.now) (access_of access.entry)
+            (state_of self.old)) (state_of self.new) }
     {
         let operand = self.load_below(log, setting, access)?;
         self.push(operand)?;
@@ -67,7 +71,9 @@ impl<'a> Machine<'a> {
         works_in: IntType,
     ) -> Result<(), Stop>
         requires { IsLaidOut setting.now.program.now.model setting.now.program.now.table.list }
-        ensures { LeadsOrEnds setting.now log.old log.new result (fetch_number_act (typed_program setting.now.program.now) place (access_of access.entry) works_in (state_of self.old)) (state_of self.new) }
+        ensures { LeadsOrEnds setting.now log.old log.new result
+            (fetch_number_act (typed_program setting.now.program.now) place (access_of access.entry)
+            works_in (state_of self.old)) (state_of self.new) }
     {
         let operand = self.load_below(log, setting, access)?;
         let value = operand.number();
@@ -85,9 +91,20 @@ impl<'a> Machine<'a> {
         access: Access,
     ) -> Result<Operand, Stop>
         requires { IsLaidOut setting.now.program.now.model setting.now.program.now.table.list }
-        ensures ok { IfOk result (λ operand. GivesBoth setting.now log.old log.new (loads.load_object (typed_program setting.now.program.now) (state_of self.old).memory (state_of self.old).frame.number (access_of access.entry) (machine.cell_at (state_of self.old) 0)) (state_of self.new).memory (operand_of operand)) }
-        ensures err { IfErr result (StopsInBoth setting.now log.old log.new (loads.load_object (typed_program setting.now.program.now) (state_of self.old).memory (state_of self.old).frame.number (access_of access.entry) (machine.cell_at (state_of self.old) 0))) }
-        ensures state { IfOk result (λ _. state_of self.new ≡ machine.with_memory (state_of self.new).memory (state_of self.old)) }
+        ensures ok { IfOk result (λ operand.
+            GivesBoth setting.now log.old log.new
+            (loads.load_object (typed_program setting.now.program.now) (state_of self.old).memory
+            (state_of self.old).frame.number (access_of access.entry)
+            (machine.cell_at (state_of self.old) 0)) (state_of self.new).memory
+            (operand_of operand)) }
+        ensures err { IfErr result
+            (StopsInBoth setting.now log.old log.new
+            (loads.load_object (typed_program setting.now.program.now) (state_of self.old).memory
+            (state_of self.old).frame.number (access_of access.entry)
+            (machine.cell_at (state_of self.old) 0))) }
+        ensures state { IfOk result (λ _.
+            state_of self.new ≡ machine.with_memory (state_of self.new).memory
+            (state_of self.old)) }
     {
         let target = self.top_cell()?;
         let operand = self.load(log, setting, access, &target)?;
@@ -103,7 +120,9 @@ impl<'a> Machine<'a> {
         access: Access,
     ) -> Result<(), Stop>
         requires { IsLaidOut setting.now.program.now.model setting.now.program.now.table.list }
-        ensures { LeadsOrEnds setting.now log.old log.new result (assign_act (typed_program setting.now.program.now) place (access_of access.entry) (state_of self.old)) (state_of self.new) }
+        ensures { LeadsOrEnds setting.now log.old log.new result
+            (assign_act (typed_program setting.now.program.now) place (access_of access.entry)
+            (state_of self.old)) (state_of self.new) }
     {
         let (target, value) = self.pop_stored();
         let stored = self.store(log, setting, place, access, &target, &value);
@@ -132,7 +151,9 @@ impl<'a> Machine<'a> {
         gives: Gives,
     ) -> Result<(), Stop>
         requires { IsLaidOut setting.now.program.now.model setting.now.program.now.table.list }
-        ensures { LeadsOrEnds setting.now log.old log.new result (update_act (typed_program setting.now.program.now) place operator (access_of access.entry) works_in gives (state_of self.old)) (state_of self.new) }
+        ensures { LeadsOrEnds setting.now log.old log.new result
+            (update_act (typed_program setting.now.program.now) place operator
+            (access_of access.entry) works_in gives (state_of self.old)) (state_of self.new) }
     {
         let (target, before, left, right) = self.pop_updated();
         let stored = self.store_computed(
@@ -165,9 +186,19 @@ impl<'a> Machine<'a> {
         right: &i128,
     ) -> Result<i128, Stop>
         requires { IsLaidOut setting.now.program.now.model setting.now.program.now.table.list }
-        ensures ok { IfOk result (GivesBoth setting.now log.old log.new (stores_computed (typed_program setting.now.program.now) (state_of self.old).memory (state_of self.old).frame.number place operator (access_of access.entry) works_in (cell_of target.now) left.now right.now) (state_of self.new).memory) }
-        ensures err { IfErr result (StopsInBoth setting.now log.old log.new (stores_computed (typed_program setting.now.program.now) (state_of self.old).memory (state_of self.old).frame.number place operator (access_of access.entry) works_in (cell_of target.now) left.now right.now)) }
-        ensures state { IfOk result (λ _. state_of self.new ≡ machine.with_memory (state_of self.new).memory (state_of self.old)) }
+        ensures ok { IfOk result
+            (GivesBoth setting.now log.old log.new
+            (stores_computed (typed_program setting.now.program.now) (state_of self.old).memory
+            (state_of self.old).frame.number place operator (access_of access.entry) works_in
+            (cell_of target.now) left.now right.now) (state_of self.new).memory) }
+        ensures err { IfErr result
+            (StopsInBoth setting.now log.old log.new
+            (stores_computed (typed_program setting.now.program.now) (state_of self.old).memory
+            (state_of self.old).frame.number place operator (access_of access.entry) works_in
+            (cell_of target.now) left.now right.now)) }
+        ensures state { IfOk result (λ _.
+            state_of self.new ≡ machine.with_memory (state_of self.new).memory
+            (state_of self.old)) }
     {
         let number = log.compute(setting, place, operator, access, works_in, left, right)?;
         let operand = Operand::Scalar(Cell::Number(number));
@@ -187,7 +218,9 @@ impl<'a> Machine<'a> {
         gives: Gives,
     ) -> Result<(), Stop>
         requires { IsLaidOut setting.now.program.now.model setting.now.program.now.table.list }
-        ensures { LeadsOrEnds setting.now log.old log.new result (move_act (typed_program setting.now.program.now) place (access_of access.entry) bytes direction gives (state_of self.old)) (state_of self.new) }
+        ensures { LeadsOrEnds setting.now log.old log.new result
+            (move_act (typed_program setting.now.program.now) place (access_of access.entry) bytes
+            direction gives (state_of self.old)) (state_of self.new) }
     {
         let (target, before, amount) = self.pop_moved();
         let stored = self.store_moved(
@@ -220,9 +253,20 @@ impl<'a> Machine<'a> {
         direction: Direction,
     ) -> Result<Cell, Stop>
         requires { IsLaidOut setting.now.program.now.model setting.now.program.now.table.list }
-        ensures ok { IfOk result (λ moved. GivesBoth setting.now log.old log.new (stores_moved (typed_program setting.now.program.now) (state_of self.old).memory (state_of self.old).frame.number place (access_of access.entry) (cell_of target.now) (machine.cell_of (operand_of before.now)) (directed direction amount.now) bytes) (state_of self.new).memory (cell_of moved)) }
-        ensures err { IfErr result (StopsInBoth setting.now log.old log.new (stores_moved (typed_program setting.now.program.now) (state_of self.old).memory (state_of self.old).frame.number place (access_of access.entry) (cell_of target.now) (machine.cell_of (operand_of before.now)) (directed direction amount.now) bytes)) }
-        ensures state { IfOk result (λ _. state_of self.new ≡ machine.with_memory (state_of self.new).memory (state_of self.old)) }
+        ensures ok { IfOk result (λ moved.
+            GivesBoth setting.now log.old log.new
+            (stores_moved (typed_program setting.now.program.now) (state_of self.old).memory
+            (state_of self.old).frame.number place (access_of access.entry) (cell_of target.now)
+            (machine.cell_of (operand_of before.now)) (directed direction amount.now) bytes)
+            (state_of self.new).memory (cell_of moved)) }
+        ensures err { IfErr result
+            (StopsInBoth setting.now log.old log.new
+            (stores_moved (typed_program setting.now.program.now) (state_of self.old).memory
+            (state_of self.old).frame.number place (access_of access.entry) (cell_of target.now)
+            (machine.cell_of (operand_of before.now)) (directed direction amount.now) bytes)) }
+        ensures state { IfOk result (λ _.
+            state_of self.new ≡ machine.with_memory (state_of self.new).memory
+            (state_of self.old)) }
     {
         let stride = stride_of(amount, direction, bytes)?;
         let pointer = before.copy()?.into_cell();
@@ -284,8 +328,14 @@ impl Log {
         left: &i128,
         right: &i128,
     ) -> Result<i128, Stop>
-        ensures ok { IfOk result (pieces.Gives setting.now self.old self.new (computes (typed_program setting.now.program.now) place operator (access_of access.entry) works_in left.now right.now)) }
-        ensures err { IfErr result (StopsIn setting.now self.old self.new (computes (typed_program setting.now.program.now) place operator (access_of access.entry) works_in left.now right.now)) }
+        ensures ok { IfOk result
+            (pieces.Gives setting.now self.old self.new
+            (computes (typed_program setting.now.program.now) place operator
+            (access_of access.entry) works_in left.now right.now)) }
+        ensures err { IfErr result
+            (StopsIn setting.now self.old self.new
+            (computes (typed_program setting.now.program.now) place operator
+            (access_of access.entry) works_in left.now right.now)) }
     {
         let number = self.operate(setting, place, operator, works_in, left, right)?;
         let (from, to) = (CType::Int(works_in), integer_of(access.ty));
@@ -306,7 +356,8 @@ fn given(gives: Gives, before: Operand, after: Operand) -> Operand
 
 // The same of a number.
 fn given_number(gives: Gives, before: Operand, after: i128) -> Operand
-    ensures { operand_of result ≡ expressions.given gives (operand_of before) (machine.Scalar (NumberCell after)) }
+    ensures { operand_of result ≡ expressions.given gives (operand_of before)
+        (machine.Scalar (NumberCell after)) }
 {
     match gives {
         Gives::Old => before,

@@ -31,7 +31,10 @@ impl<'a> Memory<'a> {
         operand: &Operand,
     ) -> Result<(), AllocError>
         requires { IsLaidOut program.now.model program.now.table.list }
-        ensures memory { OnOk result (memory_of self.new ≡ meaning.changed (access.write_operand (typed_program program.now) (shape_of ty.now) offset (operand_of operand.now)) (object_of object.now) (memory_of self.old)) }
+        ensures memory { OnOk result
+            (memory_of self.new ≡ meaning.changed
+            (access.write_operand (typed_program program.now) (shape_of ty.now) offset
+            (operand_of operand.now)) (object_of object.now) (memory_of self.old)) }
         ensures counts { OnOk result (KeepsCounts self.old self.new) }
     {
         match operand {
@@ -55,7 +58,10 @@ impl<'a> Memory<'a> {
         offsets: &[u64],
         cells: &[Cell],
     ) -> Result<(), AllocError>
-        ensures memory { OnOk result (memory_of self.new ≡ meaning.changed (access.write_cells from offsets.now (map cell_of cells.now)) (object_of object.now) (memory_of self.old)) }
+        ensures memory { OnOk result
+            (memory_of self.new ≡ meaning.changed
+            (access.write_cells from offsets.now (map cell_of cells.now)) (object_of object.now)
+            (memory_of self.old)) }
         ensures counts { OnOk result (KeepsCounts self.old self.new) }
     {
         let mut index = 0;
@@ -77,7 +83,10 @@ impl<'a> Memory<'a> {
         bytes: &[u8],
     ) -> Result<(), AllocError>
         requires { IsLaidOut program.now.model program.now.table.list }
-        ensures memory { OnOk result (memory_of self.new ≡ meaning.changed (access.write_bytes (typed_program program.now) from bytes.now) (object_of object.now) (memory_of self.old)) }
+        ensures memory { OnOk result
+            (memory_of self.new ≡ meaning.changed
+            (access.write_bytes (typed_program program.now) from bytes.now) (object_of object.now)
+            (memory_of self.old)) }
         ensures counts { OnOk result (KeepsCounts self.old self.new) }
     {
         match self.block(object) {
@@ -99,7 +108,10 @@ impl<'a> Memory<'a> {
         bytes: &[u8],
     ) -> Result<(), AllocError>
         requires { IsLaidOut program.now.model program.now.table.list }
-        ensures memory { OnOk result (memory_of self.new ≡ meaning.changed (spells (typed_program program.now) (type_of ty.entry) from bytes.now) (object_of object.now) (memory_of self.old)) }
+        ensures memory { OnOk result
+            (memory_of self.new ≡ meaning.changed
+            (spells (typed_program program.now) (type_of ty.entry) from bytes.now)
+            (object_of object.now) (memory_of self.old)) }
         ensures counts { OnOk result (KeepsCounts self.old self.new) }
     {
         let mut index = 0;
@@ -116,7 +128,9 @@ impl<'a> Memory<'a> {
 // The cell of a byte of a text, in the scalar that begins at an offset of a type.
 fn spelled(program: &Program, ty: BlockType, at: u64, byte: u8) -> Result<Cell, AllocError>
     requires { IsLaidOut program.now.model program.now.table.list }
-    ensures { IfOk result (λ cell. cell_of cell ≡ byte_cell program.now.model (unwrap_or (scalar_of (typed_program program.now) (type_of ty.entry) at) void) byte) }
+    ensures { IfOk result (λ cell.
+        cell_of cell ≡ byte_cell program.now.model
+        (unwrap_or (scalar_of (typed_program program.now) (type_of ty.entry) at) void) byte) }
 {
     match ty.scalar(program, at)? {
         Some(scalar) => Ok(byte_cell(program.model, scalar, byte)),

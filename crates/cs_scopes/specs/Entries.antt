@@ -24,7 +24,8 @@ place_at places name = option_flatten (get (pointwise nat_eq) places name)
 -- the table has the place of each name's last declaration, and each entry that of the last one of its name before it
 pub record Indexed {S : Type 0} (places : IndexMap (List ℕ) (Option ℕ) S) (entries : List Entry) : Type 0 where
   pub each : (name : List ℕ) → place_at places name ≡ newest_place name (declarations_in entries)
-  pub before : (first following : List Entry) (e : Entry) → entries ≡ first ++ e ∷ following → e.before ≡ newest_place e.declaration.name (declarations_in first)
+  pub before : (first following : List Entry) (e : Entry) → entries ≡ first ++ e ∷ following
+      → e.before ≡ newest_place e.declaration.name (declarations_in first)
 
 -- a name has this place now, or none, and each other name what it had
 abbrev pub HasEntered : {S : Type 0} → IndexMap (List ℕ) (Option ℕ) S → IndexMap (List ℕ) (Option ℕ) S → List ℕ → Option ℕ → Type 0

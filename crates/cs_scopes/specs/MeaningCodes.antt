@@ -31,7 +31,8 @@ callee_code = code_by ℕ coded_ℕ callee_number callee_by callee_back
 
 abbrev pub signature_code : Coded Signature
 signature_code =
-    code_by (Callee × (Shape × List Shape)) (coded× callee_code (coded× shape_code (coded_list shape_code))) (λ s. (s.callee, (s.result, s.parameters))) (λ p. record { callee = p.0; result = p.1.0; parameters = p.1.1 }) (λ _. refl)
+    code_by (Callee × (Shape × List Shape)) (coded× callee_code (coded× shape_code (coded_list shape_code))) (λ s. (s.callee, (s.result, s.parameters)))
+    (λ p. record { callee = p.0; result = p.1.0; parameters = p.1.1 }) (λ _. refl)
 
 -- a meaning as one of five
 abbrev pub Parts : Type 0
@@ -66,7 +67,8 @@ meaning_code =
 
 abbrev pub declaration_code : Coded Declaration
 declaration_code =
-    code_by (List ℕ × Meaning) (coded× (coded_list coded_ℕ) meaning_code) (λ d. (d.name, d.meaning)) (λ p. record { name = p.0; meaning = p.1 }) (λ _. refl)
+    code_by (List ℕ × Meaning) (coded× (coded_list coded_ℕ) meaning_code) (λ d. (d.name, d.meaning)) (λ p. record { name = p.0; meaning = p.1 })
+    (λ _. refl)
 
 abbrev pub declarations_code : Coded (List Declaration)
 declarations_code = coded_list declaration_code

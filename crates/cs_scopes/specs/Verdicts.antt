@@ -5,7 +5,9 @@ use Rattle.cs_ast.specs.declared.typed.expression.Expr.{Expr}
 use Rattle.cs_ast.specs.TypedTree.{Typed}
 use Rattle.cs_ast.specs.TypedView.{typed}
 use Rattle.cs_scopes.specs.declared.refusal.TypeCode.{TypeCode}
-use Rattle.cs_scopes.specs.declared.refusal.TypeCode.TheVariants.{UnknownName, DeclaredTwice, NotLvalue, OperandTypes, ArgumentCount, IncompleteType, Size, NoTarget, PointerConversion, CaseTwice, Jump, NoMember, Initializer, FunctionName, NotConstant, VoidValue, Return, TooManyScalars}
+use Rattle.cs_scopes.specs.declared.refusal.TypeCode.TheVariants.{UnknownName, DeclaredTwice, NotLvalue, OperandTypes, ArgumentCount, IncompleteType, Size}
+use Rattle.cs_scopes.specs.declared.refusal.TypeCode.TheVariants.{NoTarget, PointerConversion, CaseTwice, Jump, NoMember, Initializer, FunctionName}
+use Rattle.cs_scopes.specs.declared.refusal.TypeCode.TheVariants.{NotConstant, VoidValue, Return, TooManyScalars}
 use Rattle.cs_scopes.specs.declared.refusal.TypeRefusal.{TypeRefusal}
 use Rattle.cs_scopes.specs.declared.refusal.TypeRefusal.TheVariants.{Code, Memory}
 

@@ -138,7 +138,8 @@ impl Tags {
 #[tactic(auto, using(crate::proofs::DeclaredNames::tag_tables))]
 fn enter_tag(meanings: &mut IndexMap<Name, TagMeaning>, tag: Tag) -> Result<(), AllocError>
     requires { tagged tag.name (tags_in meanings.old.entries) ≡ None }
-    ensures ok { OnOk result (tags_in meanings.new.entries ≡ tags_in meanings.old.entries ++ tag ∷ []) }
+    ensures ok { OnOk result (tags_in meanings.new.entries
+        ≡ tags_in meanings.old.entries ++ tag ∷ []) }
     ensures err { OnErr result (tags_in meanings.new.entries ≡ tags_in meanings.old.entries) }
 {
     match meanings.insert(tag.name, tag.meaning) {

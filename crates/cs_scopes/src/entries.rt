@@ -24,7 +24,8 @@ pub fn find<'a>(
     name: &Name,
 ) -> Option<&'a Meaning>
     requires { Indexed places.now list.now }
-    ensures { option_map meaning_of (option_copied result) ≡ newest name.now (declarations_in list.now) }
+    ensures { option_map meaning_of (option_copied result)
+        ≡ newest name.now (declarations_in list.now) }
 {
     let place = place_of(places, name)?;
     let entry = list.get(place)?;
@@ -61,7 +62,8 @@ fn enter(
     place: usize,
 ) -> Result<(), AllocError>
     ensures entered { OnOk result (HasEntered places.old places.new name (Some place)) }
-    ensures err { OnErr result ((other : List ℕ) → place_at places.new other ≡ place_at places.old other) }
+    ensures err { OnErr result ((other : List ℕ)
+        → place_at places.new other ≡ place_at places.old other) }
 {
     match places.insert(name, Some(place)) {
         Ok(_) => Ok(()),
@@ -76,7 +78,8 @@ pub fn add(
     declaration: Declaration,
 ) -> Result<(), AllocError>
     requires { Indexed places.old list.old.items }
-    ensures added { OnOk result (declarations_in list.new.items ≡ declarations_in list.old.items ++ declaration_of declaration ∷ []) }
+    ensures added { OnOk result (declarations_in list.new.items
+        ≡ declarations_in list.old.items ++ declaration_of declaration ∷ []) }
     ensures err { OnErr result (list.new.items ≡ list.old.items) }
     ensures indexed { Indexed places.new list.new.items }
 {
@@ -110,7 +113,8 @@ pub fn take_last(
     places: &mut IndexMap<Name, Option<usize>>,
 ) -> Option<Declaration>
     requires { Indexed places.old list.old.items }
-    ensures taken { declarations_in list.old.items ≡ declarations_in list.new.items ++ option_to_list (option_map declaration_of result) }
+    ensures taken { declarations_in list.old.items
+        ≡ declarations_in list.new.items ++ option_to_list (option_map declaration_of result) }
     ensures none { result ≡ None → list.old.items ≡ [] }
     ensures left { list.new.items ≡ take (vec_len list.old - 1) list.old.items }
     ensures indexed { Indexed places.new list.new.items }

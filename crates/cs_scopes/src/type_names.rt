@@ -94,7 +94,9 @@ pub fn enum_type(scope: &Scope, place: Place, name: &Name) -> Result<CType, Type
 // The type of words.
 #[tactic(auto, unfolding(crate::specs::TypeNames::based))]
 fn based(alloc: Global, scope: &Scope, place: Place, ty: &WrittenType) -> Result<CType, TypeRefusal>
-    ensures { Answers shape_of (based scope.now.declarations scope.now.tags place ty.now (whole_word ty.now.words.items)) result }
+    ensures { Answers shape_of
+        (based scope.now.declarations scope.now.tags place ty.now (whole_word ty.now.words.items))
+        result }
 {
     let tag_place = ty.tag.unwrap_or(place);
     match whole_word(&ty.words) {
@@ -137,7 +139,8 @@ pub fn type_named(
     place: Place,
     ty: &WrittenType,
 ) -> Result<CType, TypeRefusal>
-    ensures { Answers shape_of (type_named scope.now.declarations scope.now.tags place ty.now) result }
+    ensures { Answers shape_of (type_named scope.now.declarations scope.now.tags place ty.now)
+        result }
 {
     let base = based(alloc, scope, place, ty)?;
     let made = starred(alloc, &ty.pointers, base)?;
@@ -161,7 +164,8 @@ pub fn array_of(
     number: i128,
     element: CType,
 ) -> Result<CType, TypeRefusal>
-    ensures { Answers shape_of (array_of model table.now.list place number (shape_of element)) result }
+    ensures { Answers shape_of (array_of model table.now.list place number (shape_of element))
+        result }
 {
     if !is_array_size(number) {
         return Err(TypeRefusal::Code(TypeCode::Size, place));
@@ -183,7 +187,8 @@ pub fn arrayed(
     base: CType,
     numbers: &[i128],
 ) -> Result<CType, TypeRefusal>
-    ensures { Answers shape_of (arrayed model table.now.list place (shape_of base) numbers.now) result }
+    ensures { Answers shape_of (arrayed model table.now.list place (shape_of base) numbers.now)
+        result }
 {
     let mut ty = base;
     let mut i = numbers.len();

@@ -1,5 +1,6 @@
 -- What is known of a path through a function: the numbers that its parameters may have, and its events.
-use Rattle.std.specs.Prelude.{◌≡◌, ℕ, ◌+◌, ◌*◌, ◌<◌, ◌≤◌, ℤ, pos, Bool, false, IsTrue, List, [], ◌∷◌, length, slice_index_or, All, Any, ◌⊎◌}
+use Rattle.std.specs.Prelude.{◌≡◌, ℕ, ◌+◌, ◌*◌, ◌<◌, ◌≤◌, ℤ, pos, Bool, false, IsTrue, List, [], ◌∷◌, length, slice_index_or}
+use Rattle.std.specs.Prelude.{All, Any, ◌⊎◌}
 use Rattle.std.specs.Ordering.{int_eq}
 use Rattle.cs_small_meaning.specs.Tree.{Definition, SmallExpression, Number, Local, Load, Binary, SmallStatement, Return, SmallStatements}
 use Rattle.cs_ranges.specs.declared.range_set.Interval.{Interval}
@@ -75,7 +76,8 @@ ready function inputs todo stack passed = record {
 -- the runs from all inputs that fit pass these events and come to where this is to be done
 abbrev pub Comes : Definition → Ranges → List Event → List Item → Type 0
 Comes function ranges events todo =
-    (budgets : Budgets) (inputs : Inputs) → LeavesRoom function budgets → Fits function ranges inputs → Leads budgets (start function inputs) events (ready function inputs todo [] (length events))
+    (budgets : Budgets) (inputs : Inputs) → LeavesRoom function budgets → Fits function ranges inputs
+    → Leads budgets (start function inputs) events (ready function inputs todo [] (length events))
 
 -- what a test shows: its result, and the way that is taken
 abbrev pub test_events : Place → Place → Bool → List Event
@@ -110,7 +112,8 @@ pub record ReachesBody (function : Definition) (ranges : Ranges) (events : List 
 -- whatever the run from these inputs ends in, if that is to be told, then a finding tells it
 abbrev pub IsReported : Definition → List Finding → Inputs → Type 0
 IsReported function findings inputs =
-    (budgets : Budgets) (events : List Event) (outcome : Outcome) → LeavesRoom function budgets → RunEnds function budgets inputs events outcome → IsFault outcome ⊎ IsOver outcome → Yields findings outcome
+    (budgets : Budgets) (events : List Event) (outcome : Outcome) → LeavesRoom function budgets → RunEnds function budgets inputs events outcome
+    → IsFault outcome ⊎ IsOver outcome → Yields findings outcome
 
 -- the finding is good under each budget that leaves room
 abbrev pub IsGood : Definition → Finding → Type 0
@@ -131,7 +134,8 @@ pub record IsFollowed (function : Definition) (ranges : Ranges) (events : List E
   pub others : (inputs : Inputs) → Fits function ranges inputs ⊎ IsReported function reports inputs
 
 -- after a statement the path goes on so: the runs that are on it no more are told
-pub record PassesOn (function : Definition) (ranges : Ranges) (events : List Event) (s : SmallStatement) (ranges' : Ranges) (events' : List Event) (reports : List Finding) : Type 0 where
+pub record PassesOn (function : Definition) (ranges : Ranges) (events : List Event) (s : SmallStatement) (ranges' : Ranges) (events' : List Event)
+    (reports : List Finding) : Type 0 where
   pub passable : IsPassable s
   pub known : IsKnown function ranges'
   pub counted : length events' ≡ length events + 2

@@ -1,6 +1,7 @@
 -- The functions that this analysis covers.
 use Rattle.std.specs.Prelude.{◌≡◌, ◌≢◌, ℕ, ◌+◌, ◌*◌, ◌<◌, IsTrue, ℤ, pos, List, [], ◌∷◌, length, AllPairs}
-use Rattle.cs_small_meaning.specs.Tree.{SmallExpression, Number, Local, Load, Binary, Compare, SmallStatement, Block, If, Return, SmallStatements, Empty, Then, Definition}
+use Rattle.cs_small_meaning.specs.Tree.{SmallExpression, Number, Local, Load, Binary, Compare, SmallStatement, Block, If, Return, SmallStatements, Empty, Then}
+use Rattle.cs_small_meaning.specs.Tree.{Definition}
 use Rattle.cs_small_meaning.specs.declared.budgets.Budgets.{Budgets}
 use Rattle.cs_small_meaning.specs.Integers.{is_int}
 

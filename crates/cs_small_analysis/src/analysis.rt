@@ -34,7 +34,8 @@ pub fn analyze(
     function: &SmallFunction,
 ) -> Result<EntryResult, AllocError>
     requires { IsCoverable (definition function.now) }
-    ensures good { IfOk result (λ reported. (budgets : Budgets) → LeavesRoom (definition function.now) budgets
+    ensures good { IfOk result (λ reported.
+        (budgets : Budgets) → LeavesRoom (definition function.now) budgets
         → IsGoodEntry (definition function.now) budgets reported) }
     ensures entry { IfOk result (λ reported. reported.entry ≡ entry) }
     ensures no_budget { IfOk result (λ reported. reported.overs.items ≡ []) }
@@ -52,7 +53,8 @@ pub fn analyze(
 fn reports_of(alloc: Global, function: &SmallFunction) -> Result<Vec<Finding>, AllocError>
     requires { IsCoverable (definition function.now) }
     ensures good { IfOk result (λ reports. AreGood (definition function.now) reports.items) }
-    ensures reported { IfOk result (λ reports. (inputs : Inputs) → IsReported (definition function.now) reports.items inputs) }
+    ensures reported { IfOk result (λ reports.
+        (inputs : Inputs) → IsReported (definition function.now) reports.items inputs) }
 {
     match &function.body.kind {
         SmallStmtKind::Block(body) => follow(alloc, function, body.as_slice()),
@@ -67,9 +69,11 @@ fn follow(
     body: &[SmallStmt],
 ) -> Result<Vec<Finding>, AllocError>
     requires shape { IsCoverable (definition function.now) }
-    requires body { (definition function.now).body ≡ Block function.now.body.place (statements body.now) }
+    requires body { (definition function.now).body
+        ≡ Block function.now.body.place (statements body.now) }
     ensures good { IfOk result (λ reports. AreGood (definition function.now) reports.items) }
-    ensures reported { IfOk result (λ reports. (inputs : Inputs) → IsReported (definition function.now) reports.items inputs) }
+    ensures reported { IfOk result (λ reports.
+        (inputs : Inputs) → IsReported (definition function.now) reports.items inputs) }
 {
     let mut path = Path {
         ranges: full_ranges(alloc, function.locals.len())?,
@@ -97,14 +101,18 @@ fn follow_statement(
 ) -> Result<Option<Path>, AllocError>
     requires shape { IsCoverable (definition function.now) }
     requires step { IsStep (length (definition function.now).locals) (statement first.now) }
-    requires reached { Reaches (definition function.now) path.now.ranges.items path.now.events.items (statement first.now) }
+    requires reached { Reaches (definition function.now) path.now.ranges.items path.now.events.items
+        (statement first.now) }
     requires good { AreGood (definition function.now) reports.old.items }
     ensures good { OnOk result (AreGood (definition function.now) reports.new.items) }
     ensures keeps { OnOk result (Keeps reports.old.items reports.new.items) }
-    ensures reported { result ≡ Ok None → (inputs : Inputs) → Fits (definition function.now) path.now.ranges.items inputs
+    ensures reported { result ≡ Ok None
+        → (inputs : Inputs) → Fits (definition function.now) path.now.ranges.items inputs
         → IsReported (definition function.now) reports.new.items inputs }
-    ensures goes_on { IfOk result (λ next. IfSome next (λ passed. PassesOn (definition function.now)
-        path.now.ranges.items path.now.events.items (statement first.now) passed.ranges.items passed.events.items
+    ensures goes_on { IfOk result (λ next.
+        IfSome next (λ passed. PassesOn (definition function.now)
+        path.now.ranges.items path.now.events.items (statement first.now) passed.ranges.items
+        passed.events.items
         reports.new.items)) }
 {
     match &first.kind {
@@ -137,10 +145,13 @@ fn follow_test(
     requires good { AreGood (definition function.now) reports.old.items }
     ensures good { OnOk result (AreGood (definition function.now) reports.new.items) }
     ensures keeps { OnOk result (Keeps reports.old.items reports.new.items) }
-    ensures reported { result ≡ Ok None → (inputs : Inputs) → Fits (definition function.now) path.now.ranges.items inputs
+    ensures reported { result ≡ Ok None
+        → (inputs : Inputs) → Fits (definition function.now) path.now.ranges.items inputs
         → IsReported (definition function.now) reports.new.items inputs }
-    ensures goes_on { IfOk result (λ next. IfSome next (λ passed. PassesOn (definition function.now)
-        path.now.ranges.items path.now.events.items (If at (expression test.now) (statement body.now))
+    ensures goes_on { IfOk result (λ next.
+        IfSome next (λ passed. PassesOn (definition function.now)
+        path.now.ranges.items path.now.events.items (If at (expression test.now)
+        (statement body.now))
         passed.ranges.items passed.events.items reports.new.items)) }
 {
     let parameter = tested_parameter(test);
@@ -170,11 +181,14 @@ fn report_taken(
     requires shape { IsCoverable (definition function.now) }
     requires body { IsReturn (length (definition function.now).locals) (statement body.now) }
     requires reached { ForSome taken (λ path.
-        ReachesBody (definition function.now) path.ranges.items path.events.items (statement body.now)) }
+        ReachesBody (definition function.now) path.ranges.items path.events.items
+        (statement body.now)) }
     requires good { AreGood (definition function.now) reports.old.items }
     ensures good { OnOk result (AreGood (definition function.now) reports.new.items) }
     ensures keeps { OnOk result (Keeps reports.old.items reports.new.items) }
-    ensures reported { OnOk result (IfSome taken (λ path. (inputs : Inputs) → Fits (definition function.now) path.ranges.items inputs
+    ensures reported { OnOk result
+        (IfSome taken (λ path.
+        (inputs : Inputs) → Fits (definition function.now) path.ranges.items inputs
         → IsReported (definition function.now) reports.new.items inputs)) }
 {
     match (taken, &body.kind) {
@@ -195,11 +209,13 @@ fn report_return(
 ) -> Result<(), AllocError>
     requires shape { IsCoverable (definition function.now) }
     requires answer { IsAnswer (length (definition function.now).locals) (expression value.now) }
-    requires reached { ReachesReturn (definition function.now) path.now.ranges.items path.now.events.items (expression value.now) }
+    requires reached { ReachesReturn (definition function.now) path.now.ranges.items
+        path.now.events.items (expression value.now) }
     requires good { AreGood (definition function.now) reports.old.items }
     ensures good { OnOk result (AreGood (definition function.now) reports.new.items) }
     ensures keeps { OnOk result (Keeps reports.old.items reports.new.items) }
-    ensures reported { OnOk result ((inputs : Inputs) → Fits (definition function.now) path.now.ranges.items inputs
+    ensures reported { OnOk result ((inputs : Inputs)
+        → Fits (definition function.now) path.now.ranges.items inputs
         → IsReported (definition function.now) reports.new.items inputs) }
 {
     if !may_divide_by_zero(value, path.ranges.as_slice()) {
@@ -220,9 +236,11 @@ fn division(
     requires shape { IsCoverable (definition function.now) }
     requires known { IsKnown (definition function.now) path.now.ranges.items }
     ensures what { IfOk result (λ finding. finding.what ≡ divides at) }
-    ensures listed { IfOk result (λ finding. ListsParameters (definition function.now) finding.run.inputs.items) }
+    ensures listed { IfOk result (λ finding.
+        ListsParameters (definition function.now) finding.run.inputs.items) }
     ensures least { IfOk result (λ finding.
-        AreLeast (definition function.now) path.now.ranges.items (listed finding.run.inputs.items)) }
+        AreLeast (definition function.now) path.now.ranges.items
+        (listed finding.run.inputs.items)) }
     ensures events { IfOk result (λ finding. finding.events.items ≡ path.now.events.items) }
 {
     let inputs = least_inputs(alloc, function, path.ranges.as_slice())?;

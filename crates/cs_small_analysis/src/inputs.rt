@@ -21,8 +21,10 @@ pub fn least_inputs(
 ) -> Result<Vec<Input>, AllocError>
     requires shape { IsCoverable (definition function.now) }
     requires known { IsKnown (definition function.now) ranges.now }
-    ensures listed { IfOk result (λ inputs. ListsParameters (definition function.now) inputs.items) }
-    ensures least { IfOk result (λ inputs. AreLeast (definition function.now) ranges.now (listed inputs.items)) }
+    ensures listed { IfOk result (λ inputs.
+        ListsParameters (definition function.now) inputs.items) }
+    ensures least { IfOk result (λ inputs.
+        AreLeast (definition function.now) ranges.now (listed inputs.items)) }
 {
     let mut inputs = inputs_of(alloc, function, ranges)?;
     sort_inputs(&mut inputs)?;

@@ -55,8 +55,10 @@ fn is_before(one: Place, other: Place) -> bool
 /// The number of the first report that does not stand before a place.
 fn first_not_before(reports: &[Finding], at: Place) -> usize
     ensures within { result ≤ length reports.now }
-    ensures before { (k : ℕ) (d : Finding) → k < result → IsBefore (division_place (slice_index_or reports.now k d).what) at }
-    ensures not_before { (d : Finding) → result < length reports.now → IsBefore (division_place (slice_index_or reports.now result d).what) at → ⊥ }
+    ensures before { (k : ℕ) (d : Finding) → k < result
+        → IsBefore (division_place (slice_index_or reports.now k d).what) at }
+    ensures not_before { (d : Finding) → result < length reports.now
+        → IsBefore (division_place (slice_index_or reports.now result d).what) at → ⊥ }
 {
     for (index, report) in reports.iter().enumerate() {
         if !is_before(place_of(report), at) {

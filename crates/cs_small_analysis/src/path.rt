@@ -36,7 +36,8 @@ impl Path {
         requires { test.parameter < vec_len self.now.ranges }
         ensures empty { IfOk result (λ next. IfNone next (IsEmpty range)) }
         ensures passes { IfOk result (λ next. IfSome next (λ path.
-            IsAfter self.now.ranges.items self.now.events.items test range holds path.ranges.items path.events.items)) }
+            IsAfter self.now.ranges.items self.now.events.items test range holds path.ranges.items
+            path.events.items)) }
     {
         if range.is_empty() {
             return Ok(None);

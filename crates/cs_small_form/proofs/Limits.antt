@@ -1,5 +1,7 @@
 -- What is read stays within the limits of the form, one function for each of the program's: for the crates above, which analyze such functions.
-use Rattle.std.proofs.Common.{◌≡◌, ◌≢◌, ℕ, zero, suc, pos, ◌+◌, ◌<◌, ◌≤◌, ◌^◌, not, ◌&&◌, Bool, true, false, cond, List, [], ◌∷◌, ◌++◌, map, length, Option, Some, None, get_or, nat_lt, nat_le, nat_eq, refl, sym, ap, ◌∙◌, subst, length-append, arith, tests}
+use Rattle.std.proofs.Common.{◌≡◌, ◌≢◌, ℕ, zero, suc, pos, ◌+◌, ◌<◌, ◌≤◌, ◌^◌, not, ◌&&◌, Bool, true, false, cond, List, []}
+use Rattle.std.proofs.Common.{◌∷◌, ◌++◌, map, length, Option, Some, None, get_or, nat_lt, nat_le, nat_eq, refl, sym, ap, ◌∙◌, subst}
+use Rattle.std.proofs.Common.{length-append, arith, tests}
 use Rattle.std.specs.Prelude.{option_map, option_and_then}
 use Rattle.std.specs.Option.{option_or}
 use Rattle.std.specs.List.{All, AllPairs, position_or_len}
@@ -19,11 +21,13 @@ use Rattle.cs_small_form.specs.declared.small.Answer.{Answer}
 use Rattle.cs_small_form.specs.declared.small.Answer.TheVariants.{Single, Quotient}
 use Rattle.cs_small_form.specs.declared.small.Guard.{Guard}
 use Rattle.cs_small_form.specs.Small.{Small, tree, IsAtomWithin, IsAnswerWithin, IsGuardWithin, IsWithinLimits}
-use Rattle.cs_small_form.specs.Reading.{Names, number_of, where_new, is_int, used, constant, atom, answer, returned, compared, guard, tests_and_return, body, block, parameter, parameters, has_head, function, functions, IsOfForm}
+use Rattle.cs_small_form.specs.Reading.{Names, number_of, where_new, is_int, used, constant, atom, answer, returned, compared, guard, tests_and_return, body}
+use Rattle.cs_small_form.specs.Reading.{block, parameter, parameters, has_head, function, functions, IsOfForm}
 use Rattle.cs_small_form.proofs.Positions.{length-map}
 
 -- what a reader found first, and what then
-pub and_then_some : {A B : Type 0} (o : Option A) (f : A → Option B) (b : B) → option_and_then f o ≡ Some b → (a : A) × (o ≡ Some a) × (f a ≡ Some b)
+pub and_then_some : {A B : Type 0} (o : Option A) (f : A → Option B) (b : B) → option_and_then f o ≡ Some b
+    → (a : A) × (o ≡ Some a) × (f a ≡ Some b)
 and_then_some None f b h = absurd cc
 and_then_some (Some a) f b h = (a, refl, h)
 
@@ -55,7 +59,9 @@ constant_within (Of at ty (Number (pos value))) u h =
     subst (λ (x : Place × ℕ). x.1 < 2 ^ 31) f.1 (below (is_int ty) value (2 ^ 31) f.0)
 constant_within other u h = absurd cc
 
-one_within : (count : ℕ) (u c : Option (Place × ℕ)) (a : Atom) → ((x : Place × ℕ) → u ≡ Some x → x.1 < count) → ((x : Place × ℕ) → c ≡ Some x → x.1 < 2 ^ 31) → option_or (option_map (λ found. Parameter found.0 found.1) u) (option_map (λ found. Literal found.0 found.1) c) ≡ Some a → IsAtomWithin count a
+one_within : (count : ℕ) (u c : Option (Place × ℕ)) (a : Atom) → ((x : Place × ℕ) → u ≡ Some x → x.1 < count)
+    → ((x : Place × ℕ) → c ≡ Some x → x.1 < 2 ^ 31)
+    → option_or (option_map (λ found. Parameter found.0 found.1) u) (option_map (λ found. Literal found.0 found.1) c) ≡ Some a → IsAtomWithin count a
 one_within count (Some x) c a of_used of_constant h =
     let is : Parameter x.0 x.1 ≡ a = cc in
     subst (IsAtomWithin count) is (of_used x refl)
@@ -67,7 +73,8 @@ one_within count None None a of_used of_constant h = absurd cc
 atom_within : (count : ℕ) (e : Typed) (a : Atom) → atom count e ≡ Some a → IsAtomWithin count a
 atom_within count e a h = one_within count (used count e) (constant e) a (used_within count e) (constant_within e) h
 
-quotient_within : (count : ℕ) (at : Place) (l r : Typed) (a : Answer) → option_and_then (λ one. option_and_then (λ other. Some (Quotient at one other)) (atom count r)) (atom count l) ≡ Some a → IsAnswerWithin count a
+quotient_within : (count : ℕ) (at : Place) (l r : Typed) (a : Answer)
+    → option_and_then (λ one. option_and_then (λ other. Some (Quotient at one other)) (atom count r)) (atom count l) ≡ Some a → IsAnswerWithin count a
 quotient_within count at l r a h =
     let one = and_then_some (atom count l) _ a h in
     let other = and_then_some (atom count r) _ a one.2 in
@@ -89,12 +96,14 @@ returned_within count (Return at (Some value)) e h =
     subst (λ (x : Place × Answer). IsAnswerWithin count x.1) f.2 (answer_within count value f.0 f.1)
 returned_within count other e h = absurd cc
 
-compared_within : (count : ℕ) (e : Typed) (t : Place × (Place × ℕ) × (Place × ℕ)) → compared count e ≡ Some t → (t.1.1 < count) × (t.2.1 < 2 ^ 31)
+compared_within : (count : ℕ) (e : Typed) (t : Place × (Place × ℕ) × (Place × ℕ)) → compared count e ≡ Some t
+    → (t.1.1 < count) × (t.2.1 < 2 ^ 31)
 compared_within count (Of at ty (Compare Equal l r)) t h =
     let one = and_then_some (used count l) _ t h in
     let other = and_then_some (constant r) _ t one.2 in
     let is : (at, one.0, other.0) ≡ t = cc in
-    subst (λ (x : Place × (Place × ℕ) × (Place × ℕ)). (x.1.1 < count) × (x.2.1 < 2 ^ 31)) is (used_within count l one.0 one.1, constant_within r other.0 other.1)
+    subst (λ (x : Place × (Place × ℕ) × (Place × ℕ)). (x.1.1 < count) × (x.2.1 < 2 ^ 31)) is
+    (used_within count l one.0 one.1, constant_within r other.0 other.1)
 compared_within count other t h = absurd cc
 
 guard_within : (count : ℕ) (s : Statement) (g : Guard) → guard count s ≡ Some g → IsGuardWithin count g
@@ -121,7 +130,8 @@ record IsBodyWithin (count : ℕ) (found : List Guard × (Place × Answer)) : Ty
   guards : All (IsGuardWithin count) found.0
   answer : IsAnswerWithin count found.1.1
 
-statements_within : (count : ℕ) (list : Statements) (found : List Guard × (Place × Answer)) → tests_and_return count list ≡ Some found → IsBodyWithin count found
+statements_within : (count : ℕ) (list : Statements) (found : List Guard × (Place × Answer)) → tests_and_return count list ≡ Some found
+    → IsBodyWithin count found
 statements_within count Empty found h = absurd cc
 statements_within count (Then last Empty) found h =
     let f = map_some _ (returned count last) found h in
@@ -140,7 +150,8 @@ found_step : (b : Bool) (n size : ℕ) → (b ≡ false → n < size) → cond (
 found_step true n size h = omega arith
 found_step false n size h = omega (arith, h refl)
 
-found_before : (p : List ℕ → Bool) (xs : Names) (k : ℕ) (d : List ℕ) → k < length xs → p (get_or xs k d) ≡ true → position_or_len p xs < length xs
+found_before : (p : List ℕ → Bool) (xs : Names) (k : ℕ) (d : List ℕ) → k < length xs → p (get_or xs k d) ≡ true
+    → position_or_len p xs < length xs
 found_before p [] k d inside h = absurd (omega arith)
 found_before p (x ∷ xs) zero d inside h = found_step (p x) (position_or_len p xs) (length xs) (λ e. absurd (let f = sym h ∙ e in cc))
 found_before p (x ∷ xs) (suc k) d inside h = found_step (p x) (position_or_len p xs) (length xs) (λ e. found_before p xs k d (omega arith) h)
@@ -164,7 +175,8 @@ record AreNew (count : ℕ) (names : Names) : Type 0 where
   as_many : length names ≡ count
   different : AllPairs (λ one other. one ≢ other) names
 
-parameters_new : (before : Names) (list : List Variable) (names : Names) (count : ℕ) → AreNew count before → parameters before list ≡ Some names → AreNew (count + length list) names
+parameters_new : (before : Names) (list : List Variable) (names : Names) (count : ℕ) → AreNew count before → parameters before list ≡ Some names
+    → AreNew (count + length list) names
 parameters_new before [] names count new h =
     let is : before ≡ names = cc in
     subst (AreNew (count + 0)) is (record { as_many = omega (arith, new.as_many); different = new.different })
@@ -203,7 +215,8 @@ function_within r small h =
     let read = and_then_some (tests_and_return r.parameters inside.0.1) _ found.0 found.1 in
     let few = if_some (nat_le (length read.0.0) 100) read.0 found.0 read.2 in
     let within = subst (IsBodyWithin r.parameters) few.1 (statements_within r.parameters inside.0.1 read.0 read.1) in
-    let short : length found.0.0 ≤ 100 = subst (λ (x : List Guard × (Place × Answer)). length x.0 ≤ 100) few.1 (let test = few.0 in grind (arith, tests)) in
+    let short : length found.0.0 ≤ 100 = subst (λ (x : List Guard × (Place × Answer)). length x.0 ≤ 100) few.1 (let test = few.0 in
+    grind (arith, tests)) in
     let count : r.parameters ≡ length names.0 = head.alone ∙ sym new.as_many in
     let made : Small = record {
       name = r.name;

@@ -15,7 +15,8 @@ length-map f [] = refl
 length-map f (x ∷ xs) = ap suc (length-map f xs)
 
 -- a parameter is sought by its name
-pub position_of_names : (locals : List SmallLocal) (bytes : List ℕ) → number_of (names_of locals) bytes ≡ position (λ (local : SmallLocal). pointwise nat_eq local.name bytes) locals
+pub position_of_names : (locals : List SmallLocal) (bytes : List ℕ)
+    → number_of (names_of locals) bytes ≡ position (λ (local : SmallLocal). pointwise nat_eq local.name bytes) locals
 position_of_names locals bytes = simp (prefix_len-map, length-map)
 
 pub length-names : (locals : List SmallLocal) → length (names_of locals) ≡ length locals

@@ -3,7 +3,8 @@ use Rattle.std.specs.Prelude.{ℕ, pos, ◌≢◌, ◌≤◌, ◌<◌, ◌^◌, 
 use Rattle.cs_ast.specs.declared.place.Place.{Place}
 use Rattle.cs_small_meaning.specs.declared.expression.SmallBinOp.TheVariants.{Div}
 use Rattle.cs_small_meaning.specs.declared.expression.SmallCmpOp.TheVariants.{Equal}
-use Rattle.cs_small_meaning.specs.Tree.{SmallExpression, Number, Local, Load, Binary, Compare, SmallStatement, Block, If, Return, SmallStatements, Empty, Then, Definition}
+use Rattle.cs_small_meaning.specs.Tree.{SmallExpression, Number, Local, Load, Binary, Compare, SmallStatement, Block, If, Return, SmallStatements, Empty, Then}
+use Rattle.cs_small_meaning.specs.Tree.{Definition}
 use Rattle.cs_small_form.specs.declared.small.Atom.{Atom}
 use Rattle.cs_small_form.specs.declared.small.Atom.TheVariants.{Parameter, Literal}
 use Rattle.cs_small_form.specs.declared.small.Answer.{Answer}
@@ -31,7 +32,8 @@ answer_tree (Quotient at left right) = Binary at Div (atom_tree left) (atom_tree
 
 abbrev pub guard_tree : Guard → SmallStatement
 guard_tree guard =
-    If guard.at (Compare guard.equal_at Equal (Load guard.tested_at (Local guard.tested_at guard.tested)) (Number guard.literal_at (pos guard.literal))) (Return guard.return_at (answer_tree guard.answer))
+    If guard.at (Compare guard.equal_at Equal (Load guard.tested_at (Local guard.tested_at guard.tested)) (Number guard.literal_at (pos guard.literal)))
+    (Return guard.return_at (answer_tree guard.answer))
 
 abbrev pub body_trees : List Guard → Place → Answer → SmallStatements
 body_trees [] at answer = Then (Return at (answer_tree answer)) Empty

@@ -14,7 +14,8 @@ use std::alloc::{AllocError, Global};
 
 /// The value of the parameter with this number.
 fn loaded(alloc: Global, place: Place, number: u32) -> Result<SmallExpr, AllocError>
-    ensures { IfOk result (λ made. expression made ≡ trees.Load place (trees.Local place number)) }
+    ensures { IfOk result (λ made.
+        expression made ≡ trees.Load place (trees.Local place number)) }
 {
     let object = Box::new(
         alloc,

@@ -47,7 +47,8 @@ fn tests_and_return(
     count: u32,
     items: &[Stmt],
 ) -> Result<(Vec<Guard>, (Place, Answer)), FormRefusal>
-    ensures { Reads (λ v. (v.0.items, v.1)) result (reading.tests_and_return count (statement_list items.now)) }
+    ensures { Reads (λ v. (v.0.items, v.1)) result
+        (reading.tests_and_return count (statement_list items.now)) }
 {
     let [tests @ .., last] = items else {
         return Err(FormRefusal::NotOfForm);
@@ -65,7 +66,8 @@ fn body(
     count: u32,
     items: &[Stmt],
 ) -> Result<(Vec<Guard>, (Place, Answer)), FormRefusal>
-    ensures { Reads (λ v. (v.0.items, v.1)) result (reading.body count (statement_list items.now)) }
+    ensures { Reads (λ v. (v.0.items, v.1)) result
+        (reading.body count (statement_list items.now)) }
 {
     let found = tests_and_return(alloc, count, items)?;
     if found.0.len() <= MOST_TESTS {
@@ -77,7 +79,8 @@ fn body(
 
 /// The place and the statements of a block.
 fn block(s: &Stmt) -> Option<(Place, &[Stmt])>
-    ensures { option_map (λ found. (found.0, statement_list found.1.now)) result ≡ reading.block (statement s.now) }
+    ensures { option_map (λ found. (found.0, statement_list found.1.now)) result
+        ≡ reading.block (statement s.now) }
 {
     match &*s.kind {
         StmtKind::Block(items) => Some((s.place, items.as_slice())),
@@ -89,7 +92,8 @@ fn block(s: &Stmt) -> Option<(Place, &[Stmt])>
 fn parameters(alloc: Global, variables: &[Variable]) -> Result<Vec<SmallLocal>, FormRefusal>
     requires { length variables.now ≤ 8 }
     ensures few { IfOk result (λ locals. vec_len locals ≤ 8) }
-    ensures read { Reads (λ v. names_of v.items) result (reading.parameters [] (map variable variables.now)) }
+    ensures read { Reads (λ v. names_of v.items) result
+        (reading.parameters [] (map variable variables.now)) }
 {
     let mut locals = Vec::new(alloc);
     for v in variables {
@@ -143,7 +147,8 @@ fn small_of(alloc: Global, f: &Routine) -> Result<FunctionParts, FormRefusal>
 ///
 /// It is `NotOfForm` where one of them is no function of the form.
 pub fn functions_of(alloc: Global, program: &Program) -> Result<Vec<SmallFunction>, FormRefusal>
-    ensures { Reads (λ v. map definition v.items) result (option_map (map small.tree) (reading.functions (typed_program program.now).routines)) }
+    ensures { Reads (λ v. map definition v.items) result
+        (option_map (map small.tree) (reading.functions (typed_program program.now).routines)) }
 {
     let mut functions = Vec::new(alloc);
     for f in &program.functions {

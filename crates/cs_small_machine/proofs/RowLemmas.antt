@@ -3,7 +3,8 @@ use Rattle.std.proofs.Common.{◌≡◌, ℕ, ◌+◌, ◌<◌, length, get_or, 
 use Rattle.std.proofs.Math.Seq.{drop-cons}
 use mathlib.Core.Former.{Count}
 use Rattle.cs_small_meaning.specs.declared.statement.SmallStmt.{SmallStmt}
-use Rattle.cs_small_meaning.specs.declared.statement.SmallStmtKind.{SmallStmtKind, Row_of-SmallStmt, end_of-SmallStmt, more_of-SmallStmt, items-the_row-SmallStmt, items_hidden-the_row-SmallStmt-0}
+use Rattle.cs_small_meaning.specs.declared.statement.SmallStmtKind.{SmallStmtKind, Row_of-SmallStmt, end_of-SmallStmt, more_of-SmallStmt}
+use Rattle.cs_small_meaning.specs.declared.statement.SmallStmtKind.{items-the_row-SmallStmt, items_hidden-the_row-SmallStmt-0}
 use Rattle.cs_small_meaning.specs.declared.statement.SmallStmtKind.TheVariants as form
 use Rattle.cs_ast.specs.declared.place.Place.{Place}
 use Rattle.cs_small_meaning.specs.Tree.{Then, Block}
@@ -20,11 +21,13 @@ row_of (form.Block' shape all) = (_, all)
 row_of _ = (_, end_of-SmallStmt)
 
 -- a block's statements are those of its list
-pub statement_at-Block : (at : Place) (statements : Vec SmallStmt Global) → statement_at at (form.Block statements) ≡ Block at (statements_in statements.items)
+pub statement_at-Block : (at : Place) (statements : Vec SmallStmt Global)
+    → statement_at at (form.Block statements) ≡ Block at (statements_in statements.items)
 statement_at-Block at statements =
     let row = row_of (form.Block statements) in
     ap (Block at) (sym (statements_in-row row.0 row.1) ∙ ap statements_in (items_hidden-the_row-SmallStmt-0 statements))
 
 -- a list of statements from a place on
-pub statements_in-drop : (list : List SmallStmt) (i : ℕ) (here : SmallStmt) → i < length list → here ≡ get_or list i here → statements_in (drop i list) ≡ Then (statement here) (statements_in (drop (i + 1) list))
+pub statements_in-drop : (list : List SmallStmt) (i : ℕ) (here : SmallStmt) → i < length list → here ≡ get_or list i here
+    → statements_in (drop i list) ≡ Then (statement here) (statements_in (drop (i + 1) list))
 statements_in-drop list i here inside is = rw (add-one, drop-cons list i here, ← is) refl

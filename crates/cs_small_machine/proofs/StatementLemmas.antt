@@ -18,11 +18,15 @@ use Rattle.cs_small_machine.specs.Pieces.{EndsBy, Does, Gives, puts, puts_all}
 use Rattle.cs_small_machine.proofs.PieceLemmas.{performed}
 
 -- a block's statements come first
-pub to_statements : (old : Interpreter) {s : SmallStatement} {at : Place} {statements : SmallStatements} → s ≡ Block at statements → (todo : List Item) (stack : List Operand) (events : List Event) (outcome : Outcome) → EndsBy (puts_all statements) old todo stack events outcome → EndsBy (puts (Execute s)) old todo stack events outcome
+pub to_statements : (old : Interpreter) {s : SmallStatement} {at : Place} {statements : SmallStatements} → s ≡ Block at statements
+    → (todo : List Item) (stack : List Operand) (events : List Event) (outcome : Outcome) → EndsBy (puts_all statements) old todo stack events outcome
+    → EndsBy (puts (Execute s)) old todo stack events outcome
 to_statements old {s = s} is todo stack events outcome k = performed old (Execute s) todo stack events outcome (rw is k)
 
 -- the test of an `if` comes first
-pub to_test : (old : Interpreter) {s body : SmallStatement} {at : Place} {test : SmallExpression} → s ≡ If at test body → (todo : List Item) (stack : List Operand) (events : List Event) (outcome : Outcome) → EndsBy (puts (Evaluate test)) old (Decide s ∷ todo) stack events outcome → EndsBy (puts (Execute s)) old todo stack events outcome
+pub to_test : (old : Interpreter) {s body : SmallStatement} {at : Place} {test : SmallExpression} → s ≡ If at test body
+    → (todo : List Item) (stack : List Operand) (events : List Event) (outcome : Outcome)
+    → EndsBy (puts (Evaluate test)) old (Decide s ∷ todo) stack events outcome → EndsBy (puts (Execute s)) old todo stack events outcome
 to_test old {s = s} is todo stack events outcome k =
     performed old (Execute s) todo stack events outcome (rw is (rw is at k))
 
@@ -31,31 +35,52 @@ abbrev pub holds_with : HeldOperand → Bool
 holds_with operand = not (int_eq (number_of (operand_of operand)) (pos 0))
 
 -- after the test its way shows
-pub to_way : {old middle : Interpreter} {s body : SmallStatement} {at : Place} {test : SmallExpression} {evaluated : Result HeldOperand Stop} {operand : HeldOperand} → s ≡ If at test body → Gives (puts (Evaluate test)) old middle evaluated → evaluated ≡ Ok operand → (holds : Bool) → holds ≡ holds_with operand → (todo : List Item) (stack : List Operand) (events : List Event) (outcome : Outcome) → EndsBy (pass middle.budgets (record { place = at; label = Branch holds })) middle (chosen holds body todo) stack events outcome → EndsBy (puts (Execute s)) old todo stack events outcome
+pub to_way : {old middle : Interpreter} {s body : SmallStatement} {at : Place} {test : SmallExpression} {evaluated : Result HeldOperand
+    Stop} {operand : HeldOperand} → s ≡ If at test body → Gives (puts (Evaluate test)) old middle evaluated → evaluated ≡ Ok operand
+    → (holds : Bool) → holds ≡ holds_with operand → (todo : List Item) (stack : List Operand) (events : List Event) (outcome : Outcome)
+    → EndsBy (pass middle.budgets (record { place = at; label = Branch holds })) middle (chosen holds body todo) stack events outcome
+    → EndsBy (puts (Execute s)) old todo stack events outcome
 to_way {old = old} {middle = middle} {s = s} {operand = operand} is given was holds same todo stack events outcome k =
-    to_test old is todo stack events outcome (given.goes_on operand was (Decide s ∷ todo) stack events outcome (performed middle (Decide s) todo (operand_of operand ∷ stack) events outcome (rw is (rw same at k))))
+    to_test old is todo stack events outcome
+    (given.goes_on operand was (Decide s ∷ todo) stack events outcome
+    (performed middle (Decide s) todo (operand_of operand ∷ stack) events outcome (rw is (rw same at k))))
 
 -- where the test holds, the body comes next
-pub to_body : {old middle later : Interpreter} {s body : SmallStatement} {at : Place} {test : SmallExpression} {evaluated : Result HeldOperand Stop} {operand : HeldOperand} {passed : Result (Unit {0}) Stop} {done : Unit {0}} → s ≡ If at test body → Gives (puts (Evaluate test)) old middle evaluated → evaluated ≡ Ok operand → (holds : Bool) → holds ≡ holds_with operand → Does (pass middle.budgets (record { place = at; label = Branch holds })) middle later passed → passed ≡ Ok done → holds ≡ true → (todo : List Item) (stack : List Operand) (events : List Event) (outcome : Outcome) → EndsBy (puts (Execute body)) later todo stack events outcome → EndsBy (puts (Execute s)) old todo stack events outcome
+pub to_body : {old middle later : Interpreter} {s body : SmallStatement} {at : Place} {test : SmallExpression} {evaluated : Result HeldOperand
+    Stop} {operand : HeldOperand} {passed : Result (Unit {0}) Stop} {done : Unit {0}} → s ≡ If at test body
+    → Gives (puts (Evaluate test)) old middle evaluated → evaluated ≡ Ok operand → (holds : Bool) → holds ≡ holds_with operand
+    → Does (pass middle.budgets (record { place = at; label = Branch holds })) middle later passed → passed ≡ Ok done → holds ≡ true
+    → (todo : List Item) (stack : List Operand) (events : List Event) (outcome : Outcome) → EndsBy (puts (Execute body)) later todo stack events outcome
+    → EndsBy (puts (Execute s)) old todo stack events outcome
 to_body {body = body} is given was holds same shown went taken todo stack events outcome k =
     to_way is given was holds same todo stack events outcome (rw taken (rw taken at shown.goes_on _ went (Execute body ∷ todo) stack events outcome k))
 
 -- where the test doesn't hold, the statement is done
-pub past_body : {old middle later : Interpreter} {s body : SmallStatement} {at : Place} {test : SmallExpression} {evaluated : Result HeldOperand Stop} {operand : HeldOperand} {passed : Result (Unit {0}) Stop} {done : Unit {0}} → s ≡ If at test body → Gives (puts (Evaluate test)) old middle evaluated → evaluated ≡ Ok operand → (holds : Bool) → holds ≡ holds_with operand → Does (pass middle.budgets (record { place = at; label = Branch holds })) middle later passed → passed ≡ Ok done → holds ≡ false → Does (puts (Execute s)) old later (Ok tt)
+pub past_body : {old middle later : Interpreter} {s body : SmallStatement} {at : Place} {test : SmallExpression} {evaluated : Result HeldOperand
+    Stop} {operand : HeldOperand} {passed : Result (Unit {0}) Stop} {done : Unit {0}} → s ≡ If at test body
+    → Gives (puts (Evaluate test)) old middle evaluated → evaluated ≡ Ok operand → (holds : Bool) → holds ≡ holds_with operand
+    → Does (pass middle.budgets (record { place = at; label = Branch holds })) middle later passed → passed ≡ Ok done → holds ≡ false
+    → Does (puts (Execute s)) old later (Ok tt)
 past_body is given was holds same shown went taken = record {
-  goes_on = λ done e todo stack events outcome k. to_way is given was holds same todo stack events outcome (rw taken (rw taken at shown.goes_on _ went todo stack events outcome k));
+  goes_on = λ done e todo stack events outcome k. to_way is given was holds same todo stack events outcome
+      (rw taken (rw taken at shown.goes_on _ went todo stack events outcome k));
   ends = λ outcome other. cc;
 }
 
 -- the value of a `return` comes first
-pub to_value : (old : Interpreter) {s : SmallStatement} {at : Place} {value : SmallExpression} → s ≡ Return at value → (todo : List Item) (stack : List Operand) (events : List Event) (outcome : Outcome) → EndsBy (puts (Evaluate value)) old (Leave ∷ todo) stack events outcome → EndsBy (puts (Execute s)) old todo stack events outcome
+pub to_value : (old : Interpreter) {s : SmallStatement} {at : Place} {value : SmallExpression} → s ≡ Return at value
+    → (todo : List Item) (stack : List Operand) (events : List Event) (outcome : Outcome)
+    → EndsBy (puts (Evaluate value)) old (Leave ∷ todo) stack events outcome → EndsBy (puts (Execute s)) old todo stack events outcome
 to_value old {s = s} is todo stack events outcome k = performed old (Execute s) todo stack events outcome (rw is k)
 
 -- after its value a `return` ends the run
-pub leaves_with : {old middle : Interpreter} {s : SmallStatement} {at : Place} {value : SmallExpression} {evaluated : Result HeldOperand Stop} {operand : HeldOperand} → s ≡ Return at value → Gives (puts (Evaluate value)) old middle evaluated → evaluated ≡ Ok operand → Does (puts (Execute s)) old middle (Err (stop.Outcome (Done (returned_of (operand_of operand)))))
+pub leaves_with : {old middle : Interpreter} {s : SmallStatement} {at : Place} {value : SmallExpression} {evaluated : Result HeldOperand
+    Stop} {operand : HeldOperand} → s ≡ Return at value → Gives (puts (Evaluate value)) old middle evaluated → evaluated ≡ Ok operand
+    → Does (puts (Execute s)) old middle (Err (stop.Outcome (Done (returned_of (operand_of operand)))))
 leaves_with {old = old} {middle = middle} {operand = operand} is given was = record {
   goes_on = λ done other. cc;
   ends = λ outcome other todo stack.
       let same : outcome ≡ Done (returned_of (operand_of operand)) = cc in
-      to_value old is todo stack _ outcome (given.goes_on operand was (Leave ∷ todo) stack _ outcome (performed middle Leave todo (operand_of operand ∷ stack) _ outcome (refl, same)));
+      to_value old is todo stack _ outcome
+      (given.goes_on operand was (Leave ∷ todo) stack _ outcome (performed middle Leave todo (operand_of operand ∷ stack) _ outcome (refl, same)));
 }

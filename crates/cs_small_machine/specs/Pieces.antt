@@ -36,9 +36,12 @@ EndsBy step state todo stack events outcome =
     FinishesBy state.budgets state.events.items (step (machine_of state todo stack)) events outcome
 
 -- the interpreter did what begins with this step: from its new state a run goes on as it does by the step from the old one, or the run has ended
-pub record Follows {A : Type 0} (leaves : A → List Operand → List Operand) (step : Machine → Step) (old new : Interpreter) (result : Result A Stop) : Type 0 where
-  pub goes_on : (value : A) → result ≡ Ok value → (todo : List Item) (stack : List Operand) (events : List Event) (outcome : Outcome) → EndsFrom new todo (leaves value stack) events outcome → EndsBy step old todo stack events outcome
-  pub ends : (outcome : Outcome) → result ≡ Err (stop.Outcome outcome) → (todo : List Item) (stack : List Operand) → EndsBy step old todo stack new.events.items outcome
+pub record Follows {A : Type 0} (leaves : A → List Operand → List Operand) (step : Machine → Step) (old new : Interpreter) (result : Result A Stop) :
+    Type 0 where
+  pub goes_on : (value : A) → result ≡ Ok value → (todo : List Item) (stack : List Operand) (events : List Event) (outcome : Outcome)
+      → EndsFrom new todo (leaves value stack) events outcome → EndsBy step old todo stack events outcome
+  pub ends : (outcome : Outcome) → result ≡ Err (stop.Outcome outcome)
+      → (todo : List Item) (stack : List Operand) → EndsBy step old todo stack new.events.items outcome
 
 -- a stack on which nothing is left
 abbrev pub nothing_on : Unit {0} → List Operand → List Operand

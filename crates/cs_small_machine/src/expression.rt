@@ -47,7 +47,8 @@ impl Interpreter {
         left: i128,
         right: i128,
     ) -> Result<Operand, Stop>
-        ensures { Gives (operate self.old.budgets place operator left right) self.old self.new result }
+        ensures { Gives (operate self.old.budgets place operator left right) self.old self.new
+            result }
     {
         match operator {
             SmallBinOp::Div => self.divide(place, left, right),

@@ -26,7 +26,9 @@ pub fn run(
     inputs: &[Input],
     budgets: &Budgets,
 ) -> Result<Ended, AllocError>
-    ensures { IfOk result (λ ended. RunEnds (definition function.now) budgets.now (listed inputs.now) ended.events.items ended.outcome) }
+    ensures { IfOk result (λ ended.
+        RunEnds (definition function.now) budgets.now (listed inputs.now) ended.events.items
+        ended.outcome) }
 {
     let mut interpreter = Interpreter {
         budgets: *budgets,

@@ -2,7 +2,8 @@
 use Rattle.std.proofs.Common.{◌≡◌, refl, sym, ap, ◌∙◌, Vec, Global}
 use mathlib.Core.Former.{Count}
 use Rattle.cs_small_meaning.specs.declared.statement.SmallStmt.{SmallStmt}
-use Rattle.cs_small_meaning.specs.declared.statement.SmallStmtKind.{SmallStmtKind, Row_of-SmallStmt, end_of-SmallStmt, more_of-SmallStmt, items-the_row-SmallStmt, items_hidden-the_row-SmallStmt-0}
+use Rattle.cs_small_meaning.specs.declared.statement.SmallStmtKind.{SmallStmtKind, Row_of-SmallStmt, end_of-SmallStmt, more_of-SmallStmt}
+use Rattle.cs_small_meaning.specs.declared.statement.SmallStmtKind.{items-the_row-SmallStmt, items_hidden-the_row-SmallStmt-0}
 use Rattle.cs_small_meaning.specs.declared.statement.SmallStmtKind.TheVariants as form
 use Rattle.cs_ast.specs.declared.place.Place.{Place}
 use Rattle.cs_small_meaning.specs.Tree.{Then, Block}

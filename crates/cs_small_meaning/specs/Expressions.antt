@@ -50,7 +50,8 @@ compares Equal x y = int_eq x y
 -- a division (C11 6.5.5): by zero it is a fault; else its exact result shows, and the wrapped one is its value
 abbrev pub divide : Budgets → Place → ℤ → ℤ → Machine → Step
 divide budgets at x y m =
-    if int_eq y (pos 0) then Stops (Fault Divide at) else pass budgets (record { place = at; label = Wrap (quotient_wrap x y) }) (push (Value (NumberCell (int_quotient x y))) m)
+    if int_eq y (pos 0) then Stops (Fault Divide at)
+    else pass budgets (record { place = at; label = Wrap (quotient_wrap x y) }) (push (Value (NumberCell (int_quotient x y))) m)
 
 -- what an operator does with the numbers of its operands
 abbrev pub operate : Budgets → Place → SmallBinOp → ℤ → ℤ → Machine → Step

@@ -1,5 +1,6 @@
 -- What makes a finding, and the result of an entry, good.
-use Rattle.std.specs.Prelude.{◌≡◌, ◌≢◌, ℕ, ◌<◌, Bool, true, false, List, [], ◌∷◌, ◌++◌, map, All, Any, AllPairs, IsPermutation, IsSorted, ◌⊎◌}
+use Rattle.std.specs.Prelude.{◌≡◌, ◌≢◌, ℕ, ◌<◌, Bool, true, false, List, [], ◌∷◌, ◌++◌, map, All, Any, AllPairs, IsPermutation}
+use Rattle.std.specs.Prelude.{IsSorted, ◌⊎◌}
 use Rattle.std.specs.Ordering.{nat_cmp}
 use Rattle.std.specs.Cmp.Lexicographic.{slice_cmp}
 use Rattle.cs_ast.specs.declared.place.Place.{Place}
@@ -64,7 +65,8 @@ verdict_of (over ∷ overs) = Bounded
 -- each run of the function that ends in a fault or meets a budget has a finding of that outcome
 abbrev pub IsCovered : Definition → Budgets → List Finding → Type 0
 IsCovered function budgets findings =
-    (inputs : Inputs) (events : List Event) (outcome : Outcome) → RunEnds function budgets inputs events outcome → IsFault outcome ⊎ IsOver outcome → Any (λ (finding : Finding). finding.what ≡ outcome) findings
+    (inputs : Inputs) (events : List Event) (outcome : Outcome) → RunEnds function budgets inputs events outcome → IsFault outcome ⊎ IsOver outcome
+    → Any (λ (finding : Finding). finding.what ≡ outcome) findings
 
 -- a result that tells the whole truth of an entry
 pub record IsGoodEntry (function : Definition) (budgets : Budgets) (result : EntryResult) : Type 0 where

@@ -12,7 +12,8 @@ use Rattle.cs_small_meaning.specs.Statements.{step}
 pub data Leads (budgets : Budgets) : Machine → List Event → Machine → Type 0 where
   stays : {m last : Machine} → m ≡ last → Leads budgets m [] last
   goes : {m next last : Machine} {events : List Event} → step budgets m ≡ Goes next → Leads budgets next events last → Leads budgets m events last
-  passes : {m next last : Machine} {event : Event} {events : List Event} → step budgets m ≡ Passes event next → Leads budgets next events last → Leads budgets m (event ∷ events) last
+  passes : {m next last : Machine} {event : Event} {events : List Event} → step budgets m ≡ Passes event next → Leads budgets next events last
+      → Leads budgets m (event ∷ events) last
 
 -- from this machine the run passes exactly these events and ends so
 pub record Ends (budgets : Budgets) (m : Machine) (events : List Event) (outcome : Outcome) : Type 0 where

@@ -9,7 +9,8 @@ use Rattle.cs_events.specs.declared.outcome.Returned.{Returned}
 use Rattle.cs_events.specs.declared.outcome.Returned.TheVariants as returned
 use Rattle.cs_small_meaning.specs.declared.budgets.Budgets.{Budgets}
 use Rattle.cs_small_meaning.specs.Memory.{Cell, NumberCell, UnsetCell}
-use Rattle.cs_small_meaning.specs.Machine.{Machine, Operand, Value, At, Item, Evaluate, Act, Execute, Decide, Leave, Step, Goes, Stops, pass, newest, older_than_newest, number_of}
+use Rattle.cs_small_meaning.specs.Machine.{Machine, Operand, Value, At, Item, Evaluate, Act, Execute, Decide, Leave, Step, Goes, Stops, pass, newest}
+use Rattle.cs_small_meaning.specs.Machine.{older_than_newest, number_of}
 use Rattle.cs_small_meaning.specs.Expressions.{evaluates, act}
 
 -- statements in their order, before what is to be done then

@@ -40,7 +40,8 @@ step_line files at label = []
 -- a finding: its outcome, its inputs, its steps. It is confirmed: its run lists no guess
 abbrev pub finding_lines : List (List ℕ) → Finding → List ℕ
 finding_lines files finding =
-    outcome_text files finding.what ++ codes " confirmed\n" ++ flat_map input_line finding.run.inputs.items ++ flat_map (λ (event : Event). step_line files event.place event.label) finding.events.items
+    outcome_text files finding.what ++ codes " confirmed\n" ++ flat_map input_line finding.run.inputs.items
+    ++ flat_map (λ (event : Event). step_line files event.place event.label) finding.events.items
 
 abbrev pub verdict_name : Verdict → List ℕ
 verdict_name Complete = codes "complete"
@@ -50,4 +51,5 @@ verdict_name Cut = codes "cut"
 -- the lines of an entry of this name: its verdict, then its reports, then the budgets that its runs meet
 abbrev pub entry_lines : List (List ℕ) → List ℕ → EntryResult → List ℕ
 entry_lines files name result =
-    codes "entry " ++ name ++ codes " " ++ verdict_name result.verdict ++ codes "\n" ++ flat_map (finding_lines files) result.reports.items ++ flat_map (finding_lines files) result.overs.items
+    codes "entry " ++ name ++ codes " " ++ verdict_name result.verdict ++ codes "\n" ++ flat_map (finding_lines files) result.reports.items
+    ++ flat_map (finding_lines files) result.overs.items

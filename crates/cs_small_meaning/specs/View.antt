@@ -9,7 +9,8 @@ use Rattle.cs_small_meaning.specs.declared.statement.SmallStmtKind.{SmallStmtKin
 use Rattle.cs_small_meaning.specs.declared.statement.SmallStmtKind.TheVariants as form
 use Rattle.cs_small_meaning.specs.declared.function.SmallFunction.{SmallFunction}
 use Rattle.cs_small_meaning.specs.declared.function.SmallLocal.{SmallLocal as Object}
-use Rattle.cs_small_meaning.specs.Tree.{SmallExpression, Number, Local, Load, Binary, Compare, SmallStatement, Block, If, Return, SmallStatements, Empty, Then, Definition}
+use Rattle.cs_small_meaning.specs.Tree.{SmallExpression, Number, Local, Load, Binary, Compare, SmallStatement, Block, If, Return, SmallStatements, Empty, Then}
+use Rattle.cs_small_meaning.specs.Tree.{Definition}
 
 -- the expression of a kind at a place
 abbrev pub expression_at : Place → SmallExprKind → SmallExpression

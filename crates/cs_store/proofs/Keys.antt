@@ -49,6 +49,7 @@ pub more_offsets : (m : finite.FinMap key_cmp Value) (offset : ℕ) (value : Val
 more_offsets m offset value all key there =
     by (eq_by_cmp key_cmp key (offset, 0)) refl (rw (finite.get-insert key_cmp_total m (offset, 0) value key) at there)
   where
-    by : (b : Bool) → eq_by_cmp key_cmp key (offset, 0) ≡ b → IsTrue (is_some (cond (eq_by_cmp key_cmp key (offset, 0)) (Some value) (finite.get m key))) → key.1 ≡ 0
+    by : (b : Bool) → eq_by_cmp key_cmp key (offset, 0) ≡ b → IsTrue (is_some (cond (eq_by_cmp key_cmp key (offset, 0)) (Some value) (finite.get m key)))
+        → key.1 ≡ 0
     by true t here = ap (λ (p : ℕ × ℕ). p.1) (same_key key (offset, 0) t)
     by false t here = all key (rw t at here)

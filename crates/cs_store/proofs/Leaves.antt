@@ -1,6 +1,7 @@
 -- Leaves that are bound one by one, base regions that are taken out one by one, writes that are done one by one: for the contracts of
 -- `with_leaves`, `without` and `replayed`.
-use Rattle.std.proofs.Common.{◌≡◌, ℕ, Bool, true, false, cond, nat_eq, ◌||◌, ◌+◌, ◌<◌, List, drop, get_or, length, ◌∷◌, refl, sym, ap, ◌∙◌}
+use Rattle.std.proofs.Common.{◌≡◌, ℕ, Bool, true, false, cond, nat_eq, ◌||◌, ◌+◌, ◌<◌, List, drop, get_or, length, ◌∷◌, refl, sym, ap}
+use Rattle.std.proofs.Common.{◌∙◌}
 use Rattle.std.specs.Prelude.{Option, None, Some}
 use Rattle.std.specs.Option.{unwrap_or, option_map_or, option_or}
 use Rattle.std.proofs.lemmas.Bool.Decides.{eqb_tells}
@@ -38,8 +39,10 @@ bound : (old : Contents) (at : ℕ) (v : Value) (o : ℕ)
     → held_in (with_binding old at v) o ≡ option_map_or (λ value. Direct value) (cond (nat_eq at o) (Some v) None) (held_in old o)
 bound old at v o =
     elim (eqb_tells at o) [
-      | inl same ↦ ap (held_in (with_binding old at v)) (sym same.1) ∙ bound_here old at v ∙ ap (λ t. option_map_or (λ value. Direct value) (cond t (Some v) None) (held_in old o)) (sym same.0)
-      | inr other ↦ bound_elsewhere old at o v (λ e. other.1 (sym e)) ∙ ap (λ t. option_map_or (λ value. Direct value) (cond t (Some v) None) (held_in old o)) (sym other.0)
+      | inl same ↦ ap (held_in (with_binding old at v)) (sym same.1) ∙ bound_here old at v
+          ∙ ap (λ t. option_map_or (λ value. Direct value) (cond t (Some v) None) (held_in old o)) (sym same.0)
+      | inr other ↦ bound_elsewhere old at o v (λ e. other.1 (sym e))
+          ∙ ap (λ t. option_map_or (λ value. Direct value) (cond t (Some v) None) (held_in old o)) (sym other.0)
     ]
 
 -- the first leaf can be bound before the others
@@ -51,7 +54,8 @@ leaf_first leaf leaves old o =
 
 -- after one more leaf, the rest is one shorter
 pub leaves_step : (leaves : List (ℕ × Value)) (i : ℕ) (d : ℕ × Value) (old : Contents) (o : ℕ) → i < length leaves
-    → after_leaves (drop (i + 1) leaves) o (held_in (with_binding old (get_or leaves i d).0 (get_or leaves i d).1) o) ≡ after_leaves (drop i leaves) o (held_in old o)
+    → after_leaves (drop (i + 1) leaves) o (held_in (with_binding old (get_or leaves i d).0 (get_or leaves i d).1) o)
+    ≡ after_leaves (drop i leaves) o (held_in old o)
 leaves_step leaves i d old o more =
     leaf_first (get_or leaves i d) (drop (i + 1) leaves) old o ∙ ap (λ rest. after_leaves rest o (held_in old o)) (sym (drop_more leaves i d more))
 
@@ -64,7 +68,8 @@ key_test b c =
 
 -- one more base region is out
 pub bases_step : {V : Type 0} (bases : List ℕ) (i : ℕ) (m : FinMap key_cmp V) (b : ℕ) → i < length bases
-    → cond (list_any (λ x. nat_eq b x) (drop (i + 1) bases)) None (get (remove m (get_or bases i 0, 0)) (b, 0)) ≡ cond (list_any (λ x. nat_eq b x) (drop i bases)) None (get m (b, 0))
+    → cond (list_any (λ x. nat_eq b x) (drop (i + 1) bases)) None (get (remove m (get_or bases i 0, 0)) (b, 0))
+    ≡ cond (list_any (λ x. nat_eq b x) (drop i bases)) None (get m (b, 0))
 bases_step bases i m b more =
     let base = get_or bases i 0 in
     let rest = list_any (λ x. nat_eq b x) (drop (i + 1) bases) in
@@ -74,7 +79,8 @@ bases_step bases i m b more =
 
 -- one more write is done
 pub writes_step : (writes : List Write) (i : ℕ) (d : Write) (b o : ℕ) (before : Found) → i < length writes
-    → unwrap_or (last_decided (drop (i + 1) writes) b o) (unwrap_or (decided (get_or writes i d) b o) before) ≡ unwrap_or (last_decided (drop i writes) b o) before
+    → unwrap_or (last_decided (drop (i + 1) writes) b o) (unwrap_or (decided (get_or writes i d) b o) before)
+    ≡ unwrap_or (last_decided (drop i writes) b o) before
 writes_step writes i d b o before more =
     sym (unwrapped (last_decided (drop (i + 1) writes) b o) (decided (get_or writes i d) b o) before)
     ∙ ap (λ ws. unwrap_or (last_decided ws b o) before) (sym (drop_more writes i d more))

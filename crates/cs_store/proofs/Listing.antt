@@ -1,5 +1,6 @@
 -- The direct bindings of a region, listed in order of offset: for the contract of `bindings`.
-use Rattle.std.proofs.Common.{◌≡◌, ℕ, Bool, true, false, cond, ◌&&◌, [], ◌∷◌, ◌++◌, length, get_or, take, drop, map, T, refl, sym, ap, ◌∙◌, subst, ◌<◌, ◌+◌, arith}
+use Rattle.std.proofs.Common.{◌≡◌, ℕ, Bool, true, false, cond, ◌&&◌, [], ◌∷◌, ◌++◌, length, get_or, take, drop, map, T, refl, sym, ap}
+use Rattle.std.proofs.Common.{◌∙◌, subst, ◌<◌, ◌+◌, arith}
 use Rattle.std.specs.Prelude.{Option, None, Some, is_some, IsTrue}
 use Rattle.std.specs.Option.{option_map_or}
 use Rattle.std.specs.Ordering.{eq_by_cmp, is_lt, nat_cmp, ordering_then}
@@ -55,7 +56,8 @@ and_second : (a b : Bool) → T (a && b) → T b
 and_second true b h = h
 and_second false b h = absurd h
 
-below_offsets : (k : ℕ × ℕ) (es : EntryList Value) → k.1 ≡ 0 → Keyed es → T (below_all key_cmp k es) → AllByRecursion (λ y. nat_cmp k.0 y ≡ Less) (map (λ b. b.0) (by_offset es))
+below_offsets : (k : ℕ × ℕ) (es : EntryList Value) → k.1 ≡ 0 → Keyed es → T (below_all key_cmp k es)
+    → AllByRecursion (λ y. nat_cmp k.0 y ≡ Less) (map (λ b. b.0) (by_offset es))
 below_offsets k [] zero keyed below = tt
 below_offsets k (e ∷ es) zero keyed below = (
   less_offset k e.0 zero (keyed_first e es keyed) (and_first _ _ below),
@@ -71,17 +73,21 @@ rising_offsets (e ∷ es) keyed sorted = (
 )
 
 -- an entry is what its key finds
-found_entry : (es : EntryList Value) (k : ℕ) (d : (ℕ × ℕ) × Value) → T (is_sorted key_cmp es) → k < length es → find key_cmp (get_or es k d).0 es ≡ Some (get_or es k d).1
+found_entry : (es : EntryList Value) (k : ℕ) (d : (ℕ × ℕ) × Value) → T (is_sorted key_cmp es) → k < length es
+    → find key_cmp (get_or es k d).0 es ≡ Some (get_or es k d).1
 found_entry es k d sorted within =
     let e = get_or es k d in
     let split : take k es ++ e ∷ drop (k + 1) es ≡ es = ap (λ rest. take k es ++ rest) (sym (drop_more es k d within)) ∙ take-append-drop k es in
     subst (λ (l : EntryList Value). find key_cmp e.0 l ≡ Some e.1) split
-    (find_middle key_cmp key_cmp_total e.0 (take k es) e (drop (k + 1) es) (equal_from_eq (key_cmp e.0 e.0) (key_itself e.0)) (subst (Sorted key_cmp) (sym split) (IsTrue-T _ sorted)))
+    (find_middle key_cmp key_cmp_total e.0 (take k es) e (drop (k + 1) es) (equal_from_eq (key_cmp e.0 e.0) (key_itself e.0))
+    (subst (Sorted key_cmp) (sym split) (IsTrue-T _ sorted)))
 
-by_offset_at : (es : EntryList Value) (k : ℕ) (d : (ℕ × ℕ) × Value) → get_or (by_offset es) k (d.0.0, d.1) ≡ ((get_or es k d).0.0, (get_or es k d).1)
+by_offset_at : (es : EntryList Value) (k : ℕ) (d : (ℕ × ℕ) × Value)
+    → get_or (by_offset es) k (d.0.0, d.1) ≡ ((get_or es k d).0.0, (get_or es k d).1)
 by_offset_at es k d = get_or-map (λ (x : (ℕ × ℕ) × Value). (x.0.0, x.1)) es k d
 
-listed_found : (es : EntryList Value) (o : ℕ) (v : Value) → T (is_sorted key_cmp es) → Keyed es → Contains (by_offset es) (o, v) → find key_cmp (o, 0) es ≡ Some v
+listed_found : (es : EntryList Value) (o : ℕ) (v : Value) → T (is_sorted key_cmp es) → Keyed es → Contains (by_offset es) (o, v)
+    → find key_cmp (o, 0) es ≡ Some v
 listed_found es o v sorted keyed (k, within, at) =
     let d : (ℕ × ℕ) × Value = ((o, 0), v) in
     let e = get_or es k d in
@@ -96,7 +102,8 @@ found_listed : (es : EntryList Value) (o : ℕ) (v : Value) → find key_cmp (o,
 found_listed [] o v h = cc
 found_listed (e ∷ es) o v h = by (eq_by_cmp key_cmp (o, 0) e.0) refl h (found_listed es o v)
   where
-    by : (t : Bool) → eq_by_cmp key_cmp (o, 0) e.0 ≡ t → cond t (Some e.1) (find key_cmp (o, 0) es) ≡ Some v → (find key_cmp (o, 0) es ≡ Some v → Contains (by_offset es) (o, v)) → Contains (by_offset (e ∷ es)) (o, v)
+    by : (t : Bool) → eq_by_cmp key_cmp (o, 0) e.0 ≡ t → cond t (Some e.1) (find key_cmp (o, 0) es) ≡ Some v
+        → (find key_cmp (o, 0) es ≡ Some v → Contains (by_offset es) (o, v)) → Contains (by_offset (e ∷ es)) (o, v)
     by true t here rest =
         let key = same_key (o, 0) e.0 t in
         let value = same_Some e.1 v here in
@@ -105,7 +112,8 @@ found_listed (e ∷ es) o v h = by (eq_by_cmp key_cmp (o, 0) e.0) refl h (found_
         subst (Contains (by_offset (e ∷ es))) entry (Contains-get_or (by_offset (e ∷ es)) 0 (e.0.0, e.1) lit)
     by false t here rest = Contains-append_right ((e.0.0, e.1) ∷ []) (by_offset es) (o, v) (rest here)
 
-direct_held : (b : Option Value) (fill : Fill) (v : Value) → option_map_or (λ value. found.Direct value) b (found.Fill fill) ≡ found.Direct v → b ≡ Some v
+direct_held : (b : Option Value) (fill : Fill) (v : Value) → option_map_or (λ value. found.Direct value) b (found.Fill fill) ≡ found.Direct v
+    → b ≡ Some v
 direct_held None fill v h = absurd (cc)
 direct_held (Some w) fill v h = cc
 
@@ -120,7 +128,8 @@ listing store base offsets =
       rising = IsStrictlyIncreasing-from_sorted _ (rising_offsets es keyed sorted);
       exact =
           λ o v. (
-            λ there. ap (λ b. option_map_or (λ value. found.Direct value) b (found.Fill fill)) (finite.get-entries m (o, 0) ∙ listed_found es o v sorted keyed there),
+            λ there. ap (λ b. option_map_or (λ value. found.Direct value) b (found.Fill fill))
+                (finite.get-entries m (o, 0) ∙ listed_found es o v sorted keyed there),
             λ held. found_listed es o v (sym (finite.get-entries m (o, 0)) ∙ direct_held (finite.get m (o, 0)) fill v held),
           );
     }

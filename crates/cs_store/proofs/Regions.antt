@@ -72,10 +72,12 @@ absent_from bases b absent = by (list_any (λ x. nat_eq b x) bases) refl
     by false none = none
 
 -- what is held is nothing or what it was, as the base region is among those dropped
-pub dropped_or_kept : (bases : List ℕ) (b : ℕ) (new old : Found) → (Contains bases b → new ≡ found.Fill Unset) → ((Contains bases b → ⊥) → new ≡ old)
+pub dropped_or_kept : (bases : List ℕ) (b : ℕ) (new old : Found) → (Contains bases b → new ≡ found.Fill Unset)
+    → ((Contains bases b → ⊥) → new ≡ old)
     → new ≡ unwrap_or (cond (list_any (λ x. nat_eq b x) bases) (Some (found.Fill Unset)) None) old
 dropped_or_kept bases b new old dropped kept = by (list_any (λ x. nat_eq b x) bases) refl
   where
-    by : (t : Bool) → list_any (λ x. nat_eq b x) bases ≡ t → new ≡ unwrap_or (cond (list_any (λ x. nat_eq b x) bases) (Some (found.Fill Unset)) None) old
+    by : (t : Bool) → list_any (λ x. nat_eq b x) bases ≡ t
+        → new ≡ unwrap_or (cond (list_any (λ x. nat_eq b x) bases) (Some (found.Fill Unset)) None) old
     by true t = rw t (dropped (Contains-from_any eqb-true b bases t))
     by false t = rw t (kept (λ there. true≢false (sym (found_in bases b there) ∙ t)))

@@ -65,7 +65,9 @@ impl Region {
 
     /// The region after one more binding for each leaf, in order.
     pub fn with_leaves(&self, leaves: &[(u64, Value)]) -> Result<Region, AllocError>
-        ensures { IfOk result (λ region. (offset : ℕ) → held_in region offset ≡ after_leaves leaves.now offset (held_in self.now offset)) }
+        ensures { IfOk result (λ region.
+            (offset : ℕ) → held_in region offset
+            ≡ after_leaves leaves.now offset (held_in self.now offset)) }
     {
         let mut region = self.clone()?;
         for (offset, value) in leaves {

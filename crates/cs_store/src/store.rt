@@ -78,7 +78,8 @@ impl Store {
     /// Binds a value at an offset.
     pub fn bind(&mut self, base: u64, offset: u64, value: Value) -> Result<(), AllocError>
         ensures here { OnOk result (held self.new base offset ≡ Found.Direct value) }
-        ensures elsewhere { OnOk result ((b o : ℕ) → (b ≢ base) ⊎ (o ≢ offset) → held self.new b o ≡ held self.old b o) }
+        ensures elsewhere { OnOk result ((b o : ℕ) → (b ≢ base) ⊎ (o ≢ offset)
+            → held self.new b o ≡ held self.old b o) }
         ensures err { OnErr result (self.new ≡ self.old) }
     {
         let mut region = self.region(base).clone()?;
@@ -90,7 +91,8 @@ impl Store {
     /// Fills a base region, whose direct bindings are dropped.
     pub fn bind_default(&mut self, base: u64, fill: Fill) -> Result<(), AllocError>
         ensures here { OnOk result ((o : ℕ) → held self.new base o ≡ Found.Fill fill) }
-        ensures elsewhere { OnOk result ((b o : ℕ) → b ≢ base → held self.new b o ≡ held self.old b o) }
+        ensures elsewhere { OnOk result ((b o : ℕ) → b ≢ base
+            → held self.new b o ≡ held self.old b o) }
         ensures err { OnErr result (self.new ≡ self.old) }
     {
         let region = Region::filled(self.alloc, fill);
@@ -100,8 +102,10 @@ impl Store {
 
     /// Binds the leaves of a struct, in order. Where memory is refused, none is bound.
     pub fn copy_leaves(&mut self, leaves: &[(u64, Value)], base: u64) -> Result<(), AllocError>
-        ensures here { OnOk result ((o : ℕ) → held self.new base o ≡ after_leaves leaves.now o (held self.old base o)) }
-        ensures elsewhere { OnOk result ((b o : ℕ) → b ≢ base → held self.new b o ≡ held self.old b o) }
+        ensures here { OnOk result ((o : ℕ)
+            → held self.new base o ≡ after_leaves leaves.now o (held self.old base o)) }
+        ensures elsewhere { OnOk result ((b o : ℕ) → b ≢ base
+            → held self.new b o ≡ held self.old b o) }
         ensures err { OnErr result (self.new ≡ self.old) }
     {
         let region = self.region(base).with_leaves(leaves)?;
@@ -111,8 +115,10 @@ impl Store {
 
     /// Drops what base regions hold, as those of a frame that ended. Where memory is refused, none is dropped.
     pub fn drop_frame(&mut self, bases: &[u64]) -> Result<(), AllocError>
-        ensures dropped { OnOk result ((b o : ℕ) → Contains bases.now b → held self.new b o ≡ Found.Fill Fill.Unset) }
-        ensures others { OnOk result ((b o : ℕ) → (Contains bases.now b → ⊥) → held self.new b o ≡ held self.old b o) }
+        ensures dropped { OnOk result ((b o : ℕ) → Contains bases.now b
+            → held self.new b o ≡ Found.Fill Fill.Unset) }
+        ensures others { OnOk result ((b o : ℕ) → (Contains bases.now b → ⊥)
+            → held self.new b o ≡ held self.old b o) }
         ensures err { OnErr result (self.new ≡ self.old) }
     {
         self.regions = without(&self.regions, bases)?;
@@ -138,7 +144,9 @@ impl Store {
 
 // The regions other than these.
 fn without(regions: &PMap<Region>, bases: &[u64]) -> Result<PMap<Region>, AllocError>
-    ensures { IfOk result (λ others. (b : ℕ) → get others (b, 0) ≡ (if list_any (λ x. nat_eq b x) bases.now then None else get regions.now (b, 0))) }
+    ensures { IfOk result (λ others.
+        (b : ℕ) → get others (b, 0)
+        ≡ (if list_any (λ x. nat_eq b x) bases.now then None else get regions.now (b, 0))) }
 {
     let mut others = regions.copy()?;
     for base in bases {

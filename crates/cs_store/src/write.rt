@@ -35,7 +35,8 @@ pub enum Write {
 
 /// The store after writes, in order, to one in which nothing is written.
 pub fn replayed(alloc: Global, writes: &[Write]) -> Result<Store, AllocError>
-    ensures { IfOk result (λ store. (base offset : ℕ) → held store base offset ≡ held_after writes.now base offset) }
+    ensures { IfOk result (λ store.
+        (base offset : ℕ) → held store base offset ≡ held_after writes.now base offset) }
 {
     let mut store = Store::new(alloc);
     for write in writes {
@@ -45,7 +46,9 @@ pub fn replayed(alloc: Global, writes: &[Write]) -> Result<Store, AllocError>
 }
 
 fn apply(store: &mut Store, write: &Write) -> Result<(), AllocError>
-    ensures { OnOk result ((base offset : ℕ) → held store.new base offset ≡ unwrap_or (decided write.now base offset) (held store.old base offset)) }
+    ensures { OnOk result ((base offset : ℕ)
+        → held store.new base offset
+        ≡ unwrap_or (decided write.now base offset) (held store.old base offset)) }
 {
     match write {
         Write::Bind {

@@ -1,5 +1,6 @@
 -- Which numbers have a product with a factor in an interval: for the contract of `cofactors`.
-use Rattle.std.proofs.Common.{◌≡◌, ℕ, ◌*◌, ◌^◌, ◌<◌, ◌≤◌, true, false, ◌&&◌, ℤ, pos, negsuc, neg_ℤ, ◌+ℤ◌, ◌-ℤ◌, ◌*ℤ◌, ◌≤ℤ◌, ◌<ℤ◌, int_le, unsigned_abs, refl, sym, ap, ◌∙◌, arith}
+use Rattle.std.proofs.Common.{◌≡◌, ℕ, ◌*◌, ◌^◌, ◌<◌, ◌≤◌, true, false, ◌&&◌, ℤ, pos, negsuc, neg_ℤ, ◌+ℤ◌, ◌-ℤ◌}
+use Rattle.std.proofs.Common.{◌*ℤ◌, ◌≤ℤ◌, ◌<ℤ◌, int_le, unsigned_abs, refl, sym, ap, ◌∙◌, arith}
 use Rattle.std.specs.Int.{int_div_euclid}
 use Rattle.std.proofs.lemmas.Int.{ints, by_lt_z}
 use Rattle.std.proofs.Math.IntN.{pos-*ℤ-pos, *ℤ_comm}
@@ -19,7 +20,8 @@ div_euclid-floor (negsuc a) n = refl
 *ℤ-pos-mono x y n le =
     let d = unsigned_abs (y -ℤ x) in
     let e : y ≡ x +ℤ pos d = omega (arith, ints) in
-    let product : y *ℤ pos n ≡ x *ℤ pos n +ℤ pos (d * n) = ap (λ z. z *ℤ pos n) e ∙ add-*ℤ x (pos d) (pos n) ∙ ap (λ z. x *ℤ pos n +ℤ z) (pos-*ℤ-pos d n) in
+    let product : y *ℤ pos n ≡ x *ℤ pos n +ℤ pos (d * n) = ap (λ z. z *ℤ pos n) e ∙ add-*ℤ x (pos d) (pos n)
+    ∙ ap (λ z. x *ℤ pos n +ℤ z) (pos-*ℤ-pos d n) in
     rw product (omega (arith, ints))
 
 -- a product stays at most a number up to the rounded quotient
@@ -32,14 +34,16 @@ floor_bound x h n lt =
       λ le. by_lt_z q x
           (λ above.
           let next = *ℤ-pos-mono (q +ℤ pos 1) x n (omega (arith, ints)) in
-          absurd (following h (x *ℤ pos n) (q *ℤ pos n) _ _ (pos 1 *ℤ pos n) rest.0 n rest.1 rest.2 parts (add-*ℤ q (pos 1) (pos n)) (omega (arith, ints)) next le))
+          absurd (following h (x *ℤ pos n) (q *ℤ pos n) _ _ (pos 1 *ℤ pos n) rest.0 n rest.1 rest.2 parts (add-*ℤ q (pos 1) (pos n))
+          (omega (arith, ints)) next le))
           (λ within. within),
     )
   where
     below : (h product whole rest : ℤ) (r : ℕ) → rest ≡ pos r → whole +ℤ rest ≡ h → product ≤ℤ whole → product ≤ℤ h
     below h product whole rest r e s le = omega (arith, ints)
 
-    following : (h product whole rest next one : ℤ) (r n : ℕ) → rest ≡ pos r → r < n → whole +ℤ rest ≡ h → next ≡ whole +ℤ one → one ≡ pos n → next ≤ℤ product → product ≤ℤ h → ⊥
+    following : (h product whole rest next one : ℤ) (r n : ℕ) → rest ≡ pos r → r < n → whole +ℤ rest ≡ h → next ≡ whole +ℤ one
+        → one ≡ pos n → next ≤ℤ product → product ≤ℤ h → ⊥
     following h product whole rest next one r n e lt s t u le le' = omega (arith, ints)
 
 int_le-true : (x y : ℤ) → x ≤ℤ y → int_le x y ≡ true
@@ -85,7 +89,10 @@ floor_div-narrow (pos a) n h = omega (arith, div-le_self a n)
 floor_div-narrow (negsuc a) n h = omega (arith, div-le_self a n)
 
 -- a product with a negative factor, by the negatives of the ends
-pub negative_factor : (low high x factor : ℤ) → (int_le (neg_ℤ high) (x *ℤ neg_ℤ factor) && int_le (x *ℤ neg_ℤ factor) (neg_ℤ low)) ≡ (int_le low (x *ℤ factor) && int_le (x *ℤ factor) high)
+pub negative_factor : (low high x factor : ℤ)
+    → (int_le (neg_ℤ high) (x *ℤ neg_ℤ factor) && int_le (x *ℤ neg_ℤ factor) (neg_ℤ low))
+    ≡ (int_le low (x *ℤ factor) && int_le (x *ℤ factor) high)
 negative_factor low high x factor =
-    let product : x *ℤ neg_ℤ factor ≡ neg_ℤ (x *ℤ factor) = *ℤ_comm x (neg_ℤ factor) ∙ neg_ℤ-*ℤ factor x ∙ ap neg_ℤ (*ℤ_comm factor x) in
+    let product : x *ℤ neg_ℤ factor ≡ neg_ℤ (x *ℤ factor) = *ℤ_comm x (neg_ℤ factor) ∙ neg_ℤ-*ℤ factor x
+    ∙ ap neg_ℤ (*ℤ_comm factor x) in
     rw (product, int_le-neg_ℤ high (x *ℤ factor), int_le-neg_ℤ (x *ℤ factor) low) (and_comm (int_le (x *ℤ factor) high) (int_le low (x *ℤ factor)))

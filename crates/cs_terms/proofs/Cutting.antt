@@ -1,5 +1,6 @@
 -- From the cut of a range by intervals to its pieces by quotients: for the contracts of `wrap_pieces` and `product_pieces`.
-use Rattle.std.proofs.Common.{◌≡◌, ◌↔◌, Bool, true, false, ◌&&◌, not, ℤ, pos, negsuc, ◌*ℤ◌, List, Option, Some, None, refl, sym, ap, subst, ◌∙◌, arith}
+use Rattle.std.proofs.Common.{◌≡◌, ◌↔◌, Bool, true, false, ◌&&◌, not, ℤ, pos, negsuc, ◌*ℤ◌, List, Option, Some, None, refl, sym, ap}
+use Rattle.std.proofs.Common.{subst, ◌∙◌, arith}
 use Rattle.std.specs.Prelude.{IsTrue, IsNone}
 use Rattle.std.proofs.lemmas.Bool.{false≢true}
 use Rattle.std.proofs.lemmas.Int.{ints}
@@ -21,7 +22,8 @@ use Rattle.cs_terms.specs.Pieces.{Quotients, IsPiece, IsFarPiece, ArePieces, Has
 use Rattle.cs_terms.specs.Term.{value_with, value_at, IsTermWith, IsTerm}
 
 -- a term is an affine function of its symbol
-pub value_with-affine : (symbol : Option Sym) (slope at value x : ℤ) → (IsNone symbol → slope ≡ pos 0) → value_with (λ s. x) symbol slope at value ≡ affine slope at value x
+pub value_with-affine : (symbol : Option Sym) (slope at value x : ℤ) → (IsNone symbol → slope ≡ pos 0)
+    → value_with (λ s. x) symbol slope at value ≡ affine slope at value x
 value_with-affine None slope at value x e = rw (e refl, zero-*ℤ) (omega (arith, ints))
 value_with-affine (Some s) slope at value x e = refl
 
@@ -49,7 +51,8 @@ pub Yields : Quotients → List Interval → Lin → ℤ → Interval → Type 0
 Yields quotient range term q values = (x : ℤ) → IsTrue (contains range x) → IsTrue (in_interval values (value_at term x)) ↔ (quotient x ≡ q)
 
 -- the numbers at which the term has such a value are those with the quotient
-piece_from_values : (quotient : Quotients) (range piece : List Interval) (term : Lin) (q : ℤ) (values : Interval) → Yields quotient range term q values → IsAtValues term range values piece → IsPiece quotient range q piece
+piece_from_values : (quotient : Quotients) (range piece : List Interval) (term : Lin) (q : ℤ) (values : Interval) → Yields quotient range term q values
+    → IsAtValues term range values piece → IsPiece quotient range q piece
 unfolding Yields
 piece_from_values quotient range piece term q values yields at x = (
   λ t.
@@ -67,7 +70,10 @@ false-from_not true h = absurd (h refl)
 false-from_not false h = refl
 
 -- a number of the range is in none of three pieces just where it has another quotient
-far_piece : (quotient : Quotients) (range under same past far : List Interval) → IsPiece quotient range (negsuc 0) under → IsPiece quotient range (pos 0) same → IsPiece quotient range (pos 1) past → ((x : ℤ) → contains far x ≡ (((contains range x && not (contains under x)) && not (contains same x)) && not (contains past x))) → IsFarPiece quotient range far
+far_piece : (quotient : Quotients) (range under same past far : List Interval) → IsPiece quotient range (negsuc 0) under
+    → IsPiece quotient range (pos 0) same → IsPiece quotient range (pos 1) past
+    → ((x : ℤ) → contains far x ≡ (((contains range x && not (contains under x)) && not (contains same x)) && not (contains past x)))
+    → IsFarPiece quotient range far
 far_piece quotient range under same past far u s p rest x = (
   λ t.
       let parts = far-true (contains range x) (contains under x) (contains same x) (contains past x) (sym (rest x) ∙ t) in (
@@ -88,7 +94,9 @@ far_piece quotient range under same past far u s p rest x = (
     all : (r u s p : Bool) → r ≡ true → u ≡ false → s ≡ false → p ≡ false → (((r && not u) && not s) && not p) ≡ true
     all r u s p h k l m = rw (h, k, l, m) refl
 
-pub pieces_from_cut : (quotient : Quotients) (near : Near) (term : Lin) (range : List Interval) (pieces : Pieces) → Yields quotient range term (negsuc 0) near.under → Yields quotient range term (pos 0) near.same → Yields quotient range term (pos 1) near.past → IsCut near term range pieces → ArePieces quotient range pieces
+pub pieces_from_cut : (quotient : Quotients) (near : Near) (term : Lin) (range : List Interval) (pieces : Pieces)
+    → Yields quotient range term (negsuc 0) near.under → Yields quotient range term (pos 0) near.same → Yields quotient range term (pos 1) near.past
+    → IsCut near term range pieces → ArePieces quotient range pieces
 pieces_from_cut quotient near term range pieces u s p cut =
     let under = piece_from_values quotient range pieces.under term (negsuc 0) near.under u cut.under in
     let same = piece_from_values quotient range pieces.same term (pos 0) near.same s cut.same in
@@ -101,12 +109,15 @@ pieces_from_cut quotient near term range pieces u s p cut =
     }
 
 -- an interval of numbers with a quotient tells that of the term's value
-pub yields_value : (quotient : ℤ → ℤ) (range : List Interval) (term : Lin) (q : ℤ) (values : Interval) → HasQuotient quotient q values → Yields (λ x. quotient (value_at term x)) range term q values
+pub yields_value : (quotient : ℤ → ℤ) (range : List Interval) (term : Lin) (q : ℤ) (values : Interval) → HasQuotient quotient q values
+    → Yields (λ x. quotient (value_at term x)) range term q values
 unfolding Yields
 yields_value quotient range term q values h x t = h (value_at term x)
 
 -- an interval of cofactors tells that of the term's value times the factor
-pub yields_product : (quotient : ℤ → ℤ) (range : List Interval) (term : Lin) (factor q : ℤ) (products values : Interval) → HasQuotient quotient q products → HasCofactors products factor values → ((x : ℤ) → IsTrue (contains range x) → IsInside (value_at term x)) → Yields (λ x. quotient (value_at term x *ℤ factor)) range term q values
+pub yields_product : (quotient : ℤ → ℤ) (range : List Interval) (term : Lin) (factor q : ℤ) (products values : Interval)
+    → HasQuotient quotient q products → HasCofactors products factor values → ((x : ℤ) → IsTrue (contains range x) → IsInside (value_at term x))
+    → Yields (λ x. quotient (value_at term x *ℤ factor)) range term q values
 unfolding Yields
 yields_product quotient range term factor q products values h cofactors inside x t =
     let same = cofactors (value_at term x) (inside x t) in
@@ -117,7 +128,10 @@ yields_product quotient range term factor q products values h cofactors inside x
 pub one_quotient : (quotient : Quotients) (range piece : List Interval) (q : ℤ) → IsPiece quotient range q piece → HasOneQuotient quotient piece
 one_quotient quotient range piece q is x y t u = ((is x).0 t).1 ∙ sym ((is y).0 u).1
 
-pub product_pieces_from_cut : (model : DataModel) (ty : IntType) (products near : Near) (term : Lin) (factor : ℤ) (range : List Interval) (pieces : Pieces) → HaveQuotients (wrap_quotient model ty) products → HasCofactors products.under factor near.under → HasCofactors products.same factor near.same → HasCofactors products.past factor near.past → ((x : ℤ) → IsTrue (contains range x) → IsIntegerOfC (value_at term x)) → IsCut near term range pieces → ArePieces (product_quotient_of model ty term factor) range pieces
+pub product_pieces_from_cut : (model : DataModel) (ty : IntType) (products near : Near) (term : Lin) (factor : ℤ) (range : List Interval) (pieces : Pieces)
+    → HaveQuotients (wrap_quotient model ty) products → HasCofactors products.under factor near.under → HasCofactors products.same factor near.same
+    → HasCofactors products.past factor near.past → ((x : ℤ) → IsTrue (contains range x) → IsIntegerOfC (value_at term x))
+    → IsCut near term range pieces → ArePieces (product_quotient_of model ty term factor) range pieces
 product_pieces_from_cut model ty products near term factor range pieces quotients u s p integers cut =
     let inside : (x : ℤ) → IsTrue (contains range x) → IsInside (value_at term x) = λ x t. IsInside-from_integer (value_at term x) (integers x t) in
     let under = yields_product (wrap_quotient model ty) range term factor _ products.under near.under quotients.under u inside in

@@ -1,5 +1,6 @@
 -- Lists that number names: for the contract of `number_of`.
-use Rattle.std.proofs.Common.{◌≡◌, ℕ, zero, suc, ◌+◌, ◌<◌, Bool, true, false, Some, List, [], ◌∷◌, ◌++◌, length, get_or, slice_get, refl, sym, ap, ◌∙◌, inl, inr, arith}
+use Rattle.std.proofs.Common.{◌≡◌, ℕ, zero, suc, ◌+◌, ◌<◌, Bool, true, false, Some, List, [], ◌∷◌, ◌++◌, length, get_or, slice_get}
+use Rattle.std.proofs.Common.{refl, sym, ap, ◌∙◌, inl, inr, arith}
 use Rattle.std.specs.Cmp.{IsEquivalence}
 use Rattle.std.specs.List.{Contains, IsDistinct, position_or_len}
 use Rattle.std.specs.Map.{keys_of}
@@ -20,7 +21,8 @@ slice_get-last [] x = refl
 slice_get-last (y ∷ xs) x = slice_get-last xs x
 
 -- a name that was numbered before keeps its number
-pub kept_number : {A : Type 0} (before after : List A) (name known : A) (place k : ℕ) → IsNumbered before name place after → slice_get before k ≡ Some known → slice_get after k ≡ Some known
+pub kept_number : {A : Type 0} (before after : List A) (name known : A) (place k : ℕ) → IsNumbered before name place after
+    → slice_get before k ≡ Some known → slice_get after k ≡ Some known
 kept_number before after name known place k n h = elim n [
   | inl old ↦ rw old.1 h
   | inr new ↦ rw new.2 (slice_get-append before (name ∷ []) k known h)
@@ -49,7 +51,8 @@ module _ {K : Type 0} (eq : K → K → Bool) (laws : IsEquivalence eq) (same : 
       omega (arith, not_below, not_above)
 
   -- an insertion finds the name's number or gives it the next one
-  pub numbered_by_insert : (es : List (K × Unit {0})) (name : K) → IsNumbered (keys_of es) name (position_or_len (eq name) (keys_of es)) (keys_of (insert_entry eq es name tt))
+  pub numbered_by_insert : (es : List (K × Unit {0})) (name : K)
+      → IsNumbered (keys_of es) name (position_or_len (eq name) (keys_of es)) (keys_of (insert_entry eq es name tt))
   numbered_by_insert [] name = inr (λ h. absurd (omega (arith, h.1)), refl, refl)
   numbered_by_insert (e ∷ es) name = by (eq name e.0) refl (numbered_by_insert es name)
     where
@@ -57,12 +60,18 @@ module _ {K : Type 0} (eq : K → K → Bool) (laws : IsEquivalence eq) (same : 
       absent differs none (zero, lt, at) = false≢true (sym differs ∙ ap (eq name) at ∙ laws.refl name)
       absent differs none (suc k, lt, at) = none (k, omega arith, at)
 
-      later : eq name e.0 ≡ false → IsNumbered (keys_of es) name (position_or_len (eq name) (keys_of es)) (keys_of (insert_entry eq es name tt)) → IsNumbered (e.0 ∷ keys_of es) name (1 + position_or_len (eq name) (keys_of es)) (e.0 ∷ keys_of (insert_entry eq es name tt))
+      later : eq name e.0 ≡ false → IsNumbered (keys_of es) name (position_or_len (eq name) (keys_of es)) (keys_of (insert_entry eq es name tt))
+          → IsNumbered (e.0 ∷ keys_of es) name (1 + position_or_len (eq name) (keys_of es)) (e.0 ∷ keys_of (insert_entry eq es name tt))
       later differs n = elim n [
-        | inl old ↦ inl (let e : 1 + position_or_len (eq name) (keys_of es) ≡ suc (position_or_len (eq name) (keys_of es)) = omega arith in rw e old.0, ap (λ ks. e.0 ∷ ks) old.1)
+        | inl old ↦
+            inl (
+              let e : 1 + position_or_len (eq name) (keys_of es) ≡ suc (position_or_len (eq name) (keys_of es)) = omega arith in rw e old.0,
+              ap (λ ks. e.0 ∷ ks) old.1,
+            )
         | inr new ↦ inr (absent differs new.0, omega (arith, new.1), ap (λ ks. e.0 ∷ ks) new.2)
       ]
 
-      by : (b : Bool) → eq name e.0 ≡ b → IsNumbered (keys_of es) name (position_or_len (eq name) (keys_of es)) (keys_of (insert_entry eq es name tt)) → IsNumbered (e.0 ∷ keys_of es) name (position_or_len (eq name) (e.0 ∷ keys_of es)) (keys_of (insert_entry eq (e ∷ es) name tt))
+      by : (b : Bool) → eq name e.0 ≡ b → IsNumbered (keys_of es) name (position_or_len (eq name) (keys_of es)) (keys_of (insert_entry eq es name tt))
+          → IsNumbered (e.0 ∷ keys_of es) name (position_or_len (eq name) (e.0 ∷ keys_of es)) (keys_of (insert_entry eq (e ∷ es) name tt))
       by true h rest = rw h (inl (ap Some (sym (same name e.0 h)), refl))
       by false h rest = rw h (later h rest)

@@ -39,4 +39,5 @@ pub record IsCut (near : Near) (term : Lin) (range : List Interval) (pieces : Pi
   pub under : IsAtValues term range near.under pieces.under
   pub same : IsAtValues term range near.same pieces.same
   pub past : IsAtValues term range near.past pieces.past
-  pub far : (x : ℤ) → contains pieces.far x ≡ (((contains range x && not (contains pieces.under x)) && not (contains pieces.same x)) && not (contains pieces.past x))
+  pub far : (x : ℤ) → contains pieces.far x
+      ≡ (((contains range x && not (contains pieces.under x)) && not (contains pieces.same x)) && not (contains pieces.past x))

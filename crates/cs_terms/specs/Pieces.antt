@@ -56,7 +56,8 @@ pub record IsProductOn (model : DataModel) (ty : IntType) (term : Lin) (factor :
 -- the numbers of the range with this quotient, none where no number has it, and the wrapped product on them
 abbrev pub IsProductPiece : DataModel → IntType → Lin → ℤ → List Interval → ℤ → Option Piece → Type 0
 IsProductPiece model ty term factor range q None = (x : ℤ) → IsTrue (contains range x) → product_quotient_of model ty term factor x ≢ q
-IsProductPiece model ty term factor range q (Some piece) = IsPiece (product_quotient_of model ty term factor) range q piece.range × IsProductOn model ty term factor piece
+IsProductPiece model ty term factor range q (Some piece) = IsPiece (product_quotient_of model ty term factor) range q piece.range
+    × IsProductOn model ty term factor piece
 
 -- the four pieces of the range, by quotients of the products
 pub record AreProductPieces (model : DataModel) (ty : IntType) (term : Lin) (factor : ℤ) (range : List Interval) (pieces : ProductPieces) : Type 0 where

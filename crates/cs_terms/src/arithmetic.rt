@@ -14,10 +14,12 @@ pub fn add(left: Lin, right: Lin) -> Option<Lin>
     requires left { IsTerm left }
     requires right { IsTerm right }
     requires room { CanAdd left right }
-    ensures value { IfSome result (λ sum. (v : Valuation) → value_of v sum ≡ value_of v left +ℤ value_of v right) }
+    ensures value { IfSome result (λ sum.
+        (v : Valuation) → value_of v sum ≡ value_of v left +ℤ value_of v right) }
     ensures none { IsNone result ↔ HaveTwoSymbols left.sym right.sym }
     ensures term { IfSome result IsTerm }
-    ensures symbol { IfSome result (λ sum. (s : Sym) → sum.sym ≡ Some s → (left.sym ≡ Some s) ⊎ (right.sym ≡ Some s)) }
+    ensures symbol { IfSome result (λ sum.
+        (s : Sym) → sum.sym ≡ Some s → (left.sym ≡ Some s) ⊎ (right.sym ≡ Some s)) }
 {
     match (left.sym, right.sym) {
         (Some(sym), Some(other)) => {
@@ -43,7 +45,8 @@ fn add_over_one(left: Lin, right: Lin, sym: Sym) -> Lin
     requires left { left.sym ≡ Some sym }
     requires right { right.sym ≡ Some sym }
     requires room { CanAdd left right }
-    ensures value { (v : Valuation) → value_of v result ≡ value_of v left +ℤ value_of v right }
+    ensures value { (v : Valuation)
+        → value_of v result ≡ value_of v left +ℤ value_of v right }
     ensures term { IsTerm result }
     ensures symbol { HasNoOtherSymbol result.sym left.sym }
 {
@@ -76,7 +79,8 @@ pub fn diff(left: Lin, right: Lin) -> Lin2
     requires right { IsTerm right }
     requires slope_inside { IsInside right.slope }
     requires value_inside { IsInside right.value }
-    ensures value { (v : Valuation) → value_of_sum v result ≡ value_of v left -ℤ value_of v right }
+    ensures value { (v : Valuation)
+        → value_of_sum v result ≡ value_of v left -ℤ value_of v right }
     ensures first { result.first ≡ left }
     ensures second { IsTerm result.second }
     ensures symbol { result.second.sym ≡ right.sym }
@@ -99,10 +103,13 @@ pub fn merged(term: Lin2) -> Option<Lin>
     requires first { IsTerm term.first }
     requires second { IsTerm term.second }
     requires room { CanAdd term.first term.second }
-    ensures value { IfSome result (λ sum. (v : Valuation) → value_of v sum ≡ value_of_sum v term) }
+    ensures value { IfSome result (λ sum.
+        (v : Valuation) → value_of v sum ≡ value_of_sum v term) }
     ensures none { IsNone result ↔ HaveTwoSymbols term.first.sym term.second.sym }
     ensures term { IfSome result IsTerm }
-    ensures symbol { IfSome result (λ sum. (s : Sym) → sum.sym ≡ Some s → (term.first.sym ≡ Some s) ⊎ (term.second.sym ≡ Some s)) }
+    ensures symbol { IfSome result (λ sum.
+        (s : Sym) → sum.sym ≡ Some s → (term.first.sym ≡ Some s)
+        ⊎ (term.second.sym ≡ Some s)) }
 {
     add(term.first, term.second)
 }

@@ -110,7 +110,8 @@ fn cofactors(products: Interval, factor: i128) -> Interval
 
 // The numbers whose product with 0 lies in the interval: all numbers that a range can have, or none.
 fn zero_cofactors(products: Interval) -> Interval
-    ensures numbers { (x : ℤ) → IsInside x → in_interval result x ≡ in_interval products (pos 0) }
+    ensures numbers { (x : ℤ) → IsInside x
+        → in_interval result x ≡ in_interval products (pos 0) }
     ensures inside { HasEndsInside result }
 {
     if products.low <= 0 && 0 <= products.high {

@@ -41,7 +41,8 @@ pub fn product_pieces(
 ) -> Result<ProductPieces, AllocError>
     requires term { IsTerm term }
     requires factor { IsIntegerOfC factor }
-    requires values { (x : ℤ) → IsTrue (contains range.now x) → IsIntegerOfC (value_at term x) }
+    requires values { (x : ℤ) → IsTrue (contains range.now x)
+        → IsIntegerOfC (value_at term x) }
     ensures { IfOk result (AreProductPieces model ty term factor range.now) }
 {
     // Bounds of the product are divided by the factor, since the product may need more than 128 bits.
@@ -72,7 +73,8 @@ fn product_on(
     requires factor { IsIntegerOfC factor }
     requires values { (x : ℤ) → IsTrue (contains range x) → IsIntegerOfC (value_at term x) }
     requires one_quotient { HasOneQuotient (product_quotient_of model ty term factor) range }
-    ensures { MatchOption result (IsEmpty range) (λ piece. (piece.range ≡ range) × IsProductOn model ty term factor piece) }
+    ensures { MatchOption result (IsEmpty range)
+        (λ piece. (piece.range ≡ range) × IsProductOn model ty term factor piece) }
 {
     let at = range.least()?;
     let value = affine_value(term.slope, term.at, term.value, at);
@@ -92,7 +94,8 @@ fn slope_on(model: DataModel, ty: IntType, term: Lin, factor: i128, range: &Rang
     requires term { IsTerm term }
     requires inhabited { IsInhabited range.now }
     requires one_quotient { HasOneQuotient (product_quotient_of model ty term factor) range.now }
-    ensures slope { (x y : ℤ) → IsTrue (contains range.now x) → IsTrue (contains range.now y) → result *ℤ (x -ℤ y) ≡ (term.slope *ℤ factor) *ℤ (x -ℤ y) }
+    ensures slope { (x y : ℤ) → IsTrue (contains range.now x) → IsTrue (contains range.now y)
+        → result *ℤ (x -ℤ y) ≡ (term.slope *ℤ factor) *ℤ (x -ℤ y) }
     ensures constant { term.slope ≡ pos 0 → result ≡ pos 0 }
 {
     match range.is_single() {

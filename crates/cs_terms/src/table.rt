@@ -29,8 +29,11 @@ impl SymTable {
     /// The number of the name: the one that it has, or the next one.
     pub fn number_of(&mut self, name: SymName) -> Result<Sym, AllocError>
         ensures name { IfOk result (λ sym. slice_get (keys self.new.names) sym.0 ≡ Some name) }
-        ensures place { IfOk result (λ sym. IsNumbered (keys self.old.names) name sym.0 (keys self.new.names)) }
-        ensures kept { OnOk result ((k : ℕ) (known : SymName) → slice_get (keys self.old.names) k ≡ Some known → slice_get (keys self.new.names) k ≡ Some known) }
+        ensures place { IfOk result (λ sym.
+            IsNumbered (keys self.old.names) name sym.0 (keys self.new.names)) }
+        ensures kept { OnOk result ((k : ℕ) (known : SymName)
+            → slice_get (keys self.old.names) k ≡ Some known
+            → slice_get (keys self.new.names) k ≡ Some known) }
         ensures once { HasEachOnce (keys self.new.names) }
         ensures err { OnErr result (keys self.new.names ≡ keys self.old.names) }
     {

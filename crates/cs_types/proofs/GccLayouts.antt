@@ -45,7 +45,8 @@ lp64 =
     laid 40 8 (member (integer Char) 0 ∷ member (pointer (integer Char)) 8 ∷ member (integer Short) 16 ∷ member (array (pointer void) 2) 24 ∷ []) ∷
     laid 56 8 (member (array (struct 6) 2) 0 ∷ member (struct 3) 32 ∷ member (integer Char) 48 ∷ []) ∷
     laid 24 8 (member (array (array (integer Short) 3) 2) 0 ∷ member (integer ULLong) 16 ∷ []) ∷
-    laid 32 8 (member (integer UChar) 0 ∷ member (integer UShort) 2 ∷ member (integer UInt) 4 ∷ member (integer ULong) 8 ∷ member (integer ULLong) 16 ∷ member (integer SChar) 24 ∷ []) ∷ []
+    laid 32 8 (member (integer UChar) 0 ∷ member (integer UShort) 2 ∷ member (integer UInt) 4 ∷ member (integer ULong) 8 ∷ member (integer ULLong) 16
+    ∷ member (integer SChar) 24 ∷ []) ∷ []
 
 -- and under -m32 -malign-double
 abbrev ilp32 : List StructType
@@ -61,7 +62,8 @@ ilp32 =
     laid 20 4 (member (integer Char) 0 ∷ member (pointer (integer Char)) 4 ∷ member (integer Short) 8 ∷ member (array (pointer void) 2) 12 ∷ []) ∷
     laid 56 8 (member (array (struct 6) 2) 0 ∷ member (struct 3) 32 ∷ member (integer Char) 48 ∷ []) ∷
     laid 24 8 (member (array (array (integer Short) 3) 2) 0 ∷ member (integer ULLong) 16 ∷ []) ∷
-    laid 32 8 (member (integer UChar) 0 ∷ member (integer UShort) 2 ∷ member (integer UInt) 4 ∷ member (integer ULong) 8 ∷ member (integer ULLong) 16 ∷ member (integer SChar) 24 ∷ []) ∷ []
+    laid 32 8 (member (integer UChar) 0 ∷ member (integer UShort) 2 ∷ member (integer UInt) 4 ∷ member (integer ULong) 8 ∷ member (integer ULLong) 16
+    ∷ member (integer SChar) 24 ∷ []) ∷ []
 
 pub lp64-laid_out : IsLaidOut Lp64 lp64
 lp64-laid_out = laid_out_by_test Lp64 lp64 refl

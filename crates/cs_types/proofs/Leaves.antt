@@ -1,5 +1,6 @@
 -- Where the scalars of rows and of members side by side lie: for the contract of `leaf_at`.
-use Rattle.std.proofs.Common.{◌≡◌, ℕ, zero, suc, ◌+◌, ◌*◌, ◌/◌, ◌%◌, ◌-◌, ◌<◌, ◌≤◌, ◌⊎◌, inl, inr, Bool, true, false, cond, List, [], ◌∷◌, ◌++◌, ◌∙◌, ap, refl, arith}
+use Rattle.std.proofs.Common.{◌≡◌, ℕ, zero, suc, ◌+◌, ◌*◌, ◌/◌, ◌%◌, ◌-◌, ◌<◌, ◌≤◌, ◌⊎◌, inl, inr, Bool, true}
+use Rattle.std.proofs.Common.{false, cond, List, [], ◌∷◌, ◌++◌, ◌∙◌, ap, refl, arith}
 use Rattle.std.specs.Prelude.{Option, Some, None, ◌==◌}
 use Rattle.std.specs.Option.{option_or}
 use Rattle.std.proofs.lemmas.Bool.Decides.{nat_tests}
@@ -10,7 +11,8 @@ pub scalar_at-append : (o : ℕ) (xs ys : List Leaf) → scalar_at o (xs ++ ys) 
 scalar_at-append o [] ys = refl
 scalar_at-append o (x ∷ xs) ys = at_test (x.offset == o) (scalar_at-append o xs ys)
   where
-    at_test : (t : Bool) → scalar_at o (xs ++ ys) ≡ option_or (scalar_at o xs) (scalar_at o ys) → cond t (Some x.scalar) (scalar_at o (xs ++ ys)) ≡ option_or (cond t (Some x.scalar) (scalar_at o xs)) (scalar_at o ys)
+    at_test : (t : Bool) → scalar_at o (xs ++ ys) ≡ option_or (scalar_at o xs) (scalar_at o ys)
+        → cond t (Some x.scalar) (scalar_at o (xs ++ ys)) ≡ option_or (cond t (Some x.scalar) (scalar_at o xs)) (scalar_at o ys)
     at_test true h = refl
     at_test false h = h
 
@@ -53,18 +55,23 @@ Within-row zero e w = tt
 Within-row (suc n) e w =
     Within-append 0 (suc n * e.size) e.leaves (moved e.size (row n e))
     (Within-wider 0 e.size 0 (suc n * e.size) e.leaves (omega arith) (omega arith) w)
-    (Within-wider (e.size + 0) (e.size + n * e.size) 0 (suc n * e.size) (moved e.size (row n e)) (omega arith) (omega arith) (Within-moved e.size 0 (n * e.size) (row n e) (Within-row n e w)))
+    (Within-wider (e.size + 0) (e.size + n * e.size) 0 (suc n * e.size) (moved e.size (row n e)) (omega arith) (omega arith)
+    (Within-moved e.size 0 (n * e.size) (row n e) (Within-row n e w)))
 
 later-row : (o n : ℕ) (e : Layout) → Within 0 e.size e.leaves → e.size ≤ o → scalar_at o (row (suc n) e) ≡ scalar_at (o - e.size) (row n e)
 later-row o n e w h =
-    scalar_at-append o e.leaves (moved e.size (row n e)) ∙ ap (λ a. option_or a (scalar_at o (moved e.size (row n e)))) (outside o 0 e.size e.leaves w (inr h)) ∙ scalar_at-moved e.size o (row n e) h
+    scalar_at-append o e.leaves (moved e.size (row n e))
+    ∙ ap (λ a. option_or a (scalar_at o (moved e.size (row n e)))) (outside o 0 e.size e.leaves w (inr h)) ∙ scalar_at-moved e.size o (row n e) h
 
 first-row : (o n : ℕ) (e : Layout) → Within 0 e.size e.leaves → o < e.size → scalar_at o (row (suc n) e) ≡ scalar_at o e.leaves
 first-row o n e w h =
     let following : Within (e.size + 0) (e.size + n * e.size) (moved e.size (row n e)) = Within-moved e.size 0 (n * e.size) (row n e) (Within-row n e w) in
-    scalar_at-append o e.leaves (moved e.size (row n e)) ∙ ap (option_or (scalar_at o e.leaves)) (outside o (e.size + 0) (e.size + n * e.size) (moved e.size (row n e)) following (inl (omega arith))) ∙ option_or-None (scalar_at o e.leaves)
+    scalar_at-append o e.leaves (moved e.size (row n e))
+    ∙ ap (option_or (scalar_at o e.leaves)) (outside o (e.size + 0) (e.size + n * e.size) (moved e.size (row n e)) following (inl (omega arith)))
+    ∙ option_or-None (scalar_at o e.leaves)
 
-row-at : (n q o r : ℕ) (e : Layout) → Within 0 e.size e.leaves → r < e.size → q < n → o ≡ q * e.size + r → scalar_at o (row n e) ≡ scalar_at r e.leaves
+row-at : (n q o r : ℕ) (e : Layout) → Within 0 e.size e.leaves → r < e.size → q < n → o ≡ q * e.size + r
+    → scalar_at o (row n e) ≡ scalar_at r e.leaves
 row-at zero q o r e w h g eq = absurd (omega arith)
 row-at (suc n) zero o r e w h g eq =
     let same : o ≡ r = omega arith in
@@ -73,7 +80,8 @@ row-at (suc n) (suc q) o r e w h g eq =
     later-row o n e w (omega arith) ∙ row-at n q (o - e.size) r e w h (omega arith) (omega arith)
 
 -- the scalar at an offset of a row is that at the rest of its element
-pub scalar_at-row : (n o : ℕ) (e : Layout) → Within 0 e.size e.leaves → 0 < e.size → o / e.size < n → scalar_at o (row n e) ≡ scalar_at (o % e.size) e.leaves
+pub scalar_at-row : (n o : ℕ) (e : Layout) → Within 0 e.size e.leaves → 0 < e.size → o / e.size < n
+    → scalar_at o (row n e) ≡ scalar_at (o % e.size) e.leaves
 scalar_at-row n o e w s h = row-at n (o / e.size) o (o % e.size) e w (omega arith) h (omega arith)
 
 -- and none is past a row's end
@@ -110,5 +118,7 @@ Within-side_by_side from (l ∷ ls) h =
     let least = round_up-least from l.align h.0.aligned in
     let rest = side_by_side-from (at + l.size) ls h.1 in
     Within-append from (side_by_side (at + l.size) ls).size (moved at l.leaves) (side_by_side (at + l.size) ls).leaves
-    (Within-wider (at + 0) (at + l.size) from (side_by_side (at + l.size) ls).size (moved at l.leaves) (omega arith) rest (Within-moved at 0 l.size l.leaves h.0.within))
-    (Within-wider (at + l.size) (side_by_side (at + l.size) ls).size from (side_by_side (at + l.size) ls).size (side_by_side (at + l.size) ls).leaves (omega arith) (omega arith) (Within-side_by_side (at + l.size) ls h.1))
+    (Within-wider (at + 0) (at + l.size) from (side_by_side (at + l.size) ls).size (moved at l.leaves) (omega arith) rest
+    (Within-moved at 0 l.size l.leaves h.0.within))
+    (Within-wider (at + l.size) (side_by_side (at + l.size) ls).size from (side_by_side (at + l.size) ls).size (side_by_side (at + l.size) ls).leaves
+    (omega arith) (omega arith) (Within-side_by_side (at + l.size) ls h.1))

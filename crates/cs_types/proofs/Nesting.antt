@@ -1,6 +1,7 @@
 -- Layouts at a depth of structs: a greater depth changes no layout, and every layout is sound. For the contract of
 -- `leaf_at`.
-use Rattle.std.proofs.Common.{◌≡◌, ℕ, zero, suc, ◌+◌, ◌-◌, ◌<◌, ◌≤◌, List, [], ◌∷◌, sym, ◌∙◌, ap, refl, subst, arith, lit<}
+use Rattle.std.proofs.Common.{◌≡◌, ℕ, zero, suc, ◌+◌, ◌-◌, ◌<◌, ◌≤◌, List, [], ◌∷◌, sym, ◌∙◌, ap, refl, subst, arith}
+use Rattle.std.proofs.Common.{lit<}
 use Rattle.std.specs.Prelude.{Option, Some, None}
 use Rattle.std.specs.Option.{option_map, option_and_then}
 use Rattle.cs_types.specs.declared.data_model.DataModel.{DataModel}
@@ -33,7 +34,8 @@ pub record FirstMember (of_type : Shape → Option Layout) (m : Member) (ms : Li
   pub others : member_layouts of_type ms ≡ Some rest
   pub whole : ls ≡ first ∷ rest
 
-pub first_member : (of_type : Shape → Option Layout) (m : Member) (ms : List Member) (ls : List Layout) → member_layouts of_type (m ∷ ms) ≡ Some ls → FirstMember of_type m ms ls
+pub first_member : (of_type : Shape → Option Layout) (m : Member) (ms : List Member) (ls : List Layout) → member_layouts of_type (m ∷ ms) ≡ Some ls
+    → FirstMember of_type m ms ls
 first_member of_type m ms ls h =
     let first = chained (λ (l : Layout). option_map (λ rest. l ∷ rest) (member_layouts of_type ms)) (of_type m.ty) ls h in
     let rest = mapped (λ rest. first.0 ∷ rest) (member_layouts of_type ms) ls first.2 in
@@ -54,37 +56,46 @@ layout_with-Extends model f g e (array element count) l h =
     ap (option_map (repeated count)) (layout_with-Extends model f g e element parts.0 parts.1) ∙ ap Some (sym parts.2)
 layout_with-Extends model f g e (struct number) l h = e number l h
 
-pub member_layouts-Extends : (f g : Shape → Option Layout) → Extends f g → (ms : List Member) (ls : List Layout) → member_layouts f ms ≡ Some ls → member_layouts g ms ≡ Some ls
+pub member_layouts-Extends : (f g : Shape → Option Layout) → Extends f g → (ms : List Member) (ls : List Layout) → member_layouts f ms ≡ Some ls
+    → member_layouts g ms ≡ Some ls
 member_layouts-Extends f g e [] ls h = h
 member_layouts-Extends f g e (m ∷ ms) ls h =
     let parts = first_member f m ms ls h in
     let first = e m.ty parts.first parts.laid in
     let others = member_layouts-Extends f g e ms parts.rest parts.others in
-    ap (option_and_then (λ (l : Layout). option_map (λ rest. l ∷ rest) (member_layouts g ms))) first ∙ ap (option_map (λ rest. parts.first ∷ rest)) others ∙ ap Some (sym parts.whole)
+    ap (option_and_then (λ (l : Layout). option_map (λ rest. l ∷ rest) (member_layouts g ms))) first
+    ∙ ap (option_map (λ rest. parts.first ∷ rest)) others ∙ ap Some (sym parts.whole)
 
-pub struct_layout-deeper : (model : DataModel) (table : List StructType) (depth : ℕ) → Extends (struct_layout model table depth) (struct_layout model table (suc depth))
+pub struct_layout-deeper : (model : DataModel) (table : List StructType) (depth : ℕ)
+    → Extends (struct_layout model table depth) (struct_layout model table (suc depth))
 struct_layout-deeper model table zero k l h = absurd (cc)
 struct_layout-deeper model table (suc depth) k l h =
     let outer = layout_with-Extends model (struct_layout model table depth) (struct_layout model table (suc depth)) (struct_layout-deeper model table depth) in
     let shallow : List Member → Option Layout = λ ms. option_map (λ ls. padded (side_by_side 0 ls)) (member_layouts (layout_within model table depth) ms) in
-    let deep : List Member → Option Layout = λ ms. option_map (λ ls. padded (side_by_side 0 ls)) (member_layouts (layout_within model table (suc depth)) ms) in
+    let deep : List Member → Option Layout = λ ms.
+    option_map (λ ls. padded (side_by_side 0 ls)) (member_layouts (layout_within model table (suc depth)) ms) in
     let members = chained shallow (members_of table k) l h in
     let layouts = mapped (λ ls. padded (side_by_side 0 ls)) (member_layouts (layout_within model table depth) members.0) l members.2 in
     let lifted = member_layouts-Extends (layout_within model table depth) (layout_within model table (suc depth)) outer members.0 layouts.0 layouts.1 in
     ap (option_and_then deep) members.1 ∙ ap (option_map (λ ls. padded (side_by_side 0 ls))) lifted ∙ ap Some (sym layouts.2)
 
-struct_layout-by : (model : DataModel) (table : List StructType) (depth more : ℕ) → Extends (struct_layout model table depth) (struct_layout model table (more + depth))
-struct_layout-by model table depth zero k l h = subst (λ (d : ℕ). struct_layout model table d k ≡ Some l) (let e : depth ≡ 0 + depth = omega arith in e) h
+struct_layout-by : (model : DataModel) (table : List StructType) (depth more : ℕ)
+    → Extends (struct_layout model table depth) (struct_layout model table (more + depth))
+struct_layout-by model table depth zero k l h =
+    subst (λ (d : ℕ). struct_layout model table d k ≡ Some l) (let e : depth ≡ 0 + depth = omega arith in e) h
 struct_layout-by model table depth (suc more) k l h =
     let e : suc (more + depth) ≡ suc more + depth = omega arith in
-    subst (λ (d : ℕ). struct_layout model table d k ≡ Some l) e (struct_layout-deeper model table (more + depth) k l (struct_layout-by model table depth more k l h))
+    subst (λ (d : ℕ). struct_layout model table d k ≡ Some l) e
+    (struct_layout-deeper model table (more + depth) k l (struct_layout-by model table depth more k l h))
 
-pub struct_layout-Extends : (model : DataModel) (table : List StructType) (depth deeper : ℕ) → depth ≤ deeper → Extends (struct_layout model table depth) (struct_layout model table deeper)
+pub struct_layout-Extends : (model : DataModel) (table : List StructType) (depth deeper : ℕ) → depth ≤ deeper
+    → Extends (struct_layout model table depth) (struct_layout model table deeper)
 struct_layout-Extends model table depth deeper h k l g =
     let e : (deeper - depth) + depth ≡ deeper = omega arith in
     subst (λ (d : ℕ). struct_layout model table d k ≡ Some l) e (struct_layout-by model table depth (deeper - depth) k l g)
 
-pub layout_within-Extends : (model : DataModel) (table : List StructType) (depth deeper : ℕ) → depth ≤ deeper → Extends (layout_within model table depth) (layout_within model table deeper)
+pub layout_within-Extends : (model : DataModel) (table : List StructType) (depth deeper : ℕ) → depth ≤ deeper
+    → Extends (layout_within model table depth) (layout_within model table deeper)
 layout_within-Extends model table depth deeper h =
     layout_with-Extends model (struct_layout model table depth) (struct_layout model table deeper) (struct_layout-Extends model table depth deeper h)
 
@@ -127,7 +138,8 @@ layout_with-GivesSound model f s (array element count) l h =
     sound_as l (repeated count parts.0) (ap Some (sym parts.2)) (record { aligned = inner.aligned; within = Within-row count parts.0 inner.within })
 layout_with-GivesSound model f s (struct number) l h = s number l h
 
-pub member_layouts-AllSound : (f : Shape → Option Layout) → GivesSound f → (ms : List Member) (ls : List Layout) → member_layouts f ms ≡ Some ls → AllSound ls
+pub member_layouts-AllSound : (f : Shape → Option Layout) → GivesSound f → (ms : List Member) (ls : List Layout) → member_layouts f ms ≡ Some ls
+    → AllSound ls
 member_layouts-AllSound f s [] ls h = subst AllSound (let e : [] ≡ ls = cc in e) tt
 member_layouts-AllSound f s (m ∷ ms) ls h =
     let parts = first_member f m ms ls h in
@@ -138,7 +150,8 @@ padded-IsSound ls h =
     let aligned = side_by_side-aligned 0 ls h in
     record {
       aligned = aligned;
-      within = Within-wider 0 (side_by_side 0 ls).size 0 (round_up (side_by_side 0 ls).size (side_by_side 0 ls).align) (side_by_side 0 ls).leaves (omega arith) (round_up-least (side_by_side 0 ls).size (side_by_side 0 ls).align aligned) (Within-side_by_side 0 ls h);
+      within = Within-wider 0 (side_by_side 0 ls).size 0 (round_up (side_by_side 0 ls).size (side_by_side 0 ls).align) (side_by_side 0 ls).leaves (omega arith)
+          (round_up-least (side_by_side 0 ls).size (side_by_side 0 ls).align aligned) (Within-side_by_side 0 ls h);
     }
 
 pub struct_layout-GivesSound : (model : DataModel) (table : List StructType) (depth : ℕ) → GivesSound (struct_layout model table depth)
@@ -148,7 +161,8 @@ struct_layout-GivesSound model table (suc depth) k l h =
     let members = chained shallow (members_of table k) l h in
     let layouts = mapped (λ ls. padded (side_by_side 0 ls)) (member_layouts (layout_within model table depth) members.0) l members.2 in
     let inner = layout_with-GivesSound model (struct_layout model table depth) (struct_layout-GivesSound model table depth) in
-    sound_as l _ (ap Some (sym layouts.2)) (padded-IsSound layouts.0 (member_layouts-AllSound (layout_within model table depth) inner members.0 layouts.0 layouts.1))
+    sound_as l _ (ap Some (sym layouts.2))
+    (padded-IsSound layouts.0 (member_layouts-AllSound (layout_within model table depth) inner members.0 layouts.0 layouts.1))
 
 pub layout_within-GivesSound : (model : DataModel) (table : List StructType) (depth : ℕ) → GivesSound (layout_within model table depth)
 layout_within-GivesSound model table depth = layout_with-GivesSound model (struct_layout model table depth) (struct_layout-GivesSound model table depth)

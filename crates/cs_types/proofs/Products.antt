@@ -57,21 +57,28 @@ product-below (negsuc a) (negsuc b) h g = omega (arith, ints, both-below a b h.s
 pub product-fits : (z : ℤ) → (pos 0 -ℤ pos (2 ^ 127 - 2 ^ 63)) ≤ℤ z → z ≤ℤ pos (2 ^ 127 - 2 ^ 64) → FitsSigned w128 z
 product-fits z above below = omega (arith, ints)
 
-pub shifted-fits : (model : DataModel) (ty : IntType) (z : ℤ) → (pos 0 -ℤ pos (2 ^ 127 - 2 ^ 63)) ≤ℤ z → z ≤ℤ pos (2 ^ 127 - 2 ^ 64) → FitsSigned w128 (z +ℤ pos (negatives_of model ty))
+pub shifted-fits : (model : DataModel) (ty : IntType) (z : ℤ) → (pos 0 -ℤ pos (2 ^ 127 - 2 ^ 63)) ≤ℤ z → z ≤ℤ pos (2 ^ 127 - 2 ^ 64)
+    → FitsSigned w128 (z +ℤ pos (negatives_of model ty))
 shifted-fits model ty z above below = room z (negatives_of model ty) above below (negatives-small model ty)
   where
-    room : (z : ℤ) (n : ℕ) → (pos 0 -ℤ pos (2 ^ 127 - 2 ^ 63)) ≤ℤ z → z ≤ℤ pos (2 ^ 127 - 2 ^ 64) → n ≤ 2 ^ 63 → FitsSigned w128 (z +ℤ pos n)
+    room : (z : ℤ) (n : ℕ) → (pos 0 -ℤ pos (2 ^ 127 - 2 ^ 63)) ≤ℤ z → z ≤ℤ pos (2 ^ 127 - 2 ^ 64) → n ≤ 2 ^ 63
+        → FitsSigned w128 (z +ℤ pos n)
     room z n above below g = omega (arith, ints)
 
 -- a product of which whole turns were taken off one factor
-split : (model : DataModel) (ty : IntType) (left right taken : ℤ) → taken *ℤ pos (modulus_of model ty) ≡ pos (2 ^ 64) *ℤ right → left *ℤ right ≡ (left -ℤ pos (2 ^ 64)) *ℤ right +ℤ taken *ℤ pos (modulus_of model ty)
+split : (model : DataModel) (ty : IntType) (left right taken : ℤ) → taken *ℤ pos (modulus_of model ty) ≡ pos (2 ^ 64) *ℤ right
+    → left *ℤ right ≡ (left -ℤ pos (2 ^ 64)) *ℤ right +ℤ taken *ℤ pos (modulus_of model ty)
 split model ty left right taken e = omega (arith, ints, sub_pos-*ℤ left (2 ^ 64) right, e)
 
-pub wrap_quotient-split : (model : DataModel) (ty : IntType) (left right taken : ℤ) → taken *ℤ pos (modulus_of model ty) ≡ pos (2 ^ 64) *ℤ right → wrap_quotient model ty (left *ℤ right) ≡ wrap_quotient model ty ((left -ℤ pos (2 ^ 64)) *ℤ right) +ℤ taken
-wrap_quotient-split model ty left right taken e = ap (wrap_quotient model ty) (split model ty left right taken e) ∙ wrap_quotient-add model ty ((left -ℤ pos (2 ^ 64)) *ℤ right) taken
+pub wrap_quotient-split : (model : DataModel) (ty : IntType) (left right taken : ℤ) → taken *ℤ pos (modulus_of model ty) ≡ pos (2 ^ 64) *ℤ right
+    → wrap_quotient model ty (left *ℤ right) ≡ wrap_quotient model ty ((left -ℤ pos (2 ^ 64)) *ℤ right) +ℤ taken
+wrap_quotient-split model ty left right taken e = ap (wrap_quotient model ty) (split model ty left right taken e)
+    ∙ wrap_quotient-add model ty ((left -ℤ pos (2 ^ 64)) *ℤ right) taken
 
-pub wrapped-split : (model : DataModel) (ty : IntType) (left right taken : ℤ) → taken *ℤ pos (modulus_of model ty) ≡ pos (2 ^ 64) *ℤ right → wrapped model ty (left *ℤ right) ≡ wrapped model ty ((left -ℤ pos (2 ^ 64)) *ℤ right)
-wrapped-split model ty left right taken e = ap (wrapped model ty) (split model ty left right taken e) ∙ wrapped-add model ty ((left -ℤ pos (2 ^ 64)) *ℤ right) taken
+pub wrapped-split : (model : DataModel) (ty : IntType) (left right taken : ℤ) → taken *ℤ pos (modulus_of model ty) ≡ pos (2 ^ 64) *ℤ right
+    → wrapped model ty (left *ℤ right) ≡ wrapped model ty ((left -ℤ pos (2 ^ 64)) *ℤ right)
+wrapped-split model ty left right taken e = ap (wrapped model ty) (split model ty left right taken e)
+    ∙ wrapped-add model ty ((left -ℤ pos (2 ^ 64)) *ℤ right) taken
 
 -- the turns of a product and those taken off a factor have a sum of 128 bits
 pub turns-fit : (a b : ℤ) → unsigned_abs a ≤ 2 ^ 119 → unsigned_abs b ≤ 2 ^ 120 → FitsSigned w128 (a +ℤ b)

@@ -14,28 +14,34 @@ pub record IsComplete (table : List StructType) (number : ℕ) (found : StructTy
   pub stands : slice_get table number ≡ Some found
   pub has_members : found.members ≡ Some members
 
-with_members : (s found : StructType) (members : Option (List Member)) → s.members ≡ members → option_map (λ _. s) members ≡ Some found → (ms : List Member) × (s ≡ found) × (s.members ≡ Some ms)
+with_members : (s found : StructType) (members : Option (List Member)) → s.members ≡ members → option_map (λ _. s) members ≡ Some found
+    → (ms : List Member) × (s ≡ found) × (s.members ≡ Some ms)
 with_members s found None e h = cc
 with_members s found (Some ms) e h = (ms, cc, e)
 
-from_found : (o : Option StructType) (found : StructType) → option_and_then (λ (s : StructType). option_map (λ _. s) s.members) o ≡ Some found → (ms : List Member) × (o ≡ Some found) × (found.members ≡ Some ms)
+from_found : (o : Option StructType) (found : StructType) → option_and_then (λ (s : StructType). option_map (λ _. s) s.members) o ≡ Some found
+    → (ms : List Member) × (o ≡ Some found) × (found.members ≡ Some ms)
 from_found None found h = cc
 from_found (Some s) found h =
     let parts = with_members s found s.members refl h in
     (parts.0, ap Some parts.1, ap (λ (x : StructType). x.members) (sym parts.1) ∙ parts.2)
 
-pub complete-IsComplete : (table : List StructType) (number : ℕ) (found : StructType) → complete_of table number ≡ Some found → IsComplete table number found
+pub complete-IsComplete : (table : List StructType) (number : ℕ) (found : StructType) → complete_of table number ≡ Some found
+    → IsComplete table number found
 complete-IsComplete table number found h =
     let parts = from_found (slice_get table number) found h in
     record { members = parts.0; stands = parts.1; has_members = parts.2 }
 
-pub laid : (model : DataModel) (table : List StructType) (number : ℕ) (found : StructType) → IsLaidOut model table → (at : IsComplete table number found) → IsLaid model table number found at.members
+pub laid : (model : DataModel) (table : List StructType) (number : ℕ) (found : StructType) → IsLaidOut model table
+    → (at : IsComplete table number found) → IsLaid model table number found at.members
 laid model table number found h at = (h number found at.members at.stands at.has_members).1
 
 -- the size that the table has for a struct
-pub laid-size : (model : DataModel) (table : List StructType) (number : ℕ) (found : StructType) → IsLaidOut model table → complete_of table number ≡ Some found → Some found.size ≡ option_map (λ (layout : Layout). layout.size) (layout_of model table (struct number))
+pub laid-size : (model : DataModel) (table : List StructType) (number : ℕ) (found : StructType) → IsLaidOut model table
+    → complete_of table number ≡ Some found → Some found.size ≡ option_map (λ (layout : Layout). layout.size) (layout_of model table (struct number))
 laid-size model table number found h e = sym (laid model table number found h (complete-IsComplete table number found e)).size
 
 -- and the alignment
-pub laid-align : (model : DataModel) (table : List StructType) (number : ℕ) (found : StructType) → IsLaidOut model table → complete_of table number ≡ Some found → Some found.align ≡ option_map (λ (layout : Layout). layout.align) (layout_of model table (struct number))
+pub laid-align : (model : DataModel) (table : List StructType) (number : ℕ) (found : StructType) → IsLaidOut model table
+    → complete_of table number ≡ Some found → Some found.align ≡ option_map (λ (layout : Layout). layout.align) (layout_of model table (struct number))
 laid-align model table number found h e = sym (laid model table number found h (complete-IsComplete table number found e)).align

@@ -1,5 +1,6 @@
 -- Wrap quotients and wrapped numbers: for the contracts of `quotient`, `wrap` and `multiply`.
-use Rattle.std.proofs.Common.{◌≡◌, ℕ, ◌*◌, ◌/◌, ◌-◌, ◌^◌, ◌<◌, ◌≤◌, arith, sym, ◌∙◌, ap, refl, Bool, true, false, cond, lit<, mul-le-mul_right}
+use Rattle.std.proofs.Common.{◌≡◌, ℕ, ◌*◌, ◌/◌, ◌-◌, ◌^◌, ◌<◌, ◌≤◌, arith, sym, ◌∙◌, ap, refl, Bool, true, false, cond}
+use Rattle.std.proofs.Common.{lit<, mul-le-mul_right}
 use Rattle.std.specs.Prelude.{ℤ, pos, negsuc, ◌+ℤ◌, ◌-ℤ◌, ◌*ℤ◌, unsigned_abs, FitsSigned}
 use Rattle.std.specs.Int.{int_rem_euclid, w128}
 use Rattle.std.proofs.lemmas.Int.{ints}
@@ -44,42 +45,51 @@ modulus-large model UInt = lit< tt
 modulus-large model LLong = lit< tt
 modulus-large model ULLong = lit< tt
 
-shifted : (signed : Bool) (half n : ℕ) (z : ℤ) → cond signed (floor_div (z +ℤ pos half) n) (floor_div z n) ≡ floor_div (z +ℤ pos (cond signed half 0)) n
+shifted : (signed : Bool) (half n : ℕ) (z : ℤ)
+    → cond signed (floor_div (z +ℤ pos half) n) (floor_div z n) ≡ floor_div (z +ℤ pos (cond signed half 0)) n
 shifted true half n z = refl
 shifted false half n z = ap (λ x. floor_div x n) (sym (+ℤ_idr z))
 
 -- one form of the quotient for both signs
-pub wrap_quotient-shifted : (model : DataModel) (ty : IntType) (z : ℤ) → wrap_quotient model ty z ≡ floor_div (z +ℤ pos (negatives_of model ty)) (modulus_of model ty)
+pub wrap_quotient-shifted : (model : DataModel) (ty : IntType) (z : ℤ)
+    → wrap_quotient model ty z ≡ floor_div (z +ℤ pos (negatives_of model ty)) (modulus_of model ty)
 wrap_quotient-shifted model ty z = shifted (has_sign ty) (2 ^ (8 * bytes_of model ty - 1)) (modulus_of model ty) z
 
 -- the wrapped number is the euclidean rest of the shifted number, shifted back
-pub wrapped-rest : (model : DataModel) (ty : IntType) (z : ℤ) → wrapped model ty z ≡ int_rem_euclid (z +ℤ pos (negatives_of model ty)) (pos (modulus_of model ty)) -ℤ pos (negatives_of model ty)
+pub wrapped-rest : (model : DataModel) (ty : IntType) (z : ℤ)
+    → wrapped model ty z ≡ int_rem_euclid (z +ℤ pos (negatives_of model ty)) (pos (modulus_of model ty)) -ℤ pos (negatives_of model ty)
 wrapped-rest model ty z =
     let large = modulus-large model ty in
     let parts = floor_div-rest (z +ℤ pos (negatives_of model ty)) (modulus_of model ty) (omega arith) in
     let whole = ap (λ q. q *ℤ pos (modulus_of model ty)) (wrap_quotient-shifted model ty z) in
     let P : ℤ → Type 0 = λ x. x ≡ x in
-    between z (pos (negatives_of model ty)) (wrap_quotient model ty z *ℤ pos (modulus_of model ty)) (int_rem_euclid (z +ℤ pos (negatives_of model ty)) (pos (modulus_of model ty))) (ap (λ x. x +ℤ int_rem_euclid (z +ℤ pos (negatives_of model ty)) (pos (modulus_of model ty))) whole ∙ parts)
+    between z (pos (negatives_of model ty)) (wrap_quotient model ty z *ℤ pos (modulus_of model ty))
+    (int_rem_euclid (z +ℤ pos (negatives_of model ty)) (pos (modulus_of model ty)))
+    (ap (λ x. x +ℤ int_rem_euclid (z +ℤ pos (negatives_of model ty)) (pos (modulus_of model ty))) whole ∙ parts)
   where
     between : (number below taken rest : ℤ) → taken +ℤ rest ≡ number +ℤ below → number -ℤ taken ≡ rest -ℤ below
     between number below taken rest e = omega (arith, ints)
 
-in_range : (model : DataModel) (ty : IntType) (z rest : ℤ) (r below m : ℕ) → below ≡ negatives_of model ty → m ≡ modulus_of model ty → z ≡ rest -ℤ pos below → rest ≡ pos r → r < m → below < m → InRange model ty z
+in_range : (model : DataModel) (ty : IntType) (z rest : ℤ) (r below m : ℕ) → below ≡ negatives_of model ty → m ≡ modulus_of model ty
+    → z ≡ rest -ℤ pos below → rest ≡ pos r → r < m → below < m → InRange model ty z
 in_range model ty z rest r below m b e f g h k = record { from_least = rw (← b) (omega (arith, ints)); to_greatest = rw (← b, ← e) (omega (arith, ints)) }
 
 -- a wrapped number is one of the type
 pub wrapped-InRange : (model : DataModel) (ty : IntType) (z : ℤ) → InRange model ty (wrapped model ty z)
 wrapped-InRange model ty z =
     let rest = euclid-rest (z +ℤ pos (negatives_of model ty)) (modulus_of model ty) (omega (arith, modulus-large model ty)) in
-    in_range model ty (wrapped model ty z) (int_rem_euclid (z +ℤ pos (negatives_of model ty)) (pos (modulus_of model ty))) rest.0 (negatives_of model ty) (modulus_of model ty) refl refl (wrapped-rest model ty z) rest.1 rest.2 (negatives-below model ty)
+    in_range model ty (wrapped model ty z) (int_rem_euclid (z +ℤ pos (negatives_of model ty)) (pos (modulus_of model ty))) rest.0 (negatives_of model ty)
+    (modulus_of model ty) refl refl (wrapped-rest model ty z) rest.1 rest.2 (negatives-below model ty)
 
 -- whole turns added to a number are added to its quotient
-pub wrap_quotient-add : (model : DataModel) (ty : IntType) (z k : ℤ) → wrap_quotient model ty (z +ℤ k *ℤ pos (modulus_of model ty)) ≡ wrap_quotient model ty z +ℤ k
+pub wrap_quotient-add : (model : DataModel) (ty : IntType) (z k : ℤ)
+    → wrap_quotient model ty (z +ℤ k *ℤ pos (modulus_of model ty)) ≡ wrap_quotient model ty z +ℤ k
 wrap_quotient-add model ty z k =
     let b : ℤ = pos (negatives_of model ty) in
     let m = modulus_of model ty in
     let moved : (x y w : ℤ) → (x +ℤ y) +ℤ w ≡ (x +ℤ w) +ℤ y = λ x y w. omega (arith, ints) in
-    wrap_quotient-shifted model ty (z +ℤ k *ℤ pos m) ∙ ap (λ x. floor_div x m) (moved z (k *ℤ pos m) b) ∙ floor_div-add (z +ℤ b) k m (omega (arith, modulus-large model ty)) ∙ ap (λ q. q +ℤ k) (sym (wrap_quotient-shifted model ty z))
+    wrap_quotient-shifted model ty (z +ℤ k *ℤ pos m) ∙ ap (λ x. floor_div x m) (moved z (k *ℤ pos m) b)
+    ∙ floor_div-add (z +ℤ b) k m (omega (arith, modulus-large model ty)) ∙ ap (λ q. q +ℤ k) (sym (wrap_quotient-shifted model ty z))
 
 -- and leave the wrapped number as it is
 pub wrapped-add : (model : DataModel) (ty : IntType) (z k : ℤ) → wrapped model ty (z +ℤ k *ℤ pos (modulus_of model ty)) ≡ wrapped model ty z
@@ -92,7 +102,8 @@ wrapped-add model ty z k =
     cancelled number more taken taken' e = omega (arith, ints)
 
 -- the quotient of a number of 128 bits
-pub wrap_quotient-small : (model : DataModel) (ty : IntType) (z : ℤ) → FitsSigned w128 (z +ℤ pos (negatives_of model ty)) → unsigned_abs (wrap_quotient model ty z) ≤ 2 ^ 119
+pub wrap_quotient-small : (model : DataModel) (ty : IntType) (z : ℤ) → FitsSigned w128 (z +ℤ pos (negatives_of model ty))
+    → unsigned_abs (wrap_quotient model ty z) ≤ 2 ^ 119
 wrap_quotient-small model ty z h = rw wrap_quotient-shifted (floor_div-small _ (modulus_of model ty) (modulus-large model ty) h)
   where
     quotient-small : (a m : ℕ) → 255 < m → a < 2 ^ 127 → a / m < 2 ^ 119

@@ -50,7 +50,8 @@ shape_code = code_by (List ℕ) (coded_list coded_ℕ) row_of shape_in shape_bac
 
 abbrev pub member_code : Coded Member
 member_code =
-    code_by (List ℕ × (Shape × ℕ)) (coded× (coded_list coded_ℕ) (coded× shape_code coded_ℕ)) (λ m. (m.name, (m.ty, m.offset))) (λ p. record { name = p.0; ty = p.1.0; offset = p.1.1 }) (λ _. refl)
+    code_by (List ℕ × (Shape × ℕ)) (coded× (coded_list coded_ℕ) (coded× shape_code coded_ℕ)) (λ m. (m.name, (m.ty, m.offset)))
+    (λ p. record { name = p.0; ty = p.1.0; offset = p.1.1 }) (λ _. refl)
 
 abbrev pub members_code : Coded (List Member)
 members_code = coded_list member_code

@@ -35,11 +35,13 @@ of_higher_rank left right = if nat_lt (rank_of left) (rank_of right) then right 
 -- a signed and an unsigned type: the unsigned one unless its rank is lower, then the signed one if it holds all
 -- numbers of the other, else the signed one's unsigned kin
 abbrev pub common_of_mixed : DataModel → IntType → IntType → IntType
-common_of_mixed model signed unsigned = if nat_le (rank_of signed) (rank_of unsigned) then unsigned else (if holds_all_of model signed unsigned then signed else unsigned_of signed)
+common_of_mixed model signed unsigned = if nat_le (rank_of signed) (rank_of unsigned) then unsigned
+    else (if holds_all_of model signed unsigned then signed else unsigned_of signed)
 
 -- the common type of two promoted types
 abbrev pub common_of_promoted : DataModel → IntType → IntType → IntType
-common_of_promoted model left right = if has_sign left then (if has_sign right then of_higher_rank left right else common_of_mixed model left right) else (if has_sign right then common_of_mixed model right left else of_higher_rank left right)
+common_of_promoted model left right = if has_sign left then (if has_sign right then of_higher_rank left right else common_of_mixed model left right)
+    else (if has_sign right then common_of_mixed model right left else of_higher_rank left right)
 
 -- the common type of two types
 abbrev pub common_type : DataModel → IntType → IntType → IntType

@@ -1,6 +1,7 @@
 -- Where the scalars of a type lie (C11 6.2.8, 6.5.3.4, 6.7.2.1): a scalar is aligned to its size, and a struct's members
 -- lie side by side, each at the next offset that its alignment divides.
-use Rattle.std.specs.Prelude.{◌≡◌, ℕ, zero, suc, ◌+◌, ◌*◌, ◌/◌, ◌-◌, ◌^◌, ◌≤◌, ◌==◌, max, if◌then◌else◌, List, [], ◌∷◌, ◌++◌, map, count_by, is_some, slice_get, Option, Some, None, IfSome}
+use Rattle.std.specs.Prelude.{◌≡◌, ℕ, zero, suc, ◌+◌, ◌*◌, ◌/◌, ◌-◌, ◌^◌, ◌≤◌, ◌==◌, max, if◌then◌else◌, List, []}
+use Rattle.std.specs.Prelude.{◌∷◌, ◌++◌, map, count_by, is_some, slice_get, Option, Some, None, IfSome}
 use Rattle.std.specs.Option.{option_map, option_and_then}
 use Rattle.std.specs.List.{All}
 use Rattle.cs_types.specs.declared.data_model.DataModel.{DataModel}
@@ -44,7 +45,8 @@ repeated count element = record { size = count * element.size; align = element.a
 -- members side by side, from an offset on
 abbrev pub side_by_side : ℕ → List Layout → Layout
 side_by_side from [] = record { size = from; align = 1; leaves = [] }
-side_by_side from (first ∷ rest) = let at = round_up from first.align in let following = side_by_side (at + first.size) rest in record { size = following.size; align = max first.align following.align; leaves = moved at first.leaves ++ following.leaves }
+side_by_side from (first ∷ rest) = let at = round_up from first.align in let following = side_by_side (at + first.size) rest in
+    record { size = following.size; align = max first.align following.align; leaves = moved at first.leaves ++ following.leaves }
 
 -- the offsets of members that are laid side by side from an offset on
 abbrev pub offsets : ℕ → List Layout → List ℕ
@@ -79,7 +81,9 @@ members_of table number = option_and_then (λ (s : StructType). s.members) (slic
 -- the layout of a struct, if no more than so many structs hold one another in it
 abbrev pub struct_layout : DataModel → List StructType → ℕ → ℕ → Option Layout
 struct_layout model table zero number = None
-struct_layout model table (suc depth) number = option_and_then (λ ms. option_map (λ ls. padded (side_by_side 0 ls)) (member_layouts (layout_with model (struct_layout model table depth)) ms)) (members_of table number)
+struct_layout model table (suc depth) number =
+    option_and_then (λ ms. option_map (λ ls. padded (side_by_side 0 ls)) (member_layouts (layout_with model (struct_layout model table depth)) ms))
+    (members_of table number)
 
 -- how many structs of the table are complete
 abbrev pub complete_count : List StructType → ℕ
@@ -119,7 +123,8 @@ pub record IsLaid (model : DataModel) (table : List StructType) (number : ℕ) (
 
 -- every complete struct of the table is laid out, so that none holds itself, and no size passes 2^40
 abbrev pub IsLaidOut : DataModel → List StructType → Type 0
-IsLaidOut model table = (number : ℕ) (laid : StructType) (members : List Member) → slice_get table number ≡ Some laid → laid.members ≡ Some members → HasSmallSizes model table (struct number) × IsLaid model table number laid members
+IsLaidOut model table = (number : ℕ) (laid : StructType) (members : List Member) → slice_get table number ≡ Some laid → laid.members ≡ Some members
+    → HasSmallSizes model table (struct number) × IsLaid model table number laid members
 
 -- the table is laid out, and no size in the type passes 2^40
 pub record Fits (model : DataModel) (table : List StructType) (shape : Shape) : Type 0 where

@@ -23,11 +23,14 @@ last_at offset (m ∷ ms) = option_or (last_at offset ms) (if nat_le m.offset of
 -- what stands at an offset of an array's elements is what the layout has there
 abbrev pub IsBase : DataModel → List StructType → ℕ → Layout → ℕ → Base → Type 0
 IsBase model table depth layout offset (Scalar found) = scalar_at offset layout.leaves ≡ Some (shape_of found.now)
-IsBase model table depth layout offset (Inside number rest) = (held : Layout) × (struct_layout model table depth number ≡ Some held) × (scalar_at offset layout.leaves ≡ scalar_at rest held.leaves)
+IsBase model table depth layout offset (Inside number rest) =
+    (held : Layout) × (struct_layout model table depth number ≡ Some held) × (scalar_at offset layout.leaves ≡ scalar_at rest held.leaves)
 
 -- arrays are divided away
 abbrev pub DividesArrays : DataModel → List StructType → Shape → ℕ → Option Base → Type 0
-DividesArrays model table shape offset answer = (depth : ℕ) (layout : Layout) → depth ≤ complete_count table → layout_within model table depth shape ≡ Some layout → MatchOption answer (scalar_at offset layout.leaves ≡ None) (IsBase model table depth layout offset)
+DividesArrays model table shape offset answer = (depth : ℕ) (layout : Layout) → depth ≤ complete_count table
+    → layout_within model table depth shape ≡ Some layout
+    → MatchOption answer (scalar_at offset layout.leaves ≡ None) (IsBase model table depth layout offset)
 
 -- a member's type, with an offset in it, has there what the struct has
 pub record IsHeld (model : DataModel) (table : List StructType) (depth : ℕ) (layout : Layout) (offset : ℕ) (held : Shape) (rest : ℕ) : Type 0 where
@@ -38,4 +41,6 @@ pub record IsHeld (model : DataModel) (table : List StructType) (depth : ℕ) (l
 
 -- the member in which an offset of a struct lies
 abbrev pub EntersMember : DataModel → List StructType → ℕ → ℕ → Option (Bor CType × ℕ) → Type 0
-EntersMember model table number offset answer = (depth : ℕ) (layout : Layout) → suc depth ≤ complete_count table → struct_layout model table (suc depth) number ≡ Some layout → MatchOption answer (scalar_at offset layout.leaves ≡ None) (λ found. IsHeld model table depth layout offset (shape_of found.0.now) found.1)
+EntersMember model table number offset answer = (depth : ℕ) (layout : Layout) → suc depth ≤ complete_count table
+    → struct_layout model table (suc depth) number ≡ Some layout
+    → MatchOption answer (scalar_at offset layout.leaves ≡ None) (λ found. IsHeld model table depth layout offset (shape_of found.0.now) found.1)

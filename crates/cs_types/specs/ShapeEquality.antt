@@ -8,7 +8,12 @@ use Rattle.cs_types.specs.declared.int_type.IntType.TheVariants.{Char, SChar, UC
 use Rattle.cs_types.specs.Shape.{Shape, void, integer, pointer, array, struct, same_shape, place_of}
 
 type_at : ℕ → IntType
-type_at n = cond (n == 0) Char (cond (n == 1) SChar (cond (n == 2) UChar (cond (n == 3) Short (cond (n == 4) UShort (cond (n == 5) Int (cond (n == 6) UInt (cond (n == 7) Long (cond (n == 8) ULong (cond (n == 9) LLong ULLong)))))))))
+type_at n =
+    cond (n == 0) Char
+    (cond (n == 1) SChar
+    (cond (n == 2) UChar
+    (cond (n == 3) Short
+    (cond (n == 4) UShort (cond (n == 5) Int (cond (n == 6) UInt (cond (n == 7) Long (cond (n == 8) ULong (cond (n == 9) LLong ULLong)))))))))
 
 type_at-place_of : (ty : IntType) → type_at (place_of ty) ≡ ty
 unfolding type_at
@@ -80,6 +85,7 @@ from_same a b e = ap (same_shape a) (sym e) ∙ same_shape-refl a
 pub same_shape-equivalence : IsEquivalence same_shape
 same_shape-equivalence = record {
   refl = same_shape-refl;
-  symm = λ a b. alike (same_shape a b) (same_shape b a) (λ h. from_same b a (sym (same_shape-true a b h))) (λ h. from_same a b (sym (same_shape-true b a h)));
+  symm = λ a b. alike (same_shape a b) (same_shape b a) (λ h. from_same b a (sym (same_shape-true a b h)))
+      (λ h. from_same a b (sym (same_shape-true b a h)));
   congr = λ a b z h. ap (λ s. same_shape s z) (same_shape-true a b h);
 }

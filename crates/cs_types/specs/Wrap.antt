@@ -1,5 +1,6 @@
 -- The wrap quotient of a number, and the number converted to a type (C11 6.3.1.3, modulo for signed types too).
-use Rattle.std.specs.Prelude.{ℕ, ◌*◌, ◌/◌, ◌^◌, ◌-◌, ℤ, pos, negsuc, suc, zero, ◌+ℤ◌, ◌-ℤ◌, ◌*ℤ◌, Option, Some, None, if◌then◌else◌}
+use Rattle.std.specs.Prelude.{ℕ, ◌*◌, ◌/◌, ◌^◌, ◌-◌, ℤ, pos, negsuc, suc, zero, ◌+ℤ◌, ◌-ℤ◌, ◌*ℤ◌, Option, Some, None}
+use Rattle.std.specs.Prelude.{if◌then◌else◌}
 use Rattle.cs_types.specs.declared.data_model.DataModel.{DataModel}
 use Rattle.cs_types.specs.declared.int_type.IntType.{IntType}
 use Rattle.cs_types.specs.IntType.{bytes_of, has_sign, modulus_of}
@@ -11,7 +12,8 @@ floor_div (negsuc a) n = negsuc (a / n)
 
 -- how often the type's range lies between the number and the range itself
 abbrev pub wrap_quotient : DataModel → IntType → ℤ → ℤ
-wrap_quotient model ty number = if has_sign ty then floor_div (number +ℤ pos (2 ^ (8 * bytes_of model ty - 1))) (modulus_of model ty) else floor_div number (modulus_of model ty)
+wrap_quotient model ty number = if has_sign ty then floor_div (number +ℤ pos (2 ^ (8 * bytes_of model ty - 1))) (modulus_of model ty)
+    else floor_div number (modulus_of model ty)
 
 -- the number converted to the type
 abbrev pub wrapped : DataModel → IntType → ℤ → ℤ

@@ -28,7 +28,8 @@ pub fn in_range(model: DataModel, ty: IntType, number: i128) -> bool
 pub fn quotient(model: DataModel, ty: IntType, number: i128) -> i128
     requires { unsigned_abs number ≤ 2 ^ 126 }
     ensures value { result ≡ wrap_quotient model ty number }
-    ensures comes_into_range { InRange model ty (number -ℤ result *ℤ pos (modulus_of model ty)) }
+    ensures comes_into_range { InRange model ty
+        (number -ℤ result *ℤ pos (modulus_of model ty)) }
 {
     turns(model, ty, number)
 }
@@ -48,7 +49,8 @@ pub fn multiply(model: DataModel, ty: IntType, left: i128, right: i128) -> Produ
     requires left { IsIntegerOfC left }
     requires right { IsIntegerOfC right }
     ensures number { result.number ≡ wrapped model ty (left *ℤ right) }
-    ensures quotient { result.quotient ≡ near_quotient (wrap_quotient model ty (left *ℤ right)) }
+    ensures quotient { result.quotient
+        ≡ near_quotient (wrap_quotient model ty (left *ℤ right)) }
 {
     if left <= i128::from(i64::MAX) {
         return folded_product(model, ty, left, right, 0);
@@ -63,7 +65,8 @@ fn folded_product(model: DataModel, ty: IntType, left: i128, right: i128, taken:
     requires right { IsIntegerOfC right }
     requires taken { unsigned_abs taken ≤ 2 ^ 120 }
     ensures number { result.number ≡ wrapped model ty (left *ℤ right) }
-    ensures quotient { result.quotient ≡ near_quotient (wrap_quotient model ty (left *ℤ right) +ℤ taken) }
+    ensures quotient { result.quotient
+        ≡ near_quotient (wrap_quotient model ty (left *ℤ right) +ℤ taken) }
 {
     let product = near_product(left, right);
     Product {

@@ -14,7 +14,8 @@ use crate::structs::{StructTable, complete_struct};
 /// The bytes of a type, as `sizeof` tells them, and `None` for `void` and incomplete types.
 pub fn size(model: DataModel, table: &StructTable, ty: &CType) -> Option<u64>
     requires { Fits model table.now.list (shape_of ty.now) }
-    ensures { result ≡ option_map (λ layout. layout.size) (layout_of model table.now.list (shape_of ty.now)) }
+    ensures { result ≡ option_map (λ layout. layout.size)
+        (layout_of model table.now.list (shape_of ty.now)) }
 {
     match ty {
         CType::Void => None,
@@ -28,7 +29,8 @@ pub fn size(model: DataModel, table: &StructTable, ty: &CType) -> Option<u64>
 /// The alignment of a type in bytes, and `None` for `void` and incomplete types.
 pub fn align(model: DataModel, table: &StructTable, ty: &CType) -> Option<u64>
     requires { Fits model table.now.list (shape_of ty.now) }
-    ensures { result ≡ option_map (λ layout. layout.align) (layout_of model table.now.list (shape_of ty.now)) }
+    ensures { result ≡ option_map (λ layout. layout.align)
+        (layout_of model table.now.list (shape_of ty.now)) }
 {
     match ty {
         CType::Void => None,
@@ -48,7 +50,8 @@ pub fn leaf_at<'a>(
     offset: u64,
 ) -> Option<&'a CType>
     requires { Fits model table.now.list (shape_of ty.now) }
-    ensures { option_map (λ found. shape_of found.now) result ≡ leaf_of model table.now.list (shape_of ty.now) offset }
+    ensures { option_map (λ found. shape_of found.now) result
+        ≡ leaf_of model table.now.list (shape_of ty.now) offset }
 {
     size(model, table, ty)?;
     let mut depth = table.list.as_slice().len();

@@ -42,8 +42,12 @@ with_parts function head body locals held = record {
   written = function.written;
 }
 
-pub routine-bodied : (function : Function) (head : RawFunction) (body : RawBody) (locals : Vec Local Global) (statements : Vec Stmt Global) (held : Box StmtKind Global) (reported : TypedStatements) → held.value ≡ kind.Block statements → reported.inside.variables ≡ map variable locals.items → reported.statements ≡ map statement statements.items → routine (with_parts function head body locals held) ≡ bodied head body reported (routine function)
+pub routine-bodied : (function : Function) (head : RawFunction) (body : RawBody) (locals : Vec Local Global) (statements : Vec Stmt Global)
+    (held : Box StmtKind Global) (reported : TypedStatements) → held.value ≡ kind.Block statements
+    → reported.inside.variables ≡ map variable locals.items → reported.statements ≡ map statement statements.items
+    → routine (with_parts function head body locals held) ≡ bodied head body reported (routine function)
 routine-bodied function head body locals statements held reported is variables row =
-    let block : statement_at body.opening held.value ≡ Block body.opening (in_a_row reported.statements) = ap (statement_at body.opening) is ∙ block-in_a_row body.opening statements ∙ ap (λ (ss : List Statement). Block body.opening (in_a_row ss)) (sym row) in
+    let block : statement_at body.opening held.value ≡ Block body.opening (in_a_row reported.statements) = ap (statement_at body.opening) is
+    ∙ block-in_a_row body.opening statements ∙ ap (λ (ss : List Statement). Block body.opening (in_a_row ss)) (sym row) in
     ap (made function head body (map variable locals.items)) block
     ∙ ap (λ (vs : List Variable). made function head body vs (Block body.opening (in_a_row reported.statements))) (sym variables)

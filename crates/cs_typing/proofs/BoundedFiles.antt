@@ -1,5 +1,6 @@
 -- Typed files stand among the places of what is written, and have few nodes: for the contract of `typed`.
-use Rattle.std.proofs.Common.{◌≡◌, ℕ, ◌+◌, ◌*◌, ◌≤◌, ◌<◌, ◌^◌, ℤ, Bool, true, false, cond, List, [], ◌∷◌, ◌++◌, length, map, refl, arith}
+use Rattle.std.proofs.Common.{◌≡◌, ℕ, ◌+◌, ◌*◌, ◌≤◌, ◌<◌, ◌^◌, ℤ, Bool, true, false, cond, List, [], ◌∷◌, ◌++◌}
+use Rattle.std.proofs.Common.{length, map, refl, arith}
 use Rattle.std.specs.Prelude.{Some, None, nat_eq, ◌||◌, option_to_list}
 use Rattle.std.specs.List.{All, AllByRecursion, list_any}
 use Rattle.std.specs.Ordering.{int_eq}
@@ -22,7 +23,8 @@ use Rattle.cs_ast.specs.RawDeclarationView.{declared, declarator, specs, head}
 use Rattle.cs_ast.specs.RawStatementView.{items_list, external_of, external}
 use Rattle.cs_ast.specs.TypedProgram.{TypedProgram}
 use Rattle.cs_grammar.specs.Text.{Kinds}
-use Rattle.cs_grammar.specs.FileText.{punctuator_text, with_commas, declarator_text, declared_text, specs_text, head_text, items_text, external_text, externals_text, file_text}
+use Rattle.cs_grammar.specs.FileText.{punctuator_text, with_commas, declarator_text, declared_text, specs_text, head_text, items_text, external_text}
+use Rattle.cs_grammar.specs.FileText.{externals_text, file_text}
 use Rattle.cs_grammar.proofs.FileTexts.{declared_append, items_append, head_append}
 use Rattle.cs_scopes.specs.Verdicts.{Verdict, Fine}
 use Rattle.cs_declarations.specs.Bodies.{Typing, specs_type, typedefs_added}
@@ -105,7 +107,8 @@ some-token (external_kind.Definition s d body) rest =
     let i = size-following (items_text (items_list body.items.items)) (items_append (items_list body.items.items)) close in
     omega (arith, e, h, i)
 
-few-placed : (defined : List ℕ → Bool) (file : List RawExternal) (rest : Kinds) → length (all_placed defined file) + text_size rest ≤ text_size (externals_text (map external file) rest)
+few-placed : (defined : List ℕ → Bool) (file : List RawExternal) (rest : Kinds)
+    → length (all_placed defined file) + text_size rest ≤ text_size (externals_text (map external file) rest)
 few-placed defined [] rest = omega arith
 few-placed defined (e ∷ es) rest =
     let one = placed-once defined e.kind in
@@ -133,7 +136,8 @@ module _ (Is : Place → Type 0) (room : ℕ) where
   After rest = FiledFits Is room (24 * text_size rest)
 
   -- after words before declarators
-  words-fit : (f : Filed) (s : RawSpecs) (ty : Typing) (following : Kinds) → IsTyping f.known s ty → After (specs_text (specs s) following) f → After following (with_known ty.1 f)
+  words-fit : (f : Filed) (s : RawSpecs) (ty : Typing) (following : Kinds) → IsTyping f.known s ty → After (specs_text (specs s) following) f
+      → After following (with_known ty.1 f)
   words-fit f s ty following g h =
       let long = size-specs (specs s) following in
       let grown = grows-by f.known ty.1 (size_of (specs_text (specs s))) g in
@@ -145,13 +149,16 @@ module _ (Is : Place → Type 0) (room : ℕ) where
   after_words (external_kind.Typedef s names) rest = with_commas declarator_text (map declarator names.items) (punctuator_text punctuator.Semicolon rest)
   after_words (external_kind.Objects s objects) rest = with_commas declared_text (map declared objects.items) (punctuator_text punctuator.Semicolon rest)
   after_words (external_kind.Function s d) rest = head_text (head d) (punctuator_text punctuator.Semicolon rest)
-  after_words (external_kind.Definition s d body) rest = head_text (head d) (punctuator_text punctuator.OpenBrace (items_text (items_list body.items.items) (punctuator_text punctuator.CloseBrace rest)))
+  after_words (external_kind.Definition s d body) rest =
+      head_text (head d) (punctuator_text punctuator.OpenBrace (items_text (items_list body.items.items) (punctuator_text punctuator.CloseBrace rest)))
 
   -- a semicolon after
   passed-semicolon : (v : Verdict Filed) (rest : Kinds) → IfFine v (After (punctuator_text punctuator.Semicolon rest)) → IfFine v (After rest)
-  passed-semicolon v rest h = if_fine-weaker (After (punctuator_text punctuator.Semicolon rest)) (After rest) v h (λ g k. fits-less Is room g _ _ (omega arith) k)
+  passed-semicolon v rest h = if_fine-weaker (After (punctuator_text punctuator.Semicolon rest)) (After rest) v h
+      (λ g k. fits-less Is room g _ _ (omega arith) k)
 
-  declared-fits : (kind : RawExternalKind) (f : Filed) (base : Shape) (rest : Kinds) → ExternalKindAmong Is kind → After (after_words kind rest) f → IfFine (external_declared kind f base) (After rest)
+  declared-fits : (kind : RawExternalKind) (f : Filed) (base : Shape) (rest : Kinds) → ExternalKindAmong Is kind → After (after_words kind rest) f
+      → IfFine (external_declared kind f base) (After rest)
   declared-fits (external_kind.Type s) f base rest among h = fits-less Is room f _ _ (omega arith) h
   declared-fits (external_kind.Typedef s names) f base rest among h =
       let long = declarators_size (map declarator names.items) (punctuator_text punctuator.Semicolon rest) in
@@ -159,38 +166,48 @@ module _ (Is : Place → Type 0) (room : ℕ) where
       (λ k g. let grown = grows-by f.known k 0 g in fits-known Is room f k _ _ (omega (arith, long, grown)) h)
   declared-fits (external_kind.Objects s objects) f base rest among h =
       passed-semicolon (objects_added s base objects.items f) rest
-      (objects_added-fits Is room s base objects.items f (punctuator_text punctuator.Semicolon rest) (recursion_from_All (DeclaredAmong Is) objects.items among) h)
-  declared-fits (external_kind.Function s d) f base rest among h = function_added-fits Is room d None f base rest among tt (punctuator_text punctuator.Semicolon rest) refl h
+      (objects_added-fits Is room s base objects.items f (punctuator_text punctuator.Semicolon rest) (recursion_from_All (DeclaredAmong Is) objects.items among)
+      h)
+  declared-fits (external_kind.Function s d) f base rest among h =
+      function_added-fits Is room d None f base rest among tt (punctuator_text punctuator.Semicolon rest) refl h
   declared-fits (external_kind.Definition s d body) f base rest among h =
-      function_added-fits Is room d (Some body) f base rest among.0 among.1 (punctuator_text punctuator.OpenBrace (items_text (items_list body.items.items) (punctuator_text punctuator.CloseBrace rest))) refl h
+      function_added-fits Is room d (Some body) f base rest among.0 among.1
+      (punctuator_text punctuator.OpenBrace (items_text (items_list body.items.items) (punctuator_text punctuator.CloseBrace rest))) refl h
 
   -- the words of a part of a file are in its text
-  words-first : (kind : RawExternalKind) (rest : Kinds) → text_size (specs_text (specs (specs_of kind)) (after_words kind rest)) ≤ text_size (external_text (external_of kind) rest)
+  words-first : (kind : RawExternalKind) (rest : Kinds)
+      → text_size (specs_text (specs (specs_of kind)) (after_words kind rest)) ≤ text_size (external_text (external_of kind) rest)
   words-first (external_kind.Type s) rest = omega arith
   words-first (external_kind.Typedef s names) rest = omega arith
   words-first (external_kind.Objects s objects) rest = omega arith
   words-first (external_kind.Function s d) rest = omega arith
   words-first (external_kind.Definition s d body) rest = omega arith
 
-  external-fits : (at : Place) (kind : RawExternalKind) (f : Filed) (rest : Kinds) → ExternalKindAmong Is kind → After (external_text (external_of kind) rest) f → IfFine (external_typed at kind f) (After rest)
+  external-fits : (at : Place) (kind : RawExternalKind) (f : Filed) (rest : Kinds) → ExternalKindAmong Is kind
+      → After (external_text (external_of kind) rest) f → IfFine (external_typed at kind f) (After rest)
   external-fits at kind f rest among h =
-      lift-then (IsTyping f.known (specs_of kind)) (After rest) (external_read kind f) (specs_type f.known at (specs_of kind)) (words-bounded f.known at (specs_of kind))
+      lift-then (IsTyping f.known (specs_of kind)) (After rest) (external_read kind f) (specs_type f.known at (specs_of kind))
+      (words-bounded f.known at (specs_of kind))
       (λ ty g.
       let first = words-first kind rest in
-      declared-fits kind (with_known ty.1 f) ty.0 rest among (words-fit f (specs_of kind) ty (after_words kind rest) g (fits-less Is room f _ _ (omega (arith, first)) h)))
+      declared-fits kind (with_known ty.1 f) ty.0 rest among
+      (words-fit f (specs_of kind) ty (after_words kind rest) g (fits-less Is room f _ _ (omega (arith, first)) h)))
 
-  file-fits : (file : List RawExternal) (f : Filed) → AllByRecursion (ExternalAmong Is) file → After (externals_text (map external file) []) f → IfFine (file_typed file f) (After [])
+  file-fits : (file : List RawExternal) (f : Filed) → AllByRecursion (ExternalAmong Is) file → After (externals_text (map external file) []) f
+      → IfFine (file_typed file f) (After [])
   file-fits [] f among h = h
   file-fits (e ∷ es) f among h =
       let following = externals_text (map external es) [] in
-      lift-then (After following) (After []) (file_typed es) (external_typed e.place e.kind f) (external-fits e.place e.kind f following among.0 h) (λ g k. file-fits es g among.1 k)
+      lift-then (After following) (After []) (file_typed es) (external_typed e.place e.kind f) (external-fits e.place e.kind f following among.0 h)
+      (λ g k. file-fits es g among.1 k)
 
 -- the place of functions that aren't declared
 abbrev blank_place : Place
 blank_place = record { file = 0; line = 1; column = 1 }
 
 module _ (Is : Place → Type 0) (blank_is : Is blank_place) where
-  pub typed_file-fits : (model : DataModel) (file : List RawExternal) → All (ExternalAmong Is) file → IfFine (typed_file model file) (FiledFits Is (25 * text_size (file_text (map external file))) 0)
+  pub typed_file-fits : (model : DataModel) (file : List RawExternal) → All (ExternalAmong Is) file
+      → IfFine (typed_file model file) (FiledFits Is (25 * text_size (file_text (map external file))) 0)
   typed_file-fits model file among = file-fits Is _ file (beginning model (order_of file)) (recursion_from_All (ExternalAmong Is) file among) begun
     where
       begun : FiledFits Is (25 * text_size (file_text (map external file))) (24 * text_size (file_text (map external file))) (beginning model (order_of file))
@@ -204,15 +221,20 @@ module _ (Is : Place → Type 0) (blank_is : Is blank_place) where
 abbrev IsBoundedProgram : TypedProgram → Type 0
 IsBoundedProgram p = ProgramStandsAmong (IsOfFiles (length p.files)) p × (program_nodes p < 2 ^ 28)
 
-typed-bounded : (model : DataModel) (files : List (List ℕ)) (tokens : List Token) (file : List RawExternal) → IsFileTree files tokens file → IfFine (typed model files tokens file) IsBoundedProgram
+typed-bounded : (model : DataModel) (files : List (List ℕ)) (tokens : List Token) (file : List RawExternal) → IsFileTree files tokens file
+    → IfFine (typed model files tokens file) IsBoundedProgram
 typed-bounded model files tokens file tree =
     let Is : Place → Type 0 = IsOfFiles (length files) in
-    lift-then (FiledFits Is (25 * text_size (file_text (map external file))) 0) IsBoundedProgram (λ (f : Filed). Fine (program_of model files tokens f)) (typed_file model file)
+    lift-then (FiledFits Is (25 * text_size (file_text (map external file))) 0) IsBoundedProgram (λ (f : Filed). Fine (program_of model files tokens f))
+    (typed_file model file)
     (typed_file-fits Is tree.some_file model file tree.placed)
     (λ f h. (
       record { globals = h.globals; routines = h.routines },
       omega (arith, h.nodes, few-constants tokens, tree.short, tree.few_tokens, tree.few_files),
     ))
 
-pub typed_is_bounded : (model : DataModel) (files : List (List ℕ)) (tokens : List Token) (file : List RawExternal) (p : TypedProgram) → IsFileTree files tokens file → typed model files tokens file ≡ Fine p → ProgramStandsAmong (IsOfFiles (length p.files)) p × (program_nodes p < 2 ^ 28)
-typed_is_bounded model files tokens file p tree reported = if_fine-at IsBoundedProgram (typed model files tokens file) p (typed-bounded model files tokens file tree) reported
+pub typed_is_bounded : (model : DataModel) (files : List (List ℕ)) (tokens : List Token) (file : List RawExternal) (p : TypedProgram)
+    → IsFileTree files tokens file → typed model files tokens file ≡ Fine p
+    → ProgramStandsAmong (IsOfFiles (length p.files)) p × (program_nodes p < 2 ^ 28)
+typed_is_bounded model files tokens file p tree reported =
+    if_fine-at IsBoundedProgram (typed model files tokens file) p (typed-bounded model files tokens file tree) reported

@@ -26,10 +26,12 @@ use Rattle.cs_scopes.specs.TypeNames.{starred}
 use Rattle.cs_scopes.specs.Verdicts.{Fine, Fault, lift}
 use Rattle.cs_declarations.specs.Bodies.{specs_type}
 use Rattle.cs_declarations.specs.Environment.{Environment, meaning_here, entered}
-use Rattle.cs_declarations.specs.Parameters.{Head, place_of, is_free_name, with_parameter, parameter_passed, parameter_typed, parameters_after, parameters_typed}
+use Rattle.cs_declarations.specs.Parameters.{Head, place_of, is_free_name, with_parameter, parameter_passed, parameter_typed, parameters_after}
+use Rattle.cs_declarations.specs.Parameters.{parameters_typed}
 use Rattle.cs_typing.specs.Objects.{Filed}
 use Rattle.cs_typing.specs.Statements.{in_a_row, no_statements, body_typed}
-use Rattle.cs_typing.specs.Functions.{is_result, same_types, types_of, may_be_function, bodiless, number_in, Routed, new_function, function_of, declared_inside, bodied, with_body, at_beginning, where_in, body_added, completed, outside_of, headed, resulted, function_added}
+use Rattle.cs_typing.specs.Functions.{is_result, same_types, types_of, may_be_function, bodiless, number_in, Routed, new_function, function_of, declared_inside}
+use Rattle.cs_typing.specs.Functions.{bodied, with_body, at_beginning, where_in, body_added, completed, outside_of, headed, resulted, function_added}
 use Rattle.cs_well_formed.specs.Bounded.{texts_nodes}
 use Rattle.cs_well_formed.specs.Nodes.{statements_nodes, routine_nodes}
 use Rattle.cs_well_formed.specs.Places.{RoutineStandsAmong}
@@ -64,7 +66,9 @@ parameters-more : (ps : List RawParameter) (before : Head) → IfFine (parameter
 parameters-more [] before = omega arith
 parameters-more (p ∷ ps) before =
     lift-then (HasMore before 1) (HasMore before (suc (length ps))) (parameters_after ps) (parameter_typed p before) (parameter-one p before)
-    (λ one h. if_fine-weaker (HasMore one (length ps)) (HasMore before (suc (length ps))) (parameters_after ps one) (parameters-more ps one) (λ head k. omega (arith, h, k)))
+    (λ one h.
+    if_fine-weaker (HasMore one (length ps)) (HasMore before (suc (length ps))) (parameters_after ps one) (parameters-more ps one)
+    (λ head k. omega (arith, h, k)))
 
 -- as many variables as the text of the parameters has room for
 abbrev FewVariables : RawParameters → Head → Type 0
@@ -75,7 +79,8 @@ few-variables k parameter_lists.Empty = omega arith
 few-variables k parameter_lists.Void = omega arith
 few-variables k (parameter_lists.List list) =
     let begun : Head = record { variables = []; written = []; known = k } in
-    if_fine-weaker (HasMore begun (length list.items)) (FewVariables (parameter_lists.List list)) (parameters_after list.items begun) (parameters-more list.items begun)
+    if_fine-weaker (HasMore begun (length list.items)) (FewVariables (parameter_lists.List list)) (parameters_after list.items begun)
+    (parameters-more list.items begun)
     (λ head h. omega (arith, h, parameters_count list.items))
 
 module _ (Is : Place → Type 0) (room : ℕ) where
@@ -84,17 +89,21 @@ module _ (Is : Place → Type 0) (room : ℕ) where
   abbrev RoutedFits : ℕ → Routed → Type 0
   RoutedFits more r = FiledFits Is room more r.1
 
-  new_function-fits : (f : Filed) (d : RawFunction) (result : Shape) (variables : List Variable) (written : List Bool) (more : ℕ) → Is d.place → FiledFits Is room (more + (length variables + length written) + 1) f → RoutedFits more (new_function f d result variables written)
+  new_function-fits : (f : Filed) (d : RawFunction) (result : Shape) (variables : List Variable) (written : List Bool) (more : ℕ) → Is d.place
+      → FiledFits Is room (more + (length variables + length written) + 1) f → RoutedFits more (new_function f d result variables written)
   new_function-fits f d result variables written more here h =
       let slot = number_in f.order d.name in
       let change : Routine → Routine = λ blank. bodiless d result variables written in
       record {
         globals = h.globals;
         routines = changed-All change (RoutineStandsAmong Is) slot f.routines (λ x _ _. record { at = here; closes = here; body = tt }) h.routines;
-        nodes = (let e = changed-nodes routine_nodes change (length variables + length written + 1) (λ x. omega arith) slot f.routines in let n = h.nodes in omega (arith, e, n));
+        nodes = (let e = changed-nodes routine_nodes change (length variables + length written + 1) (λ x. omega arith) slot f.routines in let n = h.nodes in
+            omega (arith, e, n));
       }
 
-  function_of-fits : (f : Filed) (d : RawFunction) (result : Shape) (variables : List Variable) (written : List Bool) (m : Option Meaning) (more : ℕ) → Is d.place → FiledFits Is room (more + (length variables + length written) + 1) f → IfFine (function_of f d result variables written m) (RoutedFits more)
+  function_of-fits : (f : Filed) (d : RawFunction) (result : Shape) (variables : List Variable) (written : List Bool) (m : Option Meaning) (more : ℕ)
+      → Is d.place → FiledFits Is room (more + (length variables + length written) + 1) f
+      → IfFine (function_of f d result variables written m) (RoutedFits more)
   function_of-fits f d result variables written (Some (Function before)) more here h =
       cond-then (RoutedFits more) (same_types before.parameters (types_of variables)) (Fine (before.callee, f)) (Fault DeclaredTwice d.place)
       (λ _. fits-less Is room f (more + (length variables + length written) + 1) more (omega arith) h) (λ _. tt)
@@ -109,17 +118,21 @@ module _ (Is : Place → Type 0) (room : ℕ) where
   -- the text of a body, or the semicolon in its place
   abbrev pub ending_length : Option RawBody → Kinds → ℕ
   ending_length None rest = text_size (punctuator_text punctuator.Semicolon rest)
-  ending_length (Some body) rest = text_size (punctuator_text punctuator.OpenBrace (items_text (items_list body.items.items) (punctuator_text punctuator.CloseBrace rest)))
+  ending_length (Some body) rest =
+      text_size (punctuator_text punctuator.OpenBrace (items_text (items_list body.items.items) (punctuator_text punctuator.CloseBrace rest)))
 
   body-longer : (body : RawBody) (rest : Kinds) (more : ℕ) → 24 * text_size rest ≤ more + 24 * ending_length (Some body) rest
   body-longer body rest more =
-      let items = size-following (items_text (items_list body.items.items)) (items_append (items_list body.items.items)) (punctuator_text punctuator.CloseBrace rest) in
+      let items = size-following (items_text (items_list body.items.items)) (items_append (items_list body.items.items))
+      (punctuator_text punctuator.CloseBrace rest) in
       omega (arith, items)
 
   abbrev After : Kinds → Filed → Type 0
   After rest = FiledFits Is room (24 * text_size rest)
 
-  body_added-fits : (d : RawFunction) (body : RawBody) (result : Shape) (variables : List Variable) (inner : List Declaration) (callee : Callee) (f : Filed) (rest : Kinds) → Is d.place → BodyAmong Is body → FiledFits Is room (length variables + 24 * ending_length (Some body) rest) f → IfFine (body_added d body result variables inner callee f) (After rest)
+  body_added-fits : (d : RawFunction) (body : RawBody) (result : Shape) (variables : List Variable) (inner : List Declaration) (callee : Callee) (f : Filed)
+      (rest : Kinds) → Is d.place → BodyAmong Is body → FiledFits Is room (length variables + 24 * ending_length (Some body) rest) f
+      → IfFine (body_added d body result variables inner callee f) (After rest)
   body_added-fits d body result variables inner Malloc f rest here among h = fits-less Is room f _ _ (body-longer body rest (length variables)) h
   body_added-fits d body result variables inner Calloc f rest here among h = fits-less Is room f _ _ (body-longer body rest (length variables)) h
   body_added-fits d body result variables inner Free f rest here among h = fits-less Is room f _ _ (body-longer body rest (length variables)) h
@@ -127,24 +140,33 @@ module _ (Is : Place → Type 0) (room : ℕ) where
       let following = punctuator_text punctuator.CloseBrace rest in
       let begun = at_beginning f variables inner in
       let inside = weight begun + 24 * text_size (items_text (items_list body.items.items) following) in
-      lift-then (HasRoom Is inside (text_size following)) (After rest) (with_body d body number f) (body_typed (where_in result body) body.items.items (no_statements begun))
-      (body-fits Is inside (where_in result body) body.items.items (no_statements begun) following (recursion_from_All (ItemAmong Is) body.items.items among.inside) (tt, omega arith))
+      lift-then (HasRoom Is inside (text_size following)) (After rest) (with_body d body number f)
+      (body_typed (where_in result body) body.items.items (no_statements begun))
+      (body-fits Is inside (where_in result body) body.items.items (no_statements begun) following
+      (recursion_from_All (ItemAmong Is) body.items.items among.inside) (tt, omega arith))
       (λ reported g. record {
         globals = h.globals;
-        routines = changed-All (bodied d body reported) (RoutineStandsAmong Is) number f.routines (λ x _ _. record { at = here; closes = among.closing; body = (among.opening, g.0) }) h.routines;
-        nodes = (let e = changed-nodes routine_nodes (bodied d body reported) (length reported.inside.variables + statements_nodes (in_a_row reported.statements) + 1) (λ x. omega arith) number f.routines in
+        routines = changed-All (bodied d body reported) (RoutineStandsAmong Is) number f.routines
+            (λ x _ _. record { at = here; closes = among.closing; body = (among.opening, g.0) }) h.routines;
+        nodes =
+            (let e = changed-nodes routine_nodes (bodied d body reported)
+            (length reported.inside.variables + statements_nodes (in_a_row reported.statements) + 1) (λ x. omega arith) number f.routines in
             let n = h.nodes in
             let m = g.1 in
             omega (arith, e, n, m));
       })
 
-  completed-fits : (d : RawFunction) (body : Option RawBody) (result : Shape) (variables : List Variable) (inner : List Declaration) (r : Routed) (rest : Kinds) → Is d.place → IfSome body (BodyAmong Is) → RoutedFits (length variables + 24 * ending_length body rest) r → IfFine (completed d body result variables inner r) (After rest)
+  completed-fits : (d : RawFunction) (body : Option RawBody) (result : Shape) (variables : List Variable) (inner : List Declaration) (r : Routed) (rest : Kinds)
+      → Is d.place → IfSome body (BodyAmong Is) → RoutedFits (length variables + 24 * ending_length body rest) r
+      → IfFine (completed d body result variables inner r) (After rest)
   completed-fits d None result variables inner r rest here among h = fits-less Is room r.1 _ _ (omega arith) h
   completed-fits d (Some body) result variables inner r rest here among h = body_added-fits d body result variables inner r.0 r.1 rest here among h
 
   -- ---- functions
 
-  headed-fits : (d : RawFunction) (body : Option RawBody) (f : Filed) (result : Shape) (h : Head) (rest : Kinds) → Is d.place → IfSome body (BodyAmong Is) → IsHead (entered f.known) d.parameters h → FewVariables d.parameters h → (following : Kinds) → text_size following ≡ ending_length body rest → FiledFits Is room (24 * text_size (head_text (head d) following)) f → IfFine (headed d body f result h) (After rest)
+  headed-fits : (d : RawFunction) (body : Option RawBody) (f : Filed) (result : Shape) (h : Head) (rest : Kinds) → Is d.place → IfSome body (BodyAmong Is)
+      → IsHead (entered f.known) d.parameters h → FewVariables d.parameters h → (following : Kinds) → text_size following ≡ ending_length body rest
+      → FiledFits Is room (24 * text_size (head_text (head d) following)) f → IfFine (headed d body f result h) (After rest)
   headed-fits d body f result h rest here among bounded few following ends fits =
       lift-then (RoutedFits more) (After rest) (completed d body result h.variables (declared_inside f.known h.known)) _
       (function_of-fits (outside_of f h) d result h.variables h.written (meaning_here d.name (outside_of f h).known) more here outside)
@@ -165,14 +187,17 @@ module _ (Is : Place → Type 0) (room : ℕ) where
           fits-known Is room f _ _ _ (omega (arith, same, n, stars, list, few, ends)) fits
 
   -- a declared function, with its body if it has one
-  pub function_added-fits : (d : RawFunction) (body : Option RawBody) (f : Filed) (ty : Shape) (rest : Kinds) → Is d.place → IfSome body (BodyAmong Is) → (following : Kinds) → text_size following ≡ ending_length body rest → FiledFits Is room (24 * text_size (head_text (head d) following)) f → IfFine (function_added d body f ty) (After rest)
+  pub function_added-fits : (d : RawFunction) (body : Option RawBody) (f : Filed) (ty : Shape) (rest : Kinds) → Is d.place → IfSome body (BodyAmong Is)
+      → (following : Kinds) → text_size following ≡ ending_length body rest → FiledFits Is room (24 * text_size (head_text (head d) following)) f
+      → IfFine (function_added d body f ty) (After rest)
   function_added-fits d body f ty rest here among following ends fits =
       let result = starred d.pointers.items ty in
       let v = parameters_typed (entered f.known) d.parameters in
       cond-then (After rest) (may_be_function f (is_some body) result (meaning_here d.name f.known)) (resulted d body f result) (Fault DeclaredTwice d.place)
       (λ _. cond-then (After rest) (is_result result) (lift (headed d body f result) v) (Fault IncompleteType d.place)
       (λ _. lift-then (λ h. IsHead (entered f.known) d.parameters h × FewVariables d.parameters h) (After rest) (headed d body f result) v
-      (both-fine (IsHead (entered f.known) d.parameters) (FewVariables d.parameters) v (parameters-bounded (entered f.known) d.parameters) (few-variables (entered f.known) d.parameters))
+      (both-fine (IsHead (entered f.known) d.parameters) (FewVariables d.parameters) v (parameters-bounded (entered f.known) d.parameters)
+      (few-variables (entered f.known) d.parameters))
       (λ h k. headed-fits d body f result h rest here among k.0 k.1 following ends fits))
       (λ _. tt))
       (λ _. tt)

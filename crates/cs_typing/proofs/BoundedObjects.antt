@@ -20,7 +20,8 @@ use Rattle.cs_scopes.specs.Verdicts.{Fine, Fault}
 use Rattle.cs_declarations.specs.Initializers.{InFile}
 use Rattle.cs_declarations.specs.Environment.{Environment, meaning_here}
 use Rattle.cs_declarations.specs.Objects.{object_type, is_constant_object}
-use Rattle.cs_typing.specs.Objects.{Filed, Object, with_known, is_completed, may_be_object, new_object, object_of, changed, made_constant, holding, with_initial, object_initialized, marked, object_added, objects_added}
+use Rattle.cs_typing.specs.Objects.{Filed, Object, with_known, is_completed, may_be_object, new_object, object_of, changed, made_constant, holding}
+use Rattle.cs_typing.specs.Objects.{with_initial, object_initialized, marked, object_added, objects_added}
 use Rattle.cs_well_formed.specs.Nodes.{initial_nodes, all_nodes, object_nodes, routine_nodes}
 use Rattle.cs_well_formed.specs.Places.{ObjectStandsAmong, RoutineStandsAmong}
 use Rattle.cs_well_formed.specs.Sizes.{text_size}
@@ -36,7 +37,8 @@ module _ {A : Type 0} (count : A → ℕ) where
   push-nodes : (xs : List A) (x : A) → all_nodes count (xs ++ x ∷ []) ≡ all_nodes count xs + count x
   push-nodes xs x = let e = all_nodes-append count xs (x ∷ []) in omega (arith, e)
 
-  pub changed-nodes : (change : A → A) (more : ℕ) → ((x : A) → count (change x) ≤ count x + more) → (number : ℕ) (xs : List A) → all_nodes count (changed number change xs) ≤ all_nodes count xs + more
+  pub changed-nodes : (change : A → A) (more : ℕ) → ((x : A) → count (change x) ≤ count x + more)
+      → (number : ℕ) (xs : List A) → all_nodes count (changed number change xs) ≤ all_nodes count xs + more
   changed-nodes change more each number [] = omega arith
   changed-nodes change more each zero (x ∷ xs) = omega (arith, each x, all_nodes-cons count x xs, all_nodes-cons count (change x) xs)
   changed-nodes change more each (suc number) (x ∷ xs) =
@@ -57,14 +59,16 @@ module _ (Is : Place → Type 0) (room : ℕ) where
   fits-less f more less le h = record { globals = h.globals; routines = h.routines; nodes = (let k = h.nodes in omega (arith, le, k)) }
 
   -- after what makes more known
-  pub fits-known : (f : Filed) (k : Environment) (more less : ℕ) → nodes_known k + less ≤ nodes_known f.known + more → FiledFits Is room more f → FiledFits Is room less (with_known k f)
+  pub fits-known : (f : Filed) (k : Environment) (more less : ℕ) → nodes_known k + less ≤ nodes_known f.known + more → FiledFits Is room more f
+      → FiledFits Is room less (with_known k f)
   fits-known f k more less le h = record { globals = h.globals; routines = h.routines; nodes = (let n = h.nodes in omega (arith, le, n)) }
 
 module _ (Is : Place → Type 0) (room : ℕ) where
   abbrev ObjectFits : ℕ → Object → Type 0
   ObjectFits more o = FiledFits Is room more o.filed
 
-  new_object-fits : (f : Filed) (d : RawDeclarator) (ty : Shape) (more : ℕ) → Is d.place → FiledFits Is room (more + 1) f → ObjectFits more (new_object f d ty)
+  new_object-fits : (f : Filed) (d : RawDeclarator) (ty : Shape) (more : ℕ) → Is d.place → FiledFits Is room (more + 1) f
+      → ObjectFits more (new_object f d ty)
   new_object-fits f d ty more here h =
       let object : FileObject = record { name = d.name; at = d.place; ty = ty; constant = false; initial = None } in
       record {
@@ -73,9 +77,11 @@ module _ (Is : Place → Type 0) (room : ℕ) where
         nodes = (let e = push-nodes object_nodes f.globals object in let n = h.nodes in omega (arith, e, n));
       }
 
-  object_of-fits : (f : Filed) (d : RawDeclarator) (before : Option Meaning) (ty : Shape) (more : ℕ) → Is d.place → FiledFits Is room (more + 1) f → IfFine (object_of f d before ty) (ObjectFits more)
+  object_of-fits : (f : Filed) (d : RawDeclarator) (before : Option Meaning) (ty : Shape) (more : ℕ) → Is d.place → FiledFits Is room (more + 1) f
+      → IfFine (object_of f d before ty) (ObjectFits more)
   object_of-fits f d (Some (Global number ty')) ty more here h =
-      cond-then (ObjectFits more) (same_shape ty' ty) (Fine (record { number = number; filed = f })) (Fault DeclaredTwice d.place) (λ _. fits-less Is room f (more + 1) more (omega arith) h) (λ _. tt)
+      cond-then (ObjectFits more) (same_shape ty' ty) (Fine (record { number = number; filed = f })) (Fault DeclaredTwice d.place)
+      (λ _. fits-less Is room f (more + 1) more (omega arith) h) (λ _. tt)
   object_of-fits f d None ty more here h = new_object-fits f d ty more here h
   object_of-fits f d (Some (Typedef t)) ty more here h = new_object-fits f d ty more here h
   object_of-fits f d (Some (Constant value)) ty more here h = new_object-fits f d ty more here h
@@ -94,7 +100,8 @@ module _ (Is : Place → Type 0) (room : ℕ) where
   abbrev first_length : Option RawFirstValue → Kinds → ℕ
   first_length first rest = text_size (first_value_text (option_map (λ (v : RawFirstValue). initial v.initial) first) rest)
 
-  object_initialized-fits : (ty : Shape) (first : Option RawFirstValue) (o : Object) (rest : Kinds) → IfSome first (FirstValueAmong Is) → ObjectFits (24 * first_length first rest) o → IfFine (object_initialized ty first o) (FiledFits Is room (24 * text_size rest))
+  object_initialized-fits : (ty : Shape) (first : Option RawFirstValue) (o : Object) (rest : Kinds) → IfSome first (FirstValueAmong Is)
+      → ObjectFits (24 * first_length first rest) o → IfFine (object_initialized ty first o) (FiledFits Is room (24 * text_size rest))
   object_initialized-fits ty None o rest among h = h
   object_initialized-fits ty (Some value) o rest among h =
       let f = o.filed in
@@ -110,13 +117,15 @@ module _ (Is : Place → Type 0) (room : ℕ) where
             omega (arith, e, n, m, long));
       })
 
-  object_added-fits : (s : RawSpecs) (base : Shape) (d : RawInit) (f : Filed) (rest : Kinds) → DeclaredAmong Is d → FiledFits Is room (24 * text_size (declared_text (declared d) rest)) f → IfFine (object_added s base d f) (FiledFits Is room (24 * text_size rest))
+  object_added-fits : (s : RawSpecs) (base : Shape) (d : RawInit) (f : Filed) (rest : Kinds) → DeclaredAmong Is d
+      → FiledFits Is room (24 * text_size (declared_text (declared d) rest)) f → IfFine (object_added s base d f) (FiledFits Is room (24 * text_size rest))
   object_added-fits s base d f rest among h =
       cond-then After (may_be_object f.globals (is_completed f base d.declarator) (is_some d.initial) before) _ (Fault DeclaredTwice d.declarator.place)
       (λ _. lift-then (λ _. Unit {0}) After _ (object_type f.known.context base d) (if_fine-any (object_type f.known.context base d))
       (λ ty _.
       lift-then (ObjectFits following) After (object_initialized ty d.initial) _
-      (lift-then (ObjectFits following) (ObjectFits following) (marked s d.declarator) _ (object_of-fits f d.declarator before ty following among.name (fits-less Is room f _ (following + 1) (omega (arith, named)) h))
+      (lift-then (ObjectFits following) (ObjectFits following) (marked s d.declarator) _
+      (object_of-fits f d.declarator before ty following among.name (fits-less Is room f _ (following + 1) (omega (arith, named)) h))
       (λ o k. marked-fits s d.declarator o following k))
       (λ o k. object_initialized-fits ty d.initial o rest among.initial k)))
       (λ _. tt)
@@ -133,16 +142,21 @@ module _ (Is : Place → Type 0) (room : ℕ) where
       named : 1 + first_length d.initial rest ≤ text_size (declared_text (declared d) rest)
       named = declarator_size (declarator d.declarator) (first_value_text (option_map (λ (v : RawFirstValue). initial v.initial) d.initial) rest)
 
-  further-objects : (s : RawSpecs) (base : Shape) (ds : List RawInit) (f : Filed) (rest : Kinds) → AllByRecursion (DeclaredAmong Is) ds → FiledFits Is room (24 * text_size (each_after_comma declared_text (map declared ds) rest)) f → IfFine (objects_added s base ds f) (FiledFits Is room (24 * text_size rest))
+  further-objects : (s : RawSpecs) (base : Shape) (ds : List RawInit) (f : Filed) (rest : Kinds) → AllByRecursion (DeclaredAmong Is) ds
+      → FiledFits Is room (24 * text_size (each_after_comma declared_text (map declared ds) rest)) f
+      → IfFine (objects_added s base ds f) (FiledFits Is room (24 * text_size rest))
   further-objects s base [] f rest among h = h
   further-objects s base (d ∷ ds) f rest among h =
       let following = each_after_comma declared_text (map declared ds) rest in
       lift-then (FiledFits Is room (24 * text_size following)) (FiledFits Is room (24 * text_size rest)) (objects_added s base ds) (object_added s base d f)
       (object_added-fits s base d f following among.0 (fits-less Is room f _ _ (omega arith) h)) (λ g k. further-objects s base ds g rest among.1 k)
 
-  pub objects_added-fits : (s : RawSpecs) (base : Shape) (ds : List RawInit) (f : Filed) (rest : Kinds) → AllByRecursion (DeclaredAmong Is) ds → FiledFits Is room (24 * text_size (with_commas declared_text (map declared ds) rest)) f → IfFine (objects_added s base ds f) (FiledFits Is room (24 * text_size rest))
+  pub objects_added-fits : (s : RawSpecs) (base : Shape) (ds : List RawInit) (f : Filed) (rest : Kinds) → AllByRecursion (DeclaredAmong Is) ds
+      → FiledFits Is room (24 * text_size (with_commas declared_text (map declared ds) rest)) f
+      → IfFine (objects_added s base ds f) (FiledFits Is room (24 * text_size rest))
   objects_added-fits s base [] f rest among h = h
   objects_added-fits s base (d ∷ ds) f rest among h =
       let following = each_after_comma declared_text (map declared ds) rest in
-      lift-then (FiledFits Is room (24 * text_size following)) (FiledFits Is room (24 * text_size rest)) (objects_added s base ds) (object_added s base d f) (object_added-fits s base d f following among.0 h)
+      lift-then (FiledFits Is room (24 * text_size following)) (FiledFits Is room (24 * text_size rest)) (objects_added s base ds) (object_added s base d f)
+      (object_added-fits s base d f following among.0 h)
       (λ g k. further-objects s base ds g rest among.1 k)

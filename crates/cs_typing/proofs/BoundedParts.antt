@@ -35,14 +35,17 @@ by_value P (Fine a) h = h a refl
 by_value P (Fault code place) h = tt
 
 module _ (Is : Place → Type 0) (c : Context) (literals : Literals) where
-  pub assigned-bounded : (at : Place) (target : Shape) (e : RawExpr) → Is at → ExpressionAmong Is e → IfFine (assigned_value c literals at target e) (IsBoundedBy Is literals e)
-  assigned-bounded at target e here among = by_value (IsBoundedBy Is literals e) (assigned_value c literals at target e) (λ v is. assigned_are_bounded Is c literals at target e v here among is)
+  pub assigned-bounded : (at : Place) (target : Shape) (e : RawExpr) → Is at → ExpressionAmong Is e
+      → IfFine (assigned_value c literals at target e) (IsBoundedBy Is literals e)
+  assigned-bounded at target e here among =
+      by_value (IsBoundedBy Is literals e) (assigned_value c literals at target e) (λ v is. assigned_are_bounded Is c literals at target e v here among is)
 
   pub test-bounded : (at : Place) (e : RawExpr) → ExpressionAmong Is e → IfFine (test_of c literals at e) (IsBoundedBy Is literals e)
   test-bounded at e among = by_value (IsBoundedBy Is literals e) (test_of c literals at e) (λ v is. tests_are_bounded Is c literals at e v among is)
 
   pub selector-bounded : (at : Place) (e : RawExpr) → Is at → ExpressionAmong Is e → IfFine (selector_of c literals at e) (IsBoundedBy Is literals e)
-  selector-bounded at e here among = by_value (IsBoundedBy Is literals e) (selector_of c literals at e) (λ v is. selectors_are_bounded Is c literals at e v here among is)
+  selector-bounded at e here among =
+      by_value (IsBoundedBy Is literals e) (selector_of c literals at e) (λ v is. selectors_are_bounded Is c literals at e v here among is)
 
   pub discarded-bounded : (e : RawExpr) → ExpressionAmong Is e → IfFine (discarded_value c literals e) (IsBoundedBy Is literals e)
   discarded-bounded e among = by_value (IsBoundedBy Is literals e) (discarded_value c literals e) (λ v is. discarded_are_bounded Is c literals e v among is)
@@ -50,7 +53,8 @@ module _ (Is : Place → Type 0) (c : Context) (literals : Literals) where
   abbrev pub IsFirst : RawInitial → Reading → Type 0
   IsFirst raw r = IsBoundedInitial Is literals r.1 (size_of (initial_text (initial raw))) r.0
 
-  pub first-bounded : (storage : Storage) (at : Place) (ty : Shape) (raw : RawInitial) → Is at → ValuesAmong Is raw → IfFine (initial_typed c literals storage at ty raw) (IsFirst raw)
+  pub first-bounded : (storage : Storage) (at : Place) (ty : Shape) (raw : RawInitial) → Is at → ValuesAmong Is raw
+      → IfFine (initial_typed c literals storage at ty raw) (IsFirst raw)
   first-bounded storage at ty raw here among =
       by_value (IsFirst raw) (initial_typed c literals storage at ty raw) (λ r is. initials_are_bounded Is c literals r.1 storage at ty raw r.0 here among is)
 

@@ -26,7 +26,8 @@ pub declarators_size : (ds : List Declarator) (rest : Kinds) → text_size rest 
 declarators_size ds rest = let e = size-with_commas declarator_text declarator_append ds rest in omega (arith, e)
 
 -- parameters are as many as their commas, and one
-further_parameters : (list : List RawParameter) (rest : Kinds) → length list + text_size rest ≤ text_size (each_after_comma parameter_text (map parameter list) rest)
+further_parameters : (list : List RawParameter) (rest : Kinds)
+    → length list + text_size rest ≤ text_size (each_after_comma parameter_text (map parameter list) rest)
 further_parameters [] rest = omega arith
 further_parameters (p ∷ ps) rest =
     let one = size-following (parameter_text (parameter p)) (parameter_append (parameter p)) (each_after_comma parameter_text (map parameter ps) rest) in

@@ -14,7 +14,8 @@ use Rattle.cs_scopes.proofs.Lifting.{refused_as}
 use Rattle.cs_consts.proofs.SingleParts.{lift_is}
 use Rattle.cs_declarations.specs.Environment.{model_of}
 use Rattle.cs_declarations.proofs.FoldedSoFar.{GoesOver}
-use Rattle.cs_typing.specs.Statements.{Where, Switching, case_put, case_added, constant_case, wrapped_in, switch_item_typed, switch_list_typed, item_typed, body_typed}
+use Rattle.cs_typing.specs.Statements.{Where, Switching, case_put, case_added, constant_case, wrapped_in, switch_item_typed, switch_list_typed, item_typed}
+use Rattle.cs_typing.specs.Statements.{body_typed}
 
 -- a `switch` with other cases
 abbrev with_cases : Switching → List Case → Verdict Switching
@@ -27,7 +28,8 @@ module _ (at : Place) (so_far : Switching) (value : Option ℤ) (item : ℕ) (is
   pub case_refused : (r : TypeRefusal) → IsRefused (case_put at value item so_far.cases) r → IsRefused (case_added at so_far value) r
   case_refused r h = refused_as r case_numbered (lift-refused (with_cases so_far) _ r h)
 
-  pub case_taken : (cases : List Case) → case_put at value item so_far.cases ≡ Fine cases → case_added at so_far value ≡ Fine (record { cases = cases; reported = so_far.reported })
+  pub case_taken : (cases : List Case) → case_put at value item so_far.cases ≡ Fine cases
+      → case_added at so_far value ≡ Fine (record { cases = cases; reported = so_far.reported })
   case_taken cases e = case_numbered ∙ lift_is (with_cases so_far) _ cases e
 
 abbrev constant_after : Place → Switching → Shape → IntType × ℤ → Verdict Switching
@@ -38,7 +40,8 @@ module _ (at : Place) (so_far : Switching) (ty : Shape) (tree : RawExpr) (c : Co
   pub constant_refused : (r : TypeRefusal) → IsRefused (value_of c tree) r → IsRefused (lift (constant_after at so_far ty) (value_of c tree)) r
   constant_refused r h = lift-refused (constant_after at so_far ty) (value_of c tree) r h
 
-  module _ (n : IntType × ℤ) (said : value_of c tree ≡ Fine n) (number : ℤ) (wraps : number ≡ wrapped_in (model_of so_far.reported.inside.known) ty n.1) where
+  module _ (n : IntType × ℤ) (said : value_of c tree ≡ Fine n) (number : ℤ)
+      (wraps : number ≡ wrapped_in (model_of so_far.reported.inside.known) ty n.1) where
     pub constant_is : lift (constant_after at so_far ty) (value_of c tree) ≡ case_added at so_far (Some number)
     constant_is = lift_is (constant_after at so_far ty) _ n said ∙ ap (λ m. case_added at so_far (Some m)) (sym wraps)
 

@@ -3,7 +3,8 @@ use Rattle.std.proofs.Common.{◌≡◌, ℕ, zero, suc, ◌<◌, ◌≤◌, Lis
 use Rattle.cs_typing.specs.Objects.{changed}
 
 module _ {A B : Type 0} (view : A → B) (change : B → B) where
-  pub changed_at : (xs : List A) (i : ℕ) (x y : A) → i < length xs → x ≡ get_or xs i x → view y ≡ change (view x) → map view (set xs i y) ≡ changed i change (map view xs)
+  pub changed_at : (xs : List A) (i : ℕ) (x y : A) → i < length xs → x ≡ get_or xs i x → view y ≡ change (view x)
+      → map view (set xs i y) ≡ changed i change (map view xs)
   changed_at [] i x y within is e = absurd (omega (arith, within))
   changed_at (z ∷ zs) zero x y within is e = ap (λ v. v ∷ map view zs) (e ∙ ap (λ w. change (view w)) is)
   changed_at (z ∷ zs) (suc i) x y within is e = ap (λ vs. view z ∷ vs) (changed_at zs i x y (omega (arith, within)) is e)

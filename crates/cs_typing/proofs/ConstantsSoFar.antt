@@ -7,7 +7,9 @@ use Rattle.cs_ast.specs.declared.token.Token.{Token}
 use Rattle.cs_typing.specs.Programs.{numbers_in, number_before}
 
 -- the next token's number, if it has one, comes first
-pub at_token : (keys whole : List ℤ) (tokens : List Token) (i : ℕ) (t : Token) → i < length tokens → t ≡ get_or tokens i t → insert_all int_eq keys (numbers_in (drop i tokens)) ≡ whole → insert_all int_eq keys (number_before t.kind (numbers_in (drop (i + 1) tokens))) ≡ whole
+pub at_token : (keys whole : List ℤ) (tokens : List Token) (i : ℕ) (t : Token) → i < length tokens → t ≡ get_or tokens i t
+    → insert_all int_eq keys (numbers_in (drop i tokens)) ≡ whole
+    → insert_all int_eq keys (number_before t.kind (numbers_in (drop (i + 1) tokens))) ≡ whole
 at_token keys whole tokens i t within is so_far =
     ap (λ (u : Token). insert_all int_eq keys (number_before u.kind (numbers_in (drop (i + 1) tokens)))) is
     ∙ sym (at_drop_more (λ ts. insert_all int_eq keys (numbers_in ts)) tokens i t within) ∙ so_far

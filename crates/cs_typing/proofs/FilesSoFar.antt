@@ -1,5 +1,6 @@
 -- Files so far: what their names stand for is there, and their objects and functions are well formed: for the contract of `typed`.
-use Rattle.std.proofs.Common.{◌≡◌, ◌≢◌, ◌∙◌, ℕ, zero, suc, ◌≤◌, Bool, true, false, cond, List, [], ◌∷◌, ◌++◌, length, take, refl, sym, ap, subst, arith}
+use Rattle.std.proofs.Common.{◌≡◌, ◌≢◌, ◌∙◌, ℕ, zero, suc, ◌≤◌, Bool, true, false, cond, List, [], ◌∷◌, ◌++◌, length, take}
+use Rattle.std.proofs.Common.{refl, sym, ap, subst, arith}
 use Rattle.std.specs.Prelude.{nat_eq, Option, Some, None, IfSome, is_some, slice_get}
 use Rattle.std.specs.Option.{option_or}
 use Rattle.std.specs.List.{All, AllByRecursion}
@@ -31,7 +32,8 @@ use Rattle.cs_typing.proofs.DeclarationsAfter.{Starts, starts-trans, start-take,
 pub start-All : {A : Type 0} (P : A → Type 0) (first all : List A) → Starts first all → All P all → All P first
 start-All P first all h held = All-same P first (take (length first) all) (sym (start-take first all h)) (All-take P (length first) all held)
 
-pub found-start : {A : Type 0} (first all : List A) (number : ℕ) (x : A) → Starts first all → slice_get first number ≡ Some x → slice_get all number ≡ Some x
+pub found-start : {A : Type 0} (first all : List A) (number : ℕ) (x : A) → Starts first all → slice_get first number ≡ Some x
+    → slice_get all number ≡ Some x
 found-start first all number x h is = ap (λ xs. slice_get xs number) h.1 ∙ found first number is
   where
     found : (xs : List _) (i : ℕ) → slice_get xs i ≡ Some x → slice_get (xs ++ h.0) i ≡ Some x
@@ -62,24 +64,29 @@ module _ {A : Type 0} (change : A → A) where
   changed-other (suc number) (suc other) (y ∷ xs) apart = changed-other number other xs (λ is. apart (ap suc is))
 
   -- what stands there then is what stood there, or the changed part
-  pub changed-found : (Q : A → A → Type 0) (number other : ℕ) (xs : List A) (x : A) → ((y : A) → Q y y) → ((y : A) → slice_get xs number ≡ Some y → Q (change y) y) → slice_get xs other ≡ Some x → (y : A) × (slice_get (changed number change xs) other ≡ Some y) × Q y x
+  pub changed-found : (Q : A → A → Type 0) (number other : ℕ) (xs : List A) (x : A) → ((y : A) → Q y y)
+      → ((y : A) → slice_get xs number ≡ Some y → Q (change y) y) → slice_get xs other ≡ Some x
+      → (y : A) × (slice_get (changed number change xs) other ≡ Some y) × Q y x
   changed-found Q number other [] x self at is = absurd (none-some x is)
   changed-found Q zero zero (y ∷ xs) x self at is = (change y, refl, subst (Q (change y)) (same_Some y x is) (at y refl))
   changed-found Q zero (suc other) (y ∷ xs) x self at is = (x, is, self x)
   changed-found Q (suc number) zero (y ∷ xs) x self at is = (x, is, self x)
   changed-found Q (suc number) (suc other) (y ∷ xs) x self at is = changed-found Q number other xs x self at is
 
-  pub changed-All : (P : A → Type 0) (number : ℕ) (xs : List A) → ((x : A) → slice_get xs number ≡ Some x → P x → P (change x)) → All P xs → All P (changed number change xs)
+  pub changed-All : (P : A → Type 0) (number : ℕ) (xs : List A) → ((x : A) → slice_get xs number ≡ Some x → P x → P (change x)) → All P xs
+      → All P (changed number change xs)
   changed-All P number xs still held = All-from_recursion P (changed number change xs) (by_recursion number xs still (recursion_from_All P xs held))
     where
-      by_recursion : (n : ℕ) (ys : List A) → ((x : A) → slice_get ys n ≡ Some x → P x → P (change x)) → AllByRecursion P ys → AllByRecursion P (changed n change ys)
+      by_recursion : (n : ℕ) (ys : List A) → ((x : A) → slice_get ys n ≡ Some x → P x → P (change x)) → AllByRecursion P ys
+          → AllByRecursion P (changed n change ys)
       by_recursion n [] still' h = tt
       by_recursion zero (y ∷ ys) still' h = (still' y refl h.0, h.1)
       by_recursion (suc n) (y ∷ ys) still' h = (h.0, by_recursion n ys still' h.1)
 
 -- ---- what names stand for
 
-newest-held : (P : Meaning → Type 0) (name : List ℕ) (ds : List Declaration) → AllByRecursion (λ (d : Declaration). P d.meaning) ds → IfSome (newest name ds) P
+newest-held : (P : Meaning → Type 0) (name : List ℕ) (ds : List Declaration) → AllByRecursion (λ (d : Declaration). P d.meaning) ds
+    → IfSome (newest name ds) P
 newest-held P name [] h = tt
 newest-held P name (d ∷ ds) h = later (newest name ds) (newest-held P name ds h.1)
   where
@@ -111,7 +118,8 @@ newest-none name ds none = All-from_recursion (IsOther name) ds (by_recursion ds
     by_recursion [] is = tt
     by_recursion (d ∷ es) is = later (newest name es) refl is (by_recursion es)
       where
-        later : (o : Option Meaning) → newest name es ≡ o → option_or o (cond (pointwise nat_eq d.name name) (Some d.meaning) None) ≡ None → (newest name es ≡ None → AllByRecursion (IsOther name) es) → AllByRecursion (IsOther name) (d ∷ es)
+        later : (o : Option Meaning) → newest name es ≡ o → option_or o (cond (pointwise nat_eq d.name name) (Some d.meaning) None) ≡ None
+            → (newest name es ≡ None → AllByRecursion (IsOther name) es) → AllByRecursion (IsOther name) (d ∷ es)
         later (Some m) found gone others = absurd (none-some m (sym gone))
         later None found gone others = (here d.meaning (pointwise nat_eq d.name name) gone, others found)
 
@@ -131,7 +139,8 @@ newest-start name (d ∷ first) rest h = later (newest name first) (newest name 
     first_one (Some m) is = refl
     first_one None is = absurd cc
 
-    later : (o p : Option Meaning) → is_some (option_or o here) ≡ true → (is_some o ≡ true → is_some p ≡ true) → is_some (option_or p here) ≡ true
+    later : (o p : Option Meaning) → is_some (option_or o here) ≡ true → (is_some o ≡ true → is_some p ≡ true)
+        → is_some (option_or p here) ≡ true
     later (Some m) p is goes = first_one p (goes refl)
     later None p is goes = following p is
 
@@ -177,7 +186,8 @@ pub record TypesSoFar (f : Filed) : Type 0 where
   pub routines : All (HasNamedTypes (table_of f.known)) f.routines
 
 -- they do so after what changes no object and no function
-types-following : (f : Filed) (k : Environment) → TypesSoFar f → length (table_of f.known) ≤ length (table_of k) → KnownTypesAreNamed k.context → TypesSoFar (with_known k f)
+types-following : (f : Filed) (k : Environment) → TypesSoFar f → length (table_of f.known) ≤ length (table_of k) → KnownTypesAreNamed k.context
+    → TypesSoFar (with_known k f)
 types-following f k types longer named = record {
   known = named;
   globals = globals-longer (table_of f.known) (table_of k) longer f.globals types.globals;
@@ -250,7 +260,9 @@ module _ (p : TypedProgram) where
   HasRoutine f number r = (o : Routine) × (slice_get f.routines number ≡ Some o) × (o.returns ≡ r.returns) × (parameter_types o ≡ parameter_types r)
 
   -- what is there stays, where objects and functions keep their types
-  pub there-kept : (f g : Filed) → ((number : ℕ) (x : FileObject) → slice_get f.globals number ≡ Some x → HasGlobal g number x.ty) → ((number : ℕ) (r : Routine) → slice_get f.routines number ≡ Some r → HasRoutine g number r) → (m : Meaning) → IsThere (outside (with_parts f)) m → IsThere (outside (with_parts g)) m
+  pub there-kept : (f g : Filed) → ((number : ℕ) (x : FileObject) → slice_get f.globals number ≡ Some x → HasGlobal g number x.ty)
+      → ((number : ℕ) (r : Routine) → slice_get f.routines number ≡ Some r → HasRoutine g number r)
+      → (m : Meaning) → IsThere (outside (with_parts f)) m → IsThere (outside (with_parts g)) m
   there-kept f g globals routines m h = IsThere-grown (outside (with_parts f)) (outside (with_parts g)) grows m h
     where
       grows : Grows (outside (with_parts f)) (outside (with_parts g))
@@ -261,9 +273,13 @@ module _ (p : TypedProgram) where
         returns = refl;
       }
 
-  pub all-there-kept : (f g : Filed) → ((number : ℕ) (x : FileObject) → slice_get f.globals number ≡ Some x → HasGlobal g number x.ty) → ((number : ℕ) (r : Routine) → slice_get f.routines number ≡ Some r → HasRoutine g number r) → (ds : List Declaration) → All (λ (d : Declaration). IsThere (outside (with_parts f)) d.meaning) ds → All (λ (d : Declaration). IsThere (outside (with_parts g)) d.meaning) ds
+  pub all-there-kept : (f g : Filed) → ((number : ℕ) (x : FileObject) → slice_get f.globals number ≡ Some x → HasGlobal g number x.ty)
+      → ((number : ℕ) (r : Routine) → slice_get f.routines number ≡ Some r → HasRoutine g number r)
+      → (ds : List Declaration) → All (λ (d : Declaration). IsThere (outside (with_parts f)) d.meaning) ds
+      → All (λ (d : Declaration). IsThere (outside (with_parts g)) d.meaning) ds
   all-there-kept f g globals routines ds all =
-      All-weaker (λ (d : Declaration). IsThere (outside (with_parts f)) d.meaning) (λ (d : Declaration). IsThere (outside (with_parts g)) d.meaning) (λ d h. there-kept f g globals routines d.meaning h) ds all
+      All-weaker (λ (d : Declaration). IsThere (outside (with_parts f)) d.meaning) (λ (d : Declaration). IsThere (outside (with_parts g)) d.meaning)
+      (λ d h. there-kept f g globals routines d.meaning h) ds all
 
   -- what is known after words, typedefs and parameters
   pub record KnownAfter (f : Filed) (k : Environment) : Type 0 where
@@ -272,10 +288,19 @@ module _ (p : TypedProgram) where
     pub table : Keeps (table_of f.known) (table_of k)
     pub named : KnownTypesAreNamed k.context
     pub on : DeclaresOn f.known k
-    pub declared : All (λ (d : Declaration). IsThere (outside (with_parts f)) d.meaning) (declarations_of f.known) → All (λ (d : Declaration). IsThere (outside (with_parts f)) d.meaning) (declarations_of k)
+    pub declared : All (λ (d : Declaration). IsThere (outside (with_parts f)) d.meaning) (declarations_of f.known)
+        → All (λ (d : Declaration). IsThere (outside (with_parts f)) d.meaning) (declarations_of k)
 
-  pub leads-following : (f : Filed) (k : Environment) → Leads (outside (with_parts f)) f.known k → DeclaresOn f.known k → KnownTypesAreNamed k.context → KnownAfter f k
-  leads-following f k leads on named = record { model = leads.model; literals = leads.literals; table = leads.table; named = named; on = on; declared = leads.declarations }
+  pub leads-following : (f : Filed) (k : Environment) → Leads (outside (with_parts f)) f.known k → DeclaresOn f.known k → KnownTypesAreNamed k.context
+      → KnownAfter f k
+  leads-following f k leads on named = record {
+    model = leads.model;
+    literals = leads.literals;
+    table = leads.table;
+    named = named;
+    on = on;
+    declared = leads.declarations;
+  }
 
   pub known-adds : (f : Filed) (k : Environment) → Kept f → KnownAfter f k → Adds f (with_known k f)
   known-adds f k kept h = record {
@@ -296,7 +321,8 @@ module _ (p : TypedProgram) where
     before = λ has. record {
       table = keeps-trans (table_of f.known) (table_of k) p.table h.table has.table;
       texts = subst (AreFirst p) h.literals has.texts;
-      there = start-All (λ (d : Declaration). IsThere (outside p) d.meaning) (declarations_of f.known) (declarations_of k) (on-starts f.known k h.on) has.there;
+      there = start-All (λ (d : Declaration). IsThere (outside p) d.meaning) (declarations_of f.known) (declarations_of k) (on-starts f.known k h.on)
+          has.there;
       types = has.types;
     };
     well = λ has w. record { globals = w.globals; routines = w.routines };

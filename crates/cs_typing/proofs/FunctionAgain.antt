@@ -14,7 +14,9 @@ use Rattle.cs_declarations.specs.Environment.{meaning_here}
 use Rattle.cs_typing.specs.Objects.{Filed}
 use Rattle.cs_typing.specs.Functions.{Routed, same_types, types_of, may_be_function, function_of, function_typed, function_added, resulted}
 
-pub declared_again : (f : Filed) (d : RawFunction) (result : Shape) (parameters : List Variable) (written : List Bool) (meaning : Option Meaning) (before : Signature) (same : Bool) → Some (Function before) ≡ meaning → same ≡ same_types before.parameters (types_of parameters) → function_of f d result parameters written meaning ≡ (if same then Fine (before.callee, f) else Fault DeclaredTwice d.place)
+pub declared_again : (f : Filed) (d : RawFunction) (result : Shape) (parameters : List Variable) (written : List Bool) (meaning : Option Meaning)
+    (before : Signature) (same : Bool) → Some (Function before) ≡ meaning → same ≡ same_types before.parameters (types_of parameters)
+    → function_of f d result parameters written meaning ≡ (if same then Fine (before.callee, f) else Fault DeclaredTwice d.place)
 declared_again f d result parameters written meaning before same is types =
     ap (function_of f d result parameters written) (sym is)
     ∙ ap (λ (b : Bool). let v : Verdict Routed = if b then Fine (before.callee, f) else Fault DeclaredTwice d.place in v) (sym types)
@@ -24,8 +26,12 @@ pub still_some : {A B : Type 0} (f : A → B) (o : Option A) → is_some o ≡ i
 still_some f None = refl
 still_some f (Some x) = refl
 
-pub result_taken : (d : RawFunction) (body : Option RawBody) (f : Filed) (base result : Shape) (with_body : Bool) → result ≡ starred d.pointers.items base → with_body ≡ is_some body → true ≡ may_be_function f with_body result (meaning_here d.name f.known) → function_added d body f base ≡ resulted d body f result
+pub result_taken : (d : RawFunction) (body : Option RawBody) (f : Filed) (base result : Shape) (with_body : Bool) → result ≡ starred d.pointers.items base
+    → with_body ≡ is_some body → true ≡ may_be_function f with_body result (meaning_here d.name f.known)
+    → function_added d body f base ≡ resulted d body f result
 result_taken d body f base result with_body is with_is ok =
     ap (function_typed d body f) (sym is)
-    ∙ ap (λ (b : Bool). let v : Verdict Filed = if may_be_function f b result (meaning_here d.name f.known) then resulted d body f result else Fault DeclaredTwice d.place in v) (sym with_is)
+    ∙ ap (λ (b : Bool).
+    let v : Verdict Filed = if may_be_function f b result (meaning_here d.name f.known) then resulted d body f result else Fault DeclaredTwice d.place in
+    v) (sym with_is)
     ∙ ap (λ (b : Bool). let v : Verdict Filed = if b then resulted d body f result else Fault DeclaredTwice d.place in v) (sym ok)

@@ -23,11 +23,15 @@ use Rattle.cs_ast.specs.declared.raw.external.RawExternalKind.{RawExternalKind}
 use Rattle.cs_ast.specs.declared.raw.external.RawExternalKind.TheVariants as external_kind
 use Rattle.cs_ast.specs.RawTree.{Written}
 use Rattle.cs_ast.specs.RawView.{written}
-use Rattle.cs_ast.specs.RawDeclarations.{Declarator, Constant, Spec, Static, Plain, StructBody, EnumBody, Specs, NoSpec, MoreSpecs, Members, NoMember, MoreMembers, Parameter, Parameters, NoParameter, VoidAlone, ParameterList}
+use Rattle.cs_ast.specs.RawDeclarations.{Declarator, Constant, Spec, Static, Plain, StructBody, EnumBody, Specs, NoSpec, MoreSpecs, Members, NoMember}
+use Rattle.cs_ast.specs.RawDeclarations.{MoreMembers, Parameter, Parameters, NoParameter, VoidAlone, ParameterList}
 use Rattle.cs_ast.specs.RawDeclarationView.{initial, declared, declarator, specs, parameters, head}
 use Rattle.cs_ast.specs.RawStatementView.{first_of, sentence, item, items_row, switch_row, switch_item, items_list, external_of, external}
 use Rattle.cs_grammar.specs.Text.{Kinds, pointers_text, type_word_text}
-use Rattle.cs_grammar.specs.FileText.{name_text, some_text, comma_text, each_after_comma, with_commas, brackets_text, declarator_text, value_text, constant_text, spec_text, specs_text, members_text, first_value_text, declared_text, declaration_text, parameter_text, parameters_text, head_text, first_text, test_text, sentence_text, item_text, items_text, switch_item_text, switch_text, external_text, externals_text, file_text}
+use Rattle.cs_grammar.specs.FileText.{name_text, some_text, comma_text, each_after_comma, with_commas, brackets_text, declarator_text, value_text}
+use Rattle.cs_grammar.specs.FileText.{constant_text, spec_text, specs_text, members_text, first_value_text, declared_text, declaration_text, parameter_text}
+use Rattle.cs_grammar.specs.FileText.{parameters_text, head_text, first_text, test_text, sentence_text, item_text, items_text, switch_item_text, switch_text}
+use Rattle.cs_grammar.specs.FileText.{external_text, externals_text, file_text}
 use Rattle.cs_well_formed.specs.Constants.{HasConstants, InitialHasConstants}
 use Rattle.cs_ast.specs.HeldTokens.{IsHeldToken}
 use Rattle.cs_well_formed.proofs.Tokens.{AreHeld, text-held, initial_text-held}
@@ -57,10 +61,12 @@ abbrev mutual
   StatementHasConstants kind.Empty = Unit {0}
   StatementHasConstants (kind.Run e) = HasConstants (written e)
   StatementHasConstants (kind.If' test place p body) = HasConstants (written test) × StatementHasConstants body
-  StatementHasConstants (kind.IfElse' test place p body place' q other) = HasConstants (written test) × StatementHasConstants body × StatementHasConstants other
+  StatementHasConstants (kind.IfElse' test place p body place' q other) =
+      HasConstants (written test) × StatementHasConstants body × StatementHasConstants other
   StatementHasConstants (kind.While' test place p body) = HasConstants (written test) × StatementHasConstants body
   StatementHasConstants (kind.Do' place p body test) = StatementHasConstants body × HasConstants (written test)
-  StatementHasConstants (kind.For' first test last place p body) = FirstHasConstants first × AnyHasConstants test × AnyHasConstants last × StatementHasConstants body
+  StatementHasConstants (kind.For' first test last place p body) =
+      FirstHasConstants first × AnyHasConstants test × AnyHasConstants last × StatementHasConstants body
   StatementHasConstants (kind.Switch' value shape row) = HasConstants (written value) × SwitchHasConstants row
   StatementHasConstants (kind.Goto label) = Unit {0}
   StatementHasConstants kind.Continue = Unit {0}
@@ -181,14 +187,16 @@ after_head d rest h = (after_parameters (parameters d.parameters) _ (after_point
 
 -- ---- declared objects
 
-first_value-held : (first : Option RawFirstValue) (rest : Kinds) → AreHeld (first_value_text (option_map (λ (v : RawFirstValue). initial v.initial) first) rest) → FirstValueHasConstants first × AreHeld rest
+first_value-held : (first : Option RawFirstValue) (rest : Kinds)
+    → AreHeld (first_value_text (option_map (λ (v : RawFirstValue). initial v.initial) first) rest) → FirstValueHasConstants first × AreHeld rest
 first_value-held None rest h = (tt, h)
 first_value-held (Some value) rest h = initial_text-held (initial value.initial) rest h.1
 
 declared-held : (d : RawInit) (rest : Kinds) → AreHeld (declared_text (declared d) rest) → FirstValueHasConstants d.initial × AreHeld rest
 declared-held d rest h = first_value-held d.initial rest (after_declarator (declarator d.declarator) _ h)
 
-further_objects-held : (ds : List RawInit) (rest : Kinds) → AreHeld (each_after_comma declared_text (map declared ds) rest) → ObjectsHaveConstants ds × AreHeld rest
+further_objects-held : (ds : List RawInit) (rest : Kinds) → AreHeld (each_after_comma declared_text (map declared ds) rest)
+    → ObjectsHaveConstants ds × AreHeld rest
 further_objects-held [] rest h = (tt, h)
 further_objects-held (d ∷ ds) rest h = let one = declared-held d _ h.1 in let more = further_objects-held ds rest one.1 in ((one.0, more.0), more.1)
 
@@ -196,7 +204,8 @@ objects-held : (ds : List RawInit) (rest : Kinds) → AreHeld (with_commas decla
 objects-held [] rest h = (tt, h)
 objects-held (d ∷ ds) rest h = let one = declared-held d _ h in let more = further_objects-held ds rest one.1 in ((one.0, more.0), more.1)
 
-declaration-held : (s : Specs) (ds : List RawInit) (rest : Kinds) → AreHeld (declaration_text s (map declared ds) rest) → ObjectsHaveConstants ds × AreHeld rest
+declaration-held : (s : Specs) (ds : List RawInit) (rest : Kinds) → AreHeld (declaration_text s (map declared ds) rest)
+    → ObjectsHaveConstants ds × AreHeld rest
 declaration-held s ds rest h = let all = objects-held ds _ (after_specs s _ h) in (all.0, all.1.1)
 
 -- ---- statements
@@ -251,12 +260,14 @@ mutual
   row-held kinds.end_of-RawItem rest h = (tt, h)
   row-held (kinds.more_of-RawItem first others) rest h = let one = item-held first _ h in let more = row-held others rest one.1 in ((one.0, more.0), more.1)
 
-  switch_item-held : (i : switches.RawSwitchItem) (rest : Kinds) → AreHeld (switch_item_text (switch_item i) rest) → SwitchItemHasConstants i × AreHeld rest
+  switch_item-held : (i : switches.RawSwitchItem) (rest : Kinds) → AreHeld (switch_item_text (switch_item i) rest)
+      → SwitchItemHasConstants i × AreHeld rest
   switch_item-held (switches.TheVariants.Case at value) rest h = let one = text-held (written value) _ h.1 in (one.0, one.1.1)
   switch_item-held (switches.TheVariants.Default at) rest h = (tt, h.1.1)
   switch_item-held (switches.TheVariants.Item i) rest h = item-held i rest h
 
-  switch-held : {n : _} (row : kinds.Row_of-RawSwitchItem n) (rest : Kinds) → AreHeld (switch_text (switch_row row) rest) → SwitchHasConstants row × AreHeld rest
+  switch-held : {n : _} (row : kinds.Row_of-RawSwitchItem n) (rest : Kinds) → AreHeld (switch_text (switch_row row) rest)
+      → SwitchHasConstants row × AreHeld rest
   switch-held kinds.end_of-RawSwitchItem rest h = (tt, h)
   switch-held (kinds.more_of-RawSwitchItem first others) rest h =
       let one = switch_item-held first _ h in let more = switch-held others rest one.1 in ((one.0, more.0), more.1)

@@ -1,5 +1,6 @@
 -- A typed statement has the labels of the written one, numbered as they stand, and its jumps lead somewhere: for well-formed functions.
-use Rattle.std.proofs.Common.{◌≡◌, ◌∙◌, ℕ, ℤ, ◌+◌, ◌<◌, suc, Bool, true, false, cond, List, [], ◌∷◌, ◌++◌, length, refl, sym, ap, subst, arith, zero-add}
+use Rattle.std.proofs.Common.{◌≡◌, ◌∙◌, ℕ, ℤ, ◌+◌, ◌<◌, suc, Bool, true, false, cond, List, [], ◌∷◌, ◌++◌, length, refl, sym}
+use Rattle.std.proofs.Common.{ap, subst, arith, zero-add}
 use Rattle.std.specs.Prelude.{nat_eq, Option, Some, None, IfSome}
 use Rattle.std.specs.List.{position_from}
 use Rattle.std.specs.Cmp.Lexicographic.{pointwise}
@@ -29,7 +30,12 @@ use Rattle.cs_declarations.specs.Initializers.{InFunction, initial_typed}
 use Rattle.cs_declarations.specs.Environment.{is_declared_here}
 use Rattle.cs_declarations.specs.Objects.{object_type}
 use Rattle.cs_typing.specs.Objects.{Inside, LocalDeclared, TypedStatements, with_local, local_held, local_initialized, local_added, after_local, locals_added}
-use Rattle.cs_typing.specs.Statements.{Where, Part, Switching, in_loop, in_switch, in_a_row, part, past, tested_in, dropped_in, some_found, tested_if, dropped_if, is_void, value_returned, returned, label_number, goto_typed, is_first, meeting, in_block, declared_in, declaration_typed, first_place, no_statements, telling, ran_first, first_typed, case_put, case_added, with_statements, labels_of, labels_of_item, labels_in, labels_of_switch_item, labels_in_switch, labels_of_items, block_made, run_made, if_made, if_else_made, while_made, do_made, for_made, switch_made, return_made, label_made, selected, statement_typed, item_typed, items_typed, switch_item_typed, switch_typed, body_typed}
+use Rattle.cs_typing.specs.Statements.{Where, Part, Switching, in_loop, in_switch, in_a_row, part, past, tested_in, dropped_in, some_found, tested_if}
+use Rattle.cs_typing.specs.Statements.{dropped_if, is_void, value_returned, returned, label_number, goto_typed, is_first, meeting, in_block, declared_in}
+use Rattle.cs_typing.specs.Statements.{declaration_typed, first_place, no_statements, telling, ran_first, first_typed, case_put, case_added, with_statements}
+use Rattle.cs_typing.specs.Statements.{labels_of, labels_of_item, labels_in, labels_of_switch_item, labels_in_switch, labels_of_items, block_made, run_made}
+use Rattle.cs_typing.specs.Statements.{if_made, if_else_made, while_made, do_made, for_made, switch_made, return_made, label_made, selected, statement_typed}
+use Rattle.cs_typing.specs.Statements.{item_typed, items_typed, switch_item_typed, switch_typed, body_typed}
 use Rattle.cs_well_formed.specs.Statements.{label_count, label_counts, AreNumbered, AllAreNumbered, JumpsLead, AllJumpsLead}
 use Rattle.cs_well_formed.proofs.Verdicts.{IfFine, if_fine-any, if_fine-weaker, lift-then, cond-then}
 
@@ -50,13 +56,15 @@ count-push : (before : List Statement) (s : Statement) → row_labels (before ++
 count-push [] s = omega arith
 count-push (first ∷ before) s = let rest = count-push before s in omega (arith, rest)
 
-numbered-push : (n : ℕ) (before : List Statement) (s : Statement) → AllAreNumbered n (in_a_row before) → AreNumbered (n + row_labels before) s → AllAreNumbered n (in_a_row (before ++ s ∷ []))
+numbered-push : (n : ℕ) (before : List Statement) (s : Statement) → AllAreNumbered n (in_a_row before) → AreNumbered (n + row_labels before) s
+    → AllAreNumbered n (in_a_row (before ++ s ∷ []))
 numbered-push n [] s h k = let e : n + 0 ≡ n = omega arith in (subst (λ m. AreNumbered m s) e k, tt)
 numbered-push n (first ∷ before) s h k =
     let e : n + (label_count first + row_labels before) ≡ (n + label_count first) + row_labels before = omega arith in
     (h.0, numbered-push (n + label_count first) before s h.1 (subst (λ m. AreNumbered m s) e k))
 
-jumps-push : (w : Where) (before : List Statement) (s : Statement) → AllJumpsLead w.breaks w.continues (in_a_row before) → JumpsLead w.breaks w.continues s → AllJumpsLead w.breaks w.continues (in_a_row (before ++ s ∷ []))
+jumps-push : (w : Where) (before : List Statement) (s : Statement) → AllJumpsLead w.breaks w.continues (in_a_row before) → JumpsLead w.breaks w.continues s
+    → AllJumpsLead w.breaks w.continues (in_a_row (before ++ s ∷ []))
 jumps-push w [] s h k = (k, tt)
 jumps-push w (first ∷ before) s h k = (h.0, jumps-push w before s h.1 k)
 
@@ -71,7 +79,8 @@ pub record PartIsLed (w : Where) (i : Inside) (n : ℕ) (p : Part Statement) : T
 pub record ReportedIsLed (w : Where) (so_far : TypedStatements) (n : ℕ) (reported : TypedStatements) : Type 0 where
   pub count : row_labels reported.statements ≡ row_labels so_far.statements + n
   pub met : reported.inside.met ≡ so_far.inside.met + n
-  pub numbered : (first : ℕ) → so_far.inside.met ≡ first + row_labels so_far.statements → AllAreNumbered first (in_a_row so_far.statements) → AllAreNumbered first (in_a_row reported.statements)
+  pub numbered : (first : ℕ) → so_far.inside.met ≡ first + row_labels so_far.statements → AllAreNumbered first (in_a_row so_far.statements)
+      → AllAreNumbered first (in_a_row reported.statements)
   pub jumps : AllJumpsLead w.breaks w.continues (in_a_row so_far.statements) → AllJumpsLead w.breaks w.continues (in_a_row reported.statements)
 
 abbrev SwitchIsLed : Where → Switching → ℕ → Switching → Type 0
@@ -86,7 +95,8 @@ led-following w i j n p same h = record {
   jumps = h.jumps;
 }
 
-none-led : (w : Where) (so_far reported : TypedStatements) → reported.statements ≡ so_far.statements → SameMet so_far.inside reported.inside → ReportedIsLed w so_far 0 reported
+none-led : (w : Where) (so_far reported : TypedStatements) → reported.statements ≡ so_far.statements → SameMet so_far.inside reported.inside
+    → ReportedIsLed w so_far 0 reported
 none-led w so_far reported is same = record {
   count = ap row_labels is ∙ omega arith;
   met = same ∙ omega arith;
@@ -94,7 +104,8 @@ none-led w so_far reported is same = record {
   jumps = λ h. subst (λ ss. AllJumpsLead w.breaks w.continues (in_a_row ss)) (sym is) h;
 }
 
-one-led : (w : Where) (so_far : TypedStatements) (p : Part Statement) (n : ℕ) → PartIsLed w so_far.inside n p → ReportedIsLed w so_far n (record { statements = so_far.statements ++ p.found ∷ []; inside = p.inside })
+one-led : (w : Where) (so_far : TypedStatements) (p : Part Statement) (n : ℕ) → PartIsLed w so_far.inside n p
+    → ReportedIsLed w so_far n (record { statements = so_far.statements ++ p.found ∷ []; inside = p.inside })
 one-led w so_far p n h = record {
   count = count-push so_far.statements p.found ∙ ap (λ k. row_labels so_far.statements + k) h.count;
   met = h.met;
@@ -111,7 +122,8 @@ more-led w a b c n m h k = record {
 }
 
 -- statements whose labels are those of two parts
-names-led : (w : Where) (a c : TypedStatements) (first others : List (List ℕ)) → ReportedIsLed w a (length first + length others) c → ReportedIsLed w a (length (first ++ others)) c
+names-led : (w : Where) (a c : TypedStatements) (first others : List (List ℕ)) → ReportedIsLed w a (length first + length others) c
+    → ReportedIsLed w a (length (first ++ others)) c
 names-led w a c first others h = subst (λ n. ReportedIsLed w a n c) (sym (length-append first others)) h
 
 -- ---- expressions
@@ -140,7 +152,8 @@ returned-same : (w : Where) (at : Place) (i : Inside) (e : Option RawExpr) → I
 returned-same w at i None = cond-then (PartSameMet i) (is_void w.returns) _ (Fault Return at) (λ _. refl) (λ _. tt)
 returned-same w at i (Some e) =
     some-same i (value_returned w at i e)
-    (cond-then (PartSameMet i) (is_void w.returns) (Fault Return at) _ (λ _. tt) (λ _. past-same i e (assigned_value i.known.context i.known.literals at w.returns e)))
+    (cond-then (PartSameMet i) (is_void w.returns) (Fault Return at) _ (λ _. tt)
+    (λ _. past-same i e (assigned_value i.known.context i.known.literals at w.returns e)))
 
 -- ---- declarations have no labels
 
@@ -150,21 +163,26 @@ record HasNone (i : Inside) (one : LocalDeclared) : Type 0 where
   numbered : (n : ℕ) → AreNumbered n one.statement
   jumps : (w : Where) → JumpsLead w.breaks w.continues one.statement
 
-local_initialized-none : (number : ℕ) (ty : Shape) (at : Place) (first : Option RawFirstValue) (i : Inside) → IfFine (local_initialized number ty at first i) (HasNone i)
+local_initialized-none : (number : ℕ) (ty : Shape) (at : Place) (first : Option RawFirstValue) (i : Inside)
+    → IfFine (local_initialized number ty at first i) (HasNone i)
 local_initialized-none number ty at None i = record { count = refl; met = refl; numbered = λ n. tt; jumps = λ w. tt }
 local_initialized-none number ty at (Some value) i =
-    lift-then (λ _. Unit {0}) (HasNone i) (local_held number value.place i) _ (if_fine-any (initial_typed i.known.context i.known.literals InFunction value.place ty value.initial))
+    lift-then (λ _. Unit {0}) (HasNone i) (local_held number value.place i) _
+    (if_fine-any (initial_typed i.known.context i.known.literals InFunction value.place ty value.initial))
     (λ r _. record { count = refl; met = refl; numbered = λ n. tt; jumps = λ w. tt })
 
 local_added-none : (base : Shape) (d : RawInit) (i : Inside) → IfFine (local_added base d i) (HasNone i)
 local_added-none base d i =
     cond-then (HasNone i) (is_declared_here d.declarator.name i.known) _ _ (λ _. tt)
     (λ _. lift-then (λ _. Unit {0}) (HasNone i) _ _ (if_fine-any (object_type i.known.context base d))
-    (λ ty _. if_fine-weaker (HasNone (with_local d.declarator.name ty i)) (HasNone i) (local_initialized (length i.variables) ty d.declarator.place d.initial (with_local d.declarator.name ty i))
+    (λ ty _.
+    if_fine-weaker (HasNone (with_local d.declarator.name ty i)) (HasNone i)
+    (local_initialized (length i.variables) ty d.declarator.place d.initial (with_local d.declarator.name ty i))
     (local_initialized-none (length i.variables) ty d.declarator.place d.initial (with_local d.declarator.name ty i))
     (λ one h. record { count = h.count; met = h.met; numbered = h.numbered; jumps = h.jumps })))
 
-local-led : (w : Where) (so_far : TypedStatements) (one : LocalDeclared) → HasNone so_far.inside one → ReportedIsLed w so_far 0 (record { statements = so_far.statements ++ one.statement ∷ []; inside = one.inside })
+local-led : (w : Where) (so_far : TypedStatements) (one : LocalDeclared) → HasNone so_far.inside one
+    → ReportedIsLed w so_far 0 (record { statements = so_far.statements ++ one.statement ∷ []; inside = one.inside })
 local-led w so_far one h =
     one-led w so_far (record { found = one.statement; inside = one.inside }) 0
     (record { count = h.count; met = h.met ∙ omega arith; numbered = h.numbered so_far.inside.met; jumps = h.jumps w })
@@ -173,14 +191,21 @@ locals_added-led : (w : Where) (base : Shape) (ds : List RawInit) (so_far : Type
 locals_added-led w base [] so_far = none-led w so_far so_far refl refl
 locals_added-led w base (d ∷ ds) so_far =
     lift-then (ReportedIsLed w so_far 0) (ReportedIsLed w so_far 0) (locals_added base ds) _
-    (lift-then (HasNone so_far.inside) (ReportedIsLed w so_far 0) (after_local so_far.statements) _ (local_added-none base d so_far.inside) (λ one none. local-led w so_far one none))
+    (lift-then (HasNone so_far.inside) (ReportedIsLed w so_far 0) (after_local so_far.statements) _ (local_added-none base d so_far.inside)
+    (λ one none. local-led w so_far one none))
     (λ reported h. if_fine-weaker (ReportedIsLed w reported 0) (ReportedIsLed w so_far 0) (locals_added base ds reported) (locals_added-led w base ds reported)
     (λ after k. more-led w so_far reported after 0 0 h k))
 
-declaration_typed-led : (w : Where) (s : RawSpecs) (objects : List RawInit) (so_far : TypedStatements) → IfFine (declaration_typed s objects so_far) (ReportedIsLed w so_far 0)
+declaration_typed-led : (w : Where) (s : RawSpecs) (objects : List RawInit) (so_far : TypedStatements)
+    → IfFine (declaration_typed s objects so_far) (ReportedIsLed w so_far 0)
 declaration_typed-led w s objects so_far =
-    lift-then (λ _. Unit {0}) (ReportedIsLed w so_far 0) (declared_in s objects so_far) _ (if_fine-any (specs_type so_far.inside.known (first_place objects) s))
-    (λ ty _. let known : TypedStatements = record { statements = so_far.statements; inside = record { known = ty.1; variables = so_far.inside.variables; met = so_far.inside.met } } in
+    lift-then (λ _. Unit {0}) (ReportedIsLed w so_far 0) (declared_in s objects so_far) _
+    (if_fine-any (specs_type so_far.inside.known (first_place objects) s))
+    (λ ty _.
+    let known : TypedStatements = record {
+      statements = so_far.statements;
+      inside = record { known = ty.1; variables = so_far.inside.variables; met = so_far.inside.met };
+    } in
     if_fine-weaker (ReportedIsLed w known 0) (ReportedIsLed w so_far 0) (locals_added ty.0 objects known) (locals_added-led w ty.0 objects known)
     (λ after h. more-led w so_far known after 0 0 (none-led w so_far known refl refl) h))
 
@@ -195,7 +220,8 @@ first_typed-led w i (first_part.Declare s objects) = declaration_typed-led w s o
 -- ---- statements
 
 -- a statement after a part without labels
-after_same : {A : Type 0} (w : Where) (i : Inside) (n : ℕ) (rule : Part A → Verdict (Part Statement)) (v : Verdict (Part A)) → IfFine v (PartSameMet i) → ((p : Part A) → SameMet i p.inside → IfFine (rule p) (PartIsLed w i n)) → IfFine (lift rule v) (PartIsLed w i n)
+after_same : {A : Type 0} (w : Where) (i : Inside) (n : ℕ) (rule : Part A → Verdict (Part Statement)) (v : Verdict (Part A)) → IfFine v (PartSameMet i)
+    → ((p : Part A) → SameMet i p.inside → IfFine (rule p) (PartIsLed w i n)) → IfFine (lift rule v) (PartIsLed w i n)
 after_same w i n rule v h go = lift-then (PartSameMet i) (PartIsLed w i n) rule v h go
 
 -- a place outside of loops, with the labels of another one
@@ -204,12 +230,14 @@ no_loop w = record { returns = w.returns; labels = w.labels; breaks = false; con
 
 case_added-led : (w : Where) (at : Place) (so_far : Switching) (value : Option ℤ) → IfFine (case_added at so_far value) (SwitchIsLed w so_far 0)
 case_added-led w at so_far value =
-    lift-then (λ _. Unit {0}) (SwitchIsLed w so_far 0) _ _ (if_fine-any (case_put at value (length so_far.reported.statements) so_far.cases)) (λ cases _. none-led w so_far.reported so_far.reported refl refl)
+    lift-then (λ _. Unit {0}) (SwitchIsLed w so_far 0) _ _ (if_fine-any (case_put at value (length so_far.reported.statements) so_far.cases))
+    (λ cases _. none-led w so_far.reported so_far.reported refl refl)
 
 mutual
   pub statement_typed-led : (w : Where) (i : Inside) (at : Place) (k : RawStmtKind) → IfFine (statement_typed w i at k) (PartIsLed w i (length (labels_of k)))
   statement_typed-led w i at (kind.Block' shape row) =
-      lift-then (ReportedIsLed w (no_statements (in_block i)) (length (labels_in row))) (PartIsLed w i (length (labels_in row))) (block_made at i) _ (items_typed-led w row (no_statements (in_block i)))
+      lift-then (ReportedIsLed w (no_statements (in_block i)) (length (labels_in row))) (PartIsLed w i (length (labels_in row))) (block_made at i) _
+      (items_typed-led w row (no_statements (in_block i)))
       (λ reported h. record {
         count = h.count ∙ zero-add (length (labels_in row));
         met = h.met;
@@ -218,7 +246,8 @@ mutual
       })
   statement_typed-led w i at kind.Empty = record { count = refl; met = omega arith; numbered = tt; jumps = tt }
   statement_typed-led w i at (kind.Run e) =
-      after_same w i 0 (run_made at) (dropped_in i e) (dropped_in-same i e) (λ p same. record { count = refl; met = same ∙ omega arith; numbered = tt; jumps = tt })
+      after_same w i 0 (run_made at) (dropped_in i e) (dropped_in-same i e)
+      (λ p same. record { count = refl; met = same ∙ omega arith; numbered = tt; jumps = tt })
   statement_typed-led w i at (kind.If' test place p body) =
       let n = length (labels_of body) in
       after_same w i n _ (tested_in at i test) (tested_in-same at i test)
@@ -229,9 +258,11 @@ mutual
       let m = length (labels_of other) in
       let all = length-append (labels_of body) (labels_of other) in
       after_same w i (length (labels_of body ++ labels_of other)) _ (tested_in at i test) (tested_in-same at i test)
-      (λ t same. lift-then (PartIsLed w t.inside n) (PartIsLed w i (length (labels_of body ++ labels_of other))) _ _ (statement_typed-led w t.inside place body)
+      (λ t same.
+      lift-then (PartIsLed w t.inside n) (PartIsLed w i (length (labels_of body ++ labels_of other))) _ _ (statement_typed-led w t.inside place body)
       (λ one h. let first = led-following w i t.inside n one same h in
-      lift-then (PartIsLed w one.inside m) (PartIsLed w i (length (labels_of body ++ labels_of other))) (if_else_made at t.found one.found) _ (statement_typed-led w one.inside place' other)
+      lift-then (PartIsLed w one.inside m) (PartIsLed w i (length (labels_of body ++ labels_of other))) (if_else_made at t.found one.found) _
+      (statement_typed-led w one.inside place' other)
       (λ b k. record {
         count = omega (arith, all, first.count, k.count);
         met = omega (arith, all, first.met, k.met);
@@ -242,7 +273,8 @@ mutual
       let n = length (labels_of body) in
       after_same w i n _ (tested_in at i test) (tested_in-same at i test)
       (λ t same. lift-then (PartIsLed (in_loop w) t.inside n) (PartIsLed w i n) (while_made at t.found) _ (statement_typed-led (in_loop w) t.inside place body)
-      (λ b h. let led = led-following (in_loop w) i t.inside n b same h in record { count = led.count; met = led.met; numbered = led.numbered; jumps = led.jumps }))
+      (λ b h. let led = led-following (in_loop w) i t.inside n b same h in
+      record { count = led.count; met = led.met; numbered = led.numbered; jumps = led.jumps }))
   statement_typed-led w i at (kind.Do' place p body test) =
       let n = length (labels_of body) in
       lift-then (PartIsLed (in_loop w) i n) (PartIsLed w i n) _ _ (statement_typed-led (in_loop w) i place body)
@@ -250,10 +282,13 @@ mutual
       (λ t same. record { count = h.count; met = same ∙ h.met; numbered = h.numbered; jumps = h.jumps }))
   statement_typed-led w i at (kind.For' first test last place p body) =
       let n = length (labels_of body) in
-      lift-then (ReportedIsLed (no_loop w) (no_statements (in_block i)) 0) (PartIsLed w i n) _ (first_typed (in_block i) first) (first_typed-led (no_loop w) (in_block i) first)
+      lift-then (ReportedIsLed (no_loop w) (no_statements (in_block i)) 0) (PartIsLed w i n) _ (first_typed (in_block i) first)
+      (first_typed-led (no_loop w) (in_block i) first)
       (λ f begun. lift-then (PartSameMet f.inside) (PartIsLed w i n) _ (tested_if at f.inside test) (tested_if-same at f.inside test)
       (λ t one. lift-then (PartSameMet t.inside) (PartIsLed w i n) _ (dropped_if t.inside last) (dropped_if-same t.inside last)
-      (λ l other. lift-then (PartIsLed (in_loop w) l.inside n) (PartIsLed w i n) (for_made at i f.statements t.found l.found) _ (statement_typed-led (in_loop w) l.inside place body)
+      (λ l other.
+      lift-then (PartIsLed (in_loop w) l.inside n) (PartIsLed w i n) (for_made at i f.statements t.found l.found) _
+      (statement_typed-led (in_loop w) l.inside place body)
       (λ b h.
       let same : l.inside.met ≡ i.met = omega (arith, begun.met, one, other) in
       let led = led-following (in_loop w) i l.inside n b same h in
@@ -279,11 +314,14 @@ mutual
   statement_typed-led w i at kind.Break =
       cond-then (PartIsLed w i 0) w.breaks _ (Fault Jump at) (λ leads. record { count = refl; met = omega arith; numbered = tt; jumps = leads }) (λ _. tt)
   statement_typed-led w i at (kind.Return value) =
-      after_same w i 0 (return_made at) (returned w at i value) (returned-same w at i value) (λ p same. record { count = refl; met = same ∙ omega arith; numbered = tt; jumps = tt })
+      after_same w i 0 (return_made at) (returned w at i value) (returned-same w at i value)
+      (λ p same. record { count = refl; met = same ∙ omega arith; numbered = tt; jumps = tt })
   statement_typed-led w i at (kind.Label' name place p body) =
       let n = length (labels_of body) in
       cond-then (PartIsLed w i (length (name ∷ labels_of body))) (is_first i (label_number name w.labels)) _ (Fault Jump at)
-      (λ _. lift-then (PartIsLed w (meeting i) n) (PartIsLed w i (length (name ∷ labels_of body))) (label_made at i.met) _ (statement_typed-led w (meeting i) place body)
+      (λ _.
+      lift-then (PartIsLed w (meeting i) n) (PartIsLed w i (length (name ∷ labels_of body))) (label_made at i.met) _
+      (statement_typed-led w (meeting i) place body)
       (λ b h. let next : i.met + 1 ≡ suc i.met = omega arith in
       record {
         count = ap suc h.count;
@@ -293,44 +331,65 @@ mutual
       }))
       (λ _. tt)
 
-  item_typed-led : (w : Where) (item : RawItem) (so_far : TypedStatements) → IfFine (item_typed w item so_far) (ReportedIsLed w so_far (length (labels_of_item item)))
+  item_typed-led : (w : Where) (item : RawItem) (so_far : TypedStatements)
+      → IfFine (item_typed w item so_far) (ReportedIsLed w so_far (length (labels_of_item item)))
   item_typed-led w (items.TheVariants.Declare s objects) so_far = declaration_typed-led w s objects.items so_far
   item_typed-led w (items.TheVariants.Run' place p body) so_far =
-      lift-then (PartIsLed w so_far.inside (length (labels_of body))) (ReportedIsLed w so_far (length (labels_of body))) (telling so_far.statements) _ (statement_typed-led w so_far.inside place body)
+      lift-then (PartIsLed w so_far.inside (length (labels_of body))) (ReportedIsLed w so_far (length (labels_of body))) (telling so_far.statements) _
+      (statement_typed-led w so_far.inside place body)
       (λ p h. one-led w so_far p (length (labels_of body)) h)
 
-  items_typed-led : {n : _} → (w : Where) (row : kinds.Row_of-RawItem n) (so_far : TypedStatements) → IfFine (items_typed w row so_far) (ReportedIsLed w so_far (length (labels_in row)))
+  items_typed-led : {n : _} → (w : Where) (row : kinds.Row_of-RawItem n) (so_far : TypedStatements)
+      → IfFine (items_typed w row so_far) (ReportedIsLed w so_far (length (labels_in row)))
   items_typed-led w kinds.end_of-RawItem so_far = none-led w so_far so_far refl refl
   items_typed-led w (kinds.more_of-RawItem first others) so_far =
-      lift-then (ReportedIsLed w so_far (length (labels_of_item first))) (ReportedIsLed w so_far (length (labels_of_item first ++ labels_in others))) (items_typed w others) _ (item_typed-led w first so_far)
-      (λ reported h. if_fine-weaker (ReportedIsLed w reported (length (labels_in others))) (ReportedIsLed w so_far (length (labels_of_item first ++ labels_in others))) _ (items_typed-led w others reported)
+      lift-then (ReportedIsLed w so_far (length (labels_of_item first))) (ReportedIsLed w so_far (length (labels_of_item first ++ labels_in others)))
+      (items_typed w others) _ (item_typed-led w first so_far)
+      (λ reported h.
+      if_fine-weaker (ReportedIsLed w reported (length (labels_in others))) (ReportedIsLed w so_far (length (labels_of_item first ++ labels_in others))) _
+      (items_typed-led w others reported)
       (λ after k. names-led w so_far after (labels_of_item first) (labels_in others) (more-led w so_far reported after _ _ h k)))
 
-  switch_item_typed-led : (w : Where) (ty : Shape) (item : switches.RawSwitchItem) (so_far : Switching) → IfFine (switch_item_typed w ty item so_far) (SwitchIsLed w so_far (length (labels_of_switch_item item)))
+  switch_item_typed-led : (w : Where) (ty : Shape) (item : switches.RawSwitchItem) (so_far : Switching)
+      → IfFine (switch_item_typed w ty item so_far) (SwitchIsLed w so_far (length (labels_of_switch_item item)))
   switch_item_typed-led w ty (switches.TheVariants.Case at value) so_far =
-      lift-then (λ _. Unit {0}) (SwitchIsLed w so_far 0) _ _ (if_fine-any (value_of so_far.reported.inside.known.context value)) (λ n _. case_added-led w at so_far _)
+      lift-then (λ _. Unit {0}) (SwitchIsLed w so_far 0) _ _ (if_fine-any (value_of so_far.reported.inside.known.context value))
+      (λ n _. case_added-led w at so_far _)
   switch_item_typed-led w ty (switches.TheVariants.Default at) so_far = case_added-led w at so_far None
   switch_item_typed-led w ty (switches.TheVariants.Item i) so_far =
-      lift-then (ReportedIsLed w so_far.reported (length (labels_of_item i))) (SwitchIsLed w so_far (length (labels_of_item i))) (with_statements so_far) _ (item_typed-led w i so_far.reported) (λ reported h. h)
+      lift-then (ReportedIsLed w so_far.reported (length (labels_of_item i))) (SwitchIsLed w so_far (length (labels_of_item i))) (with_statements so_far) _
+      (item_typed-led w i so_far.reported) (λ reported h. h)
 
-  switch_typed-led : {n : _} → (w : Where) (ty : Shape) (row : kinds.Row_of-RawSwitchItem n) (so_far : Switching) → IfFine (switch_typed w ty row so_far) (SwitchIsLed w so_far (length (labels_in_switch row)))
+  switch_typed-led : {n : _} → (w : Where) (ty : Shape) (row : kinds.Row_of-RawSwitchItem n) (so_far : Switching)
+      → IfFine (switch_typed w ty row so_far) (SwitchIsLed w so_far (length (labels_in_switch row)))
   switch_typed-led w ty kinds.end_of-RawSwitchItem so_far = none-led w so_far.reported so_far.reported refl refl
   switch_typed-led w ty (kinds.more_of-RawSwitchItem first others) so_far =
-      lift-then (SwitchIsLed w so_far (length (labels_of_switch_item first))) (SwitchIsLed w so_far (length (labels_of_switch_item first ++ labels_in_switch others))) (switch_typed w ty others) _ (switch_item_typed-led w ty first so_far)
-      (λ s h. if_fine-weaker (SwitchIsLed w s (length (labels_in_switch others))) (SwitchIsLed w so_far (length (labels_of_switch_item first ++ labels_in_switch others))) _ (switch_typed-led w ty others s)
-      (λ after k. names-led w so_far.reported after.reported (labels_of_switch_item first) (labels_in_switch others) (more-led w so_far.reported s.reported after.reported _ _ h k)))
+      lift-then (SwitchIsLed w so_far (length (labels_of_switch_item first)))
+      (SwitchIsLed w so_far (length (labels_of_switch_item first ++ labels_in_switch others))) (switch_typed w ty others) _
+      (switch_item_typed-led w ty first so_far)
+      (λ s h.
+      if_fine-weaker (SwitchIsLed w s (length (labels_in_switch others)))
+      (SwitchIsLed w so_far (length (labels_of_switch_item first ++ labels_in_switch others))) _ (switch_typed-led w ty others s)
+      (λ after k.
+      names-led w so_far.reported after.reported (labels_of_switch_item first) (labels_in_switch others)
+      (more-led w so_far.reported s.reported after.reported _ _ h k)))
 
 -- the body of a function
-pub body_typed-led : (w : Where) (list : List RawItem) (so_far : TypedStatements) → IfFine (body_typed w list so_far) (ReportedIsLed w so_far (length (labels_of_items list)))
+pub body_typed-led : (w : Where) (list : List RawItem) (so_far : TypedStatements)
+    → IfFine (body_typed w list so_far) (ReportedIsLed w so_far (length (labels_of_items list)))
 body_typed-led w [] so_far = none-led w so_far so_far refl refl
 body_typed-led w (first ∷ others) so_far =
-    lift-then (ReportedIsLed w so_far (length (labels_of_item first))) (ReportedIsLed w so_far (length (labels_of_item first ++ labels_of_items others))) (body_typed w others) _ (item_typed-led w first so_far)
-    (λ reported h. if_fine-weaker (ReportedIsLed w reported (length (labels_of_items others))) (ReportedIsLed w so_far (length (labels_of_item first ++ labels_of_items others))) _ (body_typed-led w others reported)
+    lift-then (ReportedIsLed w so_far (length (labels_of_item first))) (ReportedIsLed w so_far (length (labels_of_item first ++ labels_of_items others)))
+    (body_typed w others) _ (item_typed-led w first so_far)
+    (λ reported h.
+    if_fine-weaker (ReportedIsLed w reported (length (labels_of_items others)))
+    (ReportedIsLed w so_far (length (labels_of_item first ++ labels_of_items others))) _ (body_typed-led w others reported)
     (λ after k. names-led w so_far after (labels_of_item first) (labels_of_items others) (more-led w so_far reported after _ _ h k)))
 
 -- ---- the number of a label
 
-number_from-below : {A : Type 0} (p : A → Bool) (i : ℕ) (xs : List A) (end : ℕ) → i + length xs ≡ end → IfSome (position_from p i xs) (λ n. n < end)
+number_from-below : {A : Type 0} (p : A → Bool) (i : ℕ) (xs : List A) (end : ℕ) → i + length xs ≡ end
+    → IfSome (position_from p i xs) (λ n. n < end)
 number_from-below p i [] end is = tt
 number_from-below p i (x ∷ xs) end is = by_test (p x) (number_from-below p (i + 1) xs end (omega (arith, is)))
   where
@@ -342,4 +401,5 @@ number_from-below p i (x ∷ xs) end is = by_test (p x) (number_from-below p (i 
 pub label_number-below : (name : List ℕ) (labels : List (List ℕ)) → IfSome (label_number name labels) (λ n. n < length labels)
 label_number-below name labels =
     let named : List ℕ → Bool = λ other. pointwise nat_eq other name in
-    subst (λ o. IfSome o (λ n. n < length labels)) (sym (position_from-zero named labels)) (number_from-below named 0 labels (length labels) (zero-add (length labels)))
+    subst (λ o. IfSome o (λ n. n < length labels)) (sym (position_from-zero named labels))
+    (number_from-below named 0 labels (length labels) (zero-add (length labels)))

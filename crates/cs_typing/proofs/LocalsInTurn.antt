@@ -24,7 +24,8 @@ module _ (base : Shape) (d : RawInit) (i : Inside) (new : is_declared_here d.dec
   pub local_type_stops : (r : TypeRefusal) → IsRefused (object_type i.known.context base d) r → IsRefused (local_added base d i) r
   local_type_stops r h = refused_as r local_new (lift-refused (local_rest d i) _ r h)
 
-  pub local_typed : (ty : Shape) → object_type i.known.context base d ≡ Fine ty → local_added base d i ≡ local_initialized (length i.variables) ty d.declarator.place d.initial (with_local d.declarator.name ty i)
+  pub local_typed : (ty : Shape) → object_type i.known.context base d ≡ Fine ty
+      → local_added base d i ≡ local_initialized (length i.variables) ty d.declarator.place d.initial (with_local d.declarator.name ty i)
   local_typed ty e = local_new ∙ lift_is (local_rest d i) _ ty e
 
 -- a local after statements

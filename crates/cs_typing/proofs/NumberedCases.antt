@@ -1,5 +1,6 @@
 -- The cases of a `switch` have different numbers of its type: for the statements of the contract of `typed`.
-use Rattle.std.proofs.Common.{Bool, ◌≡◌, ◌∙◌, ◌≢◌, ℕ, ℤ, suc, ◌<◌, true, false, List, [], ◌∷◌, length, get_or, refl, sym, ap, subst}
+use Rattle.std.proofs.Common.{Bool, ◌≡◌, ◌∙◌, ◌≢◌, ℕ, ℤ, suc, ◌<◌, true, false, List, [], ◌∷◌, length, get_or, refl, sym, ap}
+use Rattle.std.proofs.Common.{subst}
 use Rattle.std.specs.Prelude.{Option, Some, None}
 use Rattle.std.proofs.lemmas.List.Folds.{list_any_at}
 use Rattle.std.proofs.lemmas.Cmp.{int_eq_equiv}
@@ -22,7 +23,8 @@ same_value-itself : (value : Option ℤ) → same_value value value ≡ true
 same_value-itself (Some n) = int_eq_equiv.refl n
 same_value-itself None = refl
 
-pub new-case : (value : Option ℤ) (cases : List Case) → is_case value cases ≡ false → (k : ℕ) (d : Case) → k < length cases → (get_or cases k d).value ≢ value
+pub new-case : (value : Option ℤ) (cases : List Case) → is_case value cases ≡ false → (k : ℕ) (d : Case) → k < length cases
+    → (get_or cases k d).value ≢ value
 new-case value cases new k d within is =
     let named : Case → Bool = λ c. same_value c.value value in
     let same : named (get_or cases k d) ≡ true = ap (λ v. same_value v value) is ∙ same_value-itself value in

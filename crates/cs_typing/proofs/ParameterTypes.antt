@@ -11,12 +11,14 @@ types_of-variables [] = refl
 types_of-variables (first ∷ others) = ap (λ types. shape_of first.ty ∷ types) (types_of-variables others)
 
 -- one list has a type more
-pub more_types : (types : List CType) (parameters : List Local) → 1 ≤ length types → length parameters ≡ 0 → false ≡ same_types (map (λ (ty : CType). shape_of ty) types) (types_of (map variable parameters))
+pub more_types : (types : List CType) (parameters : List Local) → 1 ≤ length types → length parameters ≡ 0
+    → false ≡ same_types (map (λ (ty : CType). shape_of ty) types) (types_of (map variable parameters))
 more_types [] parameters some none = absurd (omega (arith, some))
 more_types (ty ∷ types) [] some none = refl
 more_types (ty ∷ types) (first ∷ others) some none = absurd (omega (arith, none))
 
-pub fewer_types : (types : List CType) (parameters : List Local) → length types ≡ 0 → 1 ≤ length parameters → false ≡ same_types (map (λ (ty : CType). shape_of ty) types) (types_of (map variable parameters))
+pub fewer_types : (types : List CType) (parameters : List Local) → length types ≡ 0 → 1 ≤ length parameters
+    → false ≡ same_types (map (λ (ty : CType). shape_of ty) types) (types_of (map variable parameters))
 fewer_types types [] none some = absurd (omega (arith, some))
 fewer_types [] (first ∷ others) none some = refl
 fewer_types (ty ∷ types) (first ∷ others) none some = absurd (omega (arith, none))

@@ -17,4 +17,5 @@ module _ (defined other : List ℕ → Bool) (alike : (name : List ℕ) → defi
   pub all_placed-alike : (file : List RawExternal) → all_placed defined file ≡ all_placed other file
   all_placed-alike [] = refl
   all_placed-alike (e ∷ es) =
-      ap (λ o. option_to_list o ++ all_placed defined es) (placed-alike e.kind) ∙ ap (λ names. option_to_list (placed other e.kind) ++ names) (all_placed-alike es)
+      ap (λ o. option_to_list o ++ all_placed defined es) (placed-alike e.kind)
+      ∙ ap (λ names. option_to_list (placed other e.kind) ++ names) (all_placed-alike es)

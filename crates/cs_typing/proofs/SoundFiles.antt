@@ -32,7 +32,8 @@ use Rattle.cs_declarations.proofs.SoundStructs.{GoesOn, none-AreSound}
 use Rattle.cs_typing.specs.Objects.{Filed, Object, with_known, is_completed, may_be_object, object_of, object_initialized, marked, object_added, objects_added}
 use Rattle.cs_typing.specs.Order.{order_of}
 use Rattle.cs_typing.specs.Statements.{body_typed, no_statements}
-use Rattle.cs_typing.specs.Functions.{Routed, same_types, types_of, function_of, may_be_function, where_in, at_beginning, declared_inside, body_added, completed, outside_of, headed, is_result, resulted, function_added}
+use Rattle.cs_typing.specs.Functions.{Routed, same_types, types_of, function_of, may_be_function, where_in, at_beginning, declared_inside, body_added}
+use Rattle.cs_typing.specs.Functions.{completed, outside_of, headed, is_result, resulted, function_added}
 use Rattle.cs_typing.specs.Files.{beginning, external_declared, external_typed, specs_of, file_typed, typed_file}
 use Rattle.cs_typing.proofs.SoundStatements.{IsLaidUnder, following, ReportedIsSound, body_typed-sound}
 
@@ -50,10 +51,12 @@ module _ (m : DataModel) where
   -- ---- objects
 
   object_of-sound : (f : Filed) (d : RawDeclarator) (before : Option Meaning) (ty : Shape) → FiledIsSound f → IfFine (object_of f d before ty) ObjectIsSound
-  object_of-sound f d (Some (Global number ty')) ty h = IfFine-cond (same_shape ty' ty) (Fine (record { number = number; filed = f })) (Fault DeclaredTwice d.place) ObjectIsSound (λ same. h) (λ other. tt)
+  object_of-sound f d (Some (Global number ty')) ty h =
+      IfFine-cond (same_shape ty' ty) (Fine (record { number = number; filed = f })) (Fault DeclaredTwice d.place) ObjectIsSound (λ same. h) (λ other. tt)
   object_of-sound f d other ty h = h
 
-  object_initialized-sound : (ty : Shape) (first : Option RawFirstValue) (o : Object) → ObjectIsSound o → IfFine (object_initialized ty first o) FiledIsSound
+  object_initialized-sound : (ty : Shape) (first : Option RawFirstValue) (o : Object) → ObjectIsSound o
+      → IfFine (object_initialized ty first o) FiledIsSound
   object_initialized-sound ty None o h = h
   object_initialized-sound ty (Some value) o h =
       IfFine-lift_any _ (initial_typed o.filed.known.context o.filed.known.literals InFile value.place ty value.initial) FiledIsSound (λ r. h)
@@ -62,7 +65,8 @@ module _ (m : DataModel) where
   object_added-sound s base d f h =
       let found = object_of f d.declarator (meaning_here d.declarator.name f.known) in
       let added : Shape → Verdict Filed = λ ty. lift (object_initialized ty d.initial) (lift (marked s d.declarator) (found ty)) in
-      IfFine-cond (may_be_object f.globals (is_completed f base d.declarator) (is_some d.initial) (meaning_here d.declarator.name f.known)) (lift added (object_type f.known.context base d))
+      IfFine-cond (may_be_object f.globals (is_completed f base d.declarator) (is_some d.initial) (meaning_here d.declarator.name f.known))
+      (lift added (object_type f.known.context base d))
       (Fault DeclaredTwice d.declarator.place) FiledIsSound
       (λ may. IfFine-lift_any added (object_type f.known.context base d) FiledIsSound
       (λ ty. IfFine-lift (object_initialized ty d.initial) (lift (marked s d.declarator) (found ty)) ObjectIsSound FiledIsSound
@@ -74,38 +78,48 @@ module _ (m : DataModel) where
   objects_added-sound : (s : RawSpecs) (base : Shape) (ds : List RawInit) (f : Filed) → FiledIsSound f → IfFine (objects_added s base ds f) FiledIsSound
   objects_added-sound s base [] f h = h
   objects_added-sound s base (d ∷ ds) f h =
-      IfFine-lift (objects_added s base ds) (object_added s base d f) FiledIsSound FiledIsSound (object_added-sound s base d f h) (λ g i. objects_added-sound s base ds g i)
+      IfFine-lift (objects_added s base ds) (object_added s base d f) FiledIsSound FiledIsSound (object_added-sound s base d f h)
+      (λ g i. objects_added-sound s base ds g i)
 
   -- ---- functions
 
-  function_of-sound : (f : Filed) (d : RawFunction) (result : Shape) (parameters : List Variable) (written : List Bool) (before : Option Meaning) → FiledIsSound f → IfFine (function_of f d result parameters written before) RoutedIsSound
+  function_of-sound : (f : Filed) (d : RawFunction) (result : Shape) (parameters : List Variable) (written : List Bool) (before : Option Meaning)
+      → FiledIsSound f → IfFine (function_of f d result parameters written before) RoutedIsSound
   function_of-sound f d result parameters written (Some (Function before)) h =
-      IfFine-cond (same_types before.parameters (types_of parameters)) (Fine (before.callee, f)) (Fault DeclaredTwice d.place) RoutedIsSound (λ same. h) (λ other. tt)
+      IfFine-cond (same_types before.parameters (types_of parameters)) (Fine (before.callee, f)) (Fault DeclaredTwice d.place) RoutedIsSound (λ same. h)
+      (λ other. tt)
   function_of-sound f d result parameters written other h = h
 
-  body_added-sound : (d : RawFunction) (body : RawBody) (result : Shape) (parameters : List Variable) (inner : List Declaration) (callee : Callee) (f : Filed) → FiledIsSound f → IfFine (body_added d body result parameters inner callee f) FiledIsSound
+  body_added-sound : (d : RawFunction) (body : RawBody) (result : Shape) (parameters : List Variable) (inner : List Declaration) (callee : Callee) (f : Filed)
+      → FiledIsSound f → IfFine (body_added d body result parameters inner callee f) FiledIsSound
   body_added-sound d body result parameters inner (Numbered number) f h =
       IfFine-lift _ (body_typed (where_in result body) body.items.items (no_statements (at_beginning f parameters inner))) (ReportedIsSound m) FiledIsSound
       (body_typed-sound m (where_in result body) body.items.items (no_statements (at_beginning f parameters inner)) h) (λ reported g. g)
   body_added-sound d body result parameters inner other f h = h
 
-  completed-sound : (d : RawFunction) (body : Option RawBody) (result : Shape) (parameters : List Variable) (inner : List Declaration) (r : Routed) → RoutedIsSound r → IfFine (completed d body result parameters inner r) FiledIsSound
+  completed-sound : (d : RawFunction) (body : Option RawBody) (result : Shape) (parameters : List Variable) (inner : List Declaration) (r : Routed)
+      → RoutedIsSound r → IfFine (completed d body result parameters inner r) FiledIsSound
   completed-sound d None result parameters inner r h = h
   completed-sound d (Some body) result parameters inner r h = body_added-sound d body result parameters inner r.0 r.1 h
 
-  headed-sound : (d : RawFunction) (body : Option RawBody) (f : Filed) (result : Shape) (head : Head) → IsLaidUnder m head.known → IfFine (headed d body f result head) FiledIsSound
+  headed-sound : (d : RawFunction) (body : Option RawBody) (f : Filed) (result : Shape) (head : Head) → IsLaidUnder m head.known
+      → IfFine (headed d body f result head) FiledIsSound
   headed-sound d body f result head h =
       IfFine-lift (completed d body result head.variables (declared_inside f.known head.known)) _ RoutedIsSound FiledIsSound
       (function_of-sound (outside_of f head) d result head.variables head.written (meaning_here d.name (outside_of f head).known) h)
       (λ r g. completed-sound d body result head.variables (declared_inside f.known head.known) r g)
 
-  function_added-sound : (d : RawFunction) (body : Option RawBody) (f : Filed) (ty : Shape) → FiledIsSound f → IfFine (function_added d body f ty) FiledIsSound
+  function_added-sound : (d : RawFunction) (body : Option RawBody) (f : Filed) (ty : Shape) → FiledIsSound f
+      → IfFine (function_added d body f ty) FiledIsSound
   function_added-sound d body f ty h =
       let result = starred d.pointers.items ty in
       IfFine-cond (may_be_function f (is_some body) result (meaning_here d.name f.known)) (resulted d body f result) (Fault DeclaredTwice d.place) FiledIsSound
-      (λ may. IfFine-cond (is_result result) (lift (headed d body f result) (parameters_typed (entered f.known) d.parameters)) (Fault IncompleteType d.place) FiledIsSound
+      (λ may.
+      IfFine-cond (is_result result) (lift (headed d body f result) (parameters_typed (entered f.known) d.parameters)) (Fault IncompleteType d.place)
+      FiledIsSound
       (λ fits. IfFine-lift (headed d body f result) (parameters_typed (entered f.known) d.parameters) (HeadGoesOn (entered f.known)) FiledIsSound
-      (parameters_typed-GoesOn (entered f.known) d.parameters h.0) (λ head g. headed-sound d body f result head (following m (entered f.known) head.known h g)))
+      (parameters_typed-GoesOn (entered f.known) d.parameters h.0)
+      (λ head g. headed-sound d body f result head (following m (entered f.known) head.known h g)))
       (λ none. tt))
       (λ may_not. tt)
 
@@ -114,7 +128,8 @@ module _ (m : DataModel) where
   external_declared-sound : (kind : RawExternalKind) (f : Filed) (base : Shape) → FiledIsSound f → IfFine (external_declared kind f base) FiledIsSound
   external_declared-sound (external.Type s) f base h = h
   external_declared-sound (external.Typedef s names) f base h =
-      IfFine-lift _ (typedefs_added base names.items f.known) (GoesOn f.known) FiledIsSound (typedefs_added-GoesOn f.known base names.items h.0) (λ k g. following m f.known k h g)
+      IfFine-lift _ (typedefs_added base names.items f.known) (GoesOn f.known) FiledIsSound (typedefs_added-GoesOn f.known base names.items h.0)
+      (λ k g. following m f.known k h g)
   external_declared-sound (external.Objects s objects) f base h = objects_added-sound s base objects.items f h
   external_declared-sound (external.Function s d) f base h = function_added-sound d None f base h
   external_declared-sound (external.Definition s d body) f base h = function_added-sound d (Some body) f base h
@@ -127,7 +142,8 @@ module _ (m : DataModel) where
   file_typed-sound : (file : List RawExternal) (f : Filed) → FiledIsSound f → IfFine (file_typed file f) FiledIsSound
   file_typed-sound [] f h = h
   file_typed-sound (e ∷ es) f h =
-      IfFine-lift (file_typed es) (external_typed e.place e.kind f) FiledIsSound FiledIsSound (external_typed-sound e.place e.kind f h) (λ g i. file_typed-sound es g i)
+      IfFine-lift (file_typed es) (external_typed e.place e.kind f) FiledIsSound FiledIsSound (external_typed-sound e.place e.kind f h)
+      (λ g i. file_typed-sound es g i)
 
 pub typed_file-sound : (model : DataModel) (file : List RawExternal) → IfFine (typed_file model file) (FiledIsSound model)
 typed_file-sound model file = file_typed-sound model file (beginning model (order_of file)) (none-AreSound model, refl)

@@ -15,7 +15,9 @@ use Rattle.cs_ast.specs.TypedView.{statement, statement_list}
 use Rattle.cs_folding.specs.TypedParts.{type_of}
 use Rattle.cs_scopes.specs.Verdicts.{Verdict, Fine, Fault, lift}
 use Rattle.cs_typing.specs.Objects.{Inside, TypedStatements}
-use Rattle.cs_typing.specs.Statements.{Where, in_switch, in_a_row, Part, Switching, in_block, no_statements, no_cases, block_made, switch_made, selected, statement_typed, item_typed, items_typed, body_typed, switch_item_typed, switch_typed, switch_list_typed, switch_whole, labels_of, labels_of_item, labels_in, labels_of_items, labels_of_switch_item, labels_in_switch, labels_of_switch_list}
+use Rattle.cs_typing.specs.Statements.{Where, in_switch, in_a_row, Part, Switching, in_block, no_statements, no_cases, block_made, switch_made, selected}
+use Rattle.cs_typing.specs.Statements.{statement_typed, item_typed, items_typed, body_typed, switch_item_typed, switch_typed, switch_list_typed, switch_whole}
+use Rattle.cs_typing.specs.Statements.{labels_of, labels_of_item, labels_in, labels_of_items, labels_of_switch_item, labels_in_switch, labels_of_switch_list}
 
 -- rules that give the same are the same after another one
 lift-same : {A B : Type 0} (f g : A → Verdict B) (v : Verdict A) → ((a : A) → f a ≡ g a) → lift f v ≡ lift g v
@@ -32,24 +34,30 @@ abbrev switch_of : RawStmtKind → (n : Count) × kinds.Row_of-RawSwitchItem n
 switch_of (kind.Switch' value shape row) = (_, row)
 switch_of _ = (_, kinds.end_of-RawSwitchItem)
 
-items-row : (w : Where) (n : _) (row : kinds.Row_of-RawItem n) (so_far : TypedStatements) → items_typed w row so_far ≡ body_typed w (kinds.items-the_row-RawItem n row) so_far
+items-row : (w : Where) (n : _) (row : kinds.Row_of-RawItem n) (so_far : TypedStatements)
+    → items_typed w row so_far ≡ body_typed w (kinds.items-the_row-RawItem n row) so_far
 items-row w n kinds.end_of-RawItem so_far = refl
 items-row w n (kinds.more_of-RawItem first others) so_far =
-    lift-same (items_typed w others) (body_typed w (kinds.items-the_row-RawItem _ others)) (item_typed w first so_far) (λ reported. items-row w _ others reported)
+    lift-same (items_typed w others) (body_typed w (kinds.items-the_row-RawItem _ others)) (item_typed w first so_far)
+    (λ reported. items-row w _ others reported)
 
-pub statement_typed-Block : (w : Where) (i : Inside) (at : Place) (items : Vec RawItem Global) → statement_typed w i at (kind.Block items) ≡ lift (block_made at i) (body_typed w items.items (no_statements (in_block i)))
+pub statement_typed-Block : (w : Where) (i : Inside) (at : Place) (items : Vec RawItem Global)
+    → statement_typed w i at (kind.Block items) ≡ lift (block_made at i) (body_typed w items.items (no_statements (in_block i)))
 statement_typed-Block w i at items =
     let row = block_of (kind.Block items) in
     ap (lift (block_made at i))
     (items-row w row.0 row.1 (no_statements (in_block i))
     ∙ ap (λ list. body_typed w list (no_statements (in_block i))) (kinds.items_hidden-the_row-RawItem-0 items))
 
-switch-row : (w : Where) (ty : Shape) (n : _) (row : kinds.Row_of-RawSwitchItem n) (so_far : Switching) → switch_typed w ty row so_far ≡ switch_list_typed w ty (kinds.items-the_row-RawSwitchItem n row) so_far
+switch-row : (w : Where) (ty : Shape) (n : _) (row : kinds.Row_of-RawSwitchItem n) (so_far : Switching)
+    → switch_typed w ty row so_far ≡ switch_list_typed w ty (kinds.items-the_row-RawSwitchItem n row) so_far
 switch-row w ty n kinds.end_of-RawSwitchItem so_far = refl
 switch-row w ty n (kinds.more_of-RawSwitchItem first others) so_far =
-    lift-same (switch_typed w ty others) (switch_list_typed w ty (kinds.items-the_row-RawSwitchItem _ others)) (switch_item_typed w ty first so_far) (λ s. switch-row w ty _ others s)
+    lift-same (switch_typed w ty others) (switch_list_typed w ty (kinds.items-the_row-RawSwitchItem _ others)) (switch_item_typed w ty first so_far)
+    (λ s. switch-row w ty _ others s)
 
-pub statement_typed-Switch : (w : Where) (i : Inside) (at : Place) (value : RawExpr) (items : Vec RawSwitchItem Global) → statement_typed w i at (kind.Switch value items) ≡ switch_whole w i at value items.items
+pub statement_typed-Switch : (w : Where) (i : Inside) (at : Place) (value : RawExpr) (items : Vec RawSwitchItem Global)
+    → statement_typed w i at (kind.Switch value items) ≡ switch_whole w i at value items.items
 statement_typed-Switch w i at value items =
     let row = switch_of (kind.Switch value items) in
     lift-same

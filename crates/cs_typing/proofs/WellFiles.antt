@@ -48,36 +48,47 @@ use Rattle.cs_typing.proofs.WellObjects.{objects_added-adds}
 use Rattle.cs_typing.proofs.WellFunctions.{itself, function_added-adds}
 
 module _ (p : TypedProgram) (laid : IsLaidOut p.model p.table) where
-  external_declared-adds : (k : RawExternalKind) (f : Filed) (base : Shape) → NamesStructs (table_of f.known) base → Kept p f → ExternalIsPlaced f.order k → ExternalHasConstants k → IfFine (external_declared k f base) (Adds p f)
+  external_declared-adds : (k : RawExternalKind) (f : Filed) (base : Shape) → NamesStructs (table_of f.known) base → Kept p f → ExternalIsPlaced f.order k
+      → ExternalHasConstants k → IfFine (external_declared k f base) (Adds p f)
   external_declared-adds (external_kind.Type s) f base named kept placed fit = adds-self p f kept
   external_declared-adds (external_kind.Typedef s names) f base named kept placed fit =
       let v = typedefs_added base names.items f.known in
-      lift-then (λ (k : Environment). Leads (outside (with_parts p f)) f.known k × (DeclaresOn f.known k × NamedOn f.known k)) (Adds p f) (λ k. Fine (with_known k f)) v
-      (both-fine (Leads (outside (with_parts p f)) f.known) (λ (k : Environment). DeclaresOn f.known k × NamedOn f.known k) v (typedefs_added-leads (outside (with_parts p f)) base names.items f.known)
-      (both-fine (DeclaresOn f.known) (NamedOn f.known) v (typedefs_added-on base names.items f.known) (typedefs_added-named base names.items f.known named kept.types.known)))
+      lift-then (λ (k : Environment). Leads (outside (with_parts p f)) f.known k × (DeclaresOn f.known k × NamedOn f.known k)) (Adds p f)
+      (λ k. Fine (with_known k f)) v
+      (both-fine (Leads (outside (with_parts p f)) f.known) (λ (k : Environment). DeclaresOn f.known k × NamedOn f.known k) v
+      (typedefs_added-leads (outside (with_parts p f)) base names.items f.known)
+      (both-fine (DeclaresOn f.known) (NamedOn f.known) v (typedefs_added-on base names.items f.known)
+      (typedefs_added-named base names.items f.known named kept.types.known)))
       (λ k h. known-adds p f k kept (leads-following p f k h.0 h.1.0 h.1.1.known))
   external_declared-adds (external_kind.Objects s objects) f base named kept placed fit = objects_added-adds p laid s base objects.items f named kept fit
   external_declared-adds (external_kind.Function s d) f base named kept placed fit = function_added-adds p laid d None f base named kept placed tt
-  external_declared-adds (external_kind.Definition s d body) f base named kept placed fit = function_added-adds p laid d (Some body) f base named kept placed fit
+  external_declared-adds (external_kind.Definition s d body) f base named kept placed fit =
+      function_added-adds p laid d (Some body) f base named kept placed fit
 
-  external_typed-adds : (at : Place) (k : RawExternalKind) (f : Filed) → Kept p f → ExternalIsPlaced f.order k → ExternalHasConstants k → IfFine (external_typed at k f) (Adds p f)
+  external_typed-adds : (at : Place) (k : RawExternalKind) (f : Filed) → Kept p f → ExternalIsPlaced f.order k → ExternalHasConstants k
+      → IfFine (external_typed at k f) (Adds p f)
   external_typed-adds at k f kept placed fit =
       let v = specs_type f.known at (specs_of k) in
-      lift-then (λ (r : Typing). Leads (outside (with_parts p f)) f.known r.1 × (TypeDeclaresOn f.known r × TypeNamed f.known r)) (Adds p f) (external_read k f) v
+      lift-then (λ (r : Typing). Leads (outside (with_parts p f)) f.known r.1 × (TypeDeclaresOn f.known r × TypeNamed f.known r)) (Adds p f)
+      (external_read k f) v
       (both-fine (λ (r : Typing). Leads (outside (with_parts p f)) f.known r.1) (λ (r : Typing). TypeDeclaresOn f.known r × TypeNamed f.known r) v
       (specs_type-leads (outside (with_parts p f)) f.known at (specs_of k) kept.model)
-      (both-fine (TypeDeclaresOn f.known) (TypeNamed f.known) v (specs_type-on f.known at (specs_of k)) (specs_type-named f.known at (specs_of k) kept.types.known)))
+      (both-fine (TypeDeclaresOn f.known) (TypeNamed f.known) v (specs_type-on f.known at (specs_of k))
+      (specs_type-named f.known at (specs_of k) kept.types.known)))
       (λ r h.
       let words = known-adds p f r.1 kept (leads-following p f r.1 h.0 h.1.0 h.1.1.0.known) in
-      if_fine-weaker (Adds p (with_known r.1 f)) (Adds p f) (external_declared k (with_known r.1 f) r.0) (external_declared-adds k (with_known r.1 f) r.0 h.1.1.1 words.kept placed fit)
+      if_fine-weaker (Adds p (with_known r.1 f)) (Adds p f) (external_declared k (with_known r.1 f) r.0)
+      (external_declared-adds k (with_known r.1 f) r.0 h.1.1.1 words.kept placed fit)
       (λ g more. adds-trans p f (with_known r.1 f) g words more))
 
-  file_typed-adds : (file : List RawExternal) (f : Filed) → Kept p f → FileIsPlaced f.order file → FileHasConstants file → IfFine (file_typed file f) (Adds p f)
+  file_typed-adds : (file : List RawExternal) (f : Filed) → Kept p f → FileIsPlaced f.order file → FileHasConstants file
+      → IfFine (file_typed file f) (Adds p f)
   file_typed-adds [] f kept placed fit = adds-self p f kept
   file_typed-adds (e ∷ es) f kept placed fit =
       lift-then (Adds p f) (Adds p f) (file_typed es) _ (external_typed-adds e.place e.kind f kept placed.0 fit.0)
       (λ g h.
-      if_fine-weaker (Adds p g) (Adds p f) (file_typed es g) (file_typed-adds es g h.kept (subst (λ order. FileIsPlaced order es) (sym h.order) placed.1) fit.1)
+      if_fine-weaker (Adds p g) (Adds p f) (file_typed es g)
+      (file_typed-adds es g h.kept (subst (λ order. FileIsPlaced order es) (sym h.order) placed.1) fit.1)
       (λ k more. adds-trans p f g k h more))
 
   -- a function that is not declared yet has no types of structs
@@ -91,7 +102,8 @@ module _ (p : TypedProgram) (laid : IsLaidOut p.model p.table) where
     outer = refl;
     library = starts-self (allocators p.model);
     order = length-map order blank;
-    declared = All-from_recursion (λ (d : Declaration). IsThere (outside (with_parts p (beginning p.model order))) d.meaning) (allocators p.model) ((refl, refl), ((refl, refl), ((refl, refl), tt)));
+    declared = All-from_recursion (λ (d : Declaration). IsThere (outside (with_parts p (beginning p.model order))) d.meaning) (allocators p.model)
+        ((refl, refl), ((refl, refl), ((refl, refl), tt)));
     numbered = All-from_recursion (λ (d : Declaration). HasNumber order d.name d.meaning) (allocators p.model) (tt, (tt, (tt, tt)));
     counted = All-map IsCounted blank order (λ i name within. omega arith);
     types = record {
@@ -123,7 +135,8 @@ module _ (p : TypedProgram) (laid : IsLaidOut p.model p.table) where
   }
 
 -- the program that a file is
-file-well : (model : DataModel) (files : List (List ℕ)) (tokens : List Token) (file : List RawExternal) (f : Filed) → typed_file model file ≡ Fine f → IsFileTree files tokens file → IsWellFormed (program_of model files tokens f)
+file-well : (model : DataModel) (files : List (List ℕ)) (tokens : List Token) (file : List RawExternal) (f : Filed) → typed_file model file ≡ Fine f
+    → IsFileTree files tokens file → IsWellFormed (program_of model files tokens f)
 unfolding lift
 file-well model files tokens file f is tree = record {
   laid_out = laid;
@@ -152,7 +165,8 @@ file-well model files tokens file f is tree = record {
     begun = beginning model (order_of file)
 
     adds : Adds p begun f
-    adds = if_fine-at (Adds p begun) (typed_file model file) f (file_typed-adds p laid file begun (beginning-kept p laid (order_of file)) (order_of-placed file) fit) is
+    adds = if_fine-at (Adds p begun) (typed_file model file) f
+        (file_typed-adds p laid file begun (beginning-kept p laid (order_of file)) (order_of-placed file) fit) is
 
     types : TypesAreNamed p
     types = record { members = adds.kept.types.known.members; globals = adds.kept.types.globals; routines = adds.kept.types.routines }
@@ -163,10 +177,14 @@ file-well model files tokens file f is tree = record {
     all : IsWellSoFar p f
     all = adds.well has (beginning-well p laid (order_of file))
 
-pub typed-well : (model : DataModel) (files : List (List ℕ)) (tokens : List Token) (file : List RawExternal) → IsFileTree files tokens file → IfFine (typed model files tokens file) IsWellFormed
+pub typed-well : (model : DataModel) (files : List (List ℕ)) (tokens : List Token) (file : List RawExternal) → IsFileTree files tokens file
+    → IfFine (typed model files tokens file) IsWellFormed
 typed-well model files tokens file tree =
-    lift-then (λ f. typed_file model file ≡ Fine f) IsWellFormed (λ (f : Filed). Fine (program_of model files tokens f)) (typed_file model file) (itself (typed_file model file))
+    lift-then (λ f. typed_file model file ≡ Fine f) IsWellFormed (λ (f : Filed). Fine (program_of model files tokens f)) (typed_file model file)
+    (itself (typed_file model file))
     (λ f is. file-well model files tokens file f is tree)
 
-pub well_formed : (model : DataModel) (files : List (List ℕ)) (tokens : List Token) (file : List RawExternal) (p : TypedProgram) → typed model files tokens file ≡ Fine p → IsFileTree files tokens file → IsWellFormed p
-well_formed model files tokens file p reported tree = if_fine-at IsWellFormed (typed model files tokens file) p (typed-well model files tokens file tree) reported
+pub well_formed : (model : DataModel) (files : List (List ℕ)) (tokens : List Token) (file : List RawExternal) (p : TypedProgram)
+    → typed model files tokens file ≡ Fine p → IsFileTree files tokens file → IsWellFormed p
+well_formed model files tokens file p reported tree =
+    if_fine-at IsWellFormed (typed model files tokens file) p (typed-well model files tokens file tree) reported

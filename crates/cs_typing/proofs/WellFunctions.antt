@@ -1,5 +1,6 @@
 -- The functions of files are well formed: for the contract of `typed`.
-use Rattle.std.proofs.Common.{◌≡◌, ◌≢◌, ◌∙◌, ℕ, ◌+◌, ◌≤◌, ◌<◌, Bool, true, false, List, [], ◌∷◌, ◌++◌, length, drop, take, get_or, inl, inr, refl, sym, ap, subst, arith}
+use Rattle.std.proofs.Common.{◌≡◌, ◌≢◌, ◌∙◌, ℕ, ◌+◌, ◌≤◌, ◌<◌, Bool, true, false, List, [], ◌∷◌, ◌++◌, length, drop}
+use Rattle.std.proofs.Common.{take, get_or, inl, inr, refl, sym, ap, subst, arith}
 use Rattle.std.specs.Prelude.{nat_eq, ◌⊎◌, ◌&&◌, ◌||◌, not, codes, Option, Some, None, IfSome, is_some, slice_get}
 use Rattle.std.specs.List.{All}
 use Rattle.std.specs.Cmp.Lexicographic.{pointwise}
@@ -29,7 +30,9 @@ use Rattle.cs_declarations.specs.Parameters.{Head, parameters_typed}
 use Rattle.cs_typing.specs.Objects.{Filed, TypedStatements, Inside, changed}
 use Rattle.cs_typing.specs.Statements.{in_a_row, no_statements, body_typed, labels_of_items}
 use Rattle.cs_typing.specs.Order.{is_of_library}
-use Rattle.cs_typing.specs.Functions.{is_result, same_types, types_of, has_body, may_be_function, bodiless, numbered, number_in, Routed, new_function, function_of, declared_inside, bodied, with_body, at_beginning, where_in, body_added, completed, outside_of, headed, resulted, function_added}
+use Rattle.cs_typing.specs.Functions.{is_result, same_types, types_of, has_body, may_be_function, bodiless, numbered, number_in, Routed, new_function}
+use Rattle.cs_typing.specs.Functions.{function_of, declared_inside, bodied, with_body, at_beginning, where_in, body_added, completed, outside_of, headed}
+use Rattle.cs_typing.specs.Functions.{resulted, function_added}
 use Rattle.cs_typing.specs.Files.{allocators}
 use Rattle.cs_well_formed.specs.Structs.{NamesStructs, VariablesName, HasNamedTypes}
 use Rattle.cs_well_formed.specs.Expressions.{Setting, IsScalar, IsWhole, parameter_types}
@@ -42,7 +45,9 @@ use Rattle.cs_well_formed.proofs.Leading.{parameters_typed-leads}
 use Rattle.cs_well_formed.proofs.NamedTypes.{starred-named, declaring-known, entered-known, left-known, HeadNamed, parameters_typed-named}
 use Rattle.cs_well_formed.proofs.Structs.{found-at, names-longer, variables-longer, globals-longer, routine-longer, routines-longer, meaning-longer}
 use Rattle.cs_typing.proofs.DeclarationsAfter.{Starts, starts-trans, start-take, IsPlain, DeclaresOn, parameters_typed-on, AreScalars, HeadDeclaresOn}
-use Rattle.cs_typing.proofs.FilesSoFar.{start-All, found-start, both-All, changed-length, changed-at, changed-other, changed-found, changed-All, newest-All, IsOther, newest-none, newest-start, HasNumber, there-inside, IsCounted, with_parts, Kept, Has, Adds, adds-self, adds-trans, HasGlobal, HasRoutine, all-there-kept, known-adds}
+use Rattle.cs_typing.proofs.FilesSoFar.{start-All, found-start, both-All, changed-length, changed-at, changed-other, changed-found, changed-All, newest-All}
+use Rattle.cs_typing.proofs.FilesSoFar.{IsOther, newest-none, newest-start, HasNumber, there-inside, IsCounted, with_parts, Kept, Has, Adds, adds-self}
+use Rattle.cs_typing.proofs.FilesSoFar.{adds-trans, HasGlobal, HasRoutine, all-there-kept, known-adds}
 use Rattle.cs_typing.proofs.HeldConstants.{ItemsHaveConstants}
 use Rattle.cs_typing.proofs.LedJumps.{ReportedIsLed, body_typed-led}
 use Rattle.cs_typing.proofs.OrderedNames.{IsOrdered, IsPlaced, number-names}
@@ -76,28 +81,34 @@ result-is (struct number) h = absurd cc
 
 -- the functions of the library are declared before a file
 library-declared : (model : DataModel) (name : List ℕ) → is_of_library name ≡ true → is_some (newest name (allocators model)) ≡ true
-library-declared model name h = by_way (or_cases (pointwise nat_eq name (codes "malloc") || pointwise nat_eq name (codes "calloc")) (pointwise nat_eq name (codes "free")) h)
+library-declared model name h =
+    by_way (or_cases (pointwise nat_eq name (codes "malloc") || pointwise nat_eq name (codes "calloc")) (pointwise nat_eq name (codes "free")) h)
   where
-    named : (other : List ℕ) → pointwise nat_eq name other ≡ true → is_some (newest other (allocators model)) ≡ true → is_some (newest name (allocators model)) ≡ true
+    named : (other : List ℕ) → pointwise nat_eq name other ≡ true → is_some (newest other (allocators model)) ≡ true
+        → is_some (newest name (allocators model)) ≡ true
     named other is found = subst (λ n. is_some (newest n (allocators model)) ≡ true) (sym (same_bytes name other is)) found
 
-    by_first : (pointwise nat_eq name (codes "malloc") ≡ true) ⊎ (pointwise nat_eq name (codes "calloc") ≡ true) → is_some (newest name (allocators model)) ≡ true
+    by_first : (pointwise nat_eq name (codes "malloc") ≡ true) ⊎ (pointwise nat_eq name (codes "calloc") ≡ true)
+        → is_some (newest name (allocators model)) ≡ true
     by_first (inl is) = named (codes "malloc") is refl
     by_first (inr is) = named (codes "calloc") is refl
 
-    by_way : ((pointwise nat_eq name (codes "malloc") || pointwise nat_eq name (codes "calloc")) ≡ true) ⊎ (pointwise nat_eq name (codes "free") ≡ true) → is_some (newest name (allocators model)) ≡ true
+    by_way : ((pointwise nat_eq name (codes "malloc") || pointwise nat_eq name (codes "calloc")) ≡ true) ⊎ (pointwise nat_eq name (codes "free") ≡ true)
+        → is_some (newest name (allocators model)) ≡ true
     by_way (inl is) = by_first (or_cases (pointwise nat_eq name (codes "malloc")) (pointwise nat_eq name (codes "calloc")) is)
     by_way (inr is) = named (codes "free") is refl
 
 -- the types of as many variables as there are
-types-first : (parameters : List Variable) (variables : List Variable) → Starts parameters variables → types_of (take (length parameters) variables) ≡ types_of parameters
+types-first : (parameters : List Variable) (variables : List Variable) → Starts parameters variables
+    → types_of (take (length parameters) variables) ≡ types_of parameters
 types-first parameters variables h = ap types_of (start-take parameters variables h)
 
 -- a function has as many parameters as types
 count-is : (r : Routine) (parameters : List Variable) → IsCounted r → parameter_types r ≡ types_of parameters → r.parameters ≡ length parameters
 count-is r parameters counted is =
     let taken = length-take-le r.parameters r.variables counted in
-    sym taken ∙ sym (length-map (take r.parameters r.variables) (λ (v : Variable). v.ty)) ∙ ap length is ∙ length-map parameters (λ (v : Variable). v.ty)
+    sym taken ∙ sym (length-map (take r.parameters r.variables) (λ (v : Variable). v.ty)) ∙ ap length is
+    ∙ length-map parameters (λ (v : Variable). v.ty)
 
 -- the body of a function, if it has one, has no constant that is too wide
 abbrev pub BodyHasConstants : Option RawBody → Type 0
@@ -125,7 +136,8 @@ module _ (p : TypedProgram) (laid_out : IsLaidOut p.model p.table) where
       let IsLed : Around → Head → Type 0 = λ s head. AreVariables s.0 head.variables → Leads s.0 (entered f.known) head.known in
       if_fine-weaker (λ head. (IsOn head × HeadNamed (entered f.known) head) × ((s : Around) → IsLed s head)) (IsHead f) v
       (both-fine (λ head. IsOn head × HeadNamed (entered f.known) head) (λ head. (s : Around) → IsLed s head) v
-      (both-fine IsOn (HeadNamed (entered f.known)) v (parameters_typed-on (entered f.known) raw) (parameters_typed-named (entered f.known) raw (entered-known f.known kept.types.known)))
+      (both-fine IsOn (HeadNamed (entered f.known)) v (parameters_typed-on (entered f.known) raw)
+      (parameters_typed-named (entered f.known) raw (entered-known f.known kept.types.known)))
       (for-each Around IsLed v (λ s. parameters_typed-leads s.0 (entered f.known) raw (kept.model ∙ sym s.1))))
       (λ head h. record { on = h.0.0.known; written = h.0.0.written; scalars = h.0.0.scalars; named = h.0.1; leads = λ s same are. h.1 (s, same) are })
 
@@ -149,7 +161,8 @@ module _ (p : TypedProgram) (laid_out : IsLaidOut p.model p.table) where
           plain = All-nil (λ (d : Declaration). IsPlain d.meaning);
           outer = refl;
         };
-        declared = λ all. All-same (λ (d : Declaration). IsThere (outside (with_parts p f)) d.meaning) (declarations_of (left f.known head.known)) (declarations_of f.known) (same-outside f head h) all;
+        declared = λ all. All-same (λ (d : Declaration). IsThere (outside (with_parts p f)) d.meaning) (declarations_of (left f.known head.known))
+            (declarations_of f.known) (same-outside f head h) all;
       })
 
   -- ---- names
@@ -163,7 +176,9 @@ module _ (p : TypedProgram) (laid_out : IsLaidOut p.model p.table) where
   MayStand f d result (Some (Global number ty)) = ⊥
   MayStand f d result (Some (Local number ty)) = ⊥
 
-  may-stand : (f : Filed) (d : RawFunction) (result : Shape) (before : Filed) (with_body : Bool) (m : Option Meaning) → may_be_function before with_body result m ≡ true → IfSome m (IsThere (outside (with_parts p f))) → (m ≡ None → All (IsOther d.name) (declarations_of f.known) × IsOrdered f.order d.name) → MayStand f d result m
+  may-stand : (f : Filed) (d : RawFunction) (result : Shape) (before : Filed) (with_body : Bool) (m : Option Meaning)
+      → may_be_function before with_body result m ≡ true → IfSome m (IsThere (outside (with_parts p f)))
+      → (m ≡ None → All (IsOther d.name) (declarations_of f.known) × IsOrdered f.order d.name) → MayStand f d result m
   may-stand f d result before with_body None may there new = new refl
   may-stand f d result before with_body (Some (Function sig)) may there new =
       (same_shape-true sig.result result (both_true (same_shape sig.result result) (not (with_body && has_body before sig.callee)) may).0, there)
@@ -173,7 +188,8 @@ module _ (p : TypedProgram) (laid_out : IsLaidOut p.model p.table) where
   may-stand f d result before with_body (Some (Local number ty)) may there new = absurd cc
 
   -- a name that stands for nothing in a file is no library function's, so that it has its place in the order
-  new-name : (f : Filed) (name : List ℕ) → Kept p f → IsPlaced f.order name → meaning_here name f.known ≡ None → All (IsOther name) (declarations_of f.known) × IsOrdered f.order name
+  new-name : (f : Filed) (name : List ℕ) → Kept p f → IsPlaced f.order name → meaning_here name f.known ≡ None
+      → All (IsOther name) (declarations_of f.known) × IsOrdered f.order name
   new-name f name kept placed none = (newest-none name (declarations_of f.known) whole, by_way placed)
     where
       whole : newest name (declarations_of f.known) ≡ None
@@ -183,7 +199,8 @@ module _ (p : TypedProgram) (laid_out : IsLaidOut p.model p.table) where
       by_way (inr ordered) = ordered
       by_way (inl library) =
           let found : is_some (newest name (declarations_of f.known)) ≡ true =
-          ap (λ ds. is_some (newest name ds)) kept.library.1 ∙ newest-start name (allocators p.model) kept.library.0 (library-declared p.model name library) in
+          ap (λ ds. is_some (newest name ds)) kept.library.1
+          ∙ newest-start name (allocators p.model) kept.library.0 (library-declared p.model name library) in
           absurd cc
 
   -- ---- declared functions
@@ -194,11 +211,13 @@ module _ (p : TypedProgram) (laid_out : IsLaidOut p.model p.table) where
   scalar-whole ty (inr target) = subst (IsWhole p) (sym target.1) refl
 
   whole-scalars : (variables : List Variable) → AreScalars variables → All (λ (v : Variable). IsWhole p v.ty) variables
-  whole-scalars variables h = All-weaker (λ (v : Variable). IsScalar v.ty) (λ (v : Variable). IsWhole p v.ty) (λ v scalar. scalar-whole v.ty scalar) variables h
+  whole-scalars variables h = All-weaker (λ (v : Variable). IsScalar v.ty) (λ (v : Variable). IsWhole p v.ty) (λ v scalar. scalar-whole v.ty scalar)
+      variables h
 
   -- the function is there, with its types
   abbrev IsRouted : Filed → Shape → List Variable → Callee → Type 0
-  IsRouted f result parameters (Numbered number) = (r : Routine) × (slice_get f.routines number ≡ Some r) × (r.returns ≡ result) × (parameter_types r ≡ types_of parameters)
+  IsRouted f result parameters (Numbered number) = (r : Routine) × (slice_get f.routines number ≡ Some r) × (r.returns ≡ result)
+      × (parameter_types r ≡ types_of parameters)
   IsRouted f result parameters Malloc = Unit {0}
   IsRouted f result parameters Calloc = Unit {0}
   IsRouted f result parameters Free = Unit {0}
@@ -210,8 +229,10 @@ module _ (p : TypedProgram) (laid_out : IsLaidOut p.model p.table) where
   same-globals f number x is = (x, is, refl)
 
   -- a new function, at its place in the order
-  new_function-adds : (f : Filed) (d : RawFunction) (result : Shape) (parameters : List Variable) (written : List Bool) → NamesStructs (table_of f.known) result → VariablesName (table_of f.known) parameters → Kept p f →
-      All (IsOther d.name) (declarations_of f.known) → IsOrdered f.order d.name → IsResult result → length written ≡ length parameters → AreScalars parameters → AddsFunction f result parameters (new_function f d result parameters written)
+  new_function-adds : (f : Filed) (d : RawFunction) (result : Shape) (parameters : List Variable) (written : List Bool)
+      → NamesStructs (table_of f.known) result → VariablesName (table_of f.known) parameters → Kept p f →
+      All (IsOther d.name) (declarations_of f.known) → IsOrdered f.order d.name → IsResult result → length written ≡ length parameters
+      → AreScalars parameters → AddsFunction f result parameters (new_function f d result parameters written)
   new_function-adds f d result parameters written named parameters_named kept other ordered fits long scalars = (added, new)
     where
       slot : ℕ
@@ -242,14 +263,17 @@ module _ (p : TypedProgram) (laid_out : IsLaidOut p.model p.table) where
           let alike : pointwise nat_eq name d.name ≡ true = equal_to_same name d.name names in
           absurd cc
 
-      function-kept : (name : List ℕ) (callee : Callee) (sig : Signature) → pointwise nat_eq name d.name ≡ false → HasNumber f.order name (Function (record { callee = callee; result = sig.result; parameters = sig.parameters })) → IsFunction (with_parts p f) callee sig → IsFunction (with_parts p after) callee sig
+      function-kept : (name : List ℕ) (callee : Callee) (sig : Signature) → pointwise nat_eq name d.name ≡ false
+          → HasNumber f.order name (Function (record { callee = callee; result = sig.result; parameters = sig.parameters }))
+          → IsFunction (with_parts p f) callee sig → IsFunction (with_parts p after) callee sig
       function-kept name Malloc sig differs is h = h
       function-kept name Calloc sig differs is h = h
       function-kept name Free sig differs is h = h
       function-kept name (Numbered number) sig differs is h =
           (h.0, changed-other (λ blank. made) slot number f.routines (apart name number differs is) ∙ h.1, h.2, h.3)
 
-      there-still : (name : List ℕ) (m : Meaning) → pointwise nat_eq name d.name ≡ false → HasNumber f.order name m → IsThere (outside (with_parts p f)) m → IsThere (outside (with_parts p after)) m
+      there-still : (name : List ℕ) (m : Meaning) → pointwise nat_eq name d.name ≡ false → HasNumber f.order name m
+          → IsThere (outside (with_parts p f)) m → IsThere (outside (with_parts p after)) m
       there-still name (Typedef ty) differs is h = tt
       there-still name (Constant value) differs is h = h
       there-still name (Global number ty) differs is h = h
@@ -260,7 +284,8 @@ module _ (p : TypedProgram) (laid_out : IsLaidOut p.model p.table) where
       old =
           let IsDeclared : Declaration → Type 0 = λ x. IsThere (outside (with_parts p f)) x.meaning in
           let IsNumbered : Declaration → Type 0 = λ x. HasNumber f.order x.name x.meaning in
-          All-weaker (λ (x : Declaration). IsOther d.name x × (IsNumbered x × IsDeclared x)) (λ (x : Declaration). IsThere (outside (with_parts p after)) x.meaning)
+          All-weaker (λ (x : Declaration). IsOther d.name x × (IsNumbered x × IsDeclared x))
+          (λ (x : Declaration). IsThere (outside (with_parts p after)) x.meaning)
           (λ x h. there-still x.name x.meaning h.0 h.1.0 h.1.1) (declarations_of f.known)
           (both-All (IsOther d.name) (λ (x : Declaration). IsNumbered x × IsDeclared x) (declarations_of f.known) other
           (both-All IsNumbered IsDeclared (declarations_of f.known) kept.numbered kept.declared))
@@ -269,7 +294,8 @@ module _ (p : TypedProgram) (laid_out : IsLaidOut p.model p.table) where
       before has = record {
         table = has.table;
         texts = has.texts;
-        there = start-All (λ (x : Declaration). IsThere (outside p) x.meaning) (declarations_of f.known) (declarations_of after.known) (declaration ∷ [], refl) has.there;
+        there = start-All (λ (x : Declaration). IsThere (outside p) x.meaning) (declarations_of f.known) (declarations_of after.known)
+            (declaration ∷ [], refl) has.there;
         types = has.types;
       }
 
@@ -313,18 +339,25 @@ module _ (p : TypedProgram) (laid_out : IsLaidOut p.model p.table) where
       }
 
   -- a function that was declared with these types, one for one
-  again-routed : (f : Filed) (result : Shape) (parameters : List Variable) (callee : Callee) (before : Signature) → before.result ≡ result → before.parameters ≡ types_of parameters → IsFunction (with_parts p f) callee before → IsRouted f result parameters callee
+  again-routed : (f : Filed) (result : Shape) (parameters : List Variable) (callee : Callee) (before : Signature) → before.result ≡ result
+      → before.parameters ≡ types_of parameters → IsFunction (with_parts p f) callee before → IsRouted f result parameters callee
   again-routed f result parameters (Numbered number) before same types h = (h.0, h.1, h.2 ∙ same, h.3 ∙ types)
   again-routed f result parameters Malloc before same types h = tt
   again-routed f result parameters Calloc before same types h = tt
   again-routed f result parameters Free before same types h = tt
 
-  function_of-adds : (f : Filed) (d : RawFunction) (result : Shape) (parameters : List Variable) (written : List Bool) (m : Option Meaning) → NamesStructs (table_of f.known) result → VariablesName (table_of f.known) parameters →
-      Kept p f → MayStand f d result m → IsResult result → length written ≡ length parameters → AreScalars parameters → IfFine (function_of f d result parameters written m) (AddsFunction f result parameters)
-  function_of-adds f d result parameters written None named parameters_named kept may fits long scalars = new_function-adds f d result parameters written named parameters_named kept may.0 may.1 fits long scalars
+  function_of-adds : (f : Filed) (d : RawFunction) (result : Shape) (parameters : List Variable) (written : List Bool) (m : Option Meaning)
+      → NamesStructs (table_of f.known) result → VariablesName (table_of f.known) parameters →
+      Kept p f → MayStand f d result m → IsResult result → length written ≡ length parameters → AreScalars parameters
+      → IfFine (function_of f d result parameters written m) (AddsFunction f result parameters)
+  function_of-adds f d result parameters written None named parameters_named kept may fits long scalars =
+      new_function-adds f d result parameters written named parameters_named kept may.0 may.1 fits long scalars
   function_of-adds f d result parameters written (Some (Function before)) named parameters_named kept may fits long scalars =
       cond-then (AddsFunction f result parameters) (same_types before.parameters (types_of parameters)) _ (Fault DeclaredTwice d.place)
-      (λ same. (adds-self p f kept, again-routed f result parameters before.callee before may.0 (same_types-true before.parameters (types_of parameters) same) may.1)) (λ _. tt)
+      (λ same. (
+        adds-self p f kept,
+        again-routed f result parameters before.callee before may.0 (same_types-true before.parameters (types_of parameters) same) may.1,
+      )) (λ _. tt)
   function_of-adds f d result parameters written (Some (Typedef ty)) named parameters_named kept may fits long scalars = absurd may
   function_of-adds f d result parameters written (Some (Constant value)) named parameters_named kept may fits long scalars = absurd may
   function_of-adds f d result parameters written (Some (Global number ty)) named parameters_named kept may fits long scalars = absurd may
@@ -333,9 +366,12 @@ module _ (p : TypedProgram) (laid_out : IsLaidOut p.model p.table) where
   -- ---- bodies
 
   -- a function, in whose scope its parameters are declared, with its body
-  bodied-adds : (f g : Filed) (d : RawFunction) (body : RawBody) (result : Shape) (head : Head) (number : ℕ) (r : Routine) (reported : TypedStatements) → Adds p f g → length (table_of head.known) ≤ length (table_of g.known) → IsHead f head →
-      slice_get g.routines number ≡ Some r → r.returns ≡ result → parameter_types r ≡ types_of head.variables → ItemsHaveConstants body.items.items →
-      body_typed (where_in result body) body.items.items (no_statements (at_beginning g head.variables (declared_inside f.known head.known))) ≡ Fine reported → IfFine (with_body d body number g reported) (Adds p g)
+  bodied-adds : (f g : Filed) (d : RawFunction) (body : RawBody) (result : Shape) (head : Head) (number : ℕ) (r : Routine) (reported : TypedStatements)
+      → Adds p f g → length (table_of head.known) ≤ length (table_of g.known) → IsHead f head →
+      slice_get g.routines number ≡ Some r → r.returns ≡ result → parameter_types r ≡ types_of head.variables → ItemsHaveConstants body.items.items
+      →
+      body_typed (where_in result body) body.items.items (no_statements (at_beginning g head.variables (declared_inside f.known head.known))) ≡ Fine reported
+      → IfFine (with_body d body number g reported) (Adds p g)
   bodied-adds f g d body result head number r reported adds longer h found returns types fit is = record {
     order = refl;
     kept = record {
@@ -350,13 +386,18 @@ module _ (p : TypedProgram) (laid_out : IsLaidOut p.model p.table) where
       types = record {
         known = left-known g.known reported.inside.known following.known;
         globals = globals-longer (table_of g.known) (table_of reported.inside.known) yields.gives.longer g.globals kept.types.globals;
-        routines = changed-All change (HasNamedTypes (table_of reported.inside.known)) number g.routines (λ x _ n. record { returns = n.returns; variables = following.variables })
+        routines = changed-All change (HasNamedTypes (table_of reported.inside.known)) number g.routines
+            (λ x _ n. record { returns = n.returns; variables = following.variables })
             (routines-longer (table_of g.known) (table_of reported.inside.known) yields.gives.longer g.routines kept.types.routines);
       };
     };
     longer = omega (arith, adds.longer, yields.gives.longer);
     before = before;
-    well = λ has w. record { globals = w.globals; routines = changed-All change (IsWellRoutine p) number g.routines (λ x at well. well-still has x at well) w.routines };
+    well =
+        λ has w. record {
+          globals = w.globals;
+          routines = changed-All change (IsWellRoutine p) number g.routines (λ x at well. well-still has x at well) w.routines;
+        };
   }
     where
       kept : Kept p g
@@ -382,7 +423,8 @@ module _ (p : TypedProgram) (laid_out : IsLaidOut p.model p.table) where
 
       -- the body has all labels of the function
       led : ReportedIsLed (where_in result body) (no_statements begun) (length (labels_of_items body.items.items)) reported
-      led = if_fine-at (ReportedIsLed (where_in result body) (no_statements begun) (length (labels_of_items body.items.items))) _ reported (body_typed-led (where_in result body) body.items.items (no_statements begun)) is
+      led = if_fine-at (ReportedIsLed (where_in result body) (no_statements begun) (length (labels_of_items body.items.items))) _ reported
+          (body_typed-led (where_in result body) body.items.items (no_statements begun)) is
 
       labels : length (labels_of_items body.items.items) ≤ label_counts (in_a_row reported.statements)
       labels = let all : label_counts (in_a_row reported.statements) ≡ 0 + length (labels_of_items body.items.items) = led.count in omega (arith, all)
@@ -403,7 +445,8 @@ module _ (p : TypedProgram) (laid_out : IsLaidOut p.model p.table) where
       }
 
       yields : Yields s laid_out (no_statements begun) reported
-      yields = if_fine-at (Yields s laid_out (no_statements begun)) _ reported (body_typed-well s laid_out (where_in result body) body.items.items (no_statements begun) (sym returns, labels) begun-knows fit) is
+      yields = if_fine-at (Yields s laid_out (no_statements begun)) _ reported
+          (body_typed-well s laid_out (where_in result body) body.items.items (no_statements begun) (sym returns, labels) begun-knows fit) is
 
       following : Knows s laid_out reported.inside
       following = yields.gives.knows begun-knows
@@ -422,14 +465,20 @@ module _ (p : TypedProgram) (laid_out : IsLaidOut p.model p.table) where
         types = record {
           program = has.types;
           variables = variables-longer (table_of reported.inside.known) p.table has.table.longer reported.inside.variables following.variables;
-          returns = names-longer (table_of g.known) p.table (omega (arith, yields.gives.longer, has.table.longer)) r.returns (found-at (HasNamedTypes (table_of g.known)) g.routines number r kept.types.routines found).returns;
+          returns = names-longer (table_of g.known) p.table (omega (arith, yields.gives.longer, has.table.longer)) r.returns
+              (found-at (HasNamedTypes (table_of g.known)) g.routines number r kept.types.routines found).returns;
         };
       }
 
       before : Has p after → Has p g
       before has =
           let start = yields.gives.before (has-inside has) in
-          record { table = start.table; texts = start.texts; there = subst (All (λ (x : Declaration). IsThere (outside p) x.meaning)) same has.there; types = has.types }
+          record {
+            table = start.table;
+            texts = start.texts;
+            there = subst (All (λ (x : Declaration). IsThere (outside p) x.meaning)) same has.there;
+            types = has.types;
+          }
 
       is-routine : (x : Routine) → slice_get g.routines number ≡ Some x → x ≡ r
       is-routine x at = same_Some x r (sym at ∙ found)
@@ -460,7 +509,8 @@ module _ (p : TypedProgram) (laid_out : IsLaidOut p.model p.table) where
 
       routines-kept : (n : ℕ) (x : Routine) → slice_get g.routines n ≡ Some x → HasRoutine p after n x
       routines-kept n x at =
-          let y = changed-found change IsSame number n g.routines x (λ z. (refl, refl)) (λ z there. subst (λ (w : Routine). IsSame (change w) w) (sym (is-routine z there)) (refl, same-types)) at in
+          let y = changed-found change IsSame number n g.routines x (λ z. (refl, refl))
+          (λ z there. subst (λ (w : Routine). IsSame (change w) w) (sym (is-routine z there)) (refl, same-types)) at in
           (y.0, y.1, y.2.0, y.2.1)
 
       -- what is declared at the beginning of the body is there
@@ -499,8 +549,10 @@ module _ (p : TypedProgram) (laid_out : IsLaidOut p.model p.table) where
           let e = is-routine x at in
           subst (λ (y : Routine). IsWellRoutine p (change y)) (sym e) (well-at has (subst (IsWellRoutine p) e well))
 
-  body_added-adds : (f : Filed) (d : RawFunction) (body : RawBody) (result : Shape) (head : Head) (callee : Callee) (g : Filed) → Adds p f g → length (table_of head.known) ≤ length (table_of g.known) → IsHead f head →
-      IsRouted g result head.variables callee → ItemsHaveConstants body.items.items → IfFine (body_added d body result head.variables (declared_inside f.known head.known) callee g) (Adds p g)
+  body_added-adds : (f : Filed) (d : RawFunction) (body : RawBody) (result : Shape) (head : Head) (callee : Callee) (g : Filed) → Adds p f g
+      → length (table_of head.known) ≤ length (table_of g.known) → IsHead f head →
+      IsRouted g result head.variables callee → ItemsHaveConstants body.items.items
+      → IfFine (body_added d body result head.variables (declared_inside f.known head.known) callee g) (Adds p g)
   body_added-adds f d body result head Malloc g adds longer h routed fit = adds-self p g adds.kept
   body_added-adds f d body result head Calloc g adds longer h routed fit = adds-self p g adds.kept
   body_added-adds f d body result head Free g adds longer h routed fit = adds-self p g adds.kept
@@ -509,19 +561,25 @@ module _ (p : TypedProgram) (laid_out : IsLaidOut p.model p.table) where
       lift-then (λ reported. v ≡ Fine reported) (Adds p g) (with_body d body number g) v (itself v)
       (λ reported is. bodied-adds f g d body result head number routed.0 reported adds longer h routed.1 routed.2 routed.3 fit is)
 
-  completed-adds : (f : Filed) (d : RawFunction) (body : Option RawBody) (result : Shape) (head : Head) (r : Routed) → Adds p f r.1 → length (table_of head.known) ≤ length (table_of r.1.known) → IsHead f head →
-      IsRouted r.1 result head.variables r.0 → BodyHasConstants body → IfFine (completed d body result head.variables (declared_inside f.known head.known) r) (Adds p f)
+  completed-adds : (f : Filed) (d : RawFunction) (body : Option RawBody) (result : Shape) (head : Head) (r : Routed) → Adds p f r.1
+      → length (table_of head.known) ≤ length (table_of r.1.known) → IsHead f head →
+      IsRouted r.1 result head.variables r.0 → BodyHasConstants body
+      → IfFine (completed d body result head.variables (declared_inside f.known head.known) r) (Adds p f)
   completed-adds f d None result head r adds longer h routed fit = adds
   completed-adds f d (Some body) result head r adds longer h routed fit =
-      if_fine-weaker (Adds p r.1) (Adds p f) (body_added d body result head.variables (declared_inside f.known head.known) r.0 r.1) (body_added-adds f d body result head r.0 r.1 adds longer h routed fit)
+      if_fine-weaker (Adds p r.1) (Adds p f) (body_added d body result head.variables (declared_inside f.known head.known) r.0 r.1)
+      (body_added-adds f d body result head r.0 r.1 adds longer h routed fit)
       (λ g k. adds-trans p f r.1 g adds k)
 
   -- ---- functions
 
-  headed-adds : (f : Filed) (d : RawFunction) (body : Option RawBody) (result : Shape) (head : Head) → NamesStructs (table_of f.known) result → Kept p f → IsHead f head → IsPlaced f.order d.name →
-      may_be_function f (is_some body) result (meaning_here d.name f.known) ≡ true → IsResult result → BodyHasConstants body → IfFine (headed d body f result head) (Adds p f)
+  headed-adds : (f : Filed) (d : RawFunction) (body : Option RawBody) (result : Shape) (head : Head) → NamesStructs (table_of f.known) result → Kept p f
+      → IsHead f head → IsPlaced f.order d.name →
+      may_be_function f (is_some body) result (meaning_here d.name f.known) ≡ true → IsResult result → BodyHasConstants body
+      → IfFine (headed d body f result head) (Adds p f)
   headed-adds f d body result head named kept h placed may fits fit =
-      lift-then (AddsFunction (outside_of f head) result head.variables) (Adds p f) (completed d body result head.variables (declared_inside f.known head.known)) _
+      lift-then (AddsFunction (outside_of f head) result head.variables) (Adds p f)
+      (completed d body result head.variables (declared_inside f.known head.known)) _
       (function_of-adds (outside_of f head) d result head.variables head.written (meaning_here d.name (outside_of f head).known)
       (names-longer (table_of f.known) (table_of head.known) h.named.0.longer result named) h.named.1 adds.kept stands fits h.written h.scalars)
       (λ r k. completed-adds f d body result head r (adds-trans p f (outside_of f head) r.1 adds k.0) k.0.longer h k.1 fit)
@@ -548,11 +606,14 @@ module _ (p : TypedProgram) (laid_out : IsLaidOut p.model p.table) where
           (may-stand (outside_of f head) d result f (is_some body) (meaning_here d.name f.known) may there new)
 
   -- a declared function, with its body if it has one
-  pub function_added-adds : (d : RawFunction) (body : Option RawBody) (f : Filed) (ty : Shape) → NamesStructs (table_of f.known) ty → Kept p f → IsPlaced f.order d.name → BodyHasConstants body → IfFine (function_added d body f ty) (Adds p f)
+  pub function_added-adds : (d : RawFunction) (body : Option RawBody) (f : Filed) (ty : Shape) → NamesStructs (table_of f.known) ty → Kept p f
+      → IsPlaced f.order d.name → BodyHasConstants body → IfFine (function_added d body f ty) (Adds p f)
   function_added-adds d body f ty named kept placed fit =
       let result = starred d.pointers.items ty in
       cond-then (Adds p f) (may_be_function f (is_some body) result (meaning_here d.name f.known)) (resulted d body f result) (Fault DeclaredTwice d.place)
-      (λ may. cond-then (Adds p f) (is_result result) (lift (headed d body f result) (parameters_typed (entered f.known) d.parameters)) (Fault IncompleteType d.place)
+      (λ may.
+      cond-then (Adds p f) (is_result result) (lift (headed d body f result) (parameters_typed (entered f.known) d.parameters))
+      (Fault IncompleteType d.place)
       (λ fits. lift-then (IsHead f) (Adds p f) (headed d body f result) _ (head-is f d.parameters kept)
       (λ head h. headed-adds f d body result head (starred-named (table_of f.known) d.pointers.items ty named) kept h placed may (result-is result fits) fit))
       (λ _. tt))

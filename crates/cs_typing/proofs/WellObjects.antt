@@ -18,7 +18,8 @@ use Rattle.cs_scopes.specs.Verdicts.{Fault}
 use Rattle.cs_declarations.specs.Initializers.{InFile, Reading, initial_typed}
 use Rattle.cs_declarations.specs.Environment.{table_of, declarations_of, with_literals, meaning_here}
 use Rattle.cs_declarations.specs.Objects.{is_constant_object, object_type}
-use Rattle.cs_typing.specs.Objects.{Filed, Object, with_globals, is_completed, may_be_object, new_object, object_of, changed, made_constant, holding, with_initial, object_initialized, marked, object_added, objects_added}
+use Rattle.cs_typing.specs.Objects.{Filed, Object, with_globals, is_completed, may_be_object, new_object, object_of, changed, made_constant, holding}
+use Rattle.cs_typing.specs.Objects.{with_initial, object_initialized, marked, object_added, objects_added}
 use Rattle.cs_typing.specs.Files.{allocators}
 use Rattle.cs_well_formed.specs.Structs.{NamesStructs}
 use Rattle.cs_well_formed.specs.Expressions.{IsWhole}
@@ -32,7 +33,8 @@ use Rattle.cs_well_formed.proofs.Leading.{object_type-whole}
 use Rattle.cs_well_formed.proofs.NamedTypes.{object_type-named, declaring-known}
 use Rattle.cs_well_formed.proofs.Structs.{names-longer}
 use Rattle.cs_typing.proofs.DeclarationsAfter.{starts-trans}
-use Rattle.cs_typing.proofs.FilesSoFar.{start-All, found-start, changed-found, changed-All, newest-All, HasNumber, with_parts, Kept, Has, Adds, adds-self, adds-trans, file-agrees, HasGlobal, HasRoutine, all-there-kept}
+use Rattle.cs_typing.proofs.FilesSoFar.{start-All, found-start, changed-found, changed-All, newest-All, HasNumber, with_parts, Kept, Has, Adds, adds-self}
+use Rattle.cs_typing.proofs.FilesSoFar.{adds-trans, file-agrees, HasGlobal, HasRoutine, all-there-kept}
 use Rattle.cs_typing.proofs.HeldConstants.{FirstValueHasConstants, ObjectsHaveConstants}
 use Rattle.cs_typing.proofs.LiteralsAfter.{GoesOnFrom, initial_typed-begins}
 use Rattle.cs_typing.proofs.WellStatements.{under, both-fine}
@@ -50,8 +52,10 @@ module _ (p : TypedProgram) (laid_out : IsLaidOut p.model p.table) where
   same-routines f number r is = (r, is, refl, refl)
 
   -- a file with other objects of the same types
-  globals-adds : (f : Filed) (globals : List FileObject) → Kept p f → ((number : ℕ) (x : FileObject) → slice_get f.globals number ≡ Some x → HasGlobal p (with_globals globals f) number x.ty) →
-      All (λ (g : FileObject). NamesStructs (table_of f.known) g.ty) globals → (Has p f → All (IsWellGlobal p) f.globals → All (IsWellGlobal p) globals) → Adds p f (with_globals globals f)
+  globals-adds : (f : Filed) (globals : List FileObject) → Kept p f
+      → ((number : ℕ) (x : FileObject) → slice_get f.globals number ≡ Some x → HasGlobal p (with_globals globals f) number x.ty) →
+      All (λ (g : FileObject). NamesStructs (table_of f.known) g.ty) globals → (Has p f → All (IsWellGlobal p) f.globals → All (IsWellGlobal p) globals)
+      → Adds p f (with_globals globals f)
   globals-adds f globals kept same named still = record {
     order = refl;
     kept = record {
@@ -73,7 +77,8 @@ module _ (p : TypedProgram) (laid_out : IsLaidOut p.model p.table) where
       before has = record { table = has.table; texts = has.texts; there = has.there; types = has.types }
 
   -- a new object
-  new_object-adds : (f : Filed) (d : RawDeclarator) (ty : Shape) → NamesStructs (table_of f.known) ty → Kept p f → (Has p f → IsWhole p ty) → AddsObject f ty (new_object f d ty)
+  new_object-adds : (f : Filed) (d : RawDeclarator) (ty : Shape) → NamesStructs (table_of f.known) ty → Kept p f → (Has p f → IsWhole p ty)
+      → AddsObject f ty (new_object f d ty)
   new_object-adds f d ty named kept whole = (added, new)
     where
       after : Filed
@@ -92,7 +97,8 @@ module _ (p : TypedProgram) (laid_out : IsLaidOut p.model p.table) where
       before has = record {
         table = has.table;
         texts = has.texts;
-        there = start-All (λ (x : Declaration). IsThere (outside p) x.meaning) (declarations_of f.known) (declarations_of after.known) (declaration ∷ [], refl) has.there;
+        there = start-All (λ (x : Declaration). IsThere (outside p) x.meaning) (declarations_of f.known) (declarations_of after.known)
+            (declaration ∷ [], refl) has.there;
         types = has.types;
       }
 
@@ -105,7 +111,8 @@ module _ (p : TypedProgram) (laid_out : IsLaidOut p.model p.table) where
           library = starts-trans (allocators p.model) (declarations_of f.known) (declarations_of after.known) kept.library (declaration ∷ [], refl);
           order = kept.order;
           declared = All-push (λ (x : Declaration). IsThere (outside (with_parts p after)) x.meaning) (declarations_of f.known) declaration
-              (all-there-kept p f after (λ number x is. (x, found-start f.globals after.globals number x (object ∷ [], refl) is, refl)) (same-routines f) (declarations_of f.known) kept.declared)
+              (all-there-kept p f after (λ number x is. (x, found-start f.globals after.globals number x (object ∷ [], refl) is, refl)) (same-routines f)
+              (declarations_of f.known) kept.declared)
               new;
           numbered = All-push (λ (x : Declaration). HasNumber f.order x.name x.meaning) (declarations_of f.known) declaration kept.numbered tt;
           counted = kept.counted;
@@ -117,10 +124,20 @@ module _ (p : TypedProgram) (laid_out : IsLaidOut p.model p.table) where
         };
         longer = omega arith;
         before = before;
-        well = λ has w. record { globals = All-push (IsWellGlobal p) f.globals object w.globals (whole (before has), tt, names-longer (table_of f.known) p.table has.table.longer ty named); routines = w.routines };
+        well =
+            λ has w.
+            record {
+              globals = All-push (IsWellGlobal p) f.globals object w.globals (
+                whole (before has),
+                tt,
+                names-longer (table_of f.known) p.table has.table.longer ty named,
+              );
+              routines = w.routines;
+            };
       }
 
-  object_of-adds : (f : Filed) (d : RawDeclarator) (before : Option Meaning) (ty : Shape) → NamesStructs (table_of f.known) ty → Kept p f → IfSome before (IsThere (outside (with_parts p f))) → (Has p f → IsWhole p ty) →
+  object_of-adds : (f : Filed) (d : RawDeclarator) (before : Option Meaning) (ty : Shape) → NamesStructs (table_of f.known) ty → Kept p f
+      → IfSome before (IsThere (outside (with_parts p f))) → (Has p f → IsWhole p ty) →
       IfFine (object_of f d before ty) (AddsObject f ty)
   object_of-adds f d (Some (Global number ty')) ty named kept there whole =
       cond-then (AddsObject f ty) (same_shape ty' ty) _ (Fault DeclaredTwice d.place)
@@ -135,16 +152,19 @@ module _ (p : TypedProgram) (laid_out : IsLaidOut p.model p.table) where
   abbrev SameType : FileObject → FileObject → Type 0
   SameType y x = y.ty ≡ x.ty
 
-  changed-globals : (f : Filed) (change : FileObject → FileObject) (number : ℕ) → ((x : FileObject) → SameType (change x) x) → (other : ℕ) (x : FileObject) → slice_get f.globals other ≡ Some x → HasGlobal p (with_globals (changed number change f.globals) f) other x.ty
+  changed-globals : (f : Filed) (change : FileObject → FileObject) (number : ℕ) → ((x : FileObject) → SameType (change x) x)
+      → (other : ℕ) (x : FileObject) → slice_get f.globals other ≡ Some x → HasGlobal p (with_globals (changed number change f.globals) f) other x.ty
   changed-globals f change number same other x is = changed-found change SameType number other f.globals x (λ y. refl) (λ y _. same y) is
 
-  marked-adds : (s : RawSpecs) (d : RawDeclarator) (ty : Shape) (o : Object) → Kept p o.filed → HasGlobal p o.filed o.number ty → IfFine (marked s d o) (AddsObject o.filed ty)
+  marked-adds : (s : RawSpecs) (d : RawDeclarator) (ty : Shape) (o : Object) → Kept p o.filed → HasGlobal p o.filed o.number ty
+      → IfFine (marked s d o) (AddsObject o.filed ty)
   marked-adds s d ty o kept has =
       let change = made_constant (is_constant_object s d.pointers.items) in
       let same = changed-globals o.filed change o.number (λ x. refl) in
       let there = same o.number has.0 has.1 in (
         globals-adds o.filed (changed o.number change o.filed.globals) kept same
-            (changed-All change (λ (g : FileObject). NamesStructs (table_of o.filed.known) g.ty) o.number o.filed.globals (λ x _ n. n) kept.types.globals) (λ _ all. changed-All change (IsWellGlobal p) o.number o.filed.globals (λ x _ w. w) all),
+            (changed-All change (λ (g : FileObject). NamesStructs (table_of o.filed.known) g.ty) o.number o.filed.globals (λ x _ n. n) kept.types.globals)
+            (λ _ all. changed-All change (IsWellGlobal p) o.number o.filed.globals (λ x _ w. w) all),
         (there.0, there.1, there.2 ∙ has.2),
       )
 
@@ -154,21 +174,25 @@ module _ (p : TypedProgram) (laid_out : IsLaidOut p.model p.table) where
     begins : GoesOnFrom f.known.literals r
     constant : HasConstantValues f.known.context.model r.0
 
-  reading : (f : Filed) (ty : Shape) (value : RawFirstValue) → FirstValueHasConstants (Some value) → IfFine (initial_typed f.known.context f.known.literals InFile value.place ty value.initial) (IsReading f ty)
+  reading : (f : Filed) (ty : Shape) (value : RawFirstValue) → FirstValueHasConstants (Some value)
+      → IfFine (initial_typed f.known.context f.known.literals InFile value.place ty value.initial) (IsReading f ty)
   reading f ty value fit =
       let c = f.known.context in
       let v = initial_typed c f.known.literals InFile value.place ty value.initial in
-      let Well : Reading → Type 0 = λ r. Agrees (outside p) c × IsWhole p ty × NamesStructs p.table ty → AreFirst p r.1 → IsWellInitial (outside p) ty r.0 in
+      let Well : Reading → Type 0 = λ r. Agrees (outside p) c × IsWhole p ty × NamesStructs p.table ty → AreFirst p r.1
+      → IsWellInitial (outside p) ty r.0 in
       let IsConstant : Reading → Type 0 = λ r. HasConstantValues c.model r.0 in
       if_fine-weaker (λ r. Well r × (GoesOnFrom f.known.literals r × IsConstant r)) (IsReading f ty) v
       (both-fine Well (λ r. GoesOnFrom f.known.literals r × IsConstant r) v
       (under (Agrees (outside p) c × IsWhole p ty × NamesStructs p.table ty) (λ (r : Reading). AreFirst p r.1 → IsWellInitial (outside p) ty r.0) v
       (λ h. initial-well (outside p) c h.0 laid_out InFile value.place f.known.literals ty value.initial h.1 h.2 fit))
-      (both-fine (GoesOnFrom f.known.literals) IsConstant v (initial_typed-begins c f.known.literals InFile value.place ty value.initial) (initial-constant c value.place f.known.literals ty value.initial)))
+      (both-fine (GoesOnFrom f.known.literals) IsConstant v (initial_typed-begins c f.known.literals InFile value.place ty value.initial)
+      (initial-constant c value.place f.known.literals ty value.initial)))
       (λ r h. record { well = h.0; begins = h.1.0; constant = h.1.1 })
 
   -- an object with what it holds at first
-  with_initial-adds : (f : Filed) (number : ℕ) (ty : Shape) (r : Reading) → Kept p f → HasGlobal p f number ty → IsReading f ty r → IfFine (with_initial number f r) (Adds p f)
+  with_initial-adds : (f : Filed) (number : ℕ) (ty : Shape) (r : Reading) → Kept p f → HasGlobal p f number ty → IsReading f ty r
+      → IfFine (with_initial number f r) (Adds p f)
   with_initial-adds f number ty r kept object h = record {
     order = refl;
     kept = record {
@@ -187,7 +211,11 @@ module _ (p : TypedProgram) (laid_out : IsLaidOut p.model p.table) where
     };
     longer = omega arith;
     before = before;
-    well = λ has w. record { globals = changed-All (holding r.0) (IsWellGlobal p) number f.globals (λ x is well. held has x is well) w.globals; routines = w.routines };
+    well =
+        λ has w. record {
+          globals = changed-All (holding r.0) (IsWellGlobal p) number f.globals (λ x is well. held has x is well) w.globals;
+          routines = w.routines;
+        };
   }
     where
       after : Filed
@@ -206,13 +234,16 @@ module _ (p : TypedProgram) (laid_out : IsLaidOut p.model p.table) where
             well.2,
           )
 
-  object_initialized-adds : (ty : Shape) (first : Option RawFirstValue) (o : Object) → Kept p o.filed → HasGlobal p o.filed o.number ty → FirstValueHasConstants first → IfFine (object_initialized ty first o) (Adds p o.filed)
+  object_initialized-adds : (ty : Shape) (first : Option RawFirstValue) (o : Object) → Kept p o.filed → HasGlobal p o.filed o.number ty
+      → FirstValueHasConstants first → IfFine (object_initialized ty first o) (Adds p o.filed)
   object_initialized-adds ty None o kept object fit = adds-self p o.filed kept
   object_initialized-adds ty (Some value) o kept object fit =
-      lift-then (IsReading o.filed ty) (Adds p o.filed) (with_initial o.number o.filed) _ (reading o.filed ty value fit) (λ r h. with_initial-adds o.filed o.number ty r kept object h)
+      lift-then (IsReading o.filed ty) (Adds p o.filed) (with_initial o.number o.filed) _ (reading o.filed ty value fit)
+      (λ r h. with_initial-adds o.filed o.number ty r kept object h)
 
   -- a declared object
-  object_added-adds : (s : RawSpecs) (base : Shape) (d : RawInit) (f : Filed) → NamesStructs (table_of f.known) base → Kept p f → FirstValueHasConstants d.initial → IfFine (object_added s base d f) (Adds p f)
+  object_added-adds : (s : RawSpecs) (base : Shape) (d : RawInit) (f : Filed) → NamesStructs (table_of f.known) base → Kept p f
+      → FirstValueHasConstants d.initial → IfFine (object_added s base d f) (Adds p f)
   object_added-adds s base d f named kept fit =
       let before = meaning_here d.declarator.name f.known in
       let there : IfSome before (IsThere (outside (with_parts p f))) =
@@ -221,17 +252,26 @@ module _ (p : TypedProgram) (laid_out : IsLaidOut p.model p.table) where
       cond-then (Adds p f) (may_be_object f.globals (is_completed f base d.declarator) (is_some d.initial) before) _ (Fault DeclaredTwice d.declarator.place)
       (λ _. lift-then (λ ty. (Has p f → IsWhole p ty) × NamesStructs (table_of f.known) ty) (Adds p f) _ (object_type f.known.context base d)
       (both-fine (λ ty. Has p f → IsWhole p ty) (NamesStructs (table_of f.known)) (object_type f.known.context base d)
-      (under (Has p f) (IsWhole p) (object_type f.known.context base d) (λ has. object_type-whole (outside p) f.known.context (file-agrees p f kept has) base d))
+      (under (Has p f) (IsWhole p) (object_type f.known.context base d)
+      (λ has. object_type-whole (outside p) f.known.context (file-agrees p f kept has) base d))
       (object_type-named f.known.context base d named))
       (λ ty whole.
       lift-then (AddsObject f ty) (Adds p f) (object_initialized ty d.initial) _
       (lift-then (AddsObject f ty) (AddsObject f ty) (marked s d.declarator) _ (object_of-adds f d.declarator before ty whole.1 kept there whole.0)
-      (λ o h. if_fine-weaker (AddsObject o.filed ty) (AddsObject f ty) (marked s d.declarator o) (marked-adds s d.declarator ty o h.0.kept h.1) (λ o' k. (adds-trans p f o.filed o'.filed h.0 k.0, k.1))))
-      (λ o h. if_fine-weaker (Adds p o.filed) (Adds p f) (object_initialized ty d.initial o) (object_initialized-adds ty d.initial o h.0.kept h.1 fit) (λ g k. adds-trans p f o.filed g h.0 k))))
+      (λ o h.
+      if_fine-weaker (AddsObject o.filed ty) (AddsObject f ty) (marked s d.declarator o) (marked-adds s d.declarator ty o h.0.kept h.1)
+      (λ o' k. (adds-trans p f o.filed o'.filed h.0 k.0, k.1))))
+      (λ o h.
+      if_fine-weaker (Adds p o.filed) (Adds p f) (object_initialized ty d.initial o) (object_initialized-adds ty d.initial o h.0.kept h.1 fit)
+      (λ g k. adds-trans p f o.filed g h.0 k))))
       (λ _. tt)
 
-  pub objects_added-adds : (s : RawSpecs) (base : Shape) (ds : List RawInit) (f : Filed) → NamesStructs (table_of f.known) base → Kept p f → ObjectsHaveConstants ds → IfFine (objects_added s base ds f) (Adds p f)
+  pub objects_added-adds : (s : RawSpecs) (base : Shape) (ds : List RawInit) (f : Filed) → NamesStructs (table_of f.known) base → Kept p f
+      → ObjectsHaveConstants ds → IfFine (objects_added s base ds f) (Adds p f)
   objects_added-adds s base [] f named kept fit = adds-self p f kept
   objects_added-adds s base (d ∷ ds) f named kept fit =
       lift-then (Adds p f) (Adds p f) (objects_added s base ds) _ (object_added-adds s base d f named kept fit.0)
-      (λ g h. if_fine-weaker (Adds p g) (Adds p f) (objects_added s base ds g) (objects_added-adds s base ds g (names-longer (table_of f.known) (table_of g.known) h.longer base named) h.kept fit.1) (λ k i. adds-trans p f g k h i))
+      (λ g h.
+      if_fine-weaker (Adds p g) (Adds p f) (objects_added s base ds g)
+      (objects_added-adds s base ds g (names-longer (table_of f.known) (table_of g.known) h.longer base named) h.kept fit.1)
+      (λ k i. adds-trans p f g k h i))

@@ -20,7 +20,8 @@ use Rattle.cs_typing.specs.Functions.{function_added}
 
 -- a function of the library, which is declared before a file begins
 abbrev pub library_function : List ℕ → Callee → Shape → List Shape → Declaration
-library_function name callee result parameters = record { name = name; meaning = Function (record { callee = callee; result = result; parameters = parameters }) }
+library_function name callee result parameters =
+    record { name = name; meaning = Function (record { callee = callee; result = result; parameters = parameters }) }
 
 -- the functions that are declared before a file begins (C11 7.22.3)
 abbrev pub allocators : DataModel → List Declaration

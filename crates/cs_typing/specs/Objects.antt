@@ -1,5 +1,6 @@
 -- Objects and typedefs, in files and in blocks (C11 6.7, 6.9.2).
-use Rattle.std.specs.Prelude.{ℕ, Bool, true, false, not, ◌&&◌, ◌||◌, if◌then◌else◌, List, [], ◌∷◌, ◌++◌, length, slice_get, Option, Some, None, is_some}
+use Rattle.std.specs.Prelude.{ℕ, Bool, true, false, not, ◌&&◌, ◌||◌, if◌then◌else◌, List, [], ◌∷◌, ◌++◌, length, slice_get, Option}
+use Rattle.std.specs.Prelude.{Some, None, is_some}
 use Rattle.std.specs.Option.{option_and_then}
 use Rattle.cs_types.specs.Shape.{Shape, same_shape}
 use Rattle.cs_ast.specs.declared.place.Place.{Place}
@@ -80,7 +81,8 @@ abbrev pub holding : Initial → FileObject → FileObject
 holding first g = record { name = g.name; at = g.at; ty = g.ty; constant = g.constant; initial = Some first }
 
 abbrev pub with_initial : ℕ → Filed → Reading → Verdict Filed
-with_initial number f r = Fine (record { known = with_literals r.1 f.known; globals = changed number (holding r.0) f.globals; order = f.order; routines = f.routines })
+with_initial number f r =
+    Fine (record { known = with_literals r.1 f.known; globals = changed number (holding r.0) f.globals; order = f.order; routines = f.routines })
 
 -- what stands after its declarator
 abbrev pub object_initialized : Shape → Option RawFirstValue → Object → Verdict Filed
@@ -89,13 +91,15 @@ object_initialized ty (Some value) o =
     lift (with_initial o.number o.filed) (initial_typed o.filed.known.context o.filed.known.literals InFile value.place ty value.initial)
 
 abbrev pub marked : RawSpecs → RawDeclarator → Object → Verdict Object
-marked s d o = Fine (record { number = o.number; filed = with_globals (changed o.number (made_constant (is_constant_object s d.pointers.items)) o.filed.globals) o.filed })
+marked s d o =
+    Fine (record { number = o.number; filed = with_globals (changed o.number (made_constant (is_constant_object s d.pointers.items)) o.filed.globals) o.filed })
 
 -- a declared object of a file
 abbrev pub object_added : RawSpecs → Shape → RawInit → Filed → Verdict Filed
 object_added s base d f =
     if may_be_object f.globals (is_completed f base d.declarator) (is_some d.initial) (meaning_here d.declarator.name f.known)
-    then lift (λ ty. lift (object_initialized ty d.initial) (lift (marked s d.declarator) (object_of f d.declarator (meaning_here d.declarator.name f.known) ty)))
+    then lift (λ ty.
+    lift (object_initialized ty d.initial) (lift (marked s d.declarator) (object_of f d.declarator (meaning_here d.declarator.name f.known) ty)))
     (object_type f.known.context base d)
     else Fault DeclaredTwice d.declarator.place
 
@@ -138,7 +142,8 @@ local_initialized number ty at (Some value) i =
 abbrev pub local_added : Shape → RawInit → Inside → Verdict LocalDeclared
 local_added base d i =
     if is_declared_here d.declarator.name i.known then Fault DeclaredTwice d.declarator.place
-    else lift (λ ty. local_initialized (length i.variables) ty d.declarator.place d.initial (with_local d.declarator.name ty i)) (object_type i.known.context base d)
+    else lift (λ ty. local_initialized (length i.variables) ty d.declarator.place d.initial (with_local d.declarator.name ty i))
+    (object_type i.known.context base d)
 
 -- statements with what is known after them
 pub record TypedStatements : Type 0 where

@@ -18,7 +18,8 @@ use Rattle.cs_ast.specs.declared.raw.statement.RawSwitchItem as switches
 use Rattle.cs_ast.specs.declared.raw.statement.RawFirst.{RawFirst}
 use Rattle.cs_ast.specs.declared.raw.statement.RawFirst.TheVariants as first_part
 use Rattle.cs_ast.specs.declared.typed.statement.Case.{Case}
-use Rattle.cs_ast.specs.TypedTree.{Typed, Statement, Block, Run, If, IfElse, While, Do, For, Switch, Goto, Label, Break, Continue, Return as Returns, Statements, Empty, Then}
+use Rattle.cs_ast.specs.TypedTree.{Typed, Statement, Block, Run, If, IfElse, While, Do, For, Switch, Goto, Label, Break, Continue, Return as Returns}
+use Rattle.cs_ast.specs.TypedTree.{Statements, Empty, Then}
 use Rattle.cs_types.specs.Wrap.{wrapped}
 use Rattle.cs_scopes.specs.declared.refusal.TypeCode.TheVariants.{Jump, CaseTwice, Return}
 use Rattle.cs_scopes.specs.Verdicts.{Verdict, Fine, Fault, lift}

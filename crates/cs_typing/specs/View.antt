@@ -21,7 +21,12 @@ use Rattle.cs_typing.specs.Statements.{Where, Part, Switching}
 use Rattle.cs_typing.specs.Functions.{Routed}
 
 abbrev pub filed_of : HeldFiled → Filed
-filed_of f = record { known = environment_of f.known; globals = map file_object f.globals.items; order = f.order.keys; routines = map routine f.functions.items }
+filed_of f = record {
+  known = environment_of f.known;
+  globals = map file_object f.globals.items;
+  order = f.order.keys;
+  routines = map routine f.functions.items;
+}
 
 -- a function with the file that has it
 abbrev pub routed_of : Callee → HeldFiled → Routed

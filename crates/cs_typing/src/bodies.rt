@@ -34,7 +34,11 @@ fn put_body(
     locals: Vec<Local>,
     statements: Vec<Stmt>,
 ) -> Result<(), AllocError>
-    ensures { (reported : TypedStatementsOf) → reported.inside.variables ≡ map variable locals.items → reported.statements ≡ map statement statements.items → OnOk result (map routine functions.new.items ≡ changed number (bodied head.now body.now reported) (map routine functions.old.items)) }
+    ensures { (reported : TypedStatementsOf)
+        → reported.inside.variables ≡ map variable locals.items
+        → reported.statements ≡ map statement statements.items
+        → OnOk result (map routine functions.new.items
+        ≡ changed number (bodied head.now body.now reported) (map routine functions.old.items)) }
 {
     let block = Box::new(alloc, StmtKind::Block(statements))?;
     if let Some(function) = functions.get_mut(number as usize) {
@@ -61,7 +65,9 @@ fn with_body(
     inner: Inner,
     number: u32,
 ) -> Result<Filed, TypeRefusal>
-    ensures { Answers filed_of (body_added head.now body.now (shape_of returns.now) (map variable parameters.items) (inner_of inner) (callee.Numbered number) (filed_of filed)) result }
+    ensures { Answers filed_of
+        (body_added head.now body.now (shape_of returns.now) (map variable parameters.items)
+        (inner_of inner) (callee.Numbered number) (filed_of filed)) result }
 {
     let labels = labels_of_body(alloc, &body.items)?;
     let at = Where {
@@ -113,7 +119,9 @@ fn resulted(
     body: Option<&RawBody>,
     returns: &CType,
 ) -> Result<Filed, TypeRefusal>
-    ensures { Answers filed_of (functions.resulted head.now (option_copied body.entry) (filed_of filed) (shape_of returns.now)) result }
+    ensures { Answers filed_of
+        (functions.resulted head.now (option_copied body.entry) (filed_of filed)
+        (shape_of returns.now)) result }
 {
     if !is_result(returns) {
         return Err(TypeRefusal::Code(TypeCode::IncompleteType, head.place));
@@ -141,7 +149,9 @@ pub fn with_function(
     head: &RawFunction,
     body: Option<&RawBody>,
 ) -> Result<Filed, TypeRefusal>
-    ensures { Answers filed_of (function_added head.now (option_copied body.entry) (filed_of filed) (shape_of base)) result }
+    ensures { Answers filed_of
+        (function_added head.now (option_copied body.entry) (filed_of filed) (shape_of base))
+        result }
 {
     let returns = starred(alloc, &head.pointers, base)?;
     if !filed.may_be_function(&head.name, body.is_some(), &returns) {

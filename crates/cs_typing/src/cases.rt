@@ -84,9 +84,12 @@ fn note(
     has_default: &mut bool,
     value: Option<i128>,
 ) -> Result<(), AllocError>
-    ensures number { OnOk result ((n : ℤ) → contains int_eq numbers.new n ≡ (contains int_eq numbers.old n || same_value value (Some n))) }
+    ensures number { OnOk result ((n : ℤ)
+        → contains int_eq numbers.new n
+        ≡ (contains int_eq numbers.old n || same_value value (Some n))) }
     ensures default { OnOk result (has_default.new ≡ (has_default.old || same_value value None)) }
-    ensures kept { OnErr result ((n : ℤ) → contains int_eq numbers.new n ≡ contains int_eq numbers.old n) }
+    ensures kept { OnErr result ((n : ℤ)
+        → contains int_eq numbers.new n ≡ contains int_eq numbers.old n) }
     ensures default_kept { OnErr result (has_default.new ≡ has_default.old) }
 {
     match value {

@@ -30,7 +30,9 @@ fn declare_library_function(
     result_type: CType,
     parameters: Vec<CType>,
 ) -> Result<(), AllocError>
-    ensures { OnOk result (declarations.new ≡ declarations.old ++ library_function name.now callee (shape_of result_type) (map (λ (ty : CTypeOf). shape_of ty) parameters.items) ∷ []) }
+    ensures { OnOk result (declarations.new
+        ≡ declarations.old ++ library_function name.now callee (shape_of result_type)
+        (map (λ (ty : CTypeOf). shape_of ty) parameters.items) ∷ []) }
 {
     declarations.declare(Declaration {
         name: Name::from_slice(alloc, name)?,
@@ -51,7 +53,8 @@ fn void_pointer(alloc: Global) -> Result<CType, AllocError>
 
 // The parameters of `malloc`.
 fn one_size(alloc: Global, model: DataModel) -> Result<Vec<CType>, AllocError>
-    ensures { IfOk result (λ types. map (λ (ty : CTypeOf). shape_of ty) types.items ≡ integer (size_type_of model) ∷ []) }
+    ensures { IfOk result (λ types.
+        map (λ (ty : CTypeOf). shape_of ty) types.items ≡ integer (size_type_of model) ∷ []) }
 {
     let mut types = Vec::new(alloc);
     types.push(CType::Int(size_type(model)))?;
@@ -129,7 +132,8 @@ fn with_external(
     base: CType,
     kind: &RawExternalKind,
 ) -> Result<Filed, TypeRefusal>
-    ensures { Answers filed_of (external_declared kind.now (filed_of filed) (shape_of base)) result }
+    ensures { Answers filed_of (external_declared kind.now (filed_of filed) (shape_of base))
+        result }
 {
     let mut filed = filed;
     match kind {
@@ -156,7 +160,8 @@ pub fn external_typed(
     filed: Filed,
     external: &RawExternal,
 ) -> Result<Filed, TypeRefusal>
-    ensures { Answers filed_of (external_typed external.now.place external.now.kind (filed_of filed)) result }
+    ensures { Answers filed_of
+        (external_typed external.now.place external.now.kind (filed_of filed)) result }
 {
     let mut filed = filed;
     let specs = specs_of(&external.kind);

@@ -32,7 +32,8 @@ pub fn is_result(ty: &CType) -> bool
 
 // Whether these are the types of the parameters.
 fn same_types(types: &[CType], parameters: &[Local]) -> bool
-    ensures { result ≡ same_types (map (λ ty. shape_of ty) types.now) (types_of (map variable parameters.now)) }
+    ensures { result ≡ same_types (map (λ ty. shape_of ty) types.now)
+        (types_of (map variable parameters.now)) }
 {
     match (types, parameters) {
         ([], []) => true,
@@ -51,7 +52,9 @@ fn signature(
     returns: &CType,
     parameters: &[Local],
 ) -> Result<Signature, AllocError>
-    ensures { IfOk result (λ made. signature_of made ≡ numbered number (shape_of returns.now) (map variable parameters.now)) }
+    ensures { IfOk result (λ made.
+        signature_of made ≡ numbered number (shape_of returns.now)
+        (map variable parameters.now)) }
 {
     let mut types = Vec::new(alloc);
     for parameter in parameters {
@@ -86,7 +89,9 @@ fn bodiless(
     returns: &CType,
     parameters: &Head,
 ) -> Result<Function, AllocError>
-    ensures { IfOk result (λ made. routine made ≡ bodiless head.now (shape_of returns.now) (map variable parameters.now.parameters.items) parameters.now.written.items) }
+    ensures { IfOk result (λ made.
+        routine made ≡ bodiless head.now (shape_of returns.now)
+        (map variable parameters.now.parameters.items) parameters.now.written.items) }
 {
     let list = parameters.parameters.as_slice();
     Ok(Function {
@@ -103,7 +108,8 @@ fn bodiless(
 
 // Puts a function where the blank one with its number stands.
 fn put(functions: &mut Vec<Function>, number: u32, function: Function)
-    ensures { map routine functions.new.items ≡ changed number (λ blank. routine function) (map routine functions.old.items) }
+    ensures { map routine functions.new.items
+        ≡ changed number (λ blank. routine function) (map routine functions.old.items) }
 {
     if let Some(blank) = functions.get_mut(number as usize) {
         *blank = function;
@@ -127,7 +133,8 @@ impl Filed {
     /// Whether a name may be declared as that of a function with this result, and with a body, if it gets one: it stands for nothing
     /// in the file yet, or for a function with this result, which gets one body at most.
     pub fn may_be_function(&self, name: &Name, with_body: bool, returns: &CType) -> bool
-        ensures { result ≡ may_be_function (filed_of self.now) with_body (shape_of returns.now) (meaning_here name.now (environment_of self.now.known)) }
+        ensures { result ≡ may_be_function (filed_of self.now) with_body (shape_of returns.now)
+            (meaning_here name.now (environment_of self.now.known)) }
     {
         match self.known.meaning_here(name) {
             None => true,
@@ -155,7 +162,10 @@ impl Filed {
         returns: &CType,
         parameters: &Head,
     ) -> Result<Callee, AllocError>
-        ensures { IfOk result (λ callee. routed_of callee self.new ≡ functions.new_function (filed_of self.old) head.now (shape_of returns.now) (map variable parameters.now.parameters.items) parameters.now.written.items) }
+        ensures { IfOk result (λ callee.
+            routed_of callee self.new ≡ functions.new_function (filed_of self.old) head.now
+            (shape_of returns.now) (map variable parameters.now.parameters.items)
+            parameters.now.written.items) }
     {
         let number = self.number_of(&head.name)?;
         let meaning = Meaning::Function(signature(alloc, number, returns, &parameters.parameters)?);
@@ -173,7 +183,10 @@ impl Filed {
         returns: &CType,
         parameters: &Head,
     ) -> Result<Callee, TypeRefusal>
-        ensures { AnswersWith routed_of (functions.function_of (filed_of self.old) head.now (shape_of returns.now) (map variable parameters.now.parameters.items) parameters.now.written.items (meaning_here head.now.name (environment_of self.old.known))) result self.new }
+        ensures { AnswersWith routed_of
+            (functions.function_of (filed_of self.old) head.now (shape_of returns.now)
+            (map variable parameters.now.parameters.items) parameters.now.written.items
+            (meaning_here head.now.name (environment_of self.old.known))) result self.new }
     {
         match self.known.meaning_here(&head.name) {
             Some(Meaning::Function(before)) => {

@@ -68,7 +68,8 @@ impl Inside {
         place: Place,
         tree: &RawExpr,
     ) -> Result<Expr, TypeRefusal>
-        ensures { AnswersWith typed_part (tested_in place (inside_of self.old) tree.now) result self.new }
+        ensures { AnswersWith typed_part (tested_in place (inside_of self.old) tree.now) result
+            self.new }
     {
         test(
             alloc,
@@ -81,7 +82,8 @@ impl Inside {
 
     /// An expression whose value is dropped.
     pub fn dropped(&mut self, alloc: Global, tree: &RawExpr) -> Result<Expr, TypeRefusal>
-        ensures { AnswersWith typed_part (dropped_in (inside_of self.old) tree.now) result self.new }
+        ensures { AnswersWith typed_part (dropped_in (inside_of self.old) tree.now) result
+            self.new }
     {
         discarded(alloc, &self.known.context, &mut self.known.literals, tree)
     }
@@ -93,7 +95,8 @@ impl Inside {
         place: Place,
         tree: &RawExpr,
     ) -> Result<Expr, TypeRefusal>
-        ensures { AnswersWith typed_part (selected place (inside_of self.old) tree.now) result self.new }
+        ensures { AnswersWith typed_part (selected place (inside_of self.old) tree.now) result
+            self.new }
     {
         selector(
             alloc,
@@ -111,7 +114,8 @@ impl Inside {
         place: Place,
         tree: &Option<RawExpr>,
     ) -> Result<Option<Expr>, TypeRefusal>
-        ensures { AnswersWith optional_part (tested_if place (inside_of self.old) tree.now) result self.new }
+        ensures { AnswersWith optional_part (tested_if place (inside_of self.old) tree.now) result
+            self.new }
     {
         match tree {
             Some(tree) => Ok(Some(self.tested(alloc, place, tree)?)),
@@ -125,7 +129,8 @@ impl Inside {
         alloc: Global,
         tree: &Option<RawExpr>,
     ) -> Result<Option<Expr>, TypeRefusal>
-        ensures { AnswersWith optional_part (dropped_if (inside_of self.old) tree.now) result self.new }
+        ensures { AnswersWith optional_part (dropped_if (inside_of self.old) tree.now) result
+            self.new }
     {
         match tree {
             Some(tree) => Ok(Some(self.dropped(alloc, tree)?)),
@@ -141,7 +146,9 @@ impl Inside {
         ty: &CType,
         declared: &RawInit,
     ) -> Result<Stmt, TypeRefusal>
-        ensures { AnswersWith local_of (local_initialized number (shape_of ty.now) declared.now.declarator.place declared.now.initial (inside_of self.old)) result self.new }
+        ensures { AnswersWith local_of
+            (local_initialized number (shape_of ty.now) declared.now.declarator.place
+            declared.now.initial (inside_of self.old)) result self.new }
     {
         let Some(first) = &declared.initial else {
             return Ok(Stmt {
@@ -172,7 +179,8 @@ impl Inside {
         base: &CType,
         declared: &RawInit,
     ) -> Result<Stmt, TypeRefusal>
-        ensures { AnswersWith local_of (local_added (shape_of base.now) declared.now (inside_of self.old)) result self.new }
+        ensures { AnswersWith local_of
+            (local_added (shape_of base.now) declared.now (inside_of self.old)) result self.new }
     {
         let declarator = &declared.declarator;
         if self.known.is_declared_here(&declarator.name) {
@@ -186,7 +194,8 @@ impl Inside {
     // Adds a local, which its name stands for, and gives its number.
     fn add_local(&mut self, alloc: Global, name: &Name, ty: &CType) -> Result<u32, AllocError>
         ensures number { IfOk result (λ number. number ≡ length (inside_of self.old).variables) }
-        ensures added { OnOk result (inside_of self.new ≡ with_local name.now (shape_of ty.now) (inside_of self.old)) }
+        ensures added { OnOk result
+            (inside_of self.new ≡ with_local name.now (shape_of ty.now) (inside_of self.old)) }
     {
         let number = u32::try_from(self.locals.len()).map_err(|_| AllocError)?;
         self.known
@@ -207,7 +216,9 @@ impl Inside {
         objects: &[RawInit],
         before: Vec<Stmt>,
     ) -> Result<Vec<Stmt>, TypeRefusal>
-        ensures { AnswersWith (λ list following. typed_statements_of list.items following) (locals_added (shape_of base.now) objects.now (typed_statements_of before.items self.old)) result self.new }
+        ensures { AnswersWith (λ list following. typed_statements_of list.items following)
+            (locals_added (shape_of base.now) objects.now
+            (typed_statements_of before.items self.old)) result self.new }
     {
         let mut statements = before;
         for declared in objects {
@@ -224,7 +235,9 @@ impl Inside {
         objects: &[RawInit],
         before: Vec<Stmt>,
     ) -> Result<Vec<Stmt>, TypeRefusal>
-        ensures { AnswersWith (λ list following. typed_statements_of list.items following) (declaration_typed specs.now objects.now (typed_statements_of before.items self.old)) result self.new }
+        ensures { AnswersWith (λ list following. typed_statements_of list.items following)
+            (declaration_typed specs.now objects.now (typed_statements_of before.items self.old))
+            result self.new }
     {
         let base = specs_type(alloc, &mut self.known, first_place(objects), specs)?;
         self.declare_locals(alloc, &base, objects, before)

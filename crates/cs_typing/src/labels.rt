@@ -64,8 +64,12 @@ impl Labels {
 
 // Puts the number of a name's first label into the table: a name that has one keeps it.
 fn enter(numbers: &mut IndexMap<Name, u32>, name: &Name, number: u32) -> Result<(), AllocError>
-    ensures entered { OnOk result ((other : List ℕ) → get (pointwise nat_eq) numbers.new other ≡ option_or (get (pointwise nat_eq) numbers.old other) (if pointwise nat_eq name.now other then Some number else None)) }
-    ensures err { OnErr result ((other : List ℕ) → get (pointwise nat_eq) numbers.new other ≡ get (pointwise nat_eq) numbers.old other) }
+    ensures entered { OnOk result ((other : List ℕ)
+        → get (pointwise nat_eq) numbers.new other
+        ≡ option_or (get (pointwise nat_eq) numbers.old other)
+        (if pointwise nat_eq name.now other then Some number else None)) }
+    ensures err { OnErr result ((other : List ℕ)
+        → get (pointwise nat_eq) numbers.new other ≡ get (pointwise nat_eq) numbers.old other) }
 {
     if numbers.contains_key(name) {
         return Ok(());

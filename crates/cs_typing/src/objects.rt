@@ -27,7 +27,8 @@ impl Filed {
         base: &CType,
         declarator: &RawDeclarator,
     ) -> Result<bool, AllocError>
-        ensures { IfOk result (λ completed. completed ≡ is_completed (filed_of self.now) (shape_of base.now) declarator.now) }
+        ensures { IfOk result (λ completed.
+            completed ≡ is_completed (filed_of self.now) (shape_of base.now) declarator.now) }
     {
         let ty = starred(alloc, &declarator.pointers, base.copy(alloc)?)?;
         Ok(is_complete(&self.known.context.table, &ty))
@@ -36,7 +37,8 @@ impl Filed {
     // Whether a name may be declared as an object's, which is initialized there or isn't: it stands for nothing in the file yet, or for
     // an object, which is initialized once and has a complete type.
     fn may_be_object(&self, name: &Name, completed: bool, initializes: bool) -> bool
-        ensures { result ≡ may_be_object (filed_of self.now).globals completed initializes (meaning_here name.now (environment_of self.now.known)) }
+        ensures { result ≡ may_be_object (filed_of self.now).globals completed initializes
+            (meaning_here name.now (environment_of self.now.known)) }
     {
         match self.known.meaning_here(name) {
             None => true,
@@ -54,7 +56,9 @@ impl Filed {
         declarator: &RawDeclarator,
         ty: CType,
     ) -> Result<u32, AllocError>
-        ensures { IfOk result (λ number. object_of number self.new ≡ new_object (filed_of self.old) declarator.now (shape_of ty)) }
+        ensures { IfOk result (λ number.
+            object_of number self.new ≡ new_object (filed_of self.old) declarator.now
+            (shape_of ty)) }
     {
         let number = u32::try_from(self.globals.len()).map_err(|_| AllocError)?;
         let copy = ty.copy(alloc)?;
@@ -72,7 +76,9 @@ impl Filed {
 
     // Notes that an object may not be stored to, where this declaration says so.
     fn mark(&mut self, number: u32, constant: bool)
-        ensures { filed_of self.new ≡ with_globals (changed number (made_constant constant) (filed_of self.old).globals) (filed_of self.old) }
+        ensures { filed_of self.new
+            ≡ with_globals (changed number (made_constant constant) (filed_of self.old).globals)
+            (filed_of self.old) }
     {
         if let Some(global) = self.globals.get_mut(number as usize) {
             global.constant = global.constant || constant;
@@ -91,7 +97,9 @@ impl Filed {
 
     // Gives an object what it holds at first.
     fn hold(&mut self, number: u32, found: Initial)
-        ensures { filed_of self.new ≡ with_globals (changed number (holding (initial found)) (filed_of self.old).globals) (filed_of self.old) }
+        ensures { filed_of self.new
+            ≡ with_globals (changed number (holding (initial found)) (filed_of self.old).globals)
+            (filed_of self.old) }
     {
         if let Some(global) = self.globals.get_mut(number as usize) {
             global.initial = Some(found);
@@ -107,7 +115,8 @@ impl Filed {
         ty: &CType,
         first: &RawFirstValue,
     ) -> Result<(), TypeRefusal>
-        ensures { Leaves (object_initialized (shape_of ty.now) (Some first.now) (object_of number self.old)) result (filed_of self.new) }
+        ensures { Leaves (object_initialized (shape_of ty.now) (Some first.now)
+            (object_of number self.old)) result (filed_of self.new) }
     {
         let found = initial_typed(
             alloc,
@@ -129,7 +138,10 @@ impl Filed {
         declarator: &RawDeclarator,
         ty: &CType,
     ) -> Result<u32, TypeRefusal>
-        ensures { AnswersWith object_of (objects.object_of (filed_of self.old) declarator.now (meaning_here declarator.now.name (environment_of self.old.known)) (shape_of ty.now)) result self.new }
+        ensures { AnswersWith object_of
+            (objects.object_of (filed_of self.old) declarator.now
+            (meaning_here declarator.now.name (environment_of self.old.known)) (shape_of ty.now))
+            result self.new }
     {
         match self.known.meaning_here(&declarator.name) {
             Some(Meaning::Global(number, before)) => {
@@ -155,7 +167,8 @@ impl Filed {
         base: &CType,
         declared: &RawInit,
     ) -> Result<(), TypeRefusal>
-        ensures { Leaves (object_added specs.now (shape_of base.now) declared.now (filed_of self.old)) result (filed_of self.new) }
+        ensures { Leaves (object_added specs.now (shape_of base.now) declared.now
+            (filed_of self.old)) result (filed_of self.new) }
     {
         let declarator = &declared.declarator;
         let completed = self.is_completed(alloc, base, declarator)?;
@@ -179,7 +192,8 @@ impl Filed {
         base: &CType,
         objects: &[RawInit],
     ) -> Result<(), TypeRefusal>
-        ensures { Leaves (objects_added specs.now (shape_of base.now) objects.now (filed_of self.old)) result (filed_of self.new) }
+        ensures { Leaves (objects_added specs.now (shape_of base.now) objects.now
+            (filed_of self.old)) result (filed_of self.new) }
     {
         for declared in objects {
             self.declare_object(alloc, specs, base, declared)?;

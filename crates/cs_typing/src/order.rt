@@ -26,7 +26,9 @@ fn is_of_library(name: &Name) -> bool
 
 // Notes the function that a part of a file defines, if it does.
 fn note_definition(defined: &mut HashSet<Name>, kind: &RawExternalKind) -> Result<(), AllocError>
-    ensures { OnOk result ((name : List ℕ) → contains (pointwise nat_eq) defined.new name ≡ (contains (pointwise nat_eq) defined.old name || defines name kind.now)) }
+    ensures { OnOk result ((name : List ℕ)
+        → contains (pointwise nat_eq) defined.new name
+        ≡ (contains (pointwise nat_eq) defined.old name || defines name kind.now)) }
 {
     if let RawExternalKind::Definition(_, head, _) = kind {
         defined.insert(head.name.copy()?)?;
@@ -36,7 +38,9 @@ fn note_definition(defined: &mut HashSet<Name>, kind: &RawExternalKind) -> Resul
 
 // The names of the functions that are defined in a file.
 fn defined_in(alloc: Global, file: &[RawExternal]) -> Result<HashSet<Name>, AllocError>
-    ensures { IfOk result (λ defined. (name : List ℕ) → contains (pointwise nat_eq) defined name ≡ is_defined name file.now) }
+    ensures { IfOk result (λ defined.
+        (name : List ℕ) → contains (pointwise nat_eq) defined name
+        ≡ is_defined name file.now) }
 {
     let mut defined = HashSet::new(alloc);
     for external in file {

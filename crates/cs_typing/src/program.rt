@@ -58,7 +58,8 @@ pub fn typed(
 ) -> Result<Program, TypeRefusal>
     ensures reported { Answers typed_program (typed model files.now tokens.now file.now) result }
     ensures laid_out { IfOk result (λ program. IsLaidOut program.model program.table.list) }
-    ensures well_formed { IsFileTree files.now tokens.now file.now → IfOk result (λ program. IsWellFormed (typed_program program)) }
+    ensures well_formed { IsFileTree files.now tokens.now file.now
+        → IfOk result (λ program. IsWellFormed (typed_program program)) }
 {
     let Filed {
         known,

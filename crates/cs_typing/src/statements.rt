@@ -29,7 +29,9 @@ pub fn statement_typed(
     at: Where,
     tree: &RawStmt,
 ) -> Result<Stmt, TypeRefusal>
-    ensures { AnswersWith statement_part (statement_typed (where_of at.entry) (inside_of inside.old) tree.now.place tree.now.kind.value) result inside.new }
+    ensures { AnswersWith statement_part
+        (statement_typed (where_of at.entry) (inside_of inside.old) tree.now.place
+        tree.now.kind.value) result inside.new }
 {
     let kind = kind_typed(alloc, inside, at, tree.place, &*tree.kind)?;
     Ok(Stmt {
@@ -47,7 +49,9 @@ fn kind_typed(
     place: Place,
     tree: &RawStmtKind,
 ) -> Result<StmtKind, TypeRefusal>
-    ensures { AnswersWith (kind_part place) (statement_typed (where_of at.entry) (inside_of inside.old) place tree.now) result inside.new }
+    ensures { AnswersWith (kind_part place)
+        (statement_typed (where_of at.entry) (inside_of inside.old) place tree.now) result
+        inside.new }
 {
     match tree {
         RawStmtKind::Block(items) => Ok(StmtKind::Block(block(alloc, inside, at, items)?)),
@@ -90,7 +94,9 @@ fn while_typed(
     body: &RawStmt,
     test: &RawExpr,
 ) -> Result<StmtKind, TypeRefusal>
-    ensures { AnswersWith (kind_part place) (while_typed (where_of at.entry) (inside_of inside.old) place test.now body.now.place body.now.kind.value) result inside.new }
+    ensures { AnswersWith (kind_part place)
+        (while_typed (where_of at.entry) (inside_of inside.old) place test.now body.now.place
+        body.now.kind.value) result inside.new }
 {
     let test = inside.tested(alloc, place, test)?;
     let body = statement_typed(alloc, inside, at.in_loop(), body)?;
@@ -107,7 +113,9 @@ fn do_typed(
     body: &RawStmt,
     test: &RawExpr,
 ) -> Result<StmtKind, TypeRefusal>
-    ensures { AnswersWith (kind_part place) (do_typed (where_of at.entry) (inside_of inside.old) place test.now body.now.place body.now.kind.value) result inside.new }
+    ensures { AnswersWith (kind_part place)
+        (do_typed (where_of at.entry) (inside_of inside.old) place test.now body.now.place
+        body.now.kind.value) result inside.new }
 {
     let body = statement_typed(alloc, inside, at.in_loop(), body)?;
     let test = inside.tested(alloc, place, test)?;
@@ -126,7 +134,9 @@ fn for_typed(
     last: &Option<RawExpr>,
     body: &RawStmt,
 ) -> Result<StmtKind, TypeRefusal>
-    ensures { AnswersWith (kind_part place) (for_typed (where_of at.entry) (inside_of inside.old) place first.now test.now last.now body.now.place body.now.kind.value) result inside.new }
+    ensures { AnswersWith (kind_part place)
+        (for_typed (where_of at.entry) (inside_of inside.old) place first.now test.now last.now
+        body.now.place body.now.kind.value) result inside.new }
 {
     let around = inside.known.enter();
     let first = first_typed(alloc, inside, first)?;
@@ -143,7 +153,8 @@ fn first_typed(
     inside: &mut Inside,
     first: &RawFirst,
 ) -> Result<Vec<Stmt>, TypeRefusal>
-    ensures { AnswersWith (λ list following. typed_statements_of list.items following) (first_typed (inside_of inside.old) first.now) result inside.new }
+    ensures { AnswersWith (λ list following. typed_statements_of list.items following)
+        (first_typed (inside_of inside.old) first.now) result inside.new }
 {
     let mut statements = Vec::new(alloc);
     match first {
@@ -169,7 +180,8 @@ fn block(
     at: Where,
     items: &[RawItem],
 ) -> Result<Vec<Stmt>, TypeRefusal>
-    ensures { AnswersWith (λ list following. typed_statements_of list.items following) (block_typed (where_of at.entry) (inside_of inside.old) items.now) result inside.new }
+    ensures { AnswersWith (λ list following. typed_statements_of list.items following)
+        (block_typed (where_of at.entry) (inside_of inside.old) items.now) result inside.new }
 {
     let around = inside.known.enter();
     let statements = items_typed(alloc, inside, at, items)?;
@@ -185,7 +197,9 @@ pub fn items_typed(
     at: Where,
     items: &[RawItem],
 ) -> Result<Vec<Stmt>, TypeRefusal>
-    ensures { AnswersWith (λ list following. typed_statements_of list.items following) (body_typed (where_of at.entry) items.now (no_statements (inside_of inside.old))) result inside.new }
+    ensures { AnswersWith (λ list following. typed_statements_of list.items following)
+        (body_typed (where_of at.entry) items.now (no_statements (inside_of inside.old))) result
+        inside.new }
 {
     let mut statements = Vec::new(alloc);
     for item in items {
@@ -203,7 +217,9 @@ pub fn item_typed(
     item: &RawItem,
     before: Vec<Stmt>,
 ) -> Result<Vec<Stmt>, TypeRefusal>
-    ensures { AnswersWith (λ list following. typed_statements_of list.items following) (item_typed (where_of at.entry) item.now (typed_statements_of before.items inside.old)) result inside.new }
+    ensures { AnswersWith (λ list following. typed_statements_of list.items following)
+        (item_typed (where_of at.entry) item.now (typed_statements_of before.items inside.old))
+        result inside.new }
 {
     match item {
         RawItem::Declare(specs, objects) => inside.declare(alloc, specs, objects, before),
@@ -223,7 +239,8 @@ fn returned(
     place: Place,
     value: &Option<RawExpr>,
 ) -> Result<Option<Expr>, TypeRefusal>
-    ensures { AnswersWith optional_part (returned (where_of at.entry) place (inside_of inside.old) value.now) result inside.new }
+    ensures { AnswersWith optional_part
+        (returned (where_of at.entry) place (inside_of inside.old) value.now) result inside.new }
 {
     match value {
         Some(tree) => Ok(Some(value_returned(alloc, inside, at, place, tree)?)),
@@ -245,7 +262,9 @@ fn value_returned(
     place: Place,
     tree: &RawExpr,
 ) -> Result<Expr, TypeRefusal>
-    ensures { AnswersWith typed_part (value_returned (where_of at.entry) place (inside_of inside.old) tree.now) result inside.new }
+    ensures { AnswersWith typed_part
+        (value_returned (where_of at.entry) place (inside_of inside.old) tree.now) result
+        inside.new }
 {
     if is_void(at.returns) {
         return Err(TypeRefusal::Code(TypeCode::Return, place));
@@ -273,7 +292,9 @@ fn is_void(ty: &CType) -> bool
 
 // `goto` (C11 6.8.6.1).
 fn jump(at: Where, place: Place, name: &Name) -> Result<StmtKind, TypeRefusal>
-    ensures { (inside : InsideOf) → Answers (λ kind. kind_at place kind inside) (goto_typed place inside (label_number name.now (where_of at.entry).labels)) result }
+    ensures { (inside : InsideOf)
+        → Answers (λ kind. kind_at place kind inside)
+        (goto_typed place inside (label_number name.now (where_of at.entry).labels)) result }
 {
     match at.labels.number_of(name) {
         Some(number) => Ok(StmtKind::Goto(number)),
@@ -302,7 +323,9 @@ fn labelled(
     name: &Name,
     body: &RawStmt,
 ) -> Result<StmtKind, TypeRefusal>
-    ensures { AnswersWith (kind_part place) (label_typed (where_of at.entry) (inside_of inside.old) place name.now body.now.place body.now.kind.value) result inside.new }
+    ensures { AnswersWith (kind_part place)
+        (label_typed (where_of at.entry) (inside_of inside.old) place name.now body.now.place
+        body.now.kind.value) result inside.new }
 {
     let number = inside.met;
     if at.labels.number_of(name) != Some(number) {

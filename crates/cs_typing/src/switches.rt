@@ -34,7 +34,9 @@ pub fn switch_typed(
     items: &[RawSwitchItem],
     tree: &RawExpr,
 ) -> Result<StmtKind, TypeRefusal>
-    ensures { AnswersWith (kind_part place) (switch_whole (where_of at.entry) (inside_of inside.old) place tree.now items.now) result inside.new }
+    ensures { AnswersWith (kind_part place)
+        (switch_whole (where_of at.entry) (inside_of inside.old) place tree.now items.now) result
+        inside.new }
 {
     let selector = inside.selected(alloc, place, tree)?;
     let around = inside.known.enter();
@@ -52,7 +54,9 @@ fn switch_items(
     items: &[RawSwitchItem],
     ty: &CType,
 ) -> Result<Switched, TypeRefusal>
-    ensures { AnswersWith switching_of (switch_list_typed (where_of at.entry) (shape_of ty.now) items.now (no_cases (inside_of inside.old))) result inside.new }
+    ensures { AnswersWith switching_of
+        (switch_list_typed (where_of at.entry) (shape_of ty.now) items.now
+        (no_cases (inside_of inside.old))) result inside.new }
 {
     let mut so_far = Switched {
         cases: Cases::new(alloc),
@@ -74,7 +78,9 @@ fn switch_item(
     ty: &CType,
     before: Switched,
 ) -> Result<Switched, TypeRefusal>
-    ensures { AnswersWith switching_of (switch_item_typed (where_of at.entry) (shape_of ty.now) item.now (switching_of before inside.old)) result inside.new }
+    ensures { AnswersWith switching_of
+        (switch_item_typed (where_of at.entry) (shape_of ty.now) item.now
+        (switching_of before inside.old)) result inside.new }
 {
     let mut so_far = before;
     match item {

@@ -20,7 +20,8 @@ use Rattle.cs_ast.specs.declared.raw.written_type.IntegerWord.{IntegerWord}
 use Rattle.cs_ast.specs.declared.raw.written_type.IntegerWord.TheVariants.{Char, Short, Int, Long, Signed, Unsigned}
 use Rattle.cs_ast.specs.declared.raw.written_type.PointerWord.{PointerWord}
 use Rattle.cs_ast.specs.declared.raw.written_type.PointerWord.TheVariants as pointer
-use Rattle.cs_ast.specs.RawTree.{Written, WrittenList, Named, Numeral, Character, Literal, Enclosed, Index, Call, Member, Arrow, StepAfter, StepBefore, Prefix, SizeOf, SizeOfType, Cast, Infix, Choice, Assign, Comma, End, More}
+use Rattle.cs_ast.specs.RawTree.{Written, WrittenList, Named, Numeral, Character, Literal, Enclosed, Index, Call, Member, Arrow, StepAfter, StepBefore, Prefix}
+use Rattle.cs_ast.specs.RawTree.{SizeOf, SizeOfType, Cast, Infix, Choice, Assign, Comma, End, More}
 use Rattle.cs_grammar.specs.Levels.{level_of, infix_level, CHOICE}
 use Rattle.cs_grammar.specs.TypeWords.{Names}
 use Rattle.cs_grammar.specs.Punctuators.{step_punctuator, prefix_punctuator, infix_punctuator, assign_punctuator}
@@ -83,7 +84,8 @@ Asked t part.BodyChoice = t.blk
 Asked t place = t.out
 
 -- a token of an expression
-token_reported : (t : Telling) (W : Kinds → Type 0) (p : Part) (k : TokenKind) (r : Role) → is_inner r ≡ true → Asked t p → Reported t W (Inside p) k r
+token_reported : (t : Telling) (W : Kinds → Type 0) (p : Part) (k : TokenKind) (r : Role) → is_inner r ≡ true → Asked t p
+    → Reported t W (Inside p) k r
 token_reported t W part.Body k r i a = a
 token_reported t W part.BodyChoice k r i a = a
 token_reported t W part.Value k r i a = (a, (inl i, λ e. i))
@@ -127,7 +129,9 @@ chosen_keeps part.Body = refl
 chosen_keeps part.BodyChoice = refl
 chosen_keeps _ = refl
 
-comma_step : (t : Telling) (W : Kinds → Type 0) (p : Part) → keeps_commas p ≡ true → (s : List Where) (ts : Kinds) (rs : Roles) (b : Tagging) → Trace t W (site (Inside p) tagging.Nothing s) ts rs → Trace t W (punctuator_step punctuator.Comma (site (Inside p) b s)) ts rs
+comma_step : (t : Telling) (W : Kinds → Type 0) (p : Part) → keeps_commas p ≡ true
+    → (s : List Where) (ts : Kinds) (rs : Roles) (b : Tagging) → Trace t W (site (Inside p) tagging.Nothing s) ts rs
+    → Trace t W (punctuator_step punctuator.Comma (site (Inside p) b s)) ts rs
 comma_step t W part.Value k s ts rs b h = absurd (false≢true k)
 comma_step t W part.Constant k s ts rs b h = absurd (false≢true k)
 comma_step t W part.Item k s ts rs b h = absurd (false≢true k)
@@ -136,7 +140,8 @@ comma_step t W part.Choice k s ts rs b h = h
 comma_step t W part.Body k s ts rs b h = h
 comma_step t W part.BodyChoice k s ts rs b h = h
 
-colon_step : (t : Telling) (W : Kinds → Type 0) (p : Part) (s : List Where) (ts : Kinds) (rs : Roles) (b : Tagging) → Trace t W (site (Inside p) tagging.Nothing s) ts rs → Trace t W (punctuator_step punctuator.Colon (site (Inside (chosen p)) b (Inside p ∷ s))) ts rs
+colon_step : (t : Telling) (W : Kinds → Type 0) (p : Part) (s : List Where) (ts : Kinds) (rs : Roles) (b : Tagging)
+    → Trace t W (site (Inside p) tagging.Nothing s) ts rs → Trace t W (punctuator_step punctuator.Colon (site (Inside (chosen p)) b (Inside p ∷ s))) ts rs
 colon_step t W part.Value s ts rs b h = h
 colon_step t W part.Constant s ts rs b h = h
 colon_step t W part.Item s ts rs b h = h
@@ -159,7 +164,9 @@ is_plain punctuator.Question = false
 is_plain punctuator.Colon = false
 is_plain other = true
 
-plain_punctuator : (t : Telling) (W : Kinds → Type 0) (p : Part) (s : List Where) (m : Punctuator) → is_plain m ≡ true → (ts : Kinds) (rs : Roles) (b : Tagging) → Trace t W (site (Inside p) tagging.Nothing s) ts rs → Trace t W (punctuator_step m (site (Inside p) b s)) ts rs
+plain_punctuator : (t : Telling) (W : Kinds → Type 0) (p : Part) (s : List Where) (m : Punctuator) → is_plain m ≡ true
+    → (ts : Kinds) (rs : Roles) (b : Tagging) → Trace t W (site (Inside p) tagging.Nothing s) ts rs
+    → Trace t W (punctuator_step m (site (Inside p) b s)) ts rs
 plain_punctuator t W p s punctuator.OpenBrace e ts rs b h = absurd (false≢true e)
 plain_punctuator t W p s punctuator.OpenParenthesis e ts rs b h = absurd (false≢true e)
 plain_punctuator t W p s punctuator.OpenBracket e ts rs b h = absurd (false≢true e)
@@ -188,7 +195,8 @@ plain_assign : (op : AssignOp) → is_plain (assign_punctuator op) ≡ true
 plain_assign assign.Plain = refl
 plain_assign _ = refl
 
-integer_step : (t : Telling) (W : Kinds → Type 0) (within : Where) (s : List Where) (k : IntegerWord) (ts : Kinds) (rs : Roles) (b : Tagging) → Trace t W (site within tagging.Nothing s) ts rs → Trace t W (step (integer_word_text k) (site within b s)) ts rs
+integer_step : (t : Telling) (W : Kinds → Type 0) (within : Where) (s : List Where) (k : IntegerWord) (ts : Kinds) (rs : Roles) (b : Tagging)
+    → Trace t W (site within tagging.Nothing s) ts rs → Trace t W (step (integer_word_text k) (site within b s)) ts rs
 integer_step t W p s Char ts rs b h = h
 integer_step t W p s Short ts rs b h = h
 integer_step t W p s Int ts rs b h = h
@@ -200,30 +208,60 @@ integer_step t W p s Unsigned ts rs b h = h
 abbrev pub YieldsAll : Telling → Where → Role → Type 1
 YieldsAll t within r = (W : Kinds → Type 0) (k : TokenKind) → Reported t W within k r
 
-pub pointers_calm : (t : Telling) (p : Where) (r : Role) → YieldsAll t p r → (W : Kinds → Type 0) (s : List Where) (ps : List PointerWord) (ts : Kinds) (rs : Roles) → Calm t (λ y. W (pointers_text ps y)) p s ts rs → Calm t W p s (pointers_text ps ts) (each r (pointers_text ps []) rs)
+pub pointers_calm : (t : Telling) (p : Where) (r : Role) → YieldsAll t p r
+    → (W : Kinds → Type 0) (s : List Where) (ps : List PointerWord) (ts : Kinds) (rs : Roles) → Calm t (λ y. W (pointers_text ps y)) p s ts rs
+    → Calm t W p s (pointers_text ps ts) (each r (pointers_text ps []) rs)
 pointers_calm t p r a W s [] ts rs h = h
-pointers_calm t p r a W s (pointer.Star ∷ ps) ts rs h = λ b. (a W (token.Punctuator punctuator.Star), pointers_calm t p r a (λ y. W (token.Punctuator punctuator.Star ∷ y)) s ps ts rs h tagging.Nothing)
-pointers_calm t p r a W s (pointer.Const ∷ ps) ts rs h = λ b. (a W (token.Keyword keyword.Const), pointers_calm t p r a (λ y. W (token.Keyword keyword.Const ∷ y)) s ps ts rs h tagging.Nothing)
+pointers_calm t p r a W s (pointer.Star ∷ ps) ts rs h = λ b.
+    (a W (token.Punctuator punctuator.Star), pointers_calm t p r a (λ y. W (token.Punctuator punctuator.Star ∷ y)) s ps ts rs h tagging.Nothing)
+pointers_calm t p r a W s (pointer.Const ∷ ps) ts rs h = λ b.
+    (a W (token.Keyword keyword.Const), pointers_calm t p r a (λ y. W (token.Keyword keyword.Const ∷ y)) s ps ts rs h tagging.Nothing)
 
-pub word_calm : (t : Telling) (p : Where) (r : Role) → YieldsAll t p r → (W : Kinds → Type 0) (s : List Where) (w : TypeWord) (ts : Kinds) (rs : Roles) → Calm t (λ y. W (type_word_text w y)) p s ts rs → Calm t W p s (type_word_text w ts) (each r (type_word_text w []) rs)
+pub word_calm : (t : Telling) (p : Where) (r : Role) → YieldsAll t p r
+    → (W : Kinds → Type 0) (s : List Where) (w : TypeWord) (ts : Kinds) (rs : Roles) → Calm t (λ y. W (type_word_text w y)) p s ts rs
+    → Calm t W p s (type_word_text w ts) (each r (type_word_text w []) rs)
 word_calm t p r a W s word.Const ts rs h = λ b. (a W (token.Keyword keyword.Const), h tagging.Nothing)
-word_calm t p r a W s (word.Integer k) ts rs h = λ b. (a W (integer_word_text k), integer_step t (λ y. W (integer_word_text k ∷ y)) p s k ts rs b (h tagging.Nothing))
+word_calm t p r a W s (word.Integer k) ts rs h = λ b.
+    (a W (integer_word_text k), integer_step t (λ y. W (integer_word_text k ∷ y)) p s k ts rs b (h tagging.Nothing))
 word_calm t p r a W s word.Void ts rs h = λ b. (a W (token.Keyword keyword.Void), h tagging.Nothing)
 word_calm t p r a W s (word.Typedef n) ts rs h = λ b. (a W (token.Name n), h (tag_after b))
-word_calm t p r a W s (word.Struct n) ts rs h = λ b. (a W (token.Keyword keyword.Struct), (a (λ y. W (token.Keyword keyword.Struct ∷ y)) (token.Name n), h tagging.StructTag))
-word_calm t p r a W s (word.Enum n) ts rs h = λ b. (a W (token.Keyword keyword.Enum), (a (λ y. W (token.Keyword keyword.Enum ∷ y)) (token.Name n), h tagging.EnumTag))
+word_calm t p r a W s (word.Struct n) ts rs h = λ b.
+    (a W (token.Keyword keyword.Struct), (a (λ y. W (token.Keyword keyword.Struct ∷ y)) (token.Name n), h tagging.StructTag))
+word_calm t p r a W s (word.Enum n) ts rs h = λ b.
+    (a W (token.Keyword keyword.Enum), (a (λ y. W (token.Keyword keyword.Enum ∷ y)) (token.Name n), h tagging.EnumTag))
 
-type_calm : (t : Telling) (p : Where) → YieldsAll t p in_expression → (W : Kinds → Type 0) (s : List Where) (ws : List TypeWord) (ps : List PointerWord) (ts : Kinds) (rs : Roles) → Calm t (λ y. W (words_text ws (pointers_text ps y))) p s ts rs → Calm t W p s (words_text ws (pointers_text ps ts)) (type_roles ws ps rs)
+type_calm : (t : Telling) (p : Where) → YieldsAll t p in_expression
+    → (W : Kinds → Type 0) (s : List Where) (ws : List TypeWord) (ps : List PointerWord) (ts : Kinds) (rs : Roles)
+    → Calm t (λ y. W (words_text ws (pointers_text ps y))) p s ts rs → Calm t W p s (words_text ws (pointers_text ps ts)) (type_roles ws ps rs)
 type_calm t p a W s [] ps ts rs h = pointers_calm t p in_expression a W s ps ts rs h
-type_calm t p a W s (word.Const ∷ ws) ps ts rs h = λ b. (a W (token.Keyword keyword.Const), type_calm t p a (λ y. W (token.Keyword keyword.Const ∷ y)) s ws ps ts rs h tagging.Nothing)
+type_calm t p a W s (word.Const ∷ ws) ps ts rs h = λ b.
+    (a W (token.Keyword keyword.Const), type_calm t p a (λ y. W (token.Keyword keyword.Const ∷ y)) s ws ps ts rs h tagging.Nothing)
 type_calm t p a W s (word.Integer k ∷ ws) ps ts rs h =
-    λ b. (a W (integer_word_text k), integer_step t (λ y. W (integer_word_text k ∷ y)) p s k (words_text ws (pointers_text ps ts)) (type_roles ws ps rs) b (type_calm t p a (λ y. W (integer_word_text k ∷ y)) s ws ps ts rs h tagging.Nothing))
-type_calm t p a W s (word.Void ∷ ws) ps ts rs h = λ b. (a W (token.Keyword keyword.Void), type_calm t p a (λ y. W (token.Keyword keyword.Void ∷ y)) s ws ps ts rs h tagging.Nothing)
-type_calm t p a W s (word.Typedef n ∷ ws) ps ts rs h = λ b. (a W (token.Name n), type_calm t p a (λ y. W (token.Name n ∷ y)) s ws ps ts rs h (tag_after b))
+    λ b. (
+      a W (integer_word_text k),
+      integer_step t (λ y. W (integer_word_text k ∷ y)) p s k (words_text ws (pointers_text ps ts)) (type_roles ws ps rs) b
+          (type_calm t p a (λ y. W (integer_word_text k ∷ y)) s ws ps ts rs h tagging.Nothing),
+    )
+type_calm t p a W s (word.Void ∷ ws) ps ts rs h = λ b.
+    (a W (token.Keyword keyword.Void), type_calm t p a (λ y. W (token.Keyword keyword.Void ∷ y)) s ws ps ts rs h tagging.Nothing)
+type_calm t p a W s (word.Typedef n ∷ ws) ps ts rs h = λ b.
+    (a W (token.Name n), type_calm t p a (λ y. W (token.Name n ∷ y)) s ws ps ts rs h (tag_after b))
 type_calm t p a W s (word.Struct n ∷ ws) ps ts rs h =
-    λ b. (a W (token.Keyword keyword.Struct), (a (λ y. W (token.Keyword keyword.Struct ∷ y)) (token.Name n), type_calm t p a (λ y. W (token.Keyword keyword.Struct ∷ token.Name n ∷ y)) s ws ps ts rs h tagging.StructTag))
+    λ b. (
+      a W (token.Keyword keyword.Struct),
+      (
+        a (λ y. W (token.Keyword keyword.Struct ∷ y)) (token.Name n),
+        type_calm t p a (λ y. W (token.Keyword keyword.Struct ∷ token.Name n ∷ y)) s ws ps ts rs h tagging.StructTag,
+      ),
+    )
 type_calm t p a W s (word.Enum n ∷ ws) ps ts rs h =
-    λ b. (a W (token.Keyword keyword.Enum), (a (λ y. W (token.Keyword keyword.Enum ∷ y)) (token.Name n), type_calm t p a (λ y. W (token.Keyword keyword.Enum ∷ token.Name n ∷ y)) s ws ps ts rs h tagging.EnumTag))
+    λ b. (
+      a W (token.Keyword keyword.Enum),
+      (
+        a (λ y. W (token.Keyword keyword.Enum ∷ y)) (token.Name n),
+        type_calm t p a (λ y. W (token.Keyword keyword.Enum ∷ token.Name n ∷ y)) s ws ps ts rs h tagging.EnumTag,
+      ),
+    )
 
 -- the expression may stand in such a place: no comma of it ends what stands there
 abbrev pub Fits : Part → Written → Type 0
@@ -252,7 +290,9 @@ infix_some operator.Or = omega arith
 infix_some _ = omega arith
 
 mutual
-  pub expression_calm : (t : Telling) (names : Names) (p : Part) → Asked t p → (W : Kinds → Type 0) (s : List Where) (e : Written) (ts : Kinds) (rs : Roles) → IsWell names e → Fits p e → Calm t (λ y. W (text e y)) (Inside p) s ts rs → Calm t W (Inside p) s (text e ts) (roles e rs)
+  pub expression_calm : (t : Telling) (names : Names) (p : Part) → Asked t p
+      → (W : Kinds → Type 0) (s : List Where) (e : Written) (ts : Kinds) (rs : Roles) → IsWell names e → Fits p e
+      → Calm t (λ y. W (text e y)) (Inside p) s ts rs → Calm t W (Inside p) s (text e ts) (roles e rs)
   expression_calm t names p a W s (Named n) ts rs is f h = λ b. (token_reported t W p (token.Name n) in_expression refl a, h (tag_after b))
   expression_calm t names p a W s (Numeral n) ts rs is f h = λ b. (token_reported t W p (token.Number n) in_expression refl a, h tagging.Nothing)
   expression_calm t names p a W s (Character v) ts rs is f h = λ b. (token_reported t W p (token.Character v) in_expression refl a, h tagging.Nothing)
@@ -266,92 +306,134 @@ mutual
       )
   expression_calm t names p a W s (Index o n) ts rs is f h =
       let d = asked_deeper t p a in
-      expression_calm t names p a W s o (bracket ∷ text n (bracketed ∷ ts)) (in_expression ∷ roles n (in_expression ∷ rs)) is.1 (fits_at p (Index o n) o 15 (omega arith) is.0)
+      expression_calm t names p a W s o (bracket ∷ text n (bracketed ∷ ts)) (in_expression ∷ roles n (in_expression ∷ rs)) is.1
+      (fits_at p (Index o n) o 15 (omega arith) is.0)
       (λ b. (
         token_reported t (λ y. W (text o y)) p bracket in_expression refl a,
-        expression_calm t names (deeper p) d (λ y. W (text o (bracket ∷ y))) (Inside p ∷ s) n (bracketed ∷ ts) (in_expression ∷ rs) is.2 (fits_deeper p n)
+        expression_calm t names (deeper p) d (λ y. W (text o (bracket ∷ y))) (Inside p ∷ s) n (bracketed ∷ ts) (in_expression ∷ rs) is.2
+            (fits_deeper p n)
             (λ c. (token_reported t (λ y. W (text o (bracket ∷ text n y))) (deeper p) bracketed in_expression refl d, h tagging.Nothing)) tagging.Nothing,
       ))
   expression_calm t names p a W s (Call o es) ts rs is f h =
       let d = asked_deeper t p a in
-      expression_calm t names p a W s o (opening ∷ listed es (closing ∷ ts)) (in_expression ∷ roles_listed es (in_expression ∷ rs)) is.1 (fits_at p (Call o es) o 15 (omega arith) is.0)
+      expression_calm t names p a W s o (opening ∷ listed es (closing ∷ ts)) (in_expression ∷ roles_listed es (in_expression ∷ rs)) is.1
+      (fits_at p (Call o es) o 15 (omega arith) is.0)
       (λ b. (
         token_reported t (λ y. W (text o y)) p opening in_expression refl a,
         listed_calm t names (deeper p) (deeper_keeps p) d (λ y. W (text o (opening ∷ y))) (Inside p ∷ s) 1 es (closing ∷ ts) (in_expression ∷ rs) is.2
             (λ c. (token_reported t (λ y. W (text o (opening ∷ listed es y))) (deeper p) closing in_expression refl d, h tagging.Nothing)) tagging.Nothing,
       ))
   expression_calm t names p a W s (Member o n) ts rs is f h =
-      expression_calm t names p a W s o (token.Punctuator punctuator.Dot ∷ token.Name n ∷ ts) (in_expression ∷ in_expression ∷ rs) is.1 (fits_at p (Member o n) o 15 (omega arith) is.0)
-      (λ b. (token_reported t (λ y. W (text o y)) p (token.Punctuator punctuator.Dot) in_expression refl a, (token_reported t (λ y. W (text o (token.Punctuator punctuator.Dot ∷ y))) p (token.Name n) in_expression refl a, h tagging.Nothing)))
+      expression_calm t names p a W s o (token.Punctuator punctuator.Dot ∷ token.Name n ∷ ts) (in_expression ∷ in_expression ∷ rs) is.1
+      (fits_at p (Member o n) o 15 (omega arith) is.0)
+      (λ b. (
+        token_reported t (λ y. W (text o y)) p (token.Punctuator punctuator.Dot) in_expression refl a,
+        (token_reported t (λ y. W (text o (token.Punctuator punctuator.Dot ∷ y))) p (token.Name n) in_expression refl a, h tagging.Nothing),
+      ))
   expression_calm t names p a W s (Arrow o n) ts rs is f h =
-      expression_calm t names p a W s o (token.Punctuator punctuator.Arrow ∷ token.Name n ∷ ts) (in_expression ∷ in_expression ∷ rs) is.1 (fits_at p (Arrow o n) o 15 (omega arith) is.0)
-      (λ b. (token_reported t (λ y. W (text o y)) p (token.Punctuator punctuator.Arrow) in_expression refl a, (token_reported t (λ y. W (text o (token.Punctuator punctuator.Arrow ∷ y))) p (token.Name n) in_expression refl a, h tagging.Nothing)))
+      expression_calm t names p a W s o (token.Punctuator punctuator.Arrow ∷ token.Name n ∷ ts) (in_expression ∷ in_expression ∷ rs) is.1
+      (fits_at p (Arrow o n) o 15 (omega arith) is.0)
+      (λ b. (
+        token_reported t (λ y. W (text o y)) p (token.Punctuator punctuator.Arrow) in_expression refl a,
+        (token_reported t (λ y. W (text o (token.Punctuator punctuator.Arrow ∷ y))) p (token.Name n) in_expression refl a, h tagging.Nothing),
+      ))
   expression_calm t names p a W s (StepAfter q o) ts rs is f h =
-      expression_calm t names p a W s o (token.Punctuator (step_punctuator q) ∷ ts) (in_expression ∷ rs) is.1 (fits_at p (StepAfter q o) o 15 (omega arith) is.0)
-      (λ b. (token_reported t (λ y. W (text o y)) p (token.Punctuator (step_punctuator q)) in_expression refl a, plain_punctuator t (λ y. W (text o (token.Punctuator (step_punctuator q) ∷ y))) p s (step_punctuator q) (plain_step q) ts rs b (h tagging.Nothing)))
+      expression_calm t names p a W s o (token.Punctuator (step_punctuator q) ∷ ts) (in_expression ∷ rs) is.1
+      (fits_at p (StepAfter q o) o 15 (omega arith) is.0)
+      (λ b. (
+        token_reported t (λ y. W (text o y)) p (token.Punctuator (step_punctuator q)) in_expression refl a,
+        plain_punctuator t (λ y. W (text o (token.Punctuator (step_punctuator q) ∷ y))) p s (step_punctuator q) (plain_step q) ts rs b (h tagging.Nothing),
+      ))
   expression_calm t names p a W s (StepBefore q o) ts rs is f h =
       λ b. (
         token_reported t W p (token.Punctuator (step_punctuator q)) in_expression refl a,
         plain_punctuator t (λ y. W (token.Punctuator (step_punctuator q) ∷ y)) p s (step_punctuator q) (plain_step q) (text o ts) (roles o rs) b
-            (expression_calm t names p a (λ y. W (token.Punctuator (step_punctuator q) ∷ y)) s o ts rs is.1 (fits_at p (StepBefore q o) o 14 (omega arith) is.0) h tagging.Nothing),
+            (expression_calm t names p a (λ y. W (token.Punctuator (step_punctuator q) ∷ y)) s o ts rs is.1
+            (fits_at p (StepBefore q o) o 14 (omega arith) is.0) h tagging.Nothing),
       )
   expression_calm t names p a W s (Prefix op o) ts rs is f h =
       λ b. (
         token_reported t W p (token.Punctuator (prefix_punctuator op)) in_expression refl a,
         plain_punctuator t (λ y. W (token.Punctuator (prefix_punctuator op) ∷ y)) p s (prefix_punctuator op) (plain_prefix op) (text o ts) (roles o rs) b
-            (expression_calm t names p a (λ y. W (token.Punctuator (prefix_punctuator op) ∷ y)) s o ts rs is.1 (fits_at p (Prefix op o) o 13 (omega arith) is.0) h tagging.Nothing),
+            (expression_calm t names p a (λ y. W (token.Punctuator (prefix_punctuator op) ∷ y)) s o ts rs is.1
+            (fits_at p (Prefix op o) o 13 (omega arith) is.0) h tagging.Nothing),
       )
   expression_calm t names p a W s (SizeOf o) ts rs is f h =
-      λ b. (token_reported t W p (token.Keyword keyword.Sizeof) in_expression refl a, expression_calm t names p a (λ y. W (token.Keyword keyword.Sizeof ∷ y)) s o ts rs is.1 (fits_at p (SizeOf o) o 14 (omega arith) is.0) h tagging.Nothing)
+      λ b. (
+        token_reported t W p (token.Keyword keyword.Sizeof) in_expression refl a,
+        expression_calm t names p a (λ y. W (token.Keyword keyword.Sizeof ∷ y)) s o ts rs is.1 (fits_at p (SizeOf o) o 14 (omega arith) is.0) h
+            tagging.Nothing,
+      )
   expression_calm t names p a W s (SizeOfType ws ps bs) ts rs is f h =
       let d = asked_deeper t p a in
       λ b. (
         token_reported t W p (token.Keyword keyword.Sizeof) in_expression refl a,
         (
           token_reported t (λ y. W (token.Keyword keyword.Sizeof ∷ y)) p opening in_expression refl a,
-          type_calm t (Inside (deeper p)) (λ V k. token_reported t V (deeper p) k in_expression refl d) (λ y. W (token.Keyword keyword.Sizeof ∷ opening ∷ y)) (Inside p ∷ s) ws ps (bounds_text bs (closing ∷ ts)) (roles_of_bounds bs (closes_type ∷ rs))
-              (bounds_calm t names (deeper p) d (λ y. W (token.Keyword keyword.Sizeof ∷ opening ∷ words_text ws (pointers_text ps y))) (Inside p ∷ s) bs (closing ∷ ts) (closes_type ∷ rs) is.2
-              (λ c. (token_reported t (λ y. W (token.Keyword keyword.Sizeof ∷ opening ∷ words_text ws (pointers_text ps (bounds_text bs y)))) (deeper p) closing closes_type refl d, h tagging.Nothing))) tagging.Nothing,
+          type_calm t (Inside (deeper p)) (λ V k. token_reported t V (deeper p) k in_expression refl d)
+              (λ y. W (token.Keyword keyword.Sizeof ∷ opening ∷ y)) (Inside p ∷ s) ws ps (bounds_text bs (closing ∷ ts))
+              (roles_of_bounds bs (closes_type ∷ rs))
+              (bounds_calm t names (deeper p) d (λ y. W (token.Keyword keyword.Sizeof ∷ opening ∷ words_text ws (pointers_text ps y))) (Inside p ∷ s) bs
+              (closing ∷ ts) (closes_type ∷ rs) is.2
+              (λ c. (
+                token_reported t (λ y. W (token.Keyword keyword.Sizeof ∷ opening ∷ words_text ws (pointers_text ps (bounds_text bs y)))) (deeper p) closing
+                    closes_type refl d,
+                h tagging.Nothing,
+              ))) tagging.Nothing,
         ),
       )
   expression_calm t names p a W s (Cast ws ps bs o) ts rs is f h =
       let d = asked_deeper t p a in
       λ b. (
         token_reported t W p opening in_expression refl a,
-        type_calm t (Inside (deeper p)) (λ V k. token_reported t V (deeper p) k in_expression refl d) (λ y. W (opening ∷ y)) (Inside p ∷ s) ws ps (bounds_text bs (closing ∷ text o ts)) (roles_of_bounds bs (closes_type ∷ roles o rs))
-            (bounds_calm t names (deeper p) d (λ y. W (opening ∷ words_text ws (pointers_text ps y))) (Inside p ∷ s) bs (closing ∷ text o ts) (closes_type ∷ roles o rs) is.2
+        type_calm t (Inside (deeper p)) (λ V k. token_reported t V (deeper p) k in_expression refl d) (λ y. W (opening ∷ y)) (Inside p ∷ s) ws ps
+            (bounds_text bs (closing ∷ text o ts)) (roles_of_bounds bs (closes_type ∷ roles o rs))
+            (bounds_calm t names (deeper p) d (λ y. W (opening ∷ words_text ws (pointers_text ps y))) (Inside p ∷ s) bs (closing ∷ text o ts)
+            (closes_type ∷ roles o rs) is.2
             (λ c. (
               token_reported t (λ y. W (opening ∷ words_text ws (pointers_text ps (bounds_text bs y)))) (deeper p) closing closes_type refl d,
-              expression_calm t names p a (λ y. W (opening ∷ words_text ws (pointers_text ps (bounds_text bs (closing ∷ y))))) s o ts rs is.4 (fits_at p (Cast ws ps bs o) o 13 (omega arith) is.3) h tagging.Nothing,
+              expression_calm t names p a (λ y. W (opening ∷ words_text ws (pointers_text ps (bounds_text bs (closing ∷ y))))) s o ts rs is.4
+                  (fits_at p (Cast ws ps bs o) o 13 (omega arith) is.3) h tagging.Nothing,
             ))) tagging.Nothing,
       )
   expression_calm t names p a W s (Infix op l r) ts rs is f h =
       let some = infix_some op in
       let high = is.2 in
-      expression_calm t names p a W s l (token.Punctuator (infix_punctuator op) ∷ text r ts) (in_expression ∷ roles r rs) is.1 (fits_at p (Infix op l r) l (infix_level op) some is.0)
+      expression_calm t names p a W s l (token.Punctuator (infix_punctuator op) ∷ text r ts) (in_expression ∷ roles r rs) is.1
+      (fits_at p (Infix op l r) l (infix_level op) some is.0)
       (λ b. (
         token_reported t (λ y. W (text l y)) p (token.Punctuator (infix_punctuator op)) in_expression refl a,
-        plain_punctuator t (λ y. W (text l (token.Punctuator (infix_punctuator op) ∷ y))) p s (infix_punctuator op) (plain_infix op) (text r ts) (roles r rs) b
-            (expression_calm t names p a (λ y. W (text l (token.Punctuator (infix_punctuator op) ∷ y))) s r ts rs is.3 (inr (omega (arith, some, high))) h tagging.Nothing),
+        plain_punctuator t (λ y. W (text l (token.Punctuator (infix_punctuator op) ∷ y))) p s (infix_punctuator op) (plain_infix op) (text r ts) (roles r rs)
+            b
+            (expression_calm t names p a (λ y. W (text l (token.Punctuator (infix_punctuator op) ∷ y))) s r ts rs is.3 (inr (omega (arith, some, high))) h
+            tagging.Nothing),
       ))
   expression_calm t names p a W s (Choice e o z) ts rs is f h =
       let d = asked_chosen t p a in
-      expression_calm t names p a W s e (token.Punctuator punctuator.Question ∷ text o (token.Punctuator punctuator.Colon ∷ text z ts)) (in_expression ∷ roles o (in_expression ∷ roles z rs)) is.1 (fits_at p (Choice e o z) e 3 (omega arith) is.0)
+      expression_calm t names p a W s e (token.Punctuator punctuator.Question ∷ text o (token.Punctuator punctuator.Colon ∷ text z ts))
+      (in_expression ∷ roles o (in_expression ∷ roles z rs)) is.1 (fits_at p (Choice e o z) e 3 (omega arith) is.0)
       (λ b. (
         token_reported t (λ y. W (text e y)) p (token.Punctuator punctuator.Question) in_expression refl a,
-        expression_calm t names (chosen p) d (λ y. W (text e (token.Punctuator punctuator.Question ∷ y))) (Inside p ∷ s) o (token.Punctuator punctuator.Colon ∷ text z ts) (in_expression ∷ roles z rs) is.2 (inl (chosen_keeps p))
+        expression_calm t names (chosen p) d (λ y. W (text e (token.Punctuator punctuator.Question ∷ y))) (Inside p ∷ s) o
+            (token.Punctuator punctuator.Colon ∷ text z ts) (in_expression ∷ roles z rs) is.2 (inl (chosen_keeps p))
             (λ c. (
-              token_reported t (λ y. W (text e (token.Punctuator punctuator.Question ∷ text o y))) (chosen p) (token.Punctuator punctuator.Colon) in_expression refl d,
-              colon_step t (λ y. W (text e (token.Punctuator punctuator.Question ∷ text o (token.Punctuator punctuator.Colon ∷ y)))) p s (text z ts) (roles z rs) c
-                  (expression_calm t names p a (λ y. W (text e (token.Punctuator punctuator.Question ∷ text o (token.Punctuator punctuator.Colon ∷ y)))) s z ts rs is.4 (fits_at p (Choice e o z) z 2 (omega arith) is.3) h tagging.Nothing),
+              token_reported t (λ y. W (text e (token.Punctuator punctuator.Question ∷ text o y))) (chosen p) (token.Punctuator punctuator.Colon)
+                  in_expression refl d,
+              colon_step t (λ y. W (text e (token.Punctuator punctuator.Question ∷ text o (token.Punctuator punctuator.Colon ∷ y)))) p s (text z ts)
+                  (roles z rs) c
+                  (expression_calm t names p a (λ y. W (text e (token.Punctuator punctuator.Question ∷ text o (token.Punctuator punctuator.Colon ∷ y)))) s
+                  z ts rs is.4 (fits_at p (Choice e o z) z 2 (omega arith) is.3) h tagging.Nothing),
             )) tagging.Nothing,
       ))
   expression_calm t names p a W s (Assign op l r) ts rs is f h =
-      expression_calm t names p a W s l (token.Punctuator (assign_punctuator op) ∷ text r ts) (in_expression ∷ roles r rs) is.1 (fits_at p (Assign op l r) l 14 (omega arith) is.0)
+      expression_calm t names p a W s l (token.Punctuator (assign_punctuator op) ∷ text r ts) (in_expression ∷ roles r rs) is.1
+      (fits_at p (Assign op l r) l 14 (omega arith) is.0)
       (λ b. (
         token_reported t (λ y. W (text l y)) p (token.Punctuator (assign_punctuator op)) in_expression refl a,
-        plain_punctuator t (λ y. W (text l (token.Punctuator (assign_punctuator op) ∷ y))) p s (assign_punctuator op) (plain_assign op) (text r ts) (roles r rs) b
-            (expression_calm t names p a (λ y. W (text l (token.Punctuator (assign_punctuator op) ∷ y))) s r ts rs is.3 (fits_at p (Assign op l r) r 1 (omega arith) is.2) h tagging.Nothing),
+        plain_punctuator t (λ y. W (text l (token.Punctuator (assign_punctuator op) ∷ y))) p s (assign_punctuator op) (plain_assign op) (text r ts)
+            (roles r rs) b
+            (expression_calm t names p a (λ y. W (text l (token.Punctuator (assign_punctuator op) ∷ y))) s r ts rs is.3
+            (fits_at p (Assign op l r) r 1 (omega arith) is.2) h tagging.Nothing),
       ))
   expression_calm t names p a W s (Comma l r) ts rs is f h =
       let keeps : keeps_commas p ≡ true = elim f [ inl k ↦ k | inr low ↦ absurd (omega (arith, low)) ] in
@@ -362,25 +444,38 @@ mutual
             (expression_calm t names p a (λ y. W (text l (token.Punctuator punctuator.Comma ∷ y))) s r ts rs is.2 (inl keeps) h tagging.Nothing),
       ))
 
-  listed_calm : (t : Telling) (names : Names) (p : Part) → keeps_commas p ≡ true → Asked t p → (W : Kinds → Type 0) (s : List Where) (level : ℕ) (es : WrittenList) (ts : Kinds) (rs : Roles) → ArePhrases names level es → Calm t (λ y. W (listed es y)) (Inside p) s ts rs → Calm t W (Inside p) s (listed es ts) (roles_listed es rs)
+  listed_calm : (t : Telling) (names : Names) (p : Part) → keeps_commas p ≡ true → Asked t p
+      → (W : Kinds → Type 0) (s : List Where) (level : ℕ) (es : WrittenList) (ts : Kinds) (rs : Roles) → ArePhrases names level es
+      → Calm t (λ y. W (listed es y)) (Inside p) s ts rs → Calm t W (Inside p) s (listed es ts) (roles_listed es rs)
   listed_calm t names p k a W s level End ts rs are h = h
-  listed_calm t names p k a W s level (More e es) ts rs are h = expression_calm t names p a W s e (after_commas es ts) (roles_after_commas es rs) are.1 (inl k) (commas_calm t names p k a (λ y. W (text e y)) s level es ts rs are.2 h)
+  listed_calm t names p k a W s level (More e es) ts rs are h =
+      expression_calm t names p a W s e (after_commas es ts) (roles_after_commas es rs) are.1 (inl k)
+      (commas_calm t names p k a (λ y. W (text e y)) s level es ts rs are.2 h)
 
-  commas_calm : (t : Telling) (names : Names) (p : Part) → keeps_commas p ≡ true → Asked t p → (W : Kinds → Type 0) (s : List Where) (level : ℕ) (es : WrittenList) (ts : Kinds) (rs : Roles) → ArePhrases names level es → Calm t (λ y. W (after_commas es y)) (Inside p) s ts rs → Calm t W (Inside p) s (after_commas es ts) (roles_after_commas es rs)
+  commas_calm : (t : Telling) (names : Names) (p : Part) → keeps_commas p ≡ true → Asked t p
+      → (W : Kinds → Type 0) (s : List Where) (level : ℕ) (es : WrittenList) (ts : Kinds) (rs : Roles) → ArePhrases names level es
+      → Calm t (λ y. W (after_commas es y)) (Inside p) s ts rs → Calm t W (Inside p) s (after_commas es ts) (roles_after_commas es rs)
   commas_calm t names p k a W s level End ts rs are h = h
   commas_calm t names p k a W s level (More e es) ts rs are h =
       λ b. (
         token_reported t W p (token.Punctuator punctuator.Comma) in_expression refl a,
         comma_step t (λ y. W (token.Punctuator punctuator.Comma ∷ y)) p k s (text e (after_commas es ts)) (roles e (roles_after_commas es rs)) b
-            (expression_calm t names p a (λ y. W (token.Punctuator punctuator.Comma ∷ y)) s e (after_commas es ts) (roles_after_commas es rs) are.1 (inl k) (commas_calm t names p k a (λ y. W (token.Punctuator punctuator.Comma ∷ text e y)) s level es ts rs are.2 h) tagging.Nothing),
+            (expression_calm t names p a (λ y. W (token.Punctuator punctuator.Comma ∷ y)) s e (after_commas es ts) (roles_after_commas es rs) are.1 (inl k)
+            (commas_calm t names p k a (λ y. W (token.Punctuator punctuator.Comma ∷ text e y)) s level es ts rs are.2 h) tagging.Nothing),
       )
 
-  bounds_calm : (t : Telling) (names : Names) (p : Part) → Asked t p → (W : Kinds → Type 0) (s : List Where) (es : WrittenList) (ts : Kinds) (rs : Roles) → ArePhrases names CHOICE es → Calm t (λ y. W (bounds_text es y)) (Inside p) s ts rs → Calm t W (Inside p) s (bounds_text es ts) (roles_of_bounds es rs)
+  bounds_calm : (t : Telling) (names : Names) (p : Part) → Asked t p
+      → (W : Kinds → Type 0) (s : List Where) (es : WrittenList) (ts : Kinds) (rs : Roles) → ArePhrases names CHOICE es
+      → Calm t (λ y. W (bounds_text es y)) (Inside p) s ts rs → Calm t W (Inside p) s (bounds_text es ts) (roles_of_bounds es rs)
   bounds_calm t names p a W s End ts rs are h = h
   bounds_calm t names p a W s (More e es) ts rs are h =
       let d = asked_deeper t p a in
       λ b. (
         token_reported t W p bracket in_expression refl a,
-        expression_calm t names (deeper p) d (λ y. W (bracket ∷ y)) (Inside p ∷ s) e (bracketed ∷ bounds_text es ts) (in_expression ∷ roles_of_bounds es rs) are.1 (fits_deeper p e)
-            (λ c. (token_reported t (λ y. W (bracket ∷ text e y)) (deeper p) bracketed in_expression refl d, bounds_calm t names p a (λ y. W (bracket ∷ text e (bracketed ∷ y))) s es ts rs are.2 h tagging.Nothing)) tagging.Nothing,
+        expression_calm t names (deeper p) d (λ y. W (bracket ∷ y)) (Inside p ∷ s) e (bracketed ∷ bounds_text es ts)
+            (in_expression ∷ roles_of_bounds es rs) are.1 (fits_deeper p e)
+            (λ c. (
+              token_reported t (λ y. W (bracket ∷ text e y)) (deeper p) bracketed in_expression refl d,
+              bounds_calm t names p a (λ y. W (bracket ∷ text e (bracketed ∷ y))) s es ts rs are.2 h tagging.Nothing,
+            )) tagging.Nothing,
       )

@@ -1,5 +1,6 @@
 -- The last token of some tokens of a file, in the part that they end in: for the contract of `is_after_type`.
-use Rattle.std.proofs.Common.{◌≡◌, ℕ, zero, suc, ◌+◌, ◌-◌, ◌≤◌, ◌↔◌, Bool, false, IsTrue, inl, inr, List, [], ◌∷◌, ◌++◌, Some, None, length, drop, slice_get, refl, sym, ap, ◌∙◌, subst, arith, append-nil, length-append, length-drop, take}
+use Rattle.std.proofs.Common.{◌≡◌, ℕ, zero, suc, ◌+◌, ◌-◌, ◌≤◌, ◌↔◌, Bool, false, IsTrue, inl, inr, List, [], ◌∷◌, ◌++◌}
+use Rattle.std.proofs.Common.{Some, None, length, drop, slice_get, refl, sym, ap, ◌∙◌, subst, arith, append-nil, length-append, length-drop, take}
 use Rattle.std.proofs.lemmas.List.{length-map, drop-map, take_all}
 use Rattle.std.proofs.lemmas.Bool.{false≢true, cases_lt}
 use Rattle.cs_ast.specs.declared.token.Token.{Token}
@@ -41,15 +42,18 @@ count_more : (d : External) (ds : List External) → length (externals_text (d �
 count_more d ds = ap length (sym (external_append d [] (externals_text ds []))) ∙ length-append (external_text d []) (externals_text ds [])
 
 -- the roles of a file after those of some parts
-role_after : (names : Names) (done others : List External) (i : ℕ) → IsFile names (done ++ others) → slice_get (file_roles (done ++ others)) (length (externals_text done []) + i) ≡ slice_get (file_roles others) i
+role_after : (names : Names) (done others : List External) (i : ℕ) → IsFile names (done ++ others)
+    → slice_get (file_roles (done ++ others)) (length (externals_text done []) + i) ≡ slice_get (file_roles others) i
 role_after names [] others i is =
     let e : 0 + i ≡ i = omega arith in
     ap (slice_get (file_roles others)) e
 role_after names (d ∷ ds) others i is =
     let c = count_more d ds in
     let n : length (externals_text (d ∷ ds) []) + i ≡ length (external_text d []) + (length (externals_text ds []) + i) = omega (arith, c) in
-    ap (slice_get (external_roles d (file_roles (ds ++ others)))) n ∙ get_after (length (external_text d [])) (length (externals_text ds []) + i) (external_roles d (file_roles (ds ++ others)))
-    ∙ ap (λ (rs : Roles). slice_get rs (length (externals_text ds []) + i)) (roles_after names d (file_roles (ds ++ others)) is.0) ∙ role_after (names_after names d) ds others i is.1
+    ap (slice_get (external_roles d (file_roles (ds ++ others)))) n
+    ∙ get_after (length (external_text d [])) (length (externals_text ds []) + i) (external_roles d (file_roles (ds ++ others)))
+    ∙ ap (λ (rs : Roles). slice_get rs (length (externals_text ds []) + i)) (roles_after names d (file_roles (ds ++ others)) is.0)
+    ∙ role_after (names_after names d) ds others i is.1
 
 -- the last token of a part
 record HasEnd (tokens : Kinds) : Type 0 where
@@ -65,17 +69,25 @@ abbrev brace : Kinds
 brace = token.Punctuator punctuator.CloseBrace ∷ []
 
 has_end : (e : External) → HasEnd (external_text e [])
-has_end (TypeAlone specs) = record { before = specs_text specs []; last = token.Punctuator punctuator.Semicolon; spelled = sym (specs_append specs [] semicolon); plain = λ h. refl }
+has_end (TypeAlone specs) = record {
+  before = specs_text specs [];
+  last = token.Punctuator punctuator.Semicolon;
+  spelled = sym (specs_append specs [] semicolon);
+  plain = λ h. refl;
+}
 has_end (Typedef specs ds) = record {
   before = token.Keyword keyword.Typedef ∷ specs_text specs (with_commas declarator_text ds []);
   last = token.Punctuator punctuator.Semicolon;
-  spelled = ap (λ (x : Kinds). token.Keyword keyword.Typedef ∷ x) (ap (specs_text specs) (sym (with_commas_append declarator_text declarator_append ds [] semicolon)) ∙ sym (specs_append specs (with_commas declarator_text ds []) semicolon));
+  spelled = ap (λ (x : Kinds). token.Keyword keyword.Typedef ∷ x)
+      (ap (specs_text specs) (sym (with_commas_append declarator_text declarator_append ds [] semicolon))
+      ∙ sym (specs_append specs (with_commas declarator_text ds []) semicolon));
   plain = λ h. refl;
 }
 has_end (Objects specs ds) = record {
   before = specs_text specs (with_commas declared_text ds []);
   last = token.Punctuator punctuator.Semicolon;
-  spelled = ap (specs_text specs) (sym (with_commas_append declared_text declared_append ds [] semicolon)) ∙ sym (specs_append specs (with_commas declared_text ds []) semicolon);
+  spelled = ap (specs_text specs) (sym (with_commas_append declared_text declared_append ds [] semicolon))
+      ∙ sym (specs_append specs (with_commas declared_text ds []) semicolon);
   plain = λ h. refl;
 }
 has_end (Function specs head) = record {
@@ -89,11 +101,13 @@ has_end (Definition specs head body) = record {
   last = token.Punctuator punctuator.CloseBrace;
   spelled =
       ap (λ (x : Kinds). specs_text specs (head_text head (token.Punctuator punctuator.OpenBrace ∷ x))) (sym (items_append body [] brace))
-      ∙ ap (specs_text specs) (sym (head_append head (token.Punctuator punctuator.OpenBrace ∷ items_text body []) brace)) ∙ sym (specs_append specs (head_text head (token.Punctuator punctuator.OpenBrace ∷ items_text body [])) brace);
+      ∙ ap (specs_text specs) (sym (head_append head (token.Punctuator punctuator.OpenBrace ∷ items_text body []) brace))
+      ∙ sym (specs_append specs (head_text head (token.Punctuator punctuator.OpenBrace ∷ items_text body [])) brace);
   plain = λ h. refl;
 }
 
-run_end : (names : Names) (before : Kinds) (last : TokenKind) (s : Parens) (b : Bool) → ((holds : Bool) → closes last holds ≡ false) → run names (before ++ last ∷ []) s b ≡ false
+run_end : (names : Names) (before : Kinds) (last : TokenKind) (s : Parens) (b : Bool) → ((holds : Bool) → closes last holds ≡ false)
+    → run names (before ++ last ∷ []) s b ≡ false
 run_end names [] last s b plain = plain s.holds
 run_end names (k ∷ before) last s b plain = run_end names before last (step names k s) (closes k s.holds) plain
 
@@ -103,12 +117,14 @@ some_end tokens h =
     omega (arith, l)
 
 -- the last token of some parts closes no type
-none_at_end : (names : Names) (done others : List External) (last : ℕ) → IsFile names (done ++ others) → length (externals_text done []) ≡ suc last → slice_get (file_roles (done ++ others)) last ≡ Some closes_type → ⊥
+none_at_end : (names : Names) (done others : List External) (last : ℕ) → IsFile names (done ++ others) → length (externals_text done []) ≡ suc last
+    → slice_get (file_roles (done ++ others)) last ≡ Some closes_type → ⊥
 none_at_end names [] others last is n there = absurd (omega (arith, n))
 none_at_end names (d ∷ []) others last is n there =
     let h = has_end d in
     let t = yields_type names (external_text d []) d (file_roles others) [] is.0 (sym (append-nil (external_text d []))) in
-    let e : run names (external_text d []) the_outside false ≡ false = ap (λ (x : Kinds). run names x the_outside false) h.spelled ∙ run_end names h.before h.last the_outside false h.plain in
+    let e : run names (external_text d []) the_outside false ≡ false = ap (λ (x : Kinds). run names x the_outside false) h.spelled
+    ∙ run_end names h.before h.last the_outside false h.plain in
     false≢true (sym e ∙ t.1 (record { last = last; number = n; there = there }))
 none_at_end names (d ∷ c ∷ ds) others last is n there =
     let m = count_more d (c ∷ ds) in
@@ -119,12 +135,15 @@ none_at_end names (d ∷ c ∷ ds) others last is n there =
     let at : last ≡ length (external_text d []) + i = omega (arith, m, n, k) in
     none_at_end (names_after names d) (c ∷ ds) others i is.1 k
     (sym
-    (ap (slice_get (external_roles d (file_roles ((c ∷ ds) ++ others)))) at ∙ get_after (length (external_text d [])) i (external_roles d (file_roles ((c ∷ ds) ++ others)))
+    (ap (slice_get (external_roles d (file_roles ((c ∷ ds) ++ others)))) at
+    ∙ get_after (length (external_text d [])) i (external_roles d (file_roles ((c ∷ ds) ++ others)))
     ∙ ap (λ (rs : Roles). slice_get rs i) (roles_after names d (file_roles ((c ∷ ds) ++ others)) is.0))
     ∙ there)
 
 -- the last token in such a part
-last_in : (names : Names) (front : Kinds) (from : ℕ) (file : List External) (last : ℕ) → from ≤ length front → length front ≡ suc last → IsFile [] file → (p : EndsInPart names front from file) → slice_get (file_roles file) last ≡ Some closes_type → IsTrue (run names (drop from front) the_outside false)
+last_in : (names : Names) (front : Kinds) (from : ℕ) (file : List External) (last : ℕ) → from ≤ length front → length front ≡ suc last
+    → IsFile [] file → (p : EndsInPart names front from file) → slice_get (file_roles file) last ≡ Some closes_type
+    → IsTrue (run names (drop from front) the_outside false)
 last_in names front from file last less n is p there =
     let is' = subst (IsFile []) p.file_is is in
     let there' = subst (λ (x : List External). slice_get (file_roles x) last ≡ Some closes_type) p.file_is there in
@@ -141,7 +160,8 @@ last_in names front from file last less n is p there =
             last = i;
             number = omega (arith, d, n, here, less);
             there =
-                sym (ap (λ (x : List External). slice_get (file_roles x) i) w.parts_are) ∙ sym (ap (slice_get (file_roles (p.done ++ p.others))) at ∙ role_after [] p.done p.others i is')
+                sym (ap (λ (x : List External). slice_get (file_roles x) i) w.parts_are)
+                ∙ sym (ap (slice_get (file_roles (p.done ++ p.others))) at ∙ role_after [] p.done p.others i is')
                 ∙ there';
           })
     ]
@@ -151,7 +171,9 @@ nothing_reported names [] n reported = false≢true reported
 nothing_reported names (k ∷ part) n reported = absurd (omega (arith, n))
 
 -- and where it closes a type
-role_in : (names : Names) (front more : Kinds) (from : ℕ) (file : List External) → from ≤ length front → IsFile [] file → file_text file ≡ front ++ more → (p : EndsInPart names front from file) → IsTrue (run names (drop from front) the_outside false) → IsAfterType front
+role_in : (names : Names) (front more : Kinds) (from : ℕ) (file : List External) → from ≤ length front → IsFile [] file
+    → file_text file ≡ front ++ more → (p : EndsInPart names front from file) → IsTrue (run names (drop from front) the_outside false)
+    → IsAfterType front
 role_in names front more from file less is spelled p reported =
     let d = length-drop from front in
     elim (cases_lt from (length front)) [
@@ -179,7 +201,8 @@ role_in names front more from file less is spelled p reported =
           }
     ]
 
-pub front_in : (names : Names) (front : Kinds) (from : ℕ) → from ≤ length front → BeginsFile front → EndInPart names front from → IsTrue (run names (drop from front) the_outside false) ↔ IsAfterType front
+pub front_in : (names : Names) (front : Kinds) (from : ℕ) → from ≤ length front → BeginsFile front → EndInPart names front from
+    → IsTrue (run names (drop from front) the_outside false) ↔ IsAfterType front
 front_in names front from less b split = (
   λ reported. role_in names front b.more from b.file less b.is_file b.spelled (split b.file b.more b.is_file b.spelled) reported,
   λ following.

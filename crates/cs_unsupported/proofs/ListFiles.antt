@@ -1,6 +1,7 @@
 -- The tokens of statements and files beside their roles: where a brace opens a list of initial values. For the contract of
 -- `awaits_list`.
-use Rattle.std.proofs.Common.{◌≡◌, ℕ, Bool, true, false, List, [], ◌∷◌, ◌++◌, Option, Some, None, length, slice_get, refl, sym, ap, ◌∙◌, subst, append_assoc}
+use Rattle.std.proofs.Common.{◌≡◌, ℕ, Bool, true, false, List, [], ◌∷◌, ◌++◌, Option, Some, None, length, slice_get, refl, sym, ap, ◌∙◌}
+use Rattle.std.proofs.Common.{subst, append_assoc}
 use Rattle.std.proofs.lemmas.Bool.{false≢true}
 use Rattle.cs_ast.specs.declared.token.TokenKind.{TokenKind}
 use Rattle.cs_ast.specs.declared.token.TokenKind.TheVariants as token
@@ -10,14 +11,21 @@ use Rattle.cs_ast.specs.declared.token.Punctuator.{Punctuator}
 use Rattle.cs_ast.specs.declared.token.Punctuator.TheVariants as punctuator
 use Rattle.cs_ast.specs.RawTree.{Written}
 use Rattle.cs_ast.specs.RawDeclarations.{Specs, Declared, Parameters, NoParameter, VoidAlone, ParameterList, Head}
-use Rattle.cs_ast.specs.RawStatements.{First, NoFirst, FirstRuns, FirstDeclares, Sentence, Block, Nothing, Runs, If, IfElse, While, Do, For, Switch, Goto, Continue, Break, Return, Label, Item, Declares, Does, Items, NoItem, MoreItems, SwitchItem, Case, Default, Inside, SwitchItems, NoSwitchItem, MoreSwitchItems, External, TypeAlone, Typedef, Objects, Function, Definition}
+use Rattle.cs_ast.specs.RawStatements.{First, NoFirst, FirstRuns, FirstDeclares, Sentence, Block, Nothing, Runs, If, IfElse, While, Do, For, Switch, Goto}
+use Rattle.cs_ast.specs.RawStatements.{Continue, Break, Return, Label, Item, Declares, Does, Items, NoItem, MoreItems, SwitchItem, Case, Default, Inside}
+use Rattle.cs_ast.specs.RawStatements.{SwitchItems, NoSwitchItem, MoreSwitchItems, External, TypeAlone, Typedef, Objects, Function, Definition}
 use Rattle.cs_grammar.specs.Text.{Kinds, pointers_text}
-use Rattle.cs_grammar.specs.FileText.{name_text, some_text, with_commas, brackets_text, declarator_text, declared_text, declaration_text, parameter_text, parameters_text, head_text, first_text, test_text, sentence_text, item_text, items_text, switch_item_text, switch_text, external_text, file_text}
+use Rattle.cs_grammar.specs.FileText.{name_text, some_text, with_commas, brackets_text, declarator_text, declared_text, declaration_text, parameter_text}
+use Rattle.cs_grammar.specs.FileText.{parameters_text, head_text, first_text, test_text, sentence_text, item_text, items_text, switch_item_text, switch_text}
+use Rattle.cs_grammar.specs.FileText.{external_text, file_text}
 use Rattle.cs_grammar.specs.FilePhrases.{BeginsFile}
-use Rattle.cs_grammar.specs.Roles.{Role, another, declared_name, opens_list, Roles, each, some_roles, between, brackets_roles, declarator_roles, declared_roles, declaration_roles, name_roles, parameter_roles, parameters_roles, head_roles, first_roles, test_roles, sentence_roles, item_roles, items_roles, switch_item_roles, switch_roles, external_roles, file_roles}
+use Rattle.cs_grammar.specs.Roles.{Role, another, declared_name, opens_list, Roles, each, some_roles, between, brackets_roles, declarator_roles, declared_roles}
+use Rattle.cs_grammar.specs.Roles.{declaration_roles, name_roles, parameter_roles, parameters_roles, head_roles, first_roles, test_roles, sentence_roles}
+use Rattle.cs_grammar.specs.Roles.{item_roles, items_roles, switch_item_roles, switch_roles, external_roles, file_roles}
 use Rattle.cs_grammar.specs.FileRefusals.{MayHave}
 use Rattle.cs_unsupported.specs.Awaiting.{step, run}
-use Rattle.cs_unsupported.proofs.ListTraces.{is_list, opens, Trace, Calm, Quiet, Calms, pointers_calm, expression_calm, some_calm, list_calm, brackets_calm, declarator_calm, specs_calm, declared_calm}
+use Rattle.cs_unsupported.proofs.ListTraces.{is_list, opens, Trace, Calm, Quiet, Calms, pointers_calm, expression_calm, some_calm, list_calm, brackets_calm}
+use Rattle.cs_unsupported.proofs.ListTraces.{declarator_calm, specs_calm, declared_calm}
 
 abbrev word : Keyword → Kinds → Kinds
 word k x = token.Keyword k ∷ x
@@ -26,12 +34,16 @@ abbrev set : Punctuator → Kinds → Kinds
 set m x = token.Punctuator m ∷ x
 
 -- objects and their semicolon
-objects_calm : (objects : List Declared) (ts : Kinds) (rs : Roles) → Quiet ts rs → Calm (with_commas declared_text objects (set punctuator.Semicolon ts)) (between another declared_roles objects (another ∷ rs))
-objects_calm objects ts rs h = list_calm another refl declared_text declared_roles declared_calm objects (set punctuator.Semicolon ts) (another ∷ rs) (λ b. (refl, h))
+objects_calm : (objects : List Declared) (ts : Kinds) (rs : Roles) → Quiet ts rs
+    → Calm (with_commas declared_text objects (set punctuator.Semicolon ts)) (between another declared_roles objects (another ∷ rs))
+objects_calm objects ts rs h =
+    list_calm another refl declared_text declared_roles declared_calm objects (set punctuator.Semicolon ts) (another ∷ rs) (λ b. (refl, h))
 
-declaration_calm : (specs : Specs) (objects : List Declared) (ts : Kinds) (rs : Roles) → Quiet ts rs → Calm (declaration_text specs objects ts) (declaration_roles specs objects rs)
+declaration_calm : (specs : Specs) (objects : List Declared) (ts : Kinds) (rs : Roles) → Quiet ts rs
+    → Calm (declaration_text specs objects ts) (declaration_roles specs objects rs)
 declaration_calm specs objects ts rs h =
-    specs_calm specs (with_commas declared_text objects (set punctuator.Semicolon ts)) (between another declared_roles objects (another ∷ rs)) (objects_calm objects ts rs h)
+    specs_calm specs (with_commas declared_text objects (set punctuator.Semicolon ts)) (between another declared_roles objects (another ∷ rs))
+    (objects_calm objects ts rs h)
 
 first_calm : (f : First) (ts : Kinds) (rs : Roles) → Quiet ts rs → Calm (first_text f ts) (first_roles f rs)
 first_calm NoFirst ts rs h = λ b. (refl, h)
@@ -56,20 +68,28 @@ mutual
   sentence_quiet (While test body) ts rs h = (refl, test_quiet test (sentence_text body ts) (sentence_roles body rs) (sentence_quiet body ts rs h))
   sentence_quiet (Do body test) ts rs h = (
     refl,
-    sentence_quiet body (word keyword.While (test_text test (set punctuator.Semicolon ts))) (another ∷ test_roles test (another ∷ rs)) (refl, test_quiet test (set punctuator.Semicolon ts) (another ∷ rs) (refl, h)),
+    sentence_quiet body (word keyword.While (test_text test (set punctuator.Semicolon ts))) (another ∷ test_roles test (another ∷ rs))
+        (refl, test_quiet test (set punctuator.Semicolon ts) (another ∷ rs) (refl, h)),
   )
   sentence_quiet (For first test last body) ts rs h = (
     refl,
     (
       refl,
-      first_calm first (some_text test (set punctuator.Semicolon (some_text last (set punctuator.CloseParenthesis (sentence_text body ts))))) (some_roles test (another ∷ some_roles last (another ∷ sentence_roles body rs)))
-          (some_calm test (set punctuator.Semicolon (some_text last (set punctuator.CloseParenthesis (sentence_text body ts)))) (another ∷ some_roles last (another ∷ sentence_roles body rs))
-          (λ b. (refl, some_calm last (set punctuator.CloseParenthesis (sentence_text body ts)) (another ∷ sentence_roles body rs) (λ c. (refl, sentence_quiet body ts rs h)) false)) false) false,
+      first_calm first (some_text test (set punctuator.Semicolon (some_text last (set punctuator.CloseParenthesis (sentence_text body ts)))))
+          (some_roles test (another ∷ some_roles last (another ∷ sentence_roles body rs)))
+          (some_calm test (set punctuator.Semicolon (some_text last (set punctuator.CloseParenthesis (sentence_text body ts))))
+          (another ∷ some_roles last (another ∷ sentence_roles body rs))
+          (λ b. (
+            refl,
+            some_calm last (set punctuator.CloseParenthesis (sentence_text body ts)) (another ∷ sentence_roles body rs)
+                (λ c. (refl, sentence_quiet body ts rs h)) false,
+          )) false) false,
     ),
   )
   sentence_quiet (Switch value items) ts rs h = (
     refl,
-    test_quiet value (set punctuator.OpenBrace (switch_text items (set punctuator.CloseBrace ts))) (another ∷ switch_roles items (another ∷ rs)) (refl, switch_quiet items (set punctuator.CloseBrace ts) (another ∷ rs) (refl, h)),
+    test_quiet value (set punctuator.OpenBrace (switch_text items (set punctuator.CloseBrace ts))) (another ∷ switch_roles items (another ∷ rs))
+        (refl, switch_quiet items (set punctuator.CloseBrace ts) (another ∷ rs) (refl, h)),
   )
   sentence_quiet (Goto label) ts rs h = (refl, (refl, (refl, h)))
   sentence_quiet Continue ts rs h = (refl, (refl, h))
@@ -100,7 +120,8 @@ name_calm (Some n) ts rs h = λ b. (refl, h false)
 
 parameter_calm : Calms parameter_text parameter_roles
 parameter_calm p ts rs h =
-    specs_calm p.specs (pointers_text p.pointers (name_text p.name (brackets_text p.bounds ts))) (each another (pointers_text p.pointers []) (name_roles p.name (brackets_roles p.bounds rs)))
+    specs_calm p.specs (pointers_text p.pointers (name_text p.name (brackets_text p.bounds ts)))
+    (each another (pointers_text p.pointers []) (name_roles p.name (brackets_roles p.bounds rs)))
     (pointers_calm another refl p.pointers (name_text p.name (brackets_text p.bounds ts)) (name_roles p.name (brackets_roles p.bounds rs))
     (name_calm p.name (brackets_text p.bounds ts) (brackets_roles p.bounds rs) (brackets_calm p.bounds ts rs h)))
 
@@ -111,7 +132,9 @@ parameters_calm (ParameterList ps) ts rs h = list_calm another refl parameter_te
 
 head_calm : (head : Head) (ts : Kinds) (rs : Roles) → Quiet ts rs → Calm (head_text head ts) (head_roles head rs)
 head_calm head ts rs h =
-    pointers_calm another refl head.pointers (token.Name head.name ∷ set punctuator.OpenParenthesis (parameters_text head.parameters (set punctuator.CloseParenthesis ts))) (declared_name ∷ another ∷ parameters_roles head.parameters (another ∷ rs))
+    pointers_calm another refl head.pointers
+    (token.Name head.name ∷ set punctuator.OpenParenthesis (parameters_text head.parameters (set punctuator.CloseParenthesis ts)))
+    (declared_name ∷ another ∷ parameters_roles head.parameters (another ∷ rs))
     (λ b. (refl, (refl, parameters_calm head.parameters (set punctuator.CloseParenthesis ts) (another ∷ rs) (λ c. (refl, h)) false)))
 
 external_quiet : (e : External) (ts : Kinds) (rs : Roles) → Quiet ts rs → Quiet (external_text e ts) (external_roles e rs)
@@ -123,10 +146,13 @@ external_quiet (Typedef specs ds) ts rs h = (
 )
 external_quiet (Objects specs objects) ts rs h = declaration_calm specs objects ts rs h false
 external_quiet (Function specs head) ts rs h =
-    specs_calm specs (head_text head (set punctuator.Semicolon ts)) (head_roles head (another ∷ rs)) (head_calm head (set punctuator.Semicolon ts) (another ∷ rs) (refl, h)) false
+    specs_calm specs (head_text head (set punctuator.Semicolon ts)) (head_roles head (another ∷ rs))
+    (head_calm head (set punctuator.Semicolon ts) (another ∷ rs) (refl, h)) false
 external_quiet (Definition specs head body) ts rs h =
-    specs_calm specs (head_text head (set punctuator.OpenBrace (items_text body (set punctuator.CloseBrace ts)))) (head_roles head (another ∷ items_roles body (another ∷ rs)))
-    (head_calm head (set punctuator.OpenBrace (items_text body (set punctuator.CloseBrace ts))) (another ∷ items_roles body (another ∷ rs)) (refl, items_quiet body (set punctuator.CloseBrace ts) (another ∷ rs) (refl, h))) false
+    specs_calm specs (head_text head (set punctuator.OpenBrace (items_text body (set punctuator.CloseBrace ts))))
+    (head_roles head (another ∷ items_roles body (another ∷ rs)))
+    (head_calm head (set punctuator.OpenBrace (items_text body (set punctuator.CloseBrace ts))) (another ∷ items_roles body (another ∷ rs))
+    (refl, items_quiet body (set punctuator.CloseBrace ts) (another ∷ rs) (refl, h))) false
 
 file_quiet : (f : List External) → Quiet (file_text f) (file_roles f)
 file_quiet [] = tt
@@ -145,7 +171,8 @@ list_role opens_list e = refl
 list_role _ e = absurd (false≢true e)
 
 -- after the tokens stands a brace, and a value is awaited there
-found : (b : Bool) (front more : Kinds) (rs : Roles) → Trace b (front ++ more) rs → slice_get rs (length front) ≡ Some opens_list → (run front b ≡ true) × ((rest : Kinds) × (more ≡ brace ∷ rest))
+found : (b : Bool) (front more : Kinds) (rs : Roles) → Trace b (front ++ more) rs → slice_get rs (length front) ≡ Some opens_list
+    → (run front b ≡ true) × ((rest : Kinds) × (more ≡ brace ∷ rest))
 found b [] [] [] t e = cc
 found b [] [] (r ∷ rs) t e = absurd t
 found b [] (k ∷ more) [] t e = absurd t
@@ -158,7 +185,8 @@ found b (k ∷ front) more [] t e = absurd t
 found b (k ∷ front) more (r ∷ rs) t e = found (step k b) front more rs t.1 e
 
 -- a brace where a value is awaited opens a list
-opened : (b : Bool) (front more : Kinds) (rs : Roles) → Trace b (front ++ brace ∷ more) rs → run front b ≡ true → slice_get rs (length front) ≡ Some opens_list
+opened : (b : Bool) (front more : Kinds) (rs : Roles) → Trace b (front ++ brace ∷ more) rs → run front b ≡ true
+    → slice_get rs (length front) ≡ Some opens_list
 opened b [] more [] t e = absurd t
 opened b [] more (r ∷ rs) t e = ap Some (list_role r (t.0 ∙ e))
 opened b (k ∷ front) more [] t e = absurd t

@@ -18,12 +18,19 @@ use Rattle.cs_ast.specs.declared.raw.written_type.IntegerWord.{IntegerWord}
 use Rattle.cs_ast.specs.declared.raw.written_type.IntegerWord.TheVariants.{Char, Short, Int, Long, Signed, Unsigned}
 use Rattle.cs_ast.specs.declared.raw.written_type.PointerWord.{PointerWord}
 use Rattle.cs_ast.specs.declared.raw.written_type.PointerWord.TheVariants as pointer
-use Rattle.cs_ast.specs.RawTree.{Written, WrittenList, Named, Numeral, Character, Literal, Enclosed, Index, Call, Member, Arrow, StepAfter, StepBefore, Prefix, SizeOf, SizeOfType, Cast, Infix, Choice, Assign, Comma, End, More}
-use Rattle.cs_ast.specs.RawDeclarations.{Spec, Static, Plain, StructBody, EnumBody, Specs, NoSpec, MoreSpecs, Members, NoMember, MoreMembers, Initial, Single, Listed, Initials, NoItem as NoInitial, MoreItems as MoreInitials}
+use Rattle.cs_ast.specs.RawTree.{Written, WrittenList, Named, Numeral, Character, Literal, Enclosed, Index, Call, Member, Arrow, StepAfter, StepBefore, Prefix}
+use Rattle.cs_ast.specs.RawTree.{SizeOf, SizeOfType, Cast, Infix, Choice, Assign, Comma, End, More}
+use Rattle.cs_ast.specs.RawDeclarations.{Spec, Static, Plain, StructBody, EnumBody, Specs, NoSpec, MoreSpecs, Members, NoMember, MoreMembers, Initial, Single}
+use Rattle.cs_ast.specs.RawDeclarations.{Listed, Initials, NoItem as NoInitial, MoreItems as MoreInitials}
 use Rattle.cs_grammar.specs.Punctuators.{step_punctuator, prefix_punctuator, infix_punctuator, assign_punctuator}
 use Rattle.cs_grammar.specs.Text.{Kinds, text, listed, after_commas, bounds_text, words_text, pointers_text, type_word_text, integer_word_text}
-use Rattle.cs_grammar.specs.FileText.{name_text, some_text, comma_text, each_after_comma, with_commas, brackets_text, declarator_text, value_text, constant_text, spec_text, specs_text, members_text, initial_text, initials_text, further_initials_text, first_value_text, declared_text}
-use Rattle.cs_grammar.specs.Roles.{Role, closes_type, in_expression, another, after_member, declared_name, opens_list, Roles, each, type_roles, roles, roles_listed, roles_after_commas, roles_of_bounds, some_roles, comma_roles, each_after, between, brackets_roles, declarator_roles, value_roles, constant_roles, spec_roles, specs_roles, members_roles, initial_roles, initials_roles, further_initials_roles, first_value_roles, declared_roles}
+use Rattle.cs_grammar.specs.FileText.{name_text, some_text, comma_text, each_after_comma, with_commas, brackets_text, declarator_text, value_text}
+use Rattle.cs_grammar.specs.FileText.{constant_text, spec_text, specs_text, members_text, initial_text, initials_text, further_initials_text, first_value_text}
+use Rattle.cs_grammar.specs.FileText.{declared_text}
+use Rattle.cs_grammar.specs.Roles.{Role, closes_type, in_expression, another, after_member, declared_name, opens_list, Roles, each, type_roles, roles}
+use Rattle.cs_grammar.specs.Roles.{roles_listed, roles_after_commas, roles_of_bounds, some_roles, comma_roles, each_after, between, brackets_roles}
+use Rattle.cs_grammar.specs.Roles.{declarator_roles, value_roles, constant_roles, spec_roles, specs_roles, members_roles, initial_roles, initials_roles}
+use Rattle.cs_grammar.specs.Roles.{further_initials_roles, first_value_roles, declared_roles}
 use Rattle.cs_unsupported.specs.Awaiting.{step}
 
 -- the role is that of a brace that opens a list of initial values
@@ -95,13 +102,15 @@ abbrev brace : TokenKind
 brace = token.Punctuator punctuator.CloseBrace
 
 -- the words of pointers, which have this role
-pub pointers_calm : (r : Role) → is_list r ≡ false → (ps : List PointerWord) (ts : Kinds) (rs : Roles) → Calm ts rs → Calm (pointers_text ps ts) (each r (pointers_text ps []) rs)
+pub pointers_calm : (r : Role) → is_list r ≡ false → (ps : List PointerWord) (ts : Kinds) (rs : Roles) → Calm ts rs
+    → Calm (pointers_text ps ts) (each r (pointers_text ps []) rs)
 pointers_calm r e [] ts rs h = h
 pointers_calm r e (pointer.Star ∷ ps) ts rs h = λ b. (e, pointers_calm r e ps ts rs h false)
 pointers_calm r e (pointer.Const ∷ ps) ts rs h = λ b. (e, pointers_calm r e ps ts rs h false)
 
 -- a word of a type
-word_calm : (r : Role) → is_list r ≡ false → (w : TypeWord) (ts : Kinds) (rs : Roles) → Calm ts rs → Calm (type_word_text w ts) (each r (type_word_text w []) rs)
+word_calm : (r : Role) → is_list r ≡ false → (w : TypeWord) (ts : Kinds) (rs : Roles) → Calm ts rs
+    → Calm (type_word_text w ts) (each r (type_word_text w []) rs)
 word_calm r e word.Const ts rs h = λ b. (e, h false)
 word_calm r e (word.Integer k) ts rs h = λ b. (plain_integer r e k b, h (step (integer_word_text k) b))
 word_calm r e word.Void ts rs h = λ b. (e, h false)
@@ -110,7 +119,8 @@ word_calm r e (word.Struct n) ts rs h = λ b. (e, (e, h false))
 word_calm r e (word.Enum n) ts rs h = λ b. (e, (e, h false))
 
 -- the words and pointers of a type between parentheses
-type_calm : (ws : List TypeWord) (ps : List PointerWord) (ts : Kinds) (rs : Roles) → Calm ts rs → Calm (words_text ws (pointers_text ps ts)) (type_roles ws ps rs)
+type_calm : (ws : List TypeWord) (ps : List PointerWord) (ts : Kinds) (rs : Roles) → Calm ts rs
+    → Calm (words_text ws (pointers_text ps ts)) (type_roles ws ps rs)
 type_calm [] ps ts rs h = pointers_calm in_expression refl ps ts rs h
 type_calm (word.Const ∷ ws) ps ts rs h = λ b. (refl, type_calm ws ps ts rs h false)
 type_calm (word.Integer k ∷ ws) ps ts rs h = λ b. (plain_integer in_expression refl k b, type_calm ws ps ts rs h (step (integer_word_text k) b))
@@ -132,20 +142,38 @@ mutual
   expression_calm (Literal x) ts rs h = λ b. (refl, h)
   expression_calm (Enclosed i) ts rs h = λ b. (refl, expression_calm i (closing ∷ ts) (in_expression ∷ rs) (refl, h) false)
   expression_calm (Index a n) ts rs h =
-      expression_calm a (bracket ∷ text n (bracketed ∷ ts)) (in_expression ∷ roles n (in_expression ∷ rs)) (refl, expression_calm n (bracketed ∷ ts) (in_expression ∷ rs) (refl, h) false)
+      expression_calm a (bracket ∷ text n (bracketed ∷ ts)) (in_expression ∷ roles n (in_expression ∷ rs))
+      (refl, expression_calm n (bracketed ∷ ts) (in_expression ∷ rs) (refl, h) false)
   expression_calm (Call f es) ts rs h =
-      expression_calm f (opening ∷ listed es (closing ∷ ts)) (in_expression ∷ roles_listed es (in_expression ∷ rs)) (refl, listed_calm es (closing ∷ ts) (in_expression ∷ rs) (λ c. (refl, h)) false)
-  expression_calm (Member o n) ts rs h = expression_calm o (token.Punctuator punctuator.Dot ∷ token.Name n ∷ ts) (in_expression ∷ in_expression ∷ rs) (refl, (refl, h))
-  expression_calm (Arrow o n) ts rs h = expression_calm o (token.Punctuator punctuator.Arrow ∷ token.Name n ∷ ts) (in_expression ∷ in_expression ∷ rs) (refl, (refl, h))
+      expression_calm f (opening ∷ listed es (closing ∷ ts)) (in_expression ∷ roles_listed es (in_expression ∷ rs))
+      (refl, listed_calm es (closing ∷ ts) (in_expression ∷ rs) (λ c. (refl, h)) false)
+  expression_calm (Member o n) ts rs h =
+      expression_calm o (token.Punctuator punctuator.Dot ∷ token.Name n ∷ ts) (in_expression ∷ in_expression ∷ rs) (refl, (refl, h))
+  expression_calm (Arrow o n) ts rs h =
+      expression_calm o (token.Punctuator punctuator.Arrow ∷ token.Name n ∷ ts) (in_expression ∷ in_expression ∷ rs) (refl, (refl, h))
   expression_calm (StepAfter t o) ts rs h =
-      expression_calm o (token.Punctuator (step_punctuator t) ∷ ts) (in_expression ∷ rs) (turned (opens (token.Punctuator (step_punctuator t)) false) (plain_step t false), after_step t false ts rs h)
+      expression_calm o (token.Punctuator (step_punctuator t) ∷ ts) (in_expression ∷ rs) (
+        turned (opens (token.Punctuator (step_punctuator t)) false) (plain_step t false),
+        after_step t false ts rs h,
+      )
   expression_calm (StepBefore t o) ts rs h =
-      λ b. (turned (opens (token.Punctuator (step_punctuator t)) b) (plain_step t b), expression_calm o ts rs h (step (token.Punctuator (step_punctuator t)) b))
+      λ b.
+      (turned (opens (token.Punctuator (step_punctuator t)) b) (plain_step t b), expression_calm o ts rs h (step (token.Punctuator (step_punctuator t)) b))
   expression_calm (Prefix op o) ts rs h =
-      λ b. (turned (opens (token.Punctuator (prefix_punctuator op)) b) (plain_prefix op b), expression_calm o ts rs h (step (token.Punctuator (prefix_punctuator op)) b))
+      λ b. (
+        turned (opens (token.Punctuator (prefix_punctuator op)) b) (plain_prefix op b),
+        expression_calm o ts rs h (step (token.Punctuator (prefix_punctuator op)) b),
+      )
   expression_calm (SizeOf o) ts rs h = λ b. (refl, expression_calm o ts rs h false)
   expression_calm (SizeOfType ws ps bs) ts rs h =
-      λ b. (refl, (refl, type_calm ws ps (bounds_text bs (closing ∷ ts)) (roles_of_bounds bs (closes_type ∷ rs)) (bounds_calm bs (closing ∷ ts) (closes_type ∷ rs) (λ c. (refl, h))) false))
+      λ b. (
+        refl,
+        (
+          refl,
+          type_calm ws ps (bounds_text bs (closing ∷ ts)) (roles_of_bounds bs (closes_type ∷ rs))
+              (bounds_calm bs (closing ∷ ts) (closes_type ∷ rs) (λ c. (refl, h))) false,
+        ),
+      )
   expression_calm (Cast ws ps bs o) ts rs h =
       λ b. (
         refl,
@@ -153,14 +181,19 @@ mutual
             (bounds_calm bs (closing ∷ text o ts) (closes_type ∷ roles o rs) (λ c. (refl, expression_calm o ts rs h false))) false,
       )
   expression_calm (Infix op l r) ts rs h =
-      expression_calm l (token.Punctuator (infix_punctuator op) ∷ text r ts) (in_expression ∷ roles r rs)
-      (turned (opens (token.Punctuator (infix_punctuator op)) false) (plain_infix op false), expression_calm r ts rs h (step (token.Punctuator (infix_punctuator op)) false))
+      expression_calm l (token.Punctuator (infix_punctuator op) ∷ text r ts) (in_expression ∷ roles r rs) (
+        turned (opens (token.Punctuator (infix_punctuator op)) false) (plain_infix op false),
+        expression_calm r ts rs h (step (token.Punctuator (infix_punctuator op)) false),
+      )
   expression_calm (Choice t o e) ts rs h =
-      expression_calm t (token.Punctuator punctuator.Question ∷ text o (token.Punctuator punctuator.Colon ∷ text e ts)) (in_expression ∷ roles o (in_expression ∷ roles e rs))
+      expression_calm t (token.Punctuator punctuator.Question ∷ text o (token.Punctuator punctuator.Colon ∷ text e ts))
+      (in_expression ∷ roles o (in_expression ∷ roles e rs))
       (refl, expression_calm o (token.Punctuator punctuator.Colon ∷ text e ts) (in_expression ∷ roles e rs) (refl, expression_calm e ts rs h false) false)
   expression_calm (Assign op l r) ts rs h =
-      expression_calm l (token.Punctuator (assign_punctuator op) ∷ text r ts) (in_expression ∷ roles r rs)
-      (turned (opens (token.Punctuator (assign_punctuator op)) false) (plain_assign op false), expression_calm r ts rs h (step (token.Punctuator (assign_punctuator op)) false))
+      expression_calm l (token.Punctuator (assign_punctuator op) ∷ text r ts) (in_expression ∷ roles r rs) (
+        turned (opens (token.Punctuator (assign_punctuator op)) false) (plain_assign op false),
+        expression_calm r ts rs h (step (token.Punctuator (assign_punctuator op)) false),
+      )
   expression_calm (Comma l r) ts rs h =
       expression_calm l (token.Punctuator punctuator.Comma ∷ text r ts) (in_expression ∷ roles r rs) (refl, expression_calm r ts rs h true)
 
@@ -189,11 +222,14 @@ comma_calm true ts rs h = λ b. (refl, h true)
 abbrev pub Calms : {A : Type 0} → (A → Kinds → Kinds) → (A → Roles → Roles) → Type 0
 Calms {A} g f = (a : A) (ts : Kinds) (rs : Roles) → Calm ts rs → Calm (g a ts) (f a rs)
 
-each_calm : {A : Type 0} (comma : Role) → is_list comma ≡ false → (g : A → Kinds → Kinds) (f : A → Roles → Roles) → Calms g f → (all : List A) (ts : Kinds) (rs : Roles) → Calm ts rs → Calm (each_after_comma g all ts) (each_after comma f all rs)
+each_calm : {A : Type 0} (comma : Role) → is_list comma ≡ false → (g : A → Kinds → Kinds) (f : A → Roles → Roles) → Calms g f
+    → (all : List A) (ts : Kinds) (rs : Roles) → Calm ts rs → Calm (each_after_comma g all ts) (each_after comma f all rs)
 each_calm comma e g f law [] ts rs h = h
-each_calm comma e g f law (a ∷ all) ts rs h = λ b. (e, law a (each_after_comma g all ts) (each_after comma f all rs) (each_calm comma e g f law all ts rs h) true)
+each_calm comma e g f law (a ∷ all) ts rs h = λ b.
+    (e, law a (each_after_comma g all ts) (each_after comma f all rs) (each_calm comma e g f law all ts rs h) true)
 
-pub list_calm : {A : Type 0} (comma : Role) → is_list comma ≡ false → (g : A → Kinds → Kinds) (f : A → Roles → Roles) → Calms g f → (all : List A) (ts : Kinds) (rs : Roles) → Calm ts rs → Calm (with_commas g all ts) (between comma f all rs)
+pub list_calm : {A : Type 0} (comma : Role) → is_list comma ≡ false → (g : A → Kinds → Kinds) (f : A → Roles → Roles) → Calms g f
+    → (all : List A) (ts : Kinds) (rs : Roles) → Calm ts rs → Calm (with_commas g all ts) (between comma f all rs)
 list_calm comma e g f law [] ts rs h = h
 list_calm comma e g f law (a ∷ all) ts rs h = law a (each_after_comma g all ts) (each_after comma f all rs) (each_calm comma e g f law all ts rs h)
 
@@ -204,7 +240,8 @@ brackets_calm (e ∷ bs) ts rs h =
 
 pub declarator_calm : Calms declarator_text declarator_roles
 declarator_calm d ts rs h =
-    pointers_calm another refl d.pointers (token.Name d.name ∷ brackets_text d.bounds ts) (declared_name ∷ brackets_roles d.bounds rs) (λ b. (refl, brackets_calm d.bounds ts rs h false))
+    pointers_calm another refl d.pointers (token.Name d.name ∷ brackets_text d.bounds ts) (declared_name ∷ brackets_roles d.bounds rs)
+    (λ b. (refl, brackets_calm d.bounds ts rs h false))
 
 value_calm : (e : Option Written) (ts : Kinds) (rs : Roles) → Calm ts rs → Calm (value_text e ts) (value_roles e rs)
 value_calm None ts rs h = h
@@ -231,10 +268,12 @@ mutual
   spec_calm (EnumBody tag cs comma) ts rs h =
       λ b. (
         refl,
-        tag_quiet tag (token.Punctuator punctuator.OpenBrace ∷ with_commas constant_text cs (comma_text comma (brace ∷ ts))) (another ∷ between another constant_roles cs (comma_roles comma (another ∷ rs))) (
-          refl,
-          list_calm another refl constant_text constant_roles constant_calm cs (comma_text comma (brace ∷ ts)) (comma_roles comma (another ∷ rs)) (comma_calm comma (brace ∷ ts) (another ∷ rs) (λ c. (refl, h false))) false,
-        ),
+        tag_quiet tag (token.Punctuator punctuator.OpenBrace ∷ with_commas constant_text cs (comma_text comma (brace ∷ ts)))
+            (another ∷ between another constant_roles cs (comma_roles comma (another ∷ rs))) (
+              refl,
+              list_calm another refl constant_text constant_roles constant_calm cs (comma_text comma (brace ∷ ts)) (comma_roles comma (another ∷ rs))
+                  (comma_calm comma (brace ∷ ts) (another ∷ rs) (λ c. (refl, h false))) false,
+            ),
       )
 
   -- what stands before declarators
@@ -245,23 +284,30 @@ mutual
   members_calm : (m : Members) (ts : Kinds) (rs : Roles) → Calm ts rs → Calm (members_text m ts) (members_roles m rs)
   members_calm NoMember ts rs h = h
   members_calm (MoreMembers specs ds m) ts rs h =
-      specs_calm specs (with_commas declarator_text ds (token.Punctuator punctuator.Semicolon ∷ members_text m ts)) (between after_member declarator_roles ds (after_member ∷ members_roles m rs))
-      (list_calm after_member refl declarator_text declarator_roles declarator_calm ds (token.Punctuator punctuator.Semicolon ∷ members_text m ts) (after_member ∷ members_roles m rs) (λ b. (refl, members_calm m ts rs h false)))
+      specs_calm specs (with_commas declarator_text ds (token.Punctuator punctuator.Semicolon ∷ members_text m ts))
+      (between after_member declarator_roles ds (after_member ∷ members_roles m rs))
+      (list_calm after_member refl declarator_text declarator_roles declarator_calm ds (token.Punctuator punctuator.Semicolon ∷ members_text m ts)
+      (after_member ∷ members_roles m rs) (λ b. (refl, members_calm m ts rs h false)))
 
 mutual
   -- an initial value, which is awaited
   initial_awaited : (i : Initial) (ts : Kinds) (rs : Roles) → Calm ts rs → Trace true (initial_text i ts) (initial_roles i rs)
   initial_awaited (Single e) ts rs h = expression_calm e ts rs (h false) true
-  initial_awaited (Listed items comma) ts rs h =
-      (refl, initials_awaited items (comma_text comma (brace ∷ ts)) (comma_roles comma (another ∷ rs)) (comma_calm comma (brace ∷ ts) (another ∷ rs) (λ c. (refl, h false))))
+  initial_awaited (Listed items comma) ts rs h = (
+    refl,
+    initials_awaited items (comma_text comma (brace ∷ ts)) (comma_roles comma (another ∷ rs))
+        (comma_calm comma (brace ∷ ts) (another ∷ rs) (λ c. (refl, h false))),
+  )
 
   initials_awaited : (i : Initials) (ts : Kinds) (rs : Roles) → Calm ts rs → Trace true (initials_text i ts) (initials_roles i rs)
   initials_awaited NoInitial ts rs h = h true
-  initials_awaited (MoreInitials first others) ts rs h = initial_awaited first (further_initials_text others ts) (further_initials_roles others rs) (further_calm others ts rs h)
+  initials_awaited (MoreInitials first others) ts rs h =
+      initial_awaited first (further_initials_text others ts) (further_initials_roles others rs) (further_calm others ts rs h)
 
   further_calm : (i : Initials) (ts : Kinds) (rs : Roles) → Calm ts rs → Calm (further_initials_text i ts) (further_initials_roles i rs)
   further_calm NoInitial ts rs h = h
-  further_calm (MoreInitials first others) ts rs h = λ b. (refl, initial_awaited first (further_initials_text others ts) (further_initials_roles others rs) (further_calm others ts rs h))
+  further_calm (MoreInitials first others) ts rs h = λ b.
+      (refl, initial_awaited first (further_initials_text others ts) (further_initials_roles others rs) (further_calm others ts rs h))
 
 first_value_calm : (i : Option Initial) (ts : Kinds) (rs : Roles) → Calm ts rs → Calm (first_value_text i ts) (first_value_roles i rs)
 first_value_calm None ts rs h = h

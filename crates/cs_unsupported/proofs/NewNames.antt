@@ -1,5 +1,6 @@
 -- A name that is none of some tokens, and what the last token says: for the contracts of `last_joint` and `new_name`.
-use Rattle.std.proofs.Common.{◌≡◌, ◌∙◌, sym, ℕ, suc, ◌+◌, ◌-◌, ◌<◌, ◌≤◌, max, List, [], ◌∷◌, Some, length, replicate, slice_get, get_or, drop, drop-cons, add-one, ap, subst, arith}
+use Rattle.std.proofs.Common.{◌≡◌, ◌∙◌, sym, ℕ, suc, ◌+◌, ◌-◌, ◌<◌, ◌≤◌, max, List, [], ◌∷◌, Some, length, replicate}
+use Rattle.std.proofs.Common.{slice_get, get_or, drop, drop-cons, add-one, ap, subst, arith}
 use Rattle.std.proofs.lemmas.List.{length-replicate}
 use Rattle.std.proofs.lemmas.Grind.{common_steps}
 use Rattle.std.specs.Ordering.{ord_max, nat_cmp}
@@ -16,7 +17,8 @@ pub max_is : (a b : ℕ) → ord_max nat_cmp a b ≡ max a b
 max_is a b = grind (arith, common_steps)
 
 -- the last token says
-pub ending_last : (tokens : List Token) (t : Token) (j : Joint) → slice_get tokens (length tokens - 1) ≡ Some t → ending (kinds tokens) j ≡ joint_after t.kind
+pub ending_last : (tokens : List Token) (t : Token) (j : Joint) → slice_get tokens (length tokens - 1) ≡ Some t
+    → ending (kinds tokens) j ≡ joint_after t.kind
 ending_last [] t j e = absurd cc
 ending_last (u ∷ []) t j e =
     let same : u ≡ t = cc in
@@ -58,9 +60,11 @@ kinds_within less most [] l within = tt
 kinds_within less most (k ∷ ks) l within = (kind_within less most k l within.0, kinds_within less most ks l within.1)
 
 -- one more of the tokens that are left
-pub item_within : (most i : ℕ) (tokens : List Token) (t : Token) → i < length tokens → t ≡ get_or tokens i t → IsNameWithin most t.kind → AreNamesWithin most (kinds (drop (i + 1) tokens)) → AreNamesWithin most (kinds (drop i tokens))
+pub item_within : (most i : ℕ) (tokens : List Token) (t : Token) → i < length tokens → t ≡ get_or tokens i t → IsNameWithin most t.kind
+    → AreNamesWithin most (kinds (drop (i + 1) tokens)) → AreNamesWithin most (kinds (drop i tokens))
 item_within most i tokens t within read first others =
-    let there : drop i tokens ≡ t ∷ drop (i + 1) tokens = drop-cons tokens i t within ∙ ap (λ (x : Token). x ∷ drop (suc i) tokens) (sym read) ∙ ap (λ (j : ℕ). t ∷ drop j tokens) (sym (add-one i)) in
+    let there : drop i tokens ≡ t ∷ drop (i + 1) tokens = drop-cons tokens i t within ∙ ap (λ (x : Token). x ∷ drop (suc i) tokens) (sym read)
+    ∙ ap (λ (j : ℕ). t ∷ drop j tokens) (sym (add-one i)) in
     subst (λ (x : List Token). AreNamesWithin most (kinds x)) (sym there) (first, others)
 
 -- the lengths of the names among the tokens together

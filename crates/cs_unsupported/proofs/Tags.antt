@@ -51,8 +51,10 @@ last_word front keyword.Enum = (front, refl)
 last_word front _ = tt
 
 last_tag : (front : Kinds) (n : List ℕ) (b : Tagging) → Last front b → Last (front ++ token.Name n ∷ []) (tag_after b)
-last_tag front n tagging.Struct l = (l.0, n, ap (λ (x : Kinds). x ++ token.Name n ∷ []) l.1 ∙ append_assoc l.0 (token.Keyword keyword.Struct ∷ []) (token.Name n ∷ []))
-last_tag front n tagging.Enum l = (l.0, n, ap (λ (x : Kinds). x ++ token.Name n ∷ []) l.1 ∙ append_assoc l.0 (token.Keyword keyword.Enum ∷ []) (token.Name n ∷ []))
+last_tag front n tagging.Struct l =
+    (l.0, n, ap (λ (x : Kinds). x ++ token.Name n ∷ []) l.1 ∙ append_assoc l.0 (token.Keyword keyword.Struct ∷ []) (token.Name n ∷ []))
+last_tag front n tagging.Enum l =
+    (l.0, n, ap (λ (x : Kinds). x ++ token.Name n ∷ []) l.1 ∙ append_assoc l.0 (token.Keyword keyword.Enum ∷ []) (token.Name n ∷ []))
 last_tag front n _ l = tt
 
 last_step : (front : Kinds) (k : TokenKind) (s : Site) → Last front s.following → Last (front ++ k ∷ []) (step k s).following
@@ -64,7 +66,8 @@ last_step front _ s l = tt
 last_of : (front done : Kinds) (s : Site) → Last done s.following → Last (done ++ front) (run front s).following
 last_of [] done s l = subst (λ (x : Kinds). Last x s.following) (sym (append-nil done)) l
 last_of (k ∷ front) done s l =
-    subst (λ (x : Kinds). Last x (run front (step k s)).following) (append_assoc done (k ∷ []) front) (last_of front (done ++ k ∷ []) (step k s) (last_step done k s l))
+    subst (λ (x : Kinds). Last x (run front (step k s)).following) (append_assoc done (k ∷ []) front)
+    (last_of front (done ++ k ∷ []) (step k s) (last_step done k s l))
 
 ends_so : (front : Kinds) (b : Tagging) → is_tagging b ≡ true → Last front b → EndsWithTag front
 ends_so front tagging.Struct e l = subst EndsWithTag (sym l.1) (struct_after l.0)
@@ -80,7 +83,8 @@ run_split : (front more : Kinds) (s : Site) → run (front ++ more) s ≡ run mo
 run_split [] more s = refl
 run_split (k ∷ front) more s = run_split front more (step k s)
 
-reported_by : (front more : Kinds) → is_tagging (run more (run front the_first)).following ≡ true → is_tagging (run (front ++ more) the_first).following ≡ true
+reported_by : (front more : Kinds) → is_tagging (run more (run front the_first)).following ≡ true
+    → is_tagging (run (front ++ more) the_first).following ≡ true
 reported_by front more e = ap (λ (s : Site). is_tagging s.following) (run_split front more the_first) ∙ e
 
 pub tag_reported : (front : Kinds) → EndsWithTag front → is_tagging (run front the_first).following ≡ true

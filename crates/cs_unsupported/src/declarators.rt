@@ -81,7 +81,9 @@ fn new_name(alloc: Global, tokens: &[Token]) -> Result<Name, AllocError>
 /// a declarator's, unless it is a tag, a member or a label after `goto`, or an enumeration constant, as the token before says but for
 /// a comma. After a comma a constant has no pointers, and a star that begins an expression might be a parenthesis.
 pub fn token_for_name(alloc: Global, before: &[Token]) -> Result<Option<TokenKind>, AllocError>
-    ensures { IfOk result (λ asked. (BeginsFile (kinds before.now ++ token.Punctuator punctuator.OpenParenthesis ∷ []) → ⊥) → IsAskedFor (kinds before.now) asked) }
+    ensures { IfOk result (λ asked.
+        (BeginsFile (kinds before.now ++ token.Punctuator punctuator.OpenParenthesis ∷ [])
+        → ⊥) → IsAskedFor (kinds before.now) asked) }
 {
     match last_joint(before) {
         Joint::Barred => Ok(None),

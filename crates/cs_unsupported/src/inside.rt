@@ -253,7 +253,8 @@ impl Reading {
 
     /// After `?`.
     fn choose(&mut self) -> Result<(), AllocError>
-        ensures { OnOk result (site_of self.new ≡ question (site_of self.old).within (site_of self.old)) }
+        ensures { OnOk result (site_of self.new
+            ≡ question (site_of self.old).within (site_of self.old)) }
     {
         match self.within {
             Where::Inside(part) => self.open(Where::Inside(part.chosen()), Where::Inside(part)),
@@ -327,7 +328,8 @@ fn read(alloc: Global, before: &[Token]) -> Result<Reading, AllocError>
 
 /// Whether a token after these would stand inside a block or an expression, where a file begins with them.
 pub fn is_inside(alloc: Global, before: &[Token]) -> Result<bool, AllocError>
-    ensures { IfOk result (λ here. BeginsFile (kinds before.now) → (IsTrue here ↔ IsInside (kinds before.now))) }
+    ensures { IfOk result (λ here.
+        BeginsFile (kinds before.now) → (IsTrue here ↔ IsInside (kinds before.now))) }
 {
     Ok(read(alloc, before)?.within.is_inside())
 }
@@ -335,7 +337,9 @@ pub fn is_inside(alloc: Global, before: &[Token]) -> Result<bool, AllocError>
 /// Whether a token after these would stand after `struct` or `enum` or its tag inside a block or an expression, where a file begins
 /// with them.
 pub fn is_tag_inside(alloc: Global, before: &[Token]) -> Result<bool, AllocError>
-    ensures { IfOk result (λ here. BeginsFile (kinds before.now) → (IsTrue here ↔ (EndsWithTag (kinds before.now) × IsInside (kinds before.now)))) }
+    ensures { IfOk result (λ here.
+        BeginsFile (kinds before.now)
+        → (IsTrue here ↔ (EndsWithTag (kinds before.now) × IsInside (kinds before.now)))) }
 {
     let reading = read(alloc, before)?;
     if !reading.following.is_tag() {

@@ -25,7 +25,9 @@ fn following(kind: &TokenKind, awaits: bool) -> bool
 
 /// Whether a brace after these tokens would open a list of initial values, where a file continues with one.
 pub fn awaits_list(before: &[Token]) -> bool
-    ensures { MayHave (kinds before.now) opens_list ↔ (IsTrue result × BeginsFile (kinds before.now ++ token.Punctuator punctuator.OpenBrace ∷ [])) }
+    ensures { MayHave (kinds before.now) opens_list
+        ↔ (IsTrue result
+        × BeginsFile (kinds before.now ++ token.Punctuator punctuator.OpenBrace ∷ [])) }
 {
     let mut awaits = false;
     'tokens: for token in before {

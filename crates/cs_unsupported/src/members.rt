@@ -196,7 +196,9 @@ impl Reading {
 
 /// Whether a token after these would stand directly after a member's declarator, where a file begins with them.
 pub fn is_after_member(alloc: Global, before: &[Token]) -> Result<bool, AllocError>
-    ensures { IfOk result (λ following. BeginsFile (kinds before.now) → (IsTrue following ↔ MayHave (kinds before.now) after_member)) }
+    ensures { IfOk result (λ following.
+        BeginsFile (kinds before.now)
+        → (IsTrue following ↔ MayHave (kinds before.now) after_member)) }
 {
     let mut reading = Reading {
         phase: Phase::Outside,

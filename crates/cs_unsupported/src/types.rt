@@ -67,7 +67,8 @@ impl Following {
 impl Reading {
     /// Reads one more token.
     fn step(&mut self, names: &TypedefNames, kind: &TokenKind) -> Result<(), AllocError>
-        ensures state { OnOk result (parens_of self.new ≡ one_more names.now kind.now (parens_of self.old)) }
+        ensures state { OnOk result
+            (parens_of self.new ≡ one_more names.now kind.now (parens_of self.old)) }
         ensures closing { OnOk result (self.new.closes ≡ is_closing kind.now self.old.holds) }
     {
         self.closes = closes(kind, self.holds);
@@ -91,7 +92,8 @@ impl Reading {
     }
 
     fn read_punctuator(&mut self, punctuator: Punctuator) -> Result<(), AllocError>
-        ensures state { OnOk result (parens_of self.new ≡ punctuator_step punctuator (parens_of self.old)) }
+        ensures state { OnOk result
+            (parens_of self.new ≡ punctuator_step punctuator (parens_of self.old)) }
         ensures kept { OnOk result (self.new.closes ≡ self.old.closes) }
     {
         match punctuator {
@@ -157,7 +159,9 @@ pub fn is_after_type(
     from: usize,
 ) -> Result<bool, AllocError>
     requires within { from ≤ length before.now }
-    ensures { IfOk result (λ following. BeginsFile (kinds before.now) → EndInPart names.now (kinds before.now) from → (IsTrue following ↔ IsAfterType (kinds before.now))) }
+    ensures { IfOk result (λ following.
+        BeginsFile (kinds before.now) → EndInPart names.now (kinds before.now) from
+        → (IsTrue following ↔ IsAfterType (kinds before.now))) }
 {
     let closes = closes_last(alloc, names, &before[from..])?;
     Ok(closes)

@@ -35,22 +35,26 @@ AreGiven s types values = ⊥
 abbrev AreTaken : Setting → List Shape → TypedList → Type 0
 AreTaken s types values = AreWell s values × AreValuesOf values types
 
-before-taken : (s : Setting) (at : Place) (ty : Shape) (types : List Shape) (v : Verdict Typed) (w : Verdict TypedList) → IfFine v (λ e. IsWell s e × IsValueOf e ty) → IfFine w (AreTaken s types) → IfFine (before_others at v w) (AreTaken s (ty ∷ types))
+before-taken : (s : Setting) (at : Place) (ty : Shape) (types : List Shape) (v : Verdict Typed) (w : Verdict TypedList)
+    → IfFine v (λ e. IsWell s e × IsValueOf e ty) → IfFine w (AreTaken s types) → IfFine (before_others at v w) (AreTaken s (ty ∷ types))
 before-taken s at ty types (Fine e) (Fine others) h k = ((h.0, k.0), (h.1, k.1))
 before-taken s at ty types (Fine e) (Fault code place) h k = tt
 before-taken s at ty types (Fault code place) (Fine others) h k = tt
 before-taken s at ty types (Fault code place) (Fault other there) h k = tt
 
 -- the values of arguments, each converted to the type of its parameter
-converted_list-taken : (s : Setting) (model : DataModel) (at : Place) (types : List Shape) (values : TypedList) → AreNamed s.program.table types → AreGiven s types values → IfFine (converted_list model at types values) (AreTaken s types)
+converted_list-taken : (s : Setting) (model : DataModel) (at : Place) (types : List Shape) (values : TypedList) → AreNamed s.program.table types
+    → AreGiven s types values → IfFine (converted_list model at types values) (AreTaken s types)
 converted_list-taken s model at [] NoMore names given = (tt, tt)
 converted_list-taken s model at [] (Further e others) names given = absurd given
 converted_list-taken s model at (ty ∷ types) NoMore names given = absurd given
 converted_list-taken s model at (ty ∷ types) (Further e others) names given =
-    before-taken s at ty types _ _ (converted-well s model at e ty (type_of e) names.0 given.0 (given.1, refl)) (converted_list-taken s model at types others names.1 given.2)
+    before-taken s at ty types _ _ (converted-well s model at e ty (type_of e) names.0 given.0 (given.1, refl))
+    (converted_list-taken s model at types others names.1 given.2)
 
 module _ (s : Setting) (at : Place) (target : Option Shape) (names : TargetNames s target) where
-  allocated-well : (a : Allocator) (arguments : TypedList) (to : Option Shape) → TargetNames s to → AreWell s arguments → AreValuesOf arguments (sizes_of s.program.model a) → IfFine (allocated at a arguments to) (IsWell s)
+  allocated-well : (a : Allocator) (arguments : TypedList) (to : Option Shape) → TargetNames s to → AreWell s arguments
+      → AreValuesOf arguments (sizes_of s.program.model a) → IfFine (allocated at a arguments to) (IsWell s)
   allocated-well a arguments (Some (pointer ty)) to_names well sizes = (well, sizes, ty, refl, refl, to_names)
   allocated-well a arguments (Some void) to_names well sizes = tt
   allocated-well a arguments (Some (integer ty)) to_names well sizes = tt
@@ -63,16 +67,19 @@ module _ (s : Setting) (at : Place) (target : Option Shape) (names : TargetNames
   freed-well (Further e NoMore) well v = (well.0, refl, v.0)
   freed-well (Further e (Further e' others)) well v = tt
 
-  allocation-well : (a : Allocator) (f : Signature) (arguments : TypedList) → IsAllocator s.program a f → AreTaken s f.parameters arguments → IfFine (allocated at a arguments target) (IsWell s)
+  allocation-well : (a : Allocator) (f : Signature) (arguments : TypedList) → IsAllocator s.program a f → AreTaken s f.parameters arguments
+      → IfFine (allocated at a arguments target) (IsWell s)
   allocation-well a f arguments is taken = allocated-well a arguments target names taken.0 (subst (AreValuesOf arguments) is.1 taken.1)
 
-  call_by-well : (callee : Callee) (f : Signature) (arguments : TypedList) → IsFunction s.program callee f → AreTaken s f.parameters arguments → IfFine (call_by at target callee f.result arguments) (IsWell s)
+  call_by-well : (callee : Callee) (f : Signature) (arguments : TypedList) → IsFunction s.program callee f → AreTaken s f.parameters arguments
+      → IfFine (call_by at target callee f.result arguments) (IsWell s)
   call_by-well (Numbered number) f arguments is taken = (taken.0, (is.0, is.1, is.2, subst (AreValuesOf arguments) (sym is.3) taken.1))
   call_by-well Malloc f arguments is taken = allocation-well allocator.Malloc f arguments is taken
   call_by-well Calloc f arguments is taken = allocation-well allocator.Calloc f arguments is taken
   call_by-well Free f arguments is taken = freed-well arguments taken.0 (subst (AreValuesOf arguments) is.1 taken.1)
 
-  call_of-well : (f : Signature) (arguments : TypedList) → IsFunction s.program f.callee f → AreTaken s f.parameters arguments → IfFine (call_of at target f arguments) (IsWell s)
+  call_of-well : (f : Signature) (arguments : TypedList) → IsFunction s.program f.callee f → AreTaken s f.parameters arguments
+      → IfFine (call_of at target f arguments) (IsWell s)
   unfolding call_of
   call_of-well f arguments is taken = call_by-well f.callee f arguments is taken
 
@@ -87,25 +94,33 @@ parameters-named p types (Numbered number) f is =
     (each-named p.table (λ (v : Variable). v.ty) (take is.0.parameters is.0.variables)
     (All-take (λ (v : Variable). NamesStructs p.table v.ty) is.0.parameters is.0.variables r.variables))
 
-pub parameters_of-named : (p : TypedProgram) → TypesAreNamed p → (function : Option Signature) → IfSome function (λ f. IsFunction p f.callee f) → AreNamed p.table (parameters_of function)
+pub parameters_of-named : (p : TypedProgram) → TypesAreNamed p → (function : Option Signature) → IfSome function (λ f. IsFunction p f.callee f)
+    → AreNamed p.table (parameters_of function)
 parameters_of-named p types None is = tt
 parameters_of-named p types (Some f) is = parameters-named p types f.callee f is
 
 -- a call that is admitted has an argument for each parameter
-admitted-counts : (at : Place) (target : Option Shape) (count : ℕ) (f : Signature) → IfFine (admitted at target count f) (λ g. (g ≡ f) × (length f.parameters ≡ count))
+admitted-counts : (at : Place) (target : Option Shape) (count : ℕ) (f : Signature)
+    → IfFine (admitted at target count f) (λ g. (g ≡ f) × (length f.parameters ≡ count))
 unfolding admitted
 admitted-counts at target count f =
     cond-then (λ g. (g ≡ f) × (length f.parameters ≡ count)) (eqb (length f.parameters) count) _ _
-    (λ h. cond-then (λ g. (g ≡ f) × (length f.parameters ≡ count)) (allocates f.callee && not (is_pointer_target target)) _ _ (λ _. tt) (λ _. (refl, eqb-true (length f.parameters) count h)))
+    (λ h.
+    cond-then (λ g. (g ≡ f) × (length f.parameters ≡ count)) (allocates f.callee && not (is_pointer_target target)) _ _ (λ _. tt)
+    (λ _. (refl, eqb-true (length f.parameters) count h)))
     (λ _. tt)
 
 -- a call of a function with its arguments
-pub call-well : (s : Setting) (c : Context) (at : Place) (target : Option Shape) (function : Option Signature) (count : ℕ) (v : Verdict Typed) (values : Verdict TypedList) → TargetNames s target → TypesAreNamed s.program →
-    IfSome function (λ f. IsFunction s.program f.callee f) → IfFine values (λ vs. length (parameters_of function) ≡ count → AreGiven s (parameters_of function) vs) → IfFine (call_or_not c at target function count v values) (IsWell s)
+pub call-well : (s : Setting) (c : Context) (at : Place) (target : Option Shape) (function : Option Signature) (count : ℕ) (v : Verdict Typed)
+    (values : Verdict TypedList) → TargetNames s target → TypesAreNamed s.program →
+    IfSome function (λ f. IsFunction s.program f.callee f)
+    → IfFine values (λ vs. length (parameters_of function) ≡ count → AreGiven s (parameters_of function) vs)
+    → IfFine (call_or_not c at target function count v values) (IsWell s)
 unfolding call_or_not call_with
 call-well s c at target None count v values names types there given = lift-then (λ _. Unit {0}) (IsWell s) (no_function at) v (if_fine-any v) (λ _ _. tt)
 call-well s c at target (Some f) count v values names types there given =
-    lift2-then (λ g. (g ≡ f) × (length f.parameters ≡ count)) (λ vs. length f.parameters ≡ count → AreGiven s f.parameters vs) (IsWell s) (call_with c at target) _ values
+    lift2-then (λ g. (g ≡ f) × (length f.parameters ≡ count)) (λ vs. length f.parameters ≡ count → AreGiven s f.parameters vs) (IsWell s)
+    (call_with c at target) _ values
     (admitted-counts at target count f) given
     (λ g vs is are.
     subst (λ h. IfFine (call_with c at target h vs) (IsWell s)) (sym is.0)

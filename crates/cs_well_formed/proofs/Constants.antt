@@ -17,7 +17,8 @@ use Rattle.cs_ast.specs.TypedTree.{Typed, Of, Form, Number, Convert, Unary, Not,
 use Rattle.cs_consts.specs.declared.purpose.Purpose.{Purpose}
 use Rattle.cs_consts.specs.declared.purpose.Purpose.TheVariants.{Run, Constant, Unneeded}
 use Rattle.cs_folding.specs.TypedParts.{type_of}
-use Rattle.cs_folding.specs.Folding.{truth, holds, without, given, bits_of, bitwise, is_count, applied, turned_exactly, compared, kept, with_both, chosen_number, needed_if, number_in, form_number}
+use Rattle.cs_folding.specs.Folding.{truth, holds, without, given, bits_of, bitwise, is_count, applied, turned_exactly, compared, kept, with_both}
+use Rattle.cs_folding.specs.Folding.{chosen_number, needed_if, number_in, form_number}
 use Rattle.cs_consts.specs.Constants.{constant_at, finished}
 use Rattle.cs_well_formed.specs.Expressions.{Setting, IsWell, IsWellForm}
 use Rattle.cs_well_formed.proofs.Verdicts.{IfFine, both_true}
@@ -28,7 +29,8 @@ option_map-some : {A B : Type 0} (f : A → B) (o : Option A) (y : B) → option
 option_map-some f (Some x) y h = (x, refl, cc)
 option_map-some f None y h = absurd cc
 
-with_both-some : (f : ℤ → ℤ → Option ℤ) (o p : Option ℤ) (n : ℤ) → with_both f o p ≡ Some n → (a : ℤ) × (b : ℤ) × (o ≡ Some a) × (p ≡ Some b) × (f a b ≡ Some n)
+with_both-some : (f : ℤ → ℤ → Option ℤ) (o p : Option ℤ) (n : ℤ) → with_both f o p ≡ Some n
+    → (a : ℤ) × (b : ℤ) × (o ≡ Some a) × (p ≡ Some b) × (f a b ≡ Some n)
 with_both-some f (Some a) (Some b) n h = (a, b, refl, refl, h)
 with_both-some f (Some a) None n h = absurd cc
 with_both-some f None p n h = absurd cc
@@ -48,7 +50,8 @@ module _ (model : DataModel) (ty : IntType) where
   bitwise-is : (op : ℕ → ℕ → ℕ) (a b n : ℤ) → Some (bitwise op model ty a b) ≡ Some n → InRange model ty n
   bitwise-is op a b n h = wrapped-is (pos (op (bits_of model ty a) (bits_of model ty b))) n h
 
-  either-InRange : (test needed : Bool) (o : Option ℤ) (n : ℤ) → (o ≡ Some n → InRange model ty n) → cond test (without needed) o ≡ Some n → InRange model ty n
+  either-InRange : (test needed : Bool) (o : Option ℤ) (n : ℤ) → (o ≡ Some n → InRange model ty n) → cond test (without needed) o ≡ Some n
+      → InRange model ty n
   either-InRange true needed o n held h = without-InRange needed n h
   either-InRange false needed o n held h = held h
 
@@ -67,7 +70,8 @@ module _ (model : DataModel) (ty : IntType) where
       from_test a b t = grind (arith, ints)
 
   -- a number divided by a power of two comes nearer to 0, or stays -1
-  floor-between : (a : ℤ) (n : ℕ) (low high : ℤ) → low ≤ℤ a → a ≤ℤ high → low ≤ℤ pos 0 → pos 0 ≤ℤ high → (low ≤ℤ floor_div a n) × (floor_div a n ≤ℤ high)
+  floor-between : (a : ℤ) (n : ℕ) (low high : ℤ) → low ≤ℤ a → a ≤ℤ high → low ≤ℤ pos 0 → pos 0 ≤ℤ high
+      → (low ≤ℤ floor_div a n) × (floor_div a n ≤ℤ high)
   floor-between (pos a) n low high l h l' h' = (omega (arith, ints), omega (arith, ints))
   floor-between (negsuc a) n low high l h l' h' = (omega (arith, ints), omega (arith, ints))
 
@@ -77,7 +81,8 @@ module _ (model : DataModel) (ty : IntType) where
       let ends = floor-between a n (least_of model ty) (greatest_of model ty) held.from_least held.to_greatest none.from_least none.to_greatest in
       record { from_least = ends.0; to_greatest = ends.1 }
 
-  shifted-InRange : (a : ℤ) (k : ℕ) (test needed : Bool) (n : ℤ) → InRange model ty a → cond test (Some (floor_div a (2 ^ k))) (without needed) ≡ Some n → InRange model ty n
+  shifted-InRange : (a : ℤ) (k : ℕ) (test needed : Bool) (n : ℤ) → InRange model ty a
+      → cond test (Some (floor_div a (2 ^ k))) (without needed) ≡ Some n → InRange model ty n
   shifted-InRange a k true needed n held h = let is : floor_div a (2 ^ k) ≡ n = cc in subst (InRange model ty) is (floor-InRange a (2 ^ k) held)
   shifted-InRange a k false needed n held h = without-InRange needed n h
 
@@ -102,10 +107,12 @@ module _ (model : DataModel) (ty : IntType) where
   truth-is t n h = let is : truth t ≡ n = cc in subst (InRange model ty) is (truth-InRange t)
 
   -- a number of a type that is this one
-  moved-InRange : (other : Shape) (n : ℤ) → other ≡ integer ty → ((kind : IntType) × (other ≡ integer kind) × InRange model kind n) → InRange model ty n
+  moved-InRange : (other : Shape) (n : ℤ) → other ≡ integer ty → ((kind : IntType) × (other ≡ integer kind) × InRange model kind n)
+      → InRange model ty n
   moved-InRange other n is held = let same : held.0 ≡ ty = cc in subst (λ k. InRange model k n) same held.2
 
-  chosen-InRange : (t a b : Option ℤ) (n : ℤ) → ((x : ℤ) → a ≡ Some x → InRange model ty x) → ((x : ℤ) → b ≡ Some x → InRange model ty x) → chosen_number t a b ≡ Some n → InRange model ty n
+  chosen-InRange : (t a b : Option ℤ) (n : ℤ) → ((x : ℤ) → a ≡ Some x → InRange model ty x)
+      → ((x : ℤ) → b ≡ Some x → InRange model ty x) → chosen_number t a b ≡ Some n → InRange model ty n
   chosen-InRange (Some t) (Some a) (Some b) n one other h = let is : cond (holds t) a b ≡ n = cc in subst (InRange model ty) is (picked (holds t))
     where
       picked : (test : Bool) → InRange model ty (cond test a b)
@@ -118,20 +125,23 @@ module _ (model : DataModel) (ty : IntType) where
 module _ (s : Setting) where
   mutual
     -- the number of an expression is one of its type
-    pub number_in-well : (needed : Bool) (e : Typed) (n : ℤ) → IsWell s e → number_in s.program.model needed e ≡ Some n → IsWellForm s (type_of e) (Number n)
+    pub number_in-well : (needed : Bool) (e : Typed) (n : ℤ) → IsWell s e → number_in s.program.model needed e ≡ Some n
+        → IsWellForm s (type_of e) (Number n)
     number_in-well needed (Of at (integer ty) form) n well h = (ty, refl, form_number-InRange needed form ty n well h)
     number_in-well needed (Of at void form) n well h = absurd cc
     number_in-well needed (Of at (pointer target) form) n well h = absurd cc
     number_in-well needed (Of at (array element count) form) n well h = absurd cc
     number_in-well needed (Of at (struct number) form) n well h = absurd cc
 
-    form_number-InRange : (needed : Bool) (form : Form) (ty : IntType) (n : ℤ) → IsWellForm s (integer ty) form → form_number s.program.model needed ty form ≡ Some n → InRange s.program.model ty n
+    form_number-InRange : (needed : Bool) (form : Form) (ty : IntType) (n : ℤ) → IsWellForm s (integer ty) form
+        → form_number s.program.model needed ty form ≡ Some n → InRange s.program.model ty n
     form_number-InRange needed (Number k) ty n well h = kept-InRange s.program.model ty k n h
     form_number-InRange needed (Convert e) ty n well h =
         let found = option_map-some (wrapped s.program.model ty) (number_in s.program.model needed e) n h in
         subst (InRange s.program.model ty) found.2 (wrapped-InRange s.program.model ty found.0)
     form_number-InRange needed (Unary op e) ty n well h =
-        option_and_then_some (λ a. given s.program.model needed ty (turned_exactly op a)) (number_in s.program.model needed e) n h (λ a _ is. given-InRange s.program.model ty needed _ n is)
+        option_and_then_some (λ a. given s.program.model needed ty (turned_exactly op a)) (number_in s.program.model needed e) n h
+        (λ a _ is. given-InRange s.program.model ty needed _ n is)
     form_number-InRange needed (Not e) ty n well h =
         let found = option_map-some (λ a. truth (not (holds a))) (number_in s.program.model needed e) n h in
         subst (InRange s.program.model ty) found.2 (truth-InRange s.program.model ty _)
@@ -144,10 +154,12 @@ module _ (s : Setting) where
         let found = with_both-some (λ a b. Some (truth (compared op a b))) (number_in s.program.model needed l) (number_in s.program.model needed r) n h in
         truth-is s.program.model ty _ n found.4
     form_number-InRange needed (And l r) ty n well h =
-        let found = with_both-some (λ a b. Some (truth (holds a && holds b))) (number_in s.program.model needed l) (number_in s.program.model (needed_if needed true (number_in s.program.model needed l)) r) n h in
+        let found = with_both-some (λ a b. Some (truth (holds a && holds b))) (number_in s.program.model needed l)
+        (number_in s.program.model (needed_if needed true (number_in s.program.model needed l)) r) n h in
         truth-is s.program.model ty _ n found.4
     form_number-InRange needed (Or l r) ty n well h =
-        let found = with_both-some (λ a b. Some (truth (holds a || holds b))) (number_in s.program.model needed l) (number_in s.program.model (needed_if needed false (number_in s.program.model needed l)) r) n h in
+        let found = with_both-some (λ a b. Some (truth (holds a || holds b))) (number_in s.program.model needed l)
+        (number_in s.program.model (needed_if needed false (number_in s.program.model needed l)) r) n h in
         truth-is s.program.model ty _ n found.4
     form_number-InRange needed (Choice t l r) ty n well h =
         let on = needed_if needed true (number_in s.program.model needed t) in
@@ -158,15 +170,19 @@ module _ (s : Setting) where
         h
     form_number-InRange needed other ty n well h = absurd cc
 
-  constant_at-well : (at : Place) (ty : Shape) (o : Option ℤ) → ((n : ℤ) → o ≡ Some n → IsWellForm s ty (Number n)) → IfFine (constant_at at ty o) (IsWell s)
+  constant_at-well : (at : Place) (ty : Shape) (o : Option ℤ) → ((n : ℤ) → o ≡ Some n → IsWellForm s ty (Number n))
+      → IfFine (constant_at at ty o) (IsWell s)
   constant_at-well at ty (Some n) held = held n refl
   constant_at-well at ty None held = tt
 
   -- an expression for its purpose
-  pub finished-well : (model : DataModel) (purpose : Purpose) (e : Typed) → model ≡ s.program.model → IsWell s e → IfFine (finished model purpose e) (IsWell s)
+  pub finished-well : (model : DataModel) (purpose : Purpose) (e : Typed) → model ≡ s.program.model → IsWell s e
+      → IfFine (finished model purpose e) (IsWell s)
   unfolding finished
   finished-well model Run e same well = well
   finished-well model Constant (Of at ty form) same well =
-      constant_at-well at ty (number_in model true (Of at ty form)) (λ n is. number_in-well true (Of at ty form) n well (subst (λ m. number_in m true (Of at ty form) ≡ Some n) same is))
+      constant_at-well at ty (number_in model true (Of at ty form))
+      (λ n is. number_in-well true (Of at ty form) n well (subst (λ m. number_in m true (Of at ty form) ≡ Some n) same is))
   finished-well model Unneeded (Of at ty form) same well =
-      constant_at-well at ty (number_in model false (Of at ty form)) (λ n is. number_in-well false (Of at ty form) n well (subst (λ m. number_in m false (Of at ty form) ≡ Some n) same is))
+      constant_at-well at ty (number_in model false (Of at ty form))
+      (λ n is. number_in-well false (Of at ty form) n well (subst (λ m. number_in m false (Of at ty form) ≡ Some n) same is))

@@ -46,10 +46,12 @@ module _ (s : Setting) (model : DataModel) (at : Place) where
   null-given target names = (((target, refl), names), (refl, refl))
 
   -- a pointer converted to `void *`
-  to_void : (target source : Shape) (e : Typed) → IsWell s e → IsValueOf e (pointer source) → is_void target ≡ true → IsGiven s (pointer target) (Of at (pointer target) (Convert e))
+  to_void : (target source : Shape) (e : Typed) → IsWell s e → IsValueOf e (pointer source) → is_void target ≡ true
+      → IsGiven s (pointer target) (Of at (pointer target) (Convert e))
   to_void target source e well v h = ((well, v.0, inr (void-true target h, (source, v.1))), (refl, refl))
 
-  pointed-well : (e : Typed) (target source : Shape) → Names target → IsWell s e → IsValueOf e (pointer source) → IfFine (pointed model at e target source) (IsGiven s (pointer target))
+  pointed-well : (e : Typed) (target source : Shape) → Names target → IsWell s e → IsValueOf e (pointer source)
+      → IfFine (pointed model at e target source) (IsGiven s (pointer target))
   unfolding pointed
   pointed-well e target source names well v =
       cond-then (IsGiven s (pointer target)) (same_shape target source) _ _
@@ -64,7 +66,8 @@ module _ (s : Setting) (model : DataModel) (at : Place) where
   from_integer-well e target names = cond-then (IsGiven s (pointer target)) (is_null model e) _ _ (λ _. null-given target names) (λ _. tt)
 
   -- a value converted as if by assignment
-  pub converted-well : (e : Typed) (target source : Shape) → Names target → IsWell s e → IsValueOf e source → IfFine (converted model at e target source) (λ v. IsWell s v × IsValueOf v target)
+  pub converted-well : (e : Typed) (target source : Shape) → Names target → IsWell s e → IsValueOf e source
+      → IfFine (converted model at e target source) (λ v. IsWell s v × IsValueOf v target)
   unfolding converted
   converted-well e (integer t) (integer u) names well v = in_type-well s at t e well (integer-value e u v)
   converted-well e (integer t) (pointer u) names well v = tt
@@ -76,7 +79,8 @@ module _ (s : Setting) (model : DataModel) (at : Place) where
       (λ _. tt)
   converted-well e target source names well v = tt
 
-  pointer_cast-well : (e : Typed) (target source : Shape) → Names target → IsWell s e → IsValueOf e (pointer source) → IfFine (pointer_cast model at e target source) (IsWell s)
+  pointer_cast-well : (e : Typed) (target source : Shape) → Names target → IsWell s e → IsValueOf e (pointer source)
+      → IfFine (pointer_cast model at e target source) (IsWell s)
   unfolding pointer_cast
   pointer_cast-well e target source names well v =
       cond-then (IsWell s) (is_null model e) _ _
@@ -90,19 +94,23 @@ module _ (s : Setting) (model : DataModel) (at : Place) where
       by_way (inr h) = (to_void target source e well v h).0
 
   -- a cast
-  pub recast-well : (e : Typed) (target source : Shape) → Names target → IsWell s e → IsValueOf e source → IfFine (recast model at e target source) (IsWell s)
+  pub recast-well : (e : Typed) (target source : Shape) → Names target → IsWell s e → IsValueOf e source
+      → IfFine (recast model at e target source) (IsWell s)
   unfolding recast
   recast-well e void source names well v = (well, v.0, tt)
   recast-well e (integer t) (integer u) names well v = (well, v.0, (u, v.1))
   recast-well e (integer t) (pointer u) names well v = tt
-  recast-well e (pointer t) (integer u) names well v = if_fine-weaker (IsGiven s (pointer t)) (IsWell s) (pointed_from_integer model at e t) (from_integer-well e t names) (λ _ given. given.0)
+  recast-well e (pointer t) (integer u) names well v =
+      if_fine-weaker (IsGiven s (pointer t)) (IsWell s) (pointed_from_integer model at e t) (from_integer-well e t names) (λ _ given. given.0)
   recast-well e (pointer t) (pointer u) names well v = pointer_cast-well e t u names well v
   recast-well e target source names well v = tt
 
-  pair-met : (left right : Typed) (ty : Shape) → IsWell s left → IsValueOf left (pointer ty) → IsWell s right → IsValueOf right (pointer ty) → AreMet s (record { left = left; right = right })
+  pair-met : (left right : Typed) (ty : Shape) → IsWell s left → IsValueOf left (pointer ty) → IsWell s right → IsValueOf right (pointer ty)
+      → AreMet s (record { left = left; right = right })
   pair-met left right ty w v w' v' = record { left = w; right = w'; scalar = (v.0, inr (ty, v.1)); same = (v'.0, v'.1 ∙ sym v.1) }
 
-  pointers_met-well : (left right : Typed) (t u : Shape) → Names t → Names u → IsWell s left → IsValueOf left (pointer t) → IsWell s right → IsValueOf right (pointer u) → IfFine (pointers_met model at left right t u) (AreMet s)
+  pointers_met-well : (left right : Typed) (t u : Shape) → Names t → Names u → IsWell s left → IsValueOf left (pointer t) → IsWell s right
+      → IsValueOf right (pointer u) → IfFine (pointers_met model at left right t u) (AreMet s)
   unfolding pointers_met
   pointers_met-well left right t u names names' w v w' v' =
       cond-then (AreMet s) (same_shape t u) _ _
@@ -118,7 +126,8 @@ module _ (s : Setting) (model : DataModel) (at : Place) where
       (λ _. tt)))))
 
   -- two values in one type
-  pub met-well : (left right : Typed) (t u : Shape) → Names t → Names u → IsWell s left → IsValueOf left t → IsWell s right → IsValueOf right u → IfFine (met model at left right t u) (AreMet s)
+  pub met-well : (left right : Typed) (t u : Shape) → Names t → Names u → IsWell s left → IsValueOf left t → IsWell s right → IsValueOf right u
+      → IfFine (met model at left right t u) (AreMet s)
   unfolding met
   met-well left right (integer t) (integer u) names names' w v w' v' =
       let one = in_type-well s at _ left w (integer-value left t v) in

@@ -20,7 +20,8 @@ use Rattle.cs_well_formed.specs.Structs.{NamesStructs}
 use Rattle.cs_well_formed.specs.Expressions.{Setting, IsWell, IsValueOf, IsScalarValue, IsIntegerValue}
 use Rattle.cs_well_formed.specs.Constants.{HasConstants}
 use Rattle.cs_well_formed.specs.Agreement.{Agrees}
-use Rattle.cs_well_formed.specs.Laws.{TargetNames, IsTyped, FormedAreWell, OperandsAreWell, AssignedAreWell, TestsAreWell, SelectorsAreWell, DiscardedAreWell, ConstantsAreInRange}
+use Rattle.cs_well_formed.specs.Laws.{TargetNames, IsTyped, FormedAreWell, OperandsAreWell, AssignedAreWell, TestsAreWell, SelectorsAreWell, DiscardedAreWell}
+use Rattle.cs_well_formed.specs.Laws.{ConstantsAreInRange}
 use Rattle.cs_well_formed.proofs.Verdicts.{IfFine, if_fine-at, lift-then}
 use Rattle.cs_well_formed.proofs.Integers.{raised-well}
 use Rattle.cs_well_formed.proofs.Conversions.{converted-well}
@@ -32,7 +33,8 @@ module _ (s : Setting) (c : Context) (literals : Literals) (e : RawExpr) (h : Is
   run-well : (target : Option Shape) → TargetNames s target → IfFine (formed c Run literals target e.place e.kind.value) (IsWell s)
   run-well target names = formed-well s c h.agrees Run literals target names e.place e.kind.value h.constants h.texts
 
-  value-well : (target : Option Shape) → TargetNames s target → IfFine (operand_in c Run (formed c Run literals target e.place e.kind.value)) (IsWellValue s)
+  value-well : (target : Option Shape) → TargetNames s target
+      → IfFine (operand_in c Run (formed c Run literals target e.place e.kind.value)) (IsWellValue s)
   value-well target names = operand_in-well s c h.agrees Run _ (run-well target names)
 
   -- one that has to have a value
@@ -41,7 +43,8 @@ module _ (s : Setting) (c : Context) (literals : Literals) (e : RawExpr) (h : Is
   operand_of-well target names = value-well target names
 
   -- one whose value goes to a type
-  pub assigned_value-well : (at : Place) (target : Shape) → NamesStructs s.program.table target → IfFine (assigned_value c literals at target e) (λ v. IsWell s v × IsValueOf v target)
+  pub assigned_value-well : (at : Place) (target : Shape) → NamesStructs s.program.table target
+      → IfFine (assigned_value c literals at target e) (λ v. IsWell s v × IsValueOf v target)
   unfolding assigned_value
   assigned_value-well at target names =
       lift-then (IsWellValue s) (λ v. IsWell s v × IsValueOf v target) (λ v. converted c.model at v target (type_of v)) _ (value-well (Some target) names)
@@ -50,7 +53,8 @@ module _ (s : Setting) (c : Context) (literals : Literals) (e : RawExpr) (h : Is
   -- one that is tested
   pub test_of-well : (at : Place) → IfFine (test_of c literals at e) (λ v. IsWell s v × IsScalarValue v)
   unfolding test_of
-  test_of-well at = lift-then (IsWellValue s) (λ v. IsWell s v × IsScalarValue v) (tested at) _ (value-well None tt) (λ v held. tested-well s at v held.0 held.1)
+  test_of-well at = lift-then (IsWellValue s) (λ v. IsWell s v × IsScalarValue v) (tested at) _ (value-well None tt)
+      (λ v held. tested-well s at v held.0 held.1)
 
   -- one that a `switch` goes by
   pub selector_of-well : (at : Place) → IfFine (selector_of c literals at e) (λ v. IsWell s v × IsIntegerValue v)
@@ -82,14 +86,16 @@ agrees-with_literals s c literals h = record {
   };
 }
 
-number-InRange : (s : Setting) (c : Context) (e : Typed) → c.model ≡ s.program.model → IsWell s e → IfFine (number_of_constant e) (λ k. InRange c.model k.0 k.1)
+number-InRange : (s : Setting) (c : Context) (e : Typed) → c.model ≡ s.program.model → IsWell s e
+    → IfFine (number_of_constant e) (λ k. InRange c.model k.0 k.1)
 number-InRange s c (Of at (integer ty) (Number n)) same well =
     let is : ty ≡ well.0 = cc in
     subst (λ m. InRange m ty n) (sym same) (subst (λ k. InRange s.program.model k n) (sym is) well.2)
 number-InRange s c (Of at ty form) same well = tt
 
 -- a constant expression
-pub value_of-InRange : (s : Setting) (c : Context) (e : RawExpr) → Agrees s c → HasConstants (written e) → IfFine (value_of c e) (λ k. InRange c.model k.0 k.1)
+pub value_of-InRange : (s : Setting) (c : Context) (e : RawExpr) → Agrees s c → HasConstants (written e)
+    → IfFine (value_of c e) (λ k. InRange c.model k.0 k.1)
 unfolding value_of
 value_of-InRange s c e h fit =
     let alone = with_literals s (literals_after [] e.kind.value) in
@@ -103,7 +109,8 @@ formed_are_well s c purpose literals target at k e h names is =
     if_fine-at (IsWell s) (formed c purpose literals target at k) e (formed-well s c h.agrees purpose literals target names at k h.constants h.texts) is
 
 pub operands_are_well : OperandsAreWell
-operands_are_well s c literals target e v h names is = if_fine-at (IsWellValue s) (operand_of c literals target e) v (operand_of-well s c literals e h target names) is
+operands_are_well s c literals target e v h names is =
+    if_fine-at (IsWellValue s) (operand_of c literals target e) v (operand_of-well s c literals e h target names) is
 
 pub assigned_are_well : AssignedAreWell
 assigned_are_well s c literals at target e v h names is =
@@ -113,7 +120,8 @@ pub tests_are_well : TestsAreWell
 tests_are_well s c literals at e v h is = if_fine-at (λ r. IsWell s r × IsScalarValue r) (test_of c literals at e) v (test_of-well s c literals e h at) is
 
 pub selectors_are_well : SelectorsAreWell
-selectors_are_well s c literals at e v h is = if_fine-at (λ r. IsWell s r × IsIntegerValue r) (selector_of c literals at e) v (selector_of-well s c literals e h at) is
+selectors_are_well s c literals at e v h is =
+    if_fine-at (λ r. IsWell s r × IsIntegerValue r) (selector_of c literals at e) v (selector_of-well s c literals e h at) is
 
 pub discarded_are_well : DiscardedAreWell
 discarded_are_well s c literals e v h is = if_fine-at (IsWellValue s) (discarded_value c literals e) v (discarded_value-well s c literals e h) is

@@ -4,7 +4,8 @@ use Rattle.cs_types.specs.Shape.{Shape}
 use Rattle.cs_ast.specs.declared.place.Place.{Place}
 use Rattle.cs_ast.specs.declared.raw.expression.RawExpr.{RawExpr}
 use Rattle.cs_ast.specs.declared.raw.expression.RawExprKind.{RawExprKind}
-use Rattle.cs_ast.specs.RawTree.{Written, Named, Numeral, Character, Literal, Enclosed, Index, Call, Member, Arrow, StepAfter, StepBefore, Prefix, SizeOf, SizeOfType, Cast, Infix, Choice, Assign, Comma}
+use Rattle.cs_ast.specs.RawTree.{Written, Named, Numeral, Character, Literal, Enclosed, Index, Call, Member, Arrow, StepAfter, StepBefore, Prefix, SizeOf}
+use Rattle.cs_ast.specs.RawTree.{SizeOfType, Cast, Infix, Choice, Assign, Comma}
 use Rattle.cs_ast.specs.RawView.{written_kind}
 use Rattle.cs_ast.specs.TypedTree.{Typed}
 use Rattle.cs_scopes.specs.declared.context.Context.{Context}
@@ -17,9 +18,11 @@ use Rattle.cs_expressions.specs.Primary.{Literals}
 use Rattle.cs_consts.specs.Typing.{literals_after, formed, operand_in}
 use Rattle.cs_consts.specs.Roles.{operand_of, assigned_value, test_of, selector_of, discarded_value}
 use Rattle.cs_well_formed.specs.WrittenPlaces.{ExpressionAmong}
-use Rattle.cs_well_formed.specs.Bounded.{IsBounded, FormedAreBounded, OperandsAreBounded, AssignedAreBounded, TestsAreBounded, SelectorsAreBounded, DiscardedAreBounded}
+use Rattle.cs_well_formed.specs.Bounded.{IsBounded, FormedAreBounded, OperandsAreBounded, AssignedAreBounded, TestsAreBounded, SelectorsAreBounded}
+use Rattle.cs_well_formed.specs.Bounded.{DiscardedAreBounded}
 use Rattle.cs_well_formed.proofs.Verdicts.{IfFine, if_fine-at, lift-then}
-use Rattle.cs_well_formed.proofs.LiteralsAfter.{sized, sized-Index, sized-Call, sized-Member, sized-Arrow, sized-StepAfter, sized-Infix, sized-Choice, sized-Assign, sized-Comma, literals-grow}
+use Rattle.cs_well_formed.proofs.LiteralsAfter.{sized, sized-Index, sized-Call, sized-Member, sized-Arrow, sized-StepAfter, sized-Infix, sized-Choice}
+use Rattle.cs_well_formed.proofs.LiteralsAfter.{sized-Assign, sized-Comma, literals-grow}
 use Rattle.cs_well_formed.proofs.FittingValues.{Fits, converted-fits, raised-fits, tested-fits}
 use Rattle.cs_well_formed.proofs.FittingTyping.{room_of, value_in-fits, operand_in-fits, formed-fits}
 
@@ -47,7 +50,8 @@ sized-some (Comma l r) = omega (arith, sized-Comma l r)
 
 module _ (Is : Place → Type 0) where
   -- with the literals after it
-  pub fits-bounded : (literals : Literals) (k : RawExprKind) (room : ℕ) (e : Typed) → Fits Is room e → room ≤ room_of k + 2 → IsBounded Is literals (literals_after literals k) (sized (written_kind k)) e
+  pub fits-bounded : (literals : Literals) (k : RawExprKind) (room : ℕ) (e : Typed) → Fits Is room e → room ≤ room_of k + 2
+      → IsBounded Is literals (literals_after literals k) (sized (written_kind k)) e
   fits-bounded literals k room e h small = record {
     stands = h.stands;
     nodes = omega (arith, h.nodes, sized-some (written_kind k));
@@ -66,12 +70,14 @@ module _ (Is : Place → Type 0) where
     assigned_value-fits : (at : Place) (target : Shape) → Is at → IfFine (assigned_value c literals at target e) (Fits Is (room_of e.kind.value + 1 + 1))
     unfolding assigned_value
     assigned_value-fits at target here =
-        lift-then (Fits Is (room_of e.kind.value + 1)) (Fits Is (room_of e.kind.value + 1 + 1)) (λ v. converted c.model at v target (type_of v)) _ (value-fits (Some target))
+        lift-then (Fits Is (room_of e.kind.value + 1)) (Fits Is (room_of e.kind.value + 1 + 1)) (λ v. converted c.model at v target (type_of v)) _
+        (value-fits (Some target))
         (λ v h. converted-fits Is at here c.model (room_of e.kind.value + 1) v target (type_of v) h)
 
     test_of-fits : (at : Place) → IfFine (test_of c literals at e) (Fits Is (room_of e.kind.value + 1))
     unfolding test_of
-    test_of-fits at = lift-then (Fits Is (room_of e.kind.value + 1)) (Fits Is (room_of e.kind.value + 1)) (tested at) _ (value-fits None) (λ v. tested-fits Is at (room_of e.kind.value + 1) v)
+    test_of-fits at = lift-then (Fits Is (room_of e.kind.value + 1)) (Fits Is (room_of e.kind.value + 1)) (tested at) _ (value-fits None)
+        (λ v. tested-fits Is at (room_of e.kind.value + 1) v)
 
     selector_of-fits : (at : Place) → Is at → IfFine (selector_of c literals at e) (Fits Is (room_of e.kind.value + 1 + 1))
     unfolding selector_of
@@ -85,24 +91,31 @@ module _ (Is : Place → Type 0) where
 
   pub formed_are_bounded : FormedAreBounded Is
   formed_are_bounded c purpose literals target at k e among is =
-      fits-bounded literals k (room_of k) e (if_fine-at (Fits Is (room_of k)) (formed c purpose literals target at k) e (formed-fits Is c purpose literals target at k among) is) (omega arith)
+      fits-bounded literals k (room_of k) e
+      (if_fine-at (Fits Is (room_of k)) (formed c purpose literals target at k) e (formed-fits Is c purpose literals target at k among) is) (omega arith)
 
   pub operands_are_bounded : OperandsAreBounded Is
   operands_are_bounded c literals target e v among is =
-      fits-bounded literals e.kind.value (room_of e.kind.value + 1) v (if_fine-at (Fits Is (room_of e.kind.value + 1)) (operand_of c literals target e) v (operand_of-fits c literals e among target) is) (omega arith)
+      fits-bounded literals e.kind.value (room_of e.kind.value + 1) v
+      (if_fine-at (Fits Is (room_of e.kind.value + 1)) (operand_of c literals target e) v (operand_of-fits c literals e among target) is) (omega arith)
 
   pub assigned_are_bounded : AssignedAreBounded Is
   assigned_are_bounded c literals at target e v here among is =
-      fits-bounded literals e.kind.value (room_of e.kind.value + 1 + 1) v (if_fine-at (Fits Is (room_of e.kind.value + 1 + 1)) (assigned_value c literals at target e) v (assigned_value-fits c literals e among at target here) is) (omega arith)
+      fits-bounded literals e.kind.value (room_of e.kind.value + 1 + 1) v
+      (if_fine-at (Fits Is (room_of e.kind.value + 1 + 1)) (assigned_value c literals at target e) v (assigned_value-fits c literals e among at target here)
+      is) (omega arith)
 
   pub tests_are_bounded : TestsAreBounded Is
   tests_are_bounded c literals at e v among is =
-      fits-bounded literals e.kind.value (room_of e.kind.value + 1) v (if_fine-at (Fits Is (room_of e.kind.value + 1)) (test_of c literals at e) v (test_of-fits c literals e among at) is) (omega arith)
+      fits-bounded literals e.kind.value (room_of e.kind.value + 1) v
+      (if_fine-at (Fits Is (room_of e.kind.value + 1)) (test_of c literals at e) v (test_of-fits c literals e among at) is) (omega arith)
 
   pub selectors_are_bounded : SelectorsAreBounded Is
   selectors_are_bounded c literals at e v here among is =
-      fits-bounded literals e.kind.value (room_of e.kind.value + 1 + 1) v (if_fine-at (Fits Is (room_of e.kind.value + 1 + 1)) (selector_of c literals at e) v (selector_of-fits c literals e among at here) is) (omega arith)
+      fits-bounded literals e.kind.value (room_of e.kind.value + 1 + 1) v
+      (if_fine-at (Fits Is (room_of e.kind.value + 1 + 1)) (selector_of c literals at e) v (selector_of-fits c literals e among at here) is) (omega arith)
 
   pub discarded_are_bounded : DiscardedAreBounded Is
   discarded_are_bounded c literals e v among is =
-      fits-bounded literals e.kind.value (room_of e.kind.value + 1) v (if_fine-at (Fits Is (room_of e.kind.value + 1)) (discarded_value c literals e) v (discarded_value-fits c literals e among) is) (omega arith)
+      fits-bounded literals e.kind.value (room_of e.kind.value + 1) v
+      (if_fine-at (Fits Is (room_of e.kind.value + 1)) (discarded_value c literals e) v (discarded_value-fits c literals e among) is) (omega arith)

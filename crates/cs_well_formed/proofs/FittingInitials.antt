@@ -1,4 +1,5 @@
--- What the typing of an initializer gives is bounded by its text, first the values that are read, then what the `=` makes of them: for `typed_nodes_are_bounded`.
+-- What the typing of an initializer gives is bounded by its text, first the values that are read, then what the `=` makes of them: for
+-- `typed_nodes_are_bounded`.
 use Rattle.std.proofs.Common.{◌≡◌, ℕ, ◌+◌, ◌*◌, ◌≤◌, Bool, true, false, List, [], ◌∷◌, length, Some, is_some, arith}
 use Rattle.cs_types.specs.Shape.{Shape, void, integer, pointer, array, struct}
 use Rattle.cs_ast.specs.declared.place.Place.{Place}
@@ -18,7 +19,10 @@ use Rattle.cs_scopes.specs.Verdicts.{Verdict, Fine, Fault, lift}
 use Rattle.cs_folding.specs.TypedParts.{type_of}
 use Rattle.cs_expressions.specs.Primary.{Literals}
 use Rattle.cs_consts.specs.Roles.{operand_of}
-use Rattle.cs_declarations.specs.Initializers.{Storage, InFile, InFunction, part_types, text_of, is_admitted, has_form, Reading, Readings, value_read, expression_read, types_or_none, parts_read, one_more, initial_read, items_read, is_braceless, value_held, value_judged, before_others, part_judged, parts_judged, initial_judged, stored, limited, kept_with, initial_typed}
+use Rattle.cs_declarations.specs.Initializers.{Storage, InFile, InFunction, part_types, text_of, is_admitted, has_form, Reading, Readings, value_read}
+use Rattle.cs_declarations.specs.Initializers.{expression_read, types_or_none, parts_read, one_more, initial_read, items_read, is_braceless, value_held}
+use Rattle.cs_declarations.specs.Initializers.{value_judged, before_others, part_judged, parts_judged, initial_judged, stored, limited, kept_with}
+use Rattle.cs_declarations.specs.Initializers.{initial_typed}
 use Rattle.cs_well_formed.specs.Nodes.{expression_nodes, initial_nodes, initials_nodes}
 use Rattle.cs_well_formed.specs.Places.{StandsAmong, InitialStandsAmong, InitialsStandAmong}
 use Rattle.cs_well_formed.specs.WrittenPlaces.{ExpressionAmong, ValuesAmong, AllValuesAmong}
@@ -32,7 +36,8 @@ use Rattle.cs_well_formed.proofs.FittingTyping.{room_of}
 use Rattle.cs_well_formed.proofs.FittingDoors.{sized-some, operand_of-fits}
 
 -- items, each after a comma, and the same without the first comma
-sized-items : (first : WrittenInitial) (others : WrittenInitials) → size_of (further_initials_text (MoreItems first others)) ≡ size_of (initial_text first) + size_of (further_initials_text others) + 1
+sized-items : (first : WrittenInitial) (others : WrittenInitials)
+    → size_of (further_initials_text (MoreItems first others)) ≡ size_of (initial_text first) + size_of (further_initials_text others) + 1
 sized-items first others = omega (arith, size-initial first (further_initials_text others []))
 
 sized-further : (items : WrittenInitials) → size_of (further_initials_text items) ≤ size_of (initials_text items) + 1
@@ -61,16 +66,19 @@ module _ (Is : Place → Type 0) where
     no_more : 2 * initials_nodes r.0 + texts_nodes r.1 ≤ texts_nodes literals + 16 * size
 
   module _ (c : Context) where
-    value-read : (literals : Literals) (ty : Shape) (e : RawExpr) → ExpressionAmong Is e → IfFine (lift (value_read literals e.kind.value) (operand_of c literals (Some ty) e)) (IsReadBy literals (sized (written e)))
+    value-read : (literals : Literals) (ty : Shape) (e : RawExpr) → ExpressionAmong Is e
+        → IfFine (lift (value_read literals e.kind.value) (operand_of c literals (Some ty) e)) (IsReadBy literals (sized (written e)))
     value-read literals ty e among =
-        lift-then (Fits Is (room_of e.kind.value + 1)) (IsReadBy literals (sized (written e))) (value_read literals e.kind.value) (operand_of c literals (Some ty) e) (operand_of-fits Is c literals e among (Some ty))
+        lift-then (Fits Is (room_of e.kind.value + 1)) (IsReadBy literals (sized (written e))) (value_read literals e.kind.value)
+        (operand_of c literals (Some ty) e) (operand_of-fits Is c literals e among (Some ty))
         (λ v h. let grown = literals-grow literals e.kind.value in record {
           stands = h.stands;
           no_fewer = grown.no_fewer;
           no_more = omega (arith, h.nodes, grown.no_more, sized-some (written e));
         })
 
-    expression-read : (literals : Literals) (ty : Shape) (e : RawExpr) → ExpressionAmong Is e → IfFine (expression_read c literals ty e) (IsReadBy literals (sized (written e)))
+    expression-read : (literals : Literals) (ty : Shape) (e : RawExpr) → ExpressionAmong Is e
+        → IfFine (expression_read c literals ty e) (IsReadBy literals (sized (written e)))
     expression-read literals (array element count) e among = record { stands = tt; no_fewer = omega arith; no_more = omega (arith, text-room e.kind.value) }
     expression-read literals void e among = value-read literals void e among
     expression-read literals (integer ty) e among = value-read literals (integer ty) e among
@@ -78,15 +86,22 @@ module _ (Is : Place → Type 0) where
     expression-read literals (struct number) e among = value-read literals (struct number) e among
 
     mutual
-      initial-read : (literals : Literals) (ty : Shape) (raw : RawInitial) → ValuesAmong Is raw → IfFine (initial_read c literals ty raw) (IsReadBy literals (size_of (initial_text (initial raw))))
+      initial-read : (literals : Literals) (ty : Shape) (raw : RawInitial) → ValuesAmong Is raw
+          → IfFine (initial_read c literals ty raw) (IsReadBy literals (size_of (initial_text (initial raw))))
       initial-read literals ty (first_value.Value e) among = expression-read literals ty e among
       initial-read literals ty (first_value.List' shape row comma) among =
           let further = size_of (further_initials_text (initials row)) in
           lift-then (AreReadBy literals further) (IsReadBy literals (size_of (initial_text (Listed (initials row) comma)))) parts_read _
           (items-read literals (types_or_none (part_types c.table.list ty)) row among)
-          (λ r h. record { stands = h.stand; no_fewer = h.no_fewer; no_more = omega (arith, h.no_more, sized-further (initials row), sized-list (initials row) comma) })
+          (λ r h.
+          record {
+            stands = h.stand;
+            no_fewer = h.no_fewer;
+            no_more = omega (arith, h.no_more, sized-further (initials row), sized-list (initials row) comma);
+          })
 
-      items-read : (literals : Literals) (types : List Shape) {n : _} (row : Row_of-RawInitial n) → AllValuesAmong Is row → IfFine (items_read c literals types row) (AreReadBy literals (size_of (further_initials_text (initials row))))
+      items-read : (literals : Literals) (types : List Shape) {n : _} (row : Row_of-RawInitial n) → AllValuesAmong Is row
+          → IfFine (items_read c literals types row) (AreReadBy literals (size_of (further_initials_text (initials row))))
       items-read literals types end_of-RawInitial among = record { stand = tt; no_fewer = omega arith; no_more = omega arith }
       items-read literals [] (more_of-RawInitial first others) among = record { stand = tt; no_fewer = omega arith; no_more = omega arith }
       items-read literals (ty ∷ types) (more_of-RawInitial first others) among =
@@ -115,9 +130,12 @@ module _ (Is : Place → Type 0) where
       value-judged ty v h =
           lift-then (Fits Is (expression_nodes v + 1)) (IsJudged (Value v)) (value_held c.model storage at) _
           (converted-fits Is at here c.model (expression_nodes v) v ty (type_of v) (record { stands = h; nodes = omega arith }))
-          (λ r g. cond-then (IsJudged (Value v)) (is_admitted c.model storage r) _ _ (λ _. record { stands = g.stands; nodes = omega (arith, g.nodes) }) (λ _. tt))
+          (λ r g.
+          cond-then (IsJudged (Value v)) (is_admitted c.model storage r) _ _ (λ _. record { stands = g.stands; nodes = omega (arith, g.nodes) })
+          (λ _. tt))
 
-      before-judged : (i : Initial) (is : Initials) (v : Verdict Initial) (w : Verdict Initials) → IfFine v (IsJudged i) → IfFine w (AreJudged is) → IfFine (before_others at v w) (AreJudged (Part i is))
+      before-judged : (i : Initial) (is : Initials) (v : Verdict Initial) (w : Verdict Initials) → IfFine v (IsJudged i) → IfFine w (AreJudged is)
+          → IfFine (before_others at v w) (AreJudged (Part i is))
       before-judged i is (Fine first) (Fine others) h k = record { stand = (h.stands, k.stand); nodes = omega (arith, h.nodes, k.nodes) }
       before-judged i is (Fine first) (Fault code place) h k = tt
       before-judged i is (Fault code place) (Fine others) h k = tt
@@ -128,10 +146,12 @@ module _ (Is : Place → Type 0) where
         part-judged ty (Value v) h = cond-then (IsJudged (Value v)) (is_braceless ty (type_of v)) _ _ (λ _. tt) (λ _. value-judged ty v h)
         part-judged ty (Bytes bytes) h = record { stands = tt; nodes = omega arith }
         part-judged ty (Parts parts) h =
-            lift-then (AreJudged parts) (IsJudged (Parts parts)) (λ all. Fine (Parts all)) _ (parts-judged (types_or_none (part_types c.table.list ty)) parts h)
+            lift-then (AreJudged parts) (IsJudged (Parts parts)) (λ all. Fine (Parts all)) _
+            (parts-judged (types_or_none (part_types c.table.list ty)) parts h)
             (λ all k. record { stands = k.stand; nodes = omega (arith, k.nodes) })
 
-        parts-judged : (types : List Shape) (parts : Initials) → InitialsStandAmong Is parts → IfFine (parts_judged c storage at types parts) (AreJudged parts)
+        parts-judged : (types : List Shape) (parts : Initials) → InitialsStandAmong Is parts
+            → IfFine (parts_judged c storage at types parts) (AreJudged parts)
         parts-judged types NoPart h = record { stand = tt; nodes = omega arith }
         parts-judged [] (Part first others) h = record { stand = tt; nodes = omega arith }
         parts-judged (ty ∷ types) (Part first others) h = before-judged first others _ _ (part-judged ty first h.0) (parts-judged types others h.1)
@@ -146,11 +166,15 @@ module _ (Is : Place → Type 0) where
       limited-judged ty InFunction i found h = cond-then (IsJudged i) (is_some (stored c.table.list ty found)) _ _ (λ _. h) (λ _. tt)
 
       -- an initializer
-      pub initial-fits : (literals : Literals) (ty : Shape) (raw : RawInitial) → ValuesAmong Is raw → IfFine (initial_typed c literals storage at ty raw) (λ (r : Reading). IsBoundedInitial Is literals r.1 (size_of (initial_text (initial raw))) r.0)
+      pub initial-fits : (literals : Literals) (ty : Shape) (raw : RawInitial) → ValuesAmong Is raw
+          → IfFine (initial_typed c literals storage at ty raw)
+          (λ (r : Reading). IsBoundedInitial Is literals r.1 (size_of (initial_text (initial raw))) r.0)
       initial-fits literals ty raw among =
           let size = size_of (initial_text (initial raw)) in
           cond-then (λ (r : Reading). IsBoundedInitial Is literals r.1 size r.0) (has_form c.table.list storage ty raw) _ _
-          (λ _. lift-then (IsReadBy literals size) (λ (r : Reading). IsBoundedInitial Is literals r.1 size r.0) _ (initial_read c literals ty raw) (initial-read literals ty raw among)
+          (λ _.
+          lift-then (IsReadBy literals size) (λ (r : Reading). IsBoundedInitial Is literals r.1 size r.0) _ (initial_read c literals ty raw)
+          (initial-read literals ty raw among)
           (λ r h. lift-then (IsJudged r.0) (λ (found : Reading). IsBoundedInitial Is literals found.1 size found.0) (kept_with r.1) _
           (lift-then (IsJudged r.0) (IsJudged r.0) (limited c.table.list storage at ty) _ (judged ty r.0 h.stands) (limited-judged ty storage r.0))
           (λ found k. record {
@@ -162,5 +186,6 @@ module _ (Is : Place → Type 0) where
 
   pub initials_are_bounded : InitialsAreBounded Is
   initials_are_bounded c literals following storage at ty raw found here among is =
-      if_fine-at (λ (r : Reading). IsBoundedInitial Is literals r.1 (size_of (initial_text (initial raw))) r.0) (initial_typed c literals storage at ty raw) (found, following)
+      if_fine-at (λ (r : Reading). IsBoundedInitial Is literals r.1 (size_of (initial_text (initial raw))) r.0) (initial_typed c literals storage at ty raw)
+      (found, following)
       (initial-fits c storage at here literals ty raw among) is

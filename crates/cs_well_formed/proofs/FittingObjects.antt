@@ -23,7 +23,8 @@ use Rattle.cs_folding.specs.TypedParts.{type_of, form_of}
 use Rattle.cs_expressions.specs.Objects.{is_object}
 use Rattle.cs_types.specs.Kinds.{is_void, is_complete}
 use Rattle.cs_scopes.specs.Scalars.{has_few_scalars}
-use Rattle.cs_expressions.specs.Places.{address_of, through, element, indexed, member_found, member_in, member_after, struct_number, struct_after, member_by, selected, selected_through}
+use Rattle.cs_expressions.specs.Places.{address_of, through, element, indexed, member_found, member_in, member_after, struct_number, struct_after, member_by}
+use Rattle.cs_expressions.specs.Places.{selected, selected_through}
 use Rattle.cs_expressions.specs.Stores.{is_stored_to, assignable, assigned, is_additive, updatable_as, updatable, updated, taken_in, stepped}
 use Rattle.cs_expressions.specs.Calls.{parameters_of, admitted, before_others, converted_list, allocated, freed, call_by, call_of}
 use Rattle.cs_consts.specs.Typing.{is_plain, operator_of, left_side, stored, call_with, call_or_not, no_function}
@@ -57,53 +58,68 @@ module _ (Is : Place → Type 0) where
     through-fits room e ty h = tt
 
     -- subscripts
-    element-fits : (table : List StructType) (m n : ℕ) (e number : Typed) (target : Shape) (order : Order) → Fits Is m e → Fits Is n number → IfFine (element table at e number target order) (Fits Is (m + n + 1))
+    element-fits : (table : List StructType) (m n : ℕ) (e number : Typed) (target : Shape) (order : Order) → Fits Is m e → Fits Is n number
+        → IfFine (element table at e number target order) (Fits Is (m + n + 1))
     unfolding element
     element-fits table m n e number target order h k =
-        cond-then (Fits Is (m + n + 1)) (is_complete table target) _ _ (λ _. record { stands = (here, (h.stands, k.stands)); nodes = omega (arith, h.nodes, k.nodes) }) (λ _. tt)
+        cond-then (Fits Is (m + n + 1)) (is_complete table target) _ _
+        (λ _. record { stands = (here, (h.stands, k.stands)); nodes = omega (arith, h.nodes, k.nodes) }) (λ _. tt)
 
-    pub indexed-fits : (table : List StructType) (m n : ℕ) (left right : Typed) (t u : Shape) → Fits Is m left → Fits Is n right → IfFine (indexed table at left right t u) (Fits Is (m + n + 1))
+    pub indexed-fits : (table : List StructType) (m n : ℕ) (left right : Typed) (t u : Shape) → Fits Is m left → Fits Is n right
+        → IfFine (indexed table at left right t u) (Fits Is (m + n + 1))
     unfolding indexed
     indexed-fits table m n left right (pointer t) (integer u) h k = element-fits table m n left right t PointerFirst h k
     indexed-fits table m n left right (integer t) (pointer u) h k =
-        if_fine-weaker (Fits Is (n + m + 1)) (Fits Is (m + n + 1)) (element table at right left u AmountFirst) (element-fits table n m right left u AmountFirst k h)
+        if_fine-weaker (Fits Is (n + m + 1)) (Fits Is (m + n + 1)) (element table at right left u AmountFirst)
+        (element-fits table n m right left u AmountFirst k h)
         (λ e. fits-more Is (n + m + 1) (m + n + 1) e (omega arith))
     indexed-fits table m n left right t u h k = tt
 
     -- members
-    member_by-fits : (room : ℕ) (table : List StructType) (name_at : Place) (name : List ℕ) (rule : Member → Verdict Typed) (number : Option ℕ) → ((m : Member) → IfFine (rule m) (Fits Is room)) → IfFine (member_by table at name_at name rule number) (Fits Is room)
+    member_by-fits : (room : ℕ) (table : List StructType) (name_at : Place) (name : List ℕ) (rule : Member → Verdict Typed) (number : Option ℕ)
+        → ((m : Member) → IfFine (rule m) (Fits Is room)) → IfFine (member_by table at name_at name rule number) (Fits Is room)
     member_by-fits room table name_at name rule (Some number) fits =
         lift-then (λ _. Unit {0}) (Fits Is room) rule (member_found name_at name (members_of table number)) (if_fine-any _) (λ m _. fits m)
     member_by-fits room table name_at name rule None fits = tt
 
-    pub selected-fits : (table : List StructType) (name_at : Place) (name : List ℕ) (room : ℕ) (e : Typed) → Fits Is room e → IfFine (selected table at name_at name e) (Fits Is (room + 1))
+    pub selected-fits : (table : List StructType) (name_at : Place) (name : List ℕ) (room : ℕ) (e : Typed) → Fits Is room e
+        → IfFine (selected table at name_at name e) (Fits Is (room + 1))
     unfolding selected
     selected-fits table name_at name room e h =
         cond-then (Fits Is (room + 1)) (is_object (form_of e)) _ _
-        (λ _. member_by-fits (room + 1) table name_at name (member_in at e) (struct_number (type_of e)) (λ m. record { stands = (here, h.stands); nodes = omega (arith, h.nodes) }))
+        (λ _.
+        member_by-fits (room + 1) table name_at name (member_in at e) (struct_number (type_of e))
+        (λ m. record { stands = (here, h.stands); nodes = omega (arith, h.nodes) }))
         (λ _. tt)
 
-    pub selected_through-fits : (table : List StructType) (name_at : Place) (name : List ℕ) (room : ℕ) (e : Typed) (ty : Shape) → Fits Is room e → IfFine (selected_through table at name_at name e ty) (Fits Is (room + 1))
+    pub selected_through-fits : (table : List StructType) (name_at : Place) (name : List ℕ) (room : ℕ) (e : Typed) (ty : Shape) → Fits Is room e
+        → IfFine (selected_through table at name_at name e ty) (Fits Is (room + 1))
     unfolding selected_through
     selected_through-fits table name_at name room e ty h =
-        member_by-fits (room + 1) table name_at name (member_after at e) (struct_after ty) (λ m. record { stands = (here, h.stands); nodes = omega (arith, h.nodes) })
+        member_by-fits (room + 1) table name_at name (member_after at e) (struct_after ty)
+        (λ m. record { stands = (here, h.stands); nodes = omega (arith, h.nodes) })
 
     -- steps
-    pub stepped-fits : (model : DataModel) (op : BinOp) (gives : Gives) (room : ℕ) (e : Typed) (ty : Shape) → Fits Is room e → IfFine (stepped model op gives at e ty) (Fits Is (room + 2))
+    pub stepped-fits : (model : DataModel) (op : BinOp) (gives : Gives) (room : ℕ) (e : Typed) (ty : Shape) → Fits Is room e
+        → IfFine (stepped model op gives at e ty) (Fits Is (room + 2))
     unfolding stepped
     stepped-fits model op gives room e (integer s) h = record { stands = (here, (h.stands, (here, tt))); nodes = omega (arith, h.nodes) }
     stepped-fits model op gives room e (pointer target) h = record { stands = (here, (h.stands, (here, tt))); nodes = omega (arith, h.nodes) }
     stepped-fits model op gives room e ty h = tt
 
     -- assignments
-    updated-fits : (model : DataModel) (op : BinOp) (m n : ℕ) (object value : Typed) (t u : Shape) → Fits Is m object → Fits Is n value → IfFine (updated model op at object value t u) (Fits Is (m + n + 2))
+    updated-fits : (model : DataModel) (op : BinOp) (m n : ℕ) (object value : Typed) (t u : Shape) → Fits Is m object → Fits Is n value
+        → IfFine (updated model op at object value t u) (Fits Is (m + n + 2))
     unfolding updated
     updated-fits model op m n object value (integer t) (integer u) h k =
-        let taken = in_type-fits Is at here n (taken_in model op t u) value k in record { stands = (here, (h.stands, taken.stands)); nodes = omega (arith, h.nodes, taken.nodes) }
-    updated-fits model op m n object value (pointer target) (integer u) h k = record { stands = (here, (h.stands, k.stands)); nodes = omega (arith, h.nodes, k.nodes) }
+        let taken = in_type-fits Is at here n (taken_in model op t u) value k in
+        record { stands = (here, (h.stands, taken.stands)); nodes = omega (arith, h.nodes, taken.nodes) }
+    updated-fits model op m n object value (pointer target) (integer u) h k =
+        record { stands = (here, (h.stands, k.stands)); nodes = omega (arith, h.nodes, k.nodes) }
     updated-fits model op m n object value t u h k = tt
 
-    pub stored-fits : (c : Context) (op : AssignOp) (m n : ℕ) (object value : Typed) → Fits Is m object → Fits Is n value → IfFine (stored c op at object value) (Fits Is (m + n + 2))
+    pub stored-fits : (c : Context) (op : AssignOp) (m n : ℕ) (object value : Typed) → Fits Is m object → Fits Is n value
+        → IfFine (stored c op at object value) (Fits Is (m + n + 2))
     unfolding stored
     stored-fits c op m n object value h k =
         cond-then (Fits Is (m + n + 2)) (is_plain op) _ _
@@ -113,24 +129,28 @@ module _ (Is : Place → Type 0) where
         (λ _. updated-fits c.model (operator_of op) m n object value (type_of object) (type_of value) h k)
 
     -- the values of arguments, each converted to the type of its parameter
-    before-fits : (m n : ℕ) (v : Verdict Typed) (w : Verdict TypedList) → IfFine v (Fits Is m) → IfFine w (FitInRow Is n) → IfFine (before_others at v w) (FitInRow Is (m + n))
+    before-fits : (m n : ℕ) (v : Verdict Typed) (w : Verdict TypedList) → IfFine v (Fits Is m) → IfFine w (FitInRow Is n)
+        → IfFine (before_others at v w) (FitInRow Is (m + n))
     before-fits m n (Fine e) (Fine others) h k = record { stand = (h.stands, k.stand); nodes = omega (arith, h.nodes, k.nodes) }
     before-fits m n (Fine e) (Fault code place) h k = tt
     before-fits m n (Fault code place) (Fine others) h k = tt
     before-fits m n (Fault code place) (Fault other there) h k = tt
 
-    converted_list-fits : (model : DataModel) (types : List Shape) (values : TypedList) → RowStandsAmong Is values → IfFine (converted_list model at types values) (FitInRow Is (row_nodes values + row_count values))
+    converted_list-fits : (model : DataModel) (types : List Shape) (values : TypedList) → RowStandsAmong Is values
+        → IfFine (converted_list model at types values) (FitInRow Is (row_nodes values + row_count values))
     converted_list-fits model [] values h = record { stand = tt; nodes = omega arith }
     converted_list-fits model (ty ∷ types) NoMore h = record { stand = tt; nodes = omega arith }
     converted_list-fits model (ty ∷ types) (Further e others) h =
-        if_fine-weaker (FitInRow Is ((expression_nodes e + 1) + (row_nodes others + row_count others))) (FitInRow Is (row_nodes (Further e others) + row_count (Further e others))) _
+        if_fine-weaker (FitInRow Is ((expression_nodes e + 1) + (row_nodes others + row_count others)))
+        (FitInRow Is (row_nodes (Further e others) + row_count (Further e others))) _
         (before-fits (expression_nodes e + 1) (row_nodes others + row_count others) _ _
         (converted-fits Is at here model (expression_nodes e) e ty (type_of e) (record { stands = h.0; nodes = omega arith }))
         (converted_list-fits model types others h.1))
         (λ row g. record { stand = g.stand; nodes = omega (arith, g.nodes) })
 
     -- calls
-    allocated-fits : (room : ℕ) (a : Allocator) (arguments : TypedList) (to : Option Shape) → FitInRow Is room arguments → IfFine (allocated at a arguments to) (Fits Is (room + 1))
+    allocated-fits : (room : ℕ) (a : Allocator) (arguments : TypedList) (to : Option Shape) → FitInRow Is room arguments
+        → IfFine (allocated at a arguments to) (Fits Is (room + 1))
     allocated-fits room a arguments (Some (pointer ty)) h = record { stands = (here, h.stand); nodes = omega (arith, h.nodes) }
     allocated-fits room a arguments (Some void) h = tt
     allocated-fits room a arguments (Some (integer ty)) h = tt
@@ -143,14 +163,16 @@ module _ (Is : Place → Type 0) where
     freed-fits room (Further e NoMore) h = record { stands = (here, h.stand.0); nodes = omega (arith, h.nodes) }
     freed-fits room (Further e (Further e' others)) h = tt
 
-    call_by-fits : (room : ℕ) (target : Option Shape) (callee : Callee) (ty : Shape) (arguments : TypedList) → FitInRow Is room arguments → IfFine (call_by at target callee ty arguments) (Fits Is (room + 1))
+    call_by-fits : (room : ℕ) (target : Option Shape) (callee : Callee) (ty : Shape) (arguments : TypedList) → FitInRow Is room arguments
+        → IfFine (call_by at target callee ty arguments) (Fits Is (room + 1))
     call_by-fits room target (Numbered number) ty arguments h = record { stands = (here, h.stand); nodes = omega (arith, h.nodes) }
     call_by-fits room target Malloc ty arguments h = allocated-fits room allocator.Malloc arguments target h
     call_by-fits room target Calloc ty arguments h = allocated-fits room allocator.Calloc arguments target h
     call_by-fits room target Free ty arguments h = freed-fits room arguments h
 
     -- a call with arguments whose nodes and number have room
-    call_with-fits : (c : Context) (room : ℕ) (target : Option Shape) (f : Signature) (values : TypedList) → RowStandsAmong Is values → row_nodes values + row_count values ≤ room → IfFine (call_with c at target f values) (Fits Is (room + 1))
+    call_with-fits : (c : Context) (room : ℕ) (target : Option Shape) (f : Signature) (values : TypedList) → RowStandsAmong Is values
+        → row_nodes values + row_count values ≤ room → IfFine (call_with c at target f values) (Fits Is (room + 1))
     unfolding call_with call_of
     call_with-fits c room target f values h small =
         lift-then (FitInRow Is room) (Fits Is (room + 1)) (call_of at target f) _
@@ -158,23 +180,28 @@ module _ (Is : Place → Type 0) where
         (λ row g. record { stand = g.stand; nodes = omega (arith, g.nodes) }))
         (λ row g. call_by-fits room target f.callee f.result row g)
 
-    pub call-fits : (c : Context) (room : ℕ) (target : Option Shape) (function : Option Signature) (count : ℕ) (v : Verdict Typed) (values : Verdict TypedList) → IfFine values (λ vs. RowStandsAmong Is vs × (row_nodes vs + row_count vs ≤ room)) → IfFine (call_or_not c at target function count v values) (Fits Is (room + 1))
+    pub call-fits : (c : Context) (room : ℕ) (target : Option Shape) (function : Option Signature) (count : ℕ) (v : Verdict Typed)
+        (values : Verdict TypedList) → IfFine values (λ vs. RowStandsAmong Is vs × (row_nodes vs + row_count vs ≤ room))
+        → IfFine (call_or_not c at target function count v values) (Fits Is (room + 1))
     unfolding call_or_not
     call-fits c room target None count v values given = lift-then (λ _. Unit {0}) (Fits Is (room + 1)) (no_function at) v (if_fine-any v) (λ _ _. tt)
     call-fits c room target (Some f) count v values given =
-        lift2-then (λ _. Unit {0}) (λ vs. RowStandsAmong Is vs × (row_nodes vs + row_count vs ≤ room)) (Fits Is (room + 1)) (call_with c at target) (admitted at target count f) values
+        lift2-then (λ _. Unit {0}) (λ vs. RowStandsAmong Is vs × (row_nodes vs + row_count vs ≤ room)) (Fits Is (room + 1)) (call_with c at target)
+        (admitted at target count f) values
         (if_fine-any (admitted at target count f)) given
         (λ g vs _ h. call_with-fits c room target g vs h.0 h.1)
 
   -- objects that are stored to
-  updatable_as-fits : (table : List StructType) (op : BinOp) (at : Place) (room : ℕ) (e : Typed) (ty : Shape) → Fits Is room e → IfFine (updatable_as table op at e ty) (Fits Is room)
+  updatable_as-fits : (table : List StructType) (op : BinOp) (at : Place) (room : ℕ) (e : Typed) (ty : Shape) → Fits Is room e
+      → IfFine (updatable_as table op at e ty) (Fits Is room)
   unfolding updatable_as
   updatable_as-fits table op at room e (integer ty) h = h
   updatable_as-fits table op at room e (pointer target) h =
       cond-then (Fits Is room) (not (is_additive op)) _ _ (λ _. tt) (λ _. cond-then (Fits Is room) (is_complete table target) _ _ (λ _. h) (λ _. tt))
   updatable_as-fits table op at room e ty h = tt
 
-  pub updatable-fits : (table : List StructType) (op : BinOp) (at : Place) (room : ℕ) (e : Typed) → Fits Is room e → IfFine (updatable table op at e) (Fits Is room)
+  pub updatable-fits : (table : List StructType) (op : BinOp) (at : Place) (room : ℕ) (e : Typed) → Fits Is room e
+      → IfFine (updatable table op at e) (Fits Is room)
   unfolding updatable
   updatable-fits table op at room e h =
       cond-then (Fits Is room) (is_stored_to e) _ _ (λ _. updatable_as-fits table op at room e (type_of e) h) (λ _. tt)
@@ -191,4 +218,5 @@ module _ (Is : Place → Type 0) where
   pub left_side-fits : (c : Context) (op : AssignOp) (at : Place) (room : ℕ) (e : Typed) → Fits Is room e → IfFine (left_side c op at e) (Fits Is room)
   unfolding left_side
   left_side-fits c op at room e h =
-      cond-then (Fits Is room) (is_plain op) _ _ (λ _. assignable-fits c.table.list at room e h) (λ _. updatable-fits c.table.list (operator_of op) at room e h)
+      cond-then (Fits Is room) (is_plain op) _ _ (λ _. assignable-fits c.table.list at room e h)
+      (λ _. updatable-fits c.table.list (operator_of op) at room e h)

@@ -1,4 +1,5 @@
--- What the typing of an expression gives stands where it is written, with at most five nodes for each token and byte of its text: for `typed_nodes_are_bounded`.
+-- What the typing of an expression gives stands where it is written, with at most five nodes for each token and byte of its text: for
+-- `typed_nodes_are_bounded`.
 use Rattle.std.proofs.Common.{ℕ, ◌+◌, ◌*◌, ◌≤◌, true, false, List, [], ◌∷◌, length, Option, Some, None, arith}
 use Rattle.std.specs.Prelude.{ℤ, nat_le}
 use Rattle.cs_types.specs.Shape.{Shape}
@@ -30,15 +31,20 @@ use Rattle.cs_scopes.specs.Scopes.{newest}
 use Rattle.cs_scopes.specs.TypeNames.{arrayed}
 use Rattle.cs_expressions.specs.Calls.{called, parameters_of}
 use Rattle.cs_expressions.specs.Primary.{Literals, named, text_at}
-use Rattle.cs_consts.specs.Typing.{literals_after, row_length, done, value_in, operand_in, purpose_if, purpose_after, is_address, prefixed_value, prefixed, indexed_values, arrow_on, stepped_object, left_side, stored, right_target, cast_type, given_shape, cast_operand, cast_to, chosen_values, measured_type, measured_arrays, base_in, further, formed, arguments_formed}
+use Rattle.cs_consts.specs.Typing.{literals_after, row_length, done, value_in, operand_in, purpose_if, purpose_after, is_address, prefixed_value, prefixed}
+use Rattle.cs_consts.specs.Typing.{indexed_values, arrow_on, stepped_object, left_side, stored, right_target, cast_type, given_shape, cast_operand, cast_to}
+use Rattle.cs_consts.specs.Typing.{chosen_values, measured_type, measured_arrays, base_in, further, formed, arguments_formed}
 use Rattle.cs_well_formed.specs.Nodes.{row_nodes}
 use Rattle.cs_well_formed.specs.Places.{RowStandsAmong}
 use Rattle.cs_well_formed.specs.WrittenPlaces.{WrittenAmong, RowAmong}
 use Rattle.cs_well_formed.specs.Sizes.{size_of}
 use Rattle.cs_well_formed.proofs.Verdicts.{IfFine, if_fine-any, if_fine-weaker, lift-then, lift2-then, lift3-then, cond-then}
-use Rattle.cs_well_formed.proofs.LiteralsAfter.{sized, sized-Enclosed, sized-Index, sized-Call, sized-Member, sized-Arrow, sized-StepAfter, sized-Infix, sized-Choice, sized-Assign, sized-Comma, sized-SizeOfType, sized-Cast, sized-commas, sized-listed}
-use Rattle.cs_well_formed.proofs.FittingValues.{Fits, if_fine-more, finished-fits, valued-fits, operand-fits, measured-fits, raised-fits, turned-fits, recast-fits, combined-fits, chosen-fits, followed-fits, denied-fits, tested-fits}
-use Rattle.cs_well_formed.proofs.FittingObjects.{row_count, address_of-fits, through-fits, indexed-fits, selected-fits, selected_through-fits, stepped-fits, stored-fits, call-fits, updatable-fits, left_side-fits}
+use Rattle.cs_well_formed.proofs.LiteralsAfter.{sized, sized-Enclosed, sized-Index, sized-Call, sized-Member, sized-Arrow, sized-StepAfter, sized-Infix}
+use Rattle.cs_well_formed.proofs.LiteralsAfter.{sized-Choice, sized-Assign, sized-Comma, sized-SizeOfType, sized-Cast, sized-commas, sized-listed}
+use Rattle.cs_well_formed.proofs.FittingValues.{Fits, if_fine-more, finished-fits, valued-fits, operand-fits, measured-fits, raised-fits, turned-fits}
+use Rattle.cs_well_formed.proofs.FittingValues.{recast-fits, combined-fits, chosen-fits, followed-fits, denied-fits, tested-fits}
+use Rattle.cs_well_formed.proofs.FittingObjects.{row_count, address_of-fits, through-fits, indexed-fits, selected-fits, selected_through-fits, stepped-fits}
+use Rattle.cs_well_formed.proofs.FittingObjects.{stored-fits, call-fits, updatable-fits, left_side-fits}
 
 -- the room that an expression has by its text
 abbrev pub room_of : RawExprKind → ℕ
@@ -51,11 +57,16 @@ module _ (Is : Place → Type 0) (c : Context) where
 
   pub value_in-fits : (room : ℕ) (purpose : Purpose) (v : Verdict Typed) → IfFine v (Fits Is room) → IfFine (value_in c purpose v) (Fits Is (room + 1))
   unfolding value_in
-  value_in-fits room purpose v h = lift-then (Fits Is room) (Fits Is (room + 1)) (valued c.table.list) (done c purpose v) (done-fits room purpose v h) (λ e. valued-fits Is c.table.list room e)
+  value_in-fits room purpose v h =
+      lift-then (Fits Is room) (Fits Is (room + 1)) (valued c.table.list) (done c purpose v) (done-fits room purpose v h)
+      (λ e. valued-fits Is c.table.list room e)
 
-  pub operand_in-fits : (room : ℕ) (purpose : Purpose) (v : Verdict Typed) → IfFine v (Fits Is room) → IfFine (operand_in c purpose v) (Fits Is (room + 1))
+  pub operand_in-fits : (room : ℕ) (purpose : Purpose) (v : Verdict Typed) → IfFine v (Fits Is room)
+      → IfFine (operand_in c purpose v) (Fits Is (room + 1))
   unfolding operand_in
-  operand_in-fits room purpose v h = lift-then (Fits Is room) (Fits Is (room + 1)) (operand c.table.list) (done c purpose v) (done-fits room purpose v h) (λ e. operand-fits Is c.table.list room e)
+  operand_in-fits room purpose v h =
+      lift-then (Fits Is room) (Fits Is (room + 1)) (operand c.table.list) (done c purpose v) (done-fits room purpose v h)
+      (λ e. operand-fits Is c.table.list room e)
 
   -- what stands at a place
   module _ (at : Place) (here : Is at) where
@@ -99,7 +110,8 @@ module _ (Is : Place → Type 0) (c : Context) where
         (λ v g. if_fine-more Is (room + 1 + 1) (room + 2) _ (recast-fits Is at here c.model (room + 1) v target (type_of v) g) (omega arith))
 
     -- a step
-    step-fits : (op : _) (gives : Gives) (room : ℕ) (v : Verdict Typed) → IfFine v (Fits Is room) → IfFine (lift (stepped_object c op gives at) (lift (updatable c.table.list op at) v)) (Fits Is (room + 2))
+    step-fits : (op : _) (gives : Gives) (room : ℕ) (v : Verdict Typed) → IfFine v (Fits Is room)
+        → IfFine (lift (stepped_object c op gives at) (lift (updatable c.table.list op at) v)) (Fits Is (room + 2))
     step-fits op gives room v h =
         lift-then (Fits Is room) (Fits Is (room + 2)) (stepped_object c op gives at) _
         (lift-then (Fits Is room) (Fits Is room) (updatable c.table.list op at) v h (λ e. updatable-fits Is c.table.list op at room e))
@@ -107,29 +119,37 @@ module _ (Is : Place → Type 0) (c : Context) where
 
     -- `sizeof`
     sized-fits : (v : Verdict Typed) → IfFine (lift (measured_type c at) v) (Fits Is 1)
-    sized-fits v = lift-then (λ _. Unit {0}) (Fits Is 1) (measured_type c at) v (if_fine-any v) (λ e _. measured-fits Is at here c.model c.table.list (type_of e))
+    sized-fits v = lift-then (λ _. Unit {0}) (Fits Is 1) (measured_type c at) v (if_fine-any v)
+        (λ e _. measured-fits Is at here c.model c.table.list (type_of e))
 
     sized_type-fits : (v : Verdict Shape) (w : Verdict (List ℤ)) → IfFine (lift2 (measured_arrays c at) v w) (Fits Is 1)
     unfolding measured_arrays
     sized_type-fits v w =
         lift2-then (λ _. Unit {0}) (λ _. Unit {0}) (Fits Is 1) (measured_arrays c at) v w (if_fine-any v) (if_fine-any w)
-        (λ base ns _ _. lift-then (λ _. Unit {0}) (Fits Is 1) (measured c.model c.table.list at) _ (if_fine-any (arrayed c.model c.table.list at base ns)) (λ ty _. measured-fits Is at here c.model c.table.list ty))
+        (λ base ns _ _.
+        lift-then (λ _. Unit {0}) (Fits Is 1) (measured c.model c.table.list at) _ (if_fine-any (arrayed c.model c.table.list at base ns))
+        (λ ty _. measured-fits Is at here c.model c.table.list ty))
 
   -- one more argument
-  further-fits : (m n : ℕ) (v : Verdict Typed) (w : Verdict TypedList) → IfFine v (Fits Is m) → IfFine w (λ vs. RowStandsAmong Is vs × (row_nodes vs + row_count vs ≤ n)) → IfFine (lift2 further v w) (λ vs. RowStandsAmong Is vs × (row_nodes vs + row_count vs ≤ m + n + 1))
+  further-fits : (m n : ℕ) (v : Verdict Typed) (w : Verdict TypedList) → IfFine v (Fits Is m)
+      → IfFine w (λ vs. RowStandsAmong Is vs × (row_nodes vs + row_count vs ≤ n))
+      → IfFine (lift2 further v w) (λ vs. RowStandsAmong Is vs × (row_nodes vs + row_count vs ≤ m + n + 1))
   further-fits m n v w one others =
-      lift2-then (Fits Is m) (λ vs. RowStandsAmong Is vs × (row_nodes vs + row_count vs ≤ n)) (λ vs. RowStandsAmong Is vs × (row_nodes vs + row_count vs ≤ m + n + 1)) further v w one others
+      lift2-then (Fits Is m) (λ vs. RowStandsAmong Is vs × (row_nodes vs + row_count vs ≤ n))
+      (λ vs. RowStandsAmong Is vs × (row_nodes vs + row_count vs ≤ m + n + 1)) further v w one others
       (λ e es h k. let small : row_nodes es + row_count es ≤ n = k.1 in ((h.stands, k.0), omega (arith, h.nodes, small)))
 
   mutual
     -- an expression, for any purpose and any target
-    pub formed-fits : (purpose : Purpose) (literals : Literals) (target : Option Shape) (at : Place) (k : RawExprKind) → WrittenAmong Is at k → IfFine (formed c purpose literals target at k) (Fits Is (room_of k))
+    pub formed-fits : (purpose : Purpose) (literals : Literals) (target : Option Shape) (at : Place) (k : RawExprKind) → WrittenAmong Is at k
+        → IfFine (formed c purpose literals target at k) (Fits Is (room_of k))
     formed-fits purpose literals target at (kind.Name name) h = if_fine-more Is 1 _ _ (named-fits at h (newest name c.scope.declarations)) (omega arith)
     formed-fits purpose literals target at (kind.Number k) h = record { stands = (h, tt); nodes = omega arith }
     formed-fits purpose literals target at (kind.Character n) h = record { stands = (h, tt); nodes = omega arith }
     formed-fits purpose literals target at (kind.Text bytes) h = if_fine-more Is 1 _ _ (text-fits at h literals bytes) (omega arith)
     formed-fits purpose literals target at (kind.Parenthesis' place p inner) h =
-        if_fine-more Is (room_of inner) _ _ (done-fits (room_of inner) purpose _ (formed-fits purpose literals target place inner h.1)) (omega (arith, sized-Enclosed (written_kind inner)))
+        if_fine-more Is (room_of inner) _ _ (done-fits (room_of inner) purpose _ (formed-fits purpose literals target place inner h.1))
+        (omega (arith, sized-Enclosed (written_kind inner)))
     formed-fits purpose literals target at (kind.Index' place p left place' q right) h =
         if_fine-more Is (room_of left + 1 + (room_of right + 1) + 1) _ _
         (lift2-then (Fits Is (room_of left + 1)) (Fits Is (room_of right + 1)) (Fits Is (room_of left + 1 + (room_of right + 1) + 1)) (indexed_values c at) _ _
@@ -159,11 +179,13 @@ module _ (Is : Place → Type 0) (c : Context) where
         (omega (arith, sized-Arrow (written_kind e) name.name))
     formed-fits purpose literals target at (kind.StepAfter' step place p object) h =
         if_fine-more Is (room_of object + 2) _ _
-        (step-fits at h.0 (step_operator step) Old (room_of object) _ (done-fits (room_of object) purpose _ (formed-fits purpose literals None place object h.1)))
+        (step-fits at h.0 (step_operator step) Old (room_of object) _
+        (done-fits (room_of object) purpose _ (formed-fits purpose literals None place object h.1)))
         (omega (arith, sized-StepAfter step (written_kind object)))
     formed-fits purpose literals target at (kind.StepBefore' step place p object) h =
         if_fine-more Is (room_of object + 2) _ _
-        (step-fits at h.0 (step_operator step) New (room_of object) _ (done-fits (room_of object) purpose _ (formed-fits purpose literals None place object h.1)))
+        (step-fits at h.0 (step_operator step) New (room_of object) _
+        (done-fits (room_of object) purpose _ (formed-fits purpose literals None place object h.1)))
         (omega arith)
     formed-fits purpose literals target at (kind.Prefix' operator place p e) h =
         if_fine-more Is (room_of e + 3) _ _
@@ -184,21 +206,25 @@ module _ (Is : Place → Type 0) (c : Context) where
     formed-fits purpose literals target at (kind.Infix' operator place p left place' q right) h =
         let one = operand_in c purpose (formed c purpose literals None place left) in
         if_fine-more Is (room_of left + 1 + (room_of right + 1) + 3) _ _
-        (lift2-then (Fits Is (room_of left + 1)) (Fits Is (room_of right + 1)) (Fits Is (room_of left + 1 + (room_of right + 1) + 3)) (combined c.model c.table.list operator at) _ _
+        (lift2-then (Fits Is (room_of left + 1)) (Fits Is (room_of right + 1)) (Fits Is (room_of left + 1 + (room_of right + 1) + 3))
+        (combined c.model c.table.list operator at) _ _
         (operand_in-fits (room_of left) purpose _ (formed-fits purpose literals None place left h.1))
-        (operand_in-fits (room_of right) (purpose_after operator purpose one) _ (formed-fits (purpose_after operator purpose one) (literals_after literals left) None place' right h.2))
+        (operand_in-fits (room_of right) (purpose_after operator purpose one) _
+        (formed-fits (purpose_after operator purpose one) (literals_after literals left) None place' right h.2))
         (λ a b g k. combined-fits Is at h.0 (room_of left + 1) (room_of right + 1) a b g k c.model c.table.list operator))
         (omega (arith, sized-Infix operator (written_kind left) (written_kind right)))
     formed-fits purpose literals target at (kind.Choice' place p test place' q one place'' r other) h =
         let yields = lift (tested at) (operand_in c purpose (formed c purpose literals None place test)) in
         let following = literals_after literals test in
         if_fine-more Is (room_of test + 1 + (room_of one + 1) + (room_of other + 1) + 3) _ _
-        (lift3-then (Fits Is (room_of test + 1)) (Fits Is (room_of one + 1)) (Fits Is (room_of other + 1)) (Fits Is (room_of test + 1 + (room_of one + 1) + (room_of other + 1) + 3)) (chosen_values c at) _ _ _
+        (lift3-then (Fits Is (room_of test + 1)) (Fits Is (room_of one + 1)) (Fits Is (room_of other + 1))
+        (Fits Is (room_of test + 1 + (room_of one + 1) + (room_of other + 1) + 3)) (chosen_values c at) _ _ _
         (lift-then (Fits Is (room_of test + 1)) (Fits Is (room_of test + 1)) (tested at) _
         (operand_in-fits (room_of test) purpose _ (formed-fits purpose literals None place test h.1))
         (λ v. tested-fits Is at (room_of test + 1) v))
         (value_in-fits (room_of one) (purpose_if true purpose yields) _ (formed-fits (purpose_if true purpose yields) following None place' one h.2))
-        (value_in-fits (room_of other) (purpose_if false purpose yields) _ (formed-fits (purpose_if false purpose yields) (literals_after following one) None place'' other h.3))
+        (value_in-fits (room_of other) (purpose_if false purpose yields) _
+        (formed-fits (purpose_if false purpose yields) (literals_after following one) None place'' other h.3))
         (λ t a b g k l. chosen-fits Is at h.0 (room_of one + 1) (room_of other + 1) a b k l c.model (room_of test + 1) t (type_of a) (type_of b) g))
         (omega (arith, sized-Choice (written_kind test) (written_kind one) (written_kind other)))
     formed-fits purpose literals target at (kind.Assign' operator place p object place' q value) h =
@@ -220,13 +246,17 @@ module _ (Is : Place → Type 0) (c : Context) where
         (omega (arith, sized-Comma (written_kind first) (written_kind second)))
 
     -- the values of arguments
-    arguments-fit : (purpose : Purpose) (literals : Literals) (types : List Shape) {n : _} (row : Row_of-RawExpr n) → RowAmong Is row → IfFine (arguments_formed c purpose literals types row) (λ vs. RowStandsAmong Is vs × (row_nodes vs + row_count vs ≤ 5 * size_of (after_commas (written_row row))))
+    arguments-fit : (purpose : Purpose) (literals : Literals) (types : List Shape) {n : _} (row : Row_of-RawExpr n) → RowAmong Is row
+        → IfFine (arguments_formed c purpose literals types row)
+        (λ vs. RowStandsAmong Is vs × (row_nodes vs + row_count vs ≤ 5 * size_of (after_commas (written_row row))))
     arguments-fit purpose literals types end_of-RawExpr h = (tt, omega arith)
     arguments-fit purpose literals [] (more_of-RawExpr place p k rest) h = (tt, omega arith)
     arguments-fit purpose literals (ty ∷ types) (more_of-RawExpr place p k rest) h =
         let commas = size_of (after_commas (written_row rest)) in
-        if_fine-weaker (λ vs. RowStandsAmong Is vs × (row_nodes vs + row_count vs ≤ (room_of k + 1) + 5 * commas + 1)) (λ vs. RowStandsAmong Is vs × (row_nodes vs + row_count vs ≤ 5 * size_of (after_commas (written_row (more_of-RawExpr place p k rest))))) _
+        if_fine-weaker (λ vs. RowStandsAmong Is vs × (row_nodes vs + row_count vs ≤ (room_of k + 1) + 5 * commas + 1))
+        (λ vs. RowStandsAmong Is vs × (row_nodes vs + row_count vs ≤ 5 * size_of (after_commas (written_row (more_of-RawExpr place p k rest))))) _
         (further-fits (room_of k + 1) (5 * commas) _ _
         (operand_in-fits (room_of k) purpose _ (formed-fits purpose literals (Some ty) place k h.0))
         (arguments-fit purpose (literals_after literals k) types rest h.1))
-        (λ vs g. let small : row_nodes vs + row_count vs ≤ (room_of k + 1) + 5 * commas + 1 = g.1 in (g.0, omega (arith, small, sized-commas (written_kind k) (written_row rest))))
+        (λ vs g. let small : row_nodes vs + row_count vs ≤ (room_of k + 1) + 5 * commas + 1 = g.1 in
+        (g.0, omega (arith, small, sized-commas (written_kind k) (written_row rest))))

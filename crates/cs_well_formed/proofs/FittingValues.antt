@@ -31,7 +31,8 @@ use Rattle.cs_scopes.specs.Sizes.{bytes_in}
 use Rattle.cs_folding.specs.Folding.{is_null, number_in}
 use Rattle.cs_consts.specs.Constants.{constant_at, finished}
 use Rattle.cs_expressions.specs.Conversions.{null_at, pointed, pointed_from_integer, converted, pointer_cast, recast, Pair, pointers_met}
-use Rattle.cs_expressions.specs.Operators.{met, compared_pair, equated, ordered, moved, added, apart, subtracted, tested, denied, both_tested, combined, chosen_pair, alike, chosen, followed}
+use Rattle.cs_expressions.specs.Operators.{met, compared_pair, equated, ordered, moved, added, apart, subtracted, tested, denied, both_tested, combined}
+use Rattle.cs_expressions.specs.Operators.{chosen_pair, alike, chosen, followed}
 use Rattle.cs_well_formed.specs.Nodes.{expression_nodes}
 use Rattle.cs_well_formed.specs.Places.{StandsAmong}
 use Rattle.cs_well_formed.proofs.Verdicts.{IfFine, if_fine-weaker, lift-then, cond-then}
@@ -68,11 +69,13 @@ module _ (Is : Place → Type 0) where
       number-fits None = tt
 
   -- its value
-  load-fits : (table : List StructType) (room : ℕ) (at : Place) (e : Typed) (ty : Shape) → Is at → Fits Is room e → IfFine (cond (is_complete table ty) (Fine (Of at ty (Load e))) (Fault code.IncompleteType at)) (Fits Is (room + 1))
+  load-fits : (table : List StructType) (room : ℕ) (at : Place) (e : Typed) (ty : Shape) → Is at → Fits Is room e
+      → IfFine (cond (is_complete table ty) (Fine (Of at ty (Load e))) (Fault code.IncompleteType at)) (Fits Is (room + 1))
   load-fits table room at e ty is h =
       cond-then (Fits Is (room + 1)) (is_complete table ty) _ _ (λ _. record { stands = (is, h.stands); nodes = omega (arith, h.nodes) }) (λ _. tt)
 
-  held-fits : (table : List StructType) (room : ℕ) (at : Place) (e : Typed) (ty : Shape) → Is at → Fits Is room e → IfFine (held table at e ty) (Fits Is (room + 1))
+  held-fits : (table : List StructType) (room : ℕ) (at : Place) (e : Typed) (ty : Shape) → Is at → Fits Is room e
+      → IfFine (held table at e ty) (Fits Is (room + 1))
   unfolding held
   held-fits table room at e (array element count) is h = record { stands = (is, h.stands); nodes = omega (arith, h.nodes) }
   held-fits table room at e void is h = tt
@@ -121,12 +124,15 @@ module _ (Is : Place → Type 0) where
     raised-fits model room e (integer s) h = in_type-fits room (promoted model s) e h
     raised-fits model room e other h = tt
 
-    pub turned-fits : (model : DataModel) (op : UnOp) (room : ℕ) (e : Typed) (ty : Shape) → Fits Is room e → IfFine (turned model op at e ty) (Fits Is (room + 2))
+    pub turned-fits : (model : DataModel) (op : UnOp) (room : ℕ) (e : Typed) (ty : Shape) → Fits Is room e
+        → IfFine (turned model op at e ty) (Fits Is (room + 2))
     unfolding turned
-    turned-fits model op room e (integer s) h = let one = in_type-fits room (promoted model s) e h in record { stands = (here, one.stands); nodes = omega (arith, one.nodes) }
+    turned-fits model op room e (integer s) h = let one = in_type-fits room (promoted model s) e h in
+        record { stands = (here, one.stands); nodes = omega (arith, one.nodes) }
     turned-fits model op room e other h = tt
 
-    joined-fits : (model : DataModel) (op : BinOp) (m n : ℕ) (left right : Typed) (t u : Shape) → Fits Is m left → Fits Is n right → IfFine (joined model op at left right t u) (Fits Is (m + n + 3))
+    joined-fits : (model : DataModel) (op : BinOp) (m n : ℕ) (left right : Typed) (t u : Shape) → Fits Is m left → Fits Is n right
+        → IfFine (joined model op at left right t u) (Fits Is (m + n + 3))
     unfolding joined
     joined-fits model op m n left right (integer t) (integer u) h k =
         let one = in_type-fits m (common_type model t u) left h in
@@ -134,7 +140,8 @@ module _ (Is : Place → Type 0) where
         record { stands = (here, (one.stands, other.stands)); nodes = omega (arith, one.nodes, other.nodes) }
     joined-fits model op m n left right t u h k = tt
 
-    shifted-fits : (model : DataModel) (op : BinOp) (m n : ℕ) (left right : Typed) (t u : Shape) → Fits Is m left → Fits Is n right → IfFine (shifted model op at left right t u) (Fits Is (m + n + 3))
+    shifted-fits : (model : DataModel) (op : BinOp) (m n : ℕ) (left right : Typed) (t u : Shape) → Fits Is m left → Fits Is n right
+        → IfFine (shifted model op at left right t u) (Fits Is (m + n + 3))
     unfolding shifted
     shifted-fits model op m n left right (integer t) (integer u) h k =
         let one = in_type-fits m (promoted model t) left h in
@@ -142,7 +149,8 @@ module _ (Is : Place → Type 0) where
         record { stands = (here, (one.stands, other.stands)); nodes = omega (arith, one.nodes, other.nodes) }
     shifted-fits model op m n left right t u h k = tt
 
-    pointed-fits : (model : DataModel) (room : ℕ) (e : Typed) (target source : Shape) → Fits Is room e → IfFine (pointed model at e target source) (Fits Is (room + 1))
+    pointed-fits : (model : DataModel) (room : ℕ) (e : Typed) (target source : Shape) → Fits Is room e
+        → IfFine (pointed model at e target source) (Fits Is (room + 1))
     unfolding pointed
     pointed-fits model room e target source h =
         cond-then (Fits Is (room + 1)) (same_shape target source) _ _
@@ -155,7 +163,8 @@ module _ (Is : Place → Type 0) where
     from_integer-fits model room e target = cond-then (Fits Is (room + 1)) (is_null model e) _ _ (λ _. null-fits room target) (λ _. tt)
 
     -- a value that goes to a type as if by assignment
-    pub converted-fits : (model : DataModel) (room : ℕ) (e : Typed) (target source : Shape) → Fits Is room e → IfFine (converted model at e target source) (Fits Is (room + 1))
+    pub converted-fits : (model : DataModel) (room : ℕ) (e : Typed) (target source : Shape) → Fits Is room e
+        → IfFine (converted model at e target source) (Fits Is (room + 1))
     unfolding converted
     converted-fits model room e (integer t) (integer u) h = in_type-fits room t e h
     converted-fits model room e (integer t) (pointer u) h = tt
@@ -165,7 +174,8 @@ module _ (Is : Place → Type 0) where
         cond-then (Fits Is (room + 1)) (n == m) _ _ (λ _. fits-more room (room + 1) e (omega arith) h) (λ _. tt)
     converted-fits model room e target source h = tt
 
-    pointer_cast-fits : (model : DataModel) (room : ℕ) (e : Typed) (target source : Shape) → Fits Is room e → IfFine (pointer_cast model at e target source) (Fits Is (room + 1))
+    pointer_cast-fits : (model : DataModel) (room : ℕ) (e : Typed) (target source : Shape) → Fits Is room e
+        → IfFine (pointer_cast model at e target source) (Fits Is (room + 1))
     unfolding pointer_cast
     pointer_cast-fits model room e target source h =
         cond-then (Fits Is (room + 1)) (is_null model e) _ _
@@ -173,7 +183,8 @@ module _ (Is : Place → Type 0) where
         (λ _. cond-then (Fits Is (room + 1)) (same_shape target source || is_void target) _ _ (λ _. converts room e (pointer target) h) (λ _. tt))
 
     -- a cast
-    pub recast-fits : (model : DataModel) (room : ℕ) (e : Typed) (target source : Shape) → Fits Is room e → IfFine (recast model at e target source) (Fits Is (room + 1))
+    pub recast-fits : (model : DataModel) (room : ℕ) (e : Typed) (target source : Shape) → Fits Is room e
+        → IfFine (recast model at e target source) (Fits Is (room + 1))
     unfolding recast
     recast-fits model room e void source h = converts room e void h
     recast-fits model room e (integer t) (integer u) h = converts room e (integer t) h
@@ -211,7 +222,10 @@ module _ (Is : Place → Type 0) where
 
       met-fits : (model : DataModel) (t u : Shape) → IfFine (met model at left right t u) (FitTogether m n)
       unfolding met
-      met-fits model (integer t) (integer u) = record { left = in_type-fits m (common_type model t u) left h; right = in_type-fits n (common_type model t u) right k }
+      met-fits model (integer t) (integer u) = record {
+        left = in_type-fits m (common_type model t u) left h;
+        right = in_type-fits n (common_type model t u) right k;
+      }
       met-fits model (pointer t) (pointer u) = pointers_met-fits model t u
       met-fits model (pointer t) (integer u) =
           cond-then (FitTogether m n) (is_null model right) _ _ (λ _. record { left = left-as_is; right = null-fits n t }) (λ _. tt)
@@ -222,7 +236,8 @@ module _ (Is : Place → Type 0) where
       equated-fits : (model : DataModel) (op : CmpOp) → IfFine (equated model op at left right) (Fits Is (m + n + 3))
       unfolding equated
       equated-fits model op =
-          lift-then (FitTogether m n) (Fits Is (m + n + 3)) (compared_pair op at) (met model at left right (type_of left) (type_of right)) (met-fits model (type_of left) (type_of right))
+          lift-then (FitTogether m n) (Fits Is (m + n + 3)) (compared_pair op at) (met model at left right (type_of left) (type_of right))
+          (met-fits model (type_of left) (type_of right))
           (λ pair both. record { stands = (here, (both.left.stands, both.right.stands)); nodes = omega (arith, both.left.nodes, both.right.nodes) })
 
       ordered-fits : (model : DataModel) (op : CmpOp) (t u : Shape) → IfFine (ordered model op at left right t u) (Fits Is (m + n + 3))
@@ -232,18 +247,23 @@ module _ (Is : Place → Type 0) where
           let other = in_type-fits n (common_type model t u) right k in
           record { stands = (here, (one.stands, other.stands)); nodes = omega (arith, one.nodes, other.nodes) }
       ordered-fits model op (pointer t) (pointer u) =
-          cond-then (Fits Is (m + n + 3)) (same_shape t u) _ _ (λ _. record { stands = (here, (h.stands, k.stands)); nodes = omega (arith, h.nodes, k.nodes) }) (λ _. tt)
+          cond-then (Fits Is (m + n + 3)) (same_shape t u) _ _ (λ _. record { stands = (here, (h.stands, k.stands)); nodes = omega (arith, h.nodes, k.nodes) })
+          (λ _. tt)
       ordered-fits model op t u = tt
 
-      moved-fits : (table : List StructType) (target : Shape) (direction : Direction) (order : Order) → IfFine (moved table at left right target direction order) (Fits Is (m + n + 3))
+      moved-fits : (table : List StructType) (target : Shape) (direction : Direction) (order : Order)
+          → IfFine (moved table at left right target direction order) (Fits Is (m + n + 3))
       unfolding moved
       moved-fits table target direction order =
-          cond-then (Fits Is (m + n + 3)) (is_complete table target) _ _ (λ _. record { stands = (here, (h.stands, k.stands)); nodes = omega (arith, h.nodes, k.nodes) }) (λ _. tt)
+          cond-then (Fits Is (m + n + 3)) (is_complete table target) _ _
+          (λ _. record { stands = (here, (h.stands, k.stands)); nodes = omega (arith, h.nodes, k.nodes) }) (λ _. tt)
 
-      moved_back-fits : (table : List StructType) (target : Shape) (direction : Direction) (order : Order) → IfFine (moved table at right left target direction order) (Fits Is (m + n + 3))
+      moved_back-fits : (table : List StructType) (target : Shape) (direction : Direction) (order : Order)
+          → IfFine (moved table at right left target direction order) (Fits Is (m + n + 3))
       unfolding moved
       moved_back-fits table target direction order =
-          cond-then (Fits Is (m + n + 3)) (is_complete table target) _ _ (λ _. record { stands = (here, (k.stands, h.stands)); nodes = omega (arith, h.nodes, k.nodes) }) (λ _. tt)
+          cond-then (Fits Is (m + n + 3)) (is_complete table target) _ _
+          (λ _. record { stands = (here, (k.stands, h.stands)); nodes = omega (arith, h.nodes, k.nodes) }) (λ _. tt)
 
       added-fits : (model : DataModel) (table : List StructType) (t u : Shape) → IfFine (added model table at left right t u) (Fits Is (m + n + 3))
       unfolding added
@@ -256,7 +276,9 @@ module _ (Is : Place → Type 0) where
       unfolding apart
       apart-fits model table t u =
           cond-then (Fits Is (m + n + 3)) (same_shape t u) _ _
-          (λ _. cond-then (Fits Is (m + n + 3)) (is_complete table t) _ _ (λ _. record { stands = (here, (h.stands, k.stands)); nodes = omega (arith, h.nodes, k.nodes) }) (λ _. tt))
+          (λ _.
+          cond-then (Fits Is (m + n + 3)) (is_complete table t) _ _
+          (λ _. record { stands = (here, (h.stands, k.stands)); nodes = omega (arith, h.nodes, k.nodes) }) (λ _. tt))
           (λ _. tt)
 
       subtracted-fits : (model : DataModel) (table : List StructType) (t u : Shape) → IfFine (subtracted model table at left right t u) (Fits Is (m + n + 3))
@@ -304,13 +326,18 @@ module _ (Is : Place → Type 0) where
       combined-fits model table infix_op.Remainder = joined-fits model bin.Rem m n left right (type_of left) (type_of right) h k
 
       -- `?:` and `,`
-      pub chosen-fits : (model : DataModel) (room : ℕ) (test : Typed) (t u : Shape) → Fits Is room test → IfFine (chosen model at test left right t u) (Fits Is (room + m + n + 3))
+      pub chosen-fits : (model : DataModel) (room : ℕ) (test : Typed) (t u : Shape) → Fits Is room test
+          → IfFine (chosen model at test left right t u) (Fits Is (room + m + n + 3))
       unfolding chosen
       chosen-fits model room test t u tested =
           cond-then (Fits Is (room + m + n + 3)) (alike t u) _ _
           (λ _. record { stands = (here, (tested.stands, h.stands, k.stands)); nodes = omega (arith, tested.nodes, h.nodes, k.nodes) })
           (λ _. lift-then (FitTogether m n) (Fits Is (room + m + n + 3)) (chosen_pair at test) (met model at left right t u) (met-fits model t u)
-          (λ pair both. record { stands = (here, (tested.stands, both.left.stands, both.right.stands)); nodes = omega (arith, tested.nodes, both.left.nodes, both.right.nodes) }))
+          (λ pair both.
+          record {
+            stands = (here, (tested.stands, both.left.stands, both.right.stands));
+            nodes = omega (arith, tested.nodes, both.left.nodes, both.right.nodes);
+          }))
 
       pub followed-fits : IfFine (followed at left right) (Fits Is (m + n + 1))
       followed-fits = record { stands = (here, (h.stands, k.stands)); nodes = omega (arith, h.nodes, k.nodes) }

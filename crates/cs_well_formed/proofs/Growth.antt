@@ -10,7 +10,10 @@ use Rattle.cs_types.specs.Layout.{members_of}
 use Rattle.cs_types.specs.Members.{Member}
 use Rattle.cs_types.specs.Shape.{Shape, void, integer, pointer, array, struct}
 use Rattle.cs_ast.specs.declared.typed.operator.Allocator.TheVariants as allocator
-use Rattle.cs_ast.specs.TypedTree.{Typed, Of, Form, Number, Null, Text, Local, Global, Through, Index, Member as MemberOf, Arrow, Load, Address, Decay, Convert, Unary, Not, Binary, Compare, Sum, Difference, And, Or, Choice, Comma, Assign, Update, Move, Call, Allocate, Free, TypedList, NoMore, Further, Initial, Value, Parts, Bytes, Initials, NoPart, Part, Statement, Block, Declare, Run, If, IfElse, While, Do, For, Switch, Goto, Label, Break, Continue, Return, Statements, Empty, Then, count_of}
+use Rattle.cs_ast.specs.TypedTree.{Typed, Of, Form, Number, Null, Text, Local, Global, Through, Index, Member as MemberOf, Arrow, Load, Address, Decay, Convert}
+use Rattle.cs_ast.specs.TypedTree.{Unary, Not, Binary, Compare, Sum, Difference, And, Or, Choice, Comma, Assign, Update, Move, Call, Allocate, Free, TypedList}
+use Rattle.cs_ast.specs.TypedTree.{NoMore, Further, Initial, Value, Parts, Bytes, Initials, NoPart, Part, Statement, Block, Declare, Run, If, IfElse, While, Do}
+use Rattle.cs_ast.specs.TypedTree.{For, Switch, Goto, Label, Break, Continue, Return, Statements, Empty, Then, count_of}
 use Rattle.cs_ast.specs.TypedProgram.{TypedProgram, Variable, FileObject, Routine}
 use Rattle.cs_scopes.specs.declared.context.Context.{Context}
 use Rattle.cs_scopes.specs.declared.scope.Callee.{Callee}
@@ -18,7 +21,8 @@ use Rattle.cs_scopes.specs.declared.scope.Callee.TheVariants.{Malloc, Calloc, Fr
 use Rattle.cs_scopes.specs.Meanings.{Signature, Meaning, Typedef, Constant, Global as GlobalName, Local as LocalName, Function, Declaration}
 use Rattle.cs_folding.specs.TypedParts.{type_of}
 use Rattle.cs_well_formed.specs.Structs.{NamesStructs}
-use Rattle.cs_well_formed.specs.Expressions.{Setting, TypesAroundAreNamed, IsWell, IsWellForm, AreWell, IsWhole, IsHeld, IsElementPointer, HasMember, AreValuesOf, sizes_of}
+use Rattle.cs_well_formed.specs.Expressions.{Setting, TypesAroundAreNamed, IsWell, IsWellForm, AreWell, IsWhole, IsHeld, IsElementPointer, HasMember}
+use Rattle.cs_well_formed.specs.Expressions.{AreValuesOf, sizes_of}
 use Rattle.cs_well_formed.specs.Initials.{HasParts, IsWellInitial, AreWellParts, HasConstantValues}
 use Rattle.cs_well_formed.specs.Statements.{IsWellStatement, AreWellStatements, AreCases, IsDroppedIfAny, IsTestIfAny, IsReturned}
 use Rattle.cs_well_formed.specs.Programs.{setting_of, IsWellBody, IsWellRoutine, outside, IsWellGlobal}
@@ -34,7 +38,8 @@ module _ (s t : Setting) (grows : Grows s t) where
   IsWhole-grown (array element count) h = IsWhole-grown element h
   IsWhole-grown (struct number) h = by_members (members_of s.program.table number) refl h
     where
-      by_members : (found : Option (List Member)) → members_of s.program.table number ≡ found → is_some found ≡ true → is_some (members_of t.program.table number) ≡ true
+      by_members : (found : Option (List Member)) → members_of s.program.table number ≡ found → is_some found ≡ true
+          → is_some (members_of t.program.table number) ≡ true
       by_members (Some members) is there = ap is_some (grows.program.table.members number members is)
       by_members None is there = absurd cc
 
@@ -85,15 +90,22 @@ module _ (s t : Setting) (grows : Grows s t) where
     IsWellForm-grown (Binary op left right) ty h = (IsWell-grown left h.0, IsWell-grown right h.1, h.2, h.3, h.4)
     IsWellForm-grown (Compare op left right) ty h = (IsWell-grown left h.0, IsWell-grown right h.1, h.2, h.3, h.4)
     IsWellForm-grown (Sum e amount direction order) ty h = (IsWell-grown e h.0, IsWell-grown amount h.1, IsElementPointer-grown ty h.2, h.3, h.4)
-    IsWellForm-grown (Difference left right) ty h =
-        (IsWell-grown left h.0, IsWell-grown right h.1, h.2 ∙ ap (λ m. integer (difference_type_of m)) grows.program.model, IsElementPointer-grown (type_of left) h.3, h.4, h.5)
+    IsWellForm-grown (Difference left right) ty h = (
+      IsWell-grown left h.0,
+      IsWell-grown right h.1,
+      h.2 ∙ ap (λ m. integer (difference_type_of m)) grows.program.model,
+      IsElementPointer-grown (type_of left) h.3,
+      h.4,
+      h.5,
+    )
     IsWellForm-grown (And left right) ty h = (IsWell-grown left h.0, IsWell-grown right h.1, h.2, h.3, h.4)
     IsWellForm-grown (Or left right) ty h = (IsWell-grown left h.0, IsWell-grown right h.1, h.2, h.3, h.4)
     IsWellForm-grown (Choice test one other) ty h = (IsWell-grown test h.0, IsWell-grown one h.1, IsWell-grown other h.2, h.3, h.4, h.5)
     IsWellForm-grown (Comma first second) ty h = (IsWell-grown first h.0, IsWell-grown second h.1, h.2, h.3)
     IsWellForm-grown (Assign object value) ty h = (IsWell-grown object h.0, IsWell-grown value h.1, h.2, h.3, h.4, IsHeld-grown ty h.5)
     IsWellForm-grown (Update op object value works_in gives) ty h = (IsWell-grown object h.0, IsWell-grown value h.1, h.2, h.3, h.4, h.5)
-    IsWellForm-grown (Move object amount direction gives) ty h = (IsWell-grown object h.0, IsWell-grown amount h.1, h.2, IsElementPointer-grown ty h.3, h.4, h.5)
+    IsWellForm-grown (Move object amount direction gives) ty h =
+        (IsWell-grown object h.0, IsWell-grown amount h.1, h.2, IsElementPointer-grown ty h.3, h.4, h.5)
     IsWellForm-grown (Call number arguments) ty h =
         let found = grows.program.routines number h.1.0 h.1.1 in
         (AreWell-grown arguments h.0, (found.0, found.1, found.2 ∙ h.1.2, subst (AreValuesOf arguments) (sym found.3) h.1.3))
@@ -156,8 +168,12 @@ module _ (s t : Setting) (grows : Grows s t) where
     IsWellStatement-grown (Do at body test) h = (IsWell-grown test h.0, h.1, IsWellStatement-grown body h.2)
     IsWellStatement-grown (For at first test last body) h =
         (AreWellStatements-grown first h.0, IsTestIfAny-grown test h.1, IsDroppedIfAny-grown last h.2, IsWellStatement-grown body h.3)
-    IsWellStatement-grown (Switch at value cases statements) h =
-        (IsWell-grown value h.0, h.1, subst (λ m. AreCases m (type_of value) (count_of statements) cases) grows.program.model h.2, AreWellStatements-grown statements h.3)
+    IsWellStatement-grown (Switch at value cases statements) h = (
+      IsWell-grown value h.0,
+      h.1,
+      subst (λ m. AreCases m (type_of value) (count_of statements) cases) grows.program.model h.2,
+      AreWellStatements-grown statements h.3,
+    )
     IsWellStatement-grown (Goto at label) h = label-grown label h
     IsWellStatement-grown (Label at label body) h = (label-grown label h.0, IsWellStatement-grown body h.1)
     IsWellStatement-grown (Break at) h = tt
@@ -187,7 +203,8 @@ module _ (s t : Setting) (grows : Grows s t) where
   Agrees-grown c types h = record {
     model = h.model ∙ grows.program.model;
     table = keeps-trans c.table.list s.program.table t.program.table h.table grows.program.table;
-    declarations = All-weaker (λ (d : Declaration). IsThere s d.meaning) (λ (d : Declaration). IsThere t d.meaning) (λ d there. IsThere-grown d.meaning there) c.scope.declarations h.declarations;
+    declarations = All-weaker (λ (d : Declaration). IsThere s d.meaning) (λ (d : Declaration). IsThere t d.meaning)
+        (λ d there. IsThere-grown d.meaning there) c.scope.declarations h.declarations;
     named = h.named;
     types = types;
   }
@@ -233,7 +250,8 @@ IsWellGlobal-grown p q g h well =
     let grows = Grows-inside (outside p) q h in
     (IsWhole-grown (outside p) (outside q) grows g.ty well.0, first g.initial well.1, names-longer p.table q.table h.table.longer g.ty well.2)
   where
-    first : (i : Option Initial) → IfSome i (λ i. IsWellInitial (outside p) g.ty i × HasConstantValues p.model i) → IfSome i (λ i. IsWellInitial (outside q) g.ty i × HasConstantValues q.model i)
+    first : (i : Option Initial) → IfSome i (λ i. IsWellInitial (outside p) g.ty i × HasConstantValues p.model i)
+        → IfSome i (λ i. IsWellInitial (outside q) g.ty i × HasConstantValues q.model i)
     first None held = tt
     first (Some i) held = (IsWellInitial-grown (outside p) (outside q) (Grows-inside (outside p) q h) i g.ty held.0, HasConstantValues-grown p q i h held.1)
 
@@ -243,7 +261,8 @@ IsWellRoutine-grown p q r h well = record {
   returns = well.returns;
   parameters = well.parameters;
   passed = well.passed;
-  variables = All-weaker (λ (v : Variable). IsWhole p v.ty) (λ (v : Variable). IsWhole q v.ty) (λ v whole. IsWhole-grown (outside p) (outside q) (Grows-inside (outside p) q h) v.ty whole) r.variables well.variables;
+  variables = All-weaker (λ (v : Variable). IsWhole p v.ty) (λ (v : Variable). IsWhole q v.ty)
+      (λ v whole. IsWhole-grown (outside p) (outside q) (Grows-inside (outside p) q h) v.ty whole) r.variables well.variables;
   written = well.written;
   named = routine-longer p.table q.table h.table.longer r well.named;
   body = inside r.body well.body;

@@ -33,15 +33,18 @@ integer-value e ty v = (v.0, (ty, v.1))
 
 module _ (s : Setting) where
   -- an integer converted to a type
-  pub in_type-well : (at : Place) (ty : IntType) (e : Typed) → IsWell s e → IsIntegerValue e → IsWell s (in_type at ty e) × IsValueOf (in_type at ty e) (integer ty)
+  pub in_type-well : (at : Place) (ty : IntType) (e : Typed) → IsWell s e → IsIntegerValue e
+      → IsWell s (in_type at ty e) × IsValueOf (in_type at ty e) (integer ty)
   in_type-well at ty e well v = by_test (is_integer ty (type_of e)) refl
     where
-      by_test : (t : Bool) → is_integer ty (type_of e) ≡ t → IsWell s (cond t e (Of at (integer ty) (Convert e))) × IsValueOf (cond t e (Of at (integer ty) (Convert e))) (integer ty)
+      by_test : (t : Bool) → is_integer ty (type_of e) ≡ t
+          → IsWell s (cond t e (Of at (integer ty) (Convert e))) × IsValueOf (cond t e (Of at (integer ty) (Convert e))) (integer ty)
       by_test true is = (well, (v.0, sym (same_shape-true (integer ty) (type_of e) (sym (is_integer-same ty (type_of e)) ∙ is))))
       by_test false is = ((well, v.0, v.1), (refl, refl))
 
   module _ (model : DataModel) (at : Place) where
-    pub joined-well : (op : BinOp) (left right : Typed) (t u : Shape) → IsWell s left → IsValueOf left t → IsWell s right → IsValueOf right u → IfFine (joined model op at left right t u) (IsWell s)
+    pub joined-well : (op : BinOp) (left right : Typed) (t u : Shape) → IsWell s left → IsValueOf left t → IsWell s right → IsValueOf right u
+        → IfFine (joined model op at left right t u) (IsWell s)
     unfolding joined
     joined-well op left right (integer t) (integer u) w v w' v' =
         let one = in_type-well at _ left w (integer-value left t v) in
@@ -49,7 +52,8 @@ module _ (s : Setting) where
         (one.0, other.0, (_, refl), one.1, value-IsRight op _ _ other.1)
     joined-well op left right t u w v w' v' = tt
 
-    pub shifted-well : (op : BinOp) (left right : Typed) (t u : Shape) → ((ty : IntType) (e : Typed) → IsIntegerValue e → IsRight op (integer ty) e) → IsWell s left → IsValueOf left t → IsWell s right → IsValueOf right u → IfFine (shifted model op at left right t u) (IsWell s)
+    pub shifted-well : (op : BinOp) (left right : Typed) (t u : Shape) → ((ty : IntType) (e : Typed) → IsIntegerValue e → IsRight op (integer ty) e)
+        → IsWell s left → IsValueOf left t → IsWell s right → IsValueOf right u → IfFine (shifted model op at left right t u) (IsWell s)
     unfolding shifted
     shifted-well op left right (integer t) (integer u) shifts w v w' v' =
         let one = in_type-well at _ left w (integer-value left t v) in

@@ -1,12 +1,14 @@
 -- Where labels are numbered as they stand, each number below their count is one of a label: for jumps.
 use Rattle.std.proofs.Common.{◌≡◌, ℕ, suc, ◌+◌, ◌≤◌, ◌<◌, ◌⊎◌, inl, inr, arith}
 use Rattle.std.proofs.lemmas.Bool.{cases_lt, cases_eq}
-use Rattle.cs_ast.specs.TypedTree.{Statement, Block, Declare, Run, If, IfElse, While, Do, For, Switch, Goto, Label, Break, Continue, Return, Statements, Empty, Then}
+use Rattle.cs_ast.specs.TypedTree.{Statement, Block, Declare, Run, If, IfElse, While, Do, For, Switch, Goto, Label, Break, Continue, Return, Statements, Empty}
+use Rattle.cs_ast.specs.TypedTree.{Then}
 use Rattle.cs_well_formed.specs.Statements.{label_count, label_counts, AreNumbered, AllAreNumbered}
 use Rattle.cs_well_formed.specs.Landing.{HasLabel, SomeHasLabel, LabelsAreThere}
 
 -- a number lies in one of two parts
-in_parts : (A B : Type 0) (n low first others : ℕ) → low ≤ n → n < low + (first + others) → (n < low + first → A) → (low + first ≤ n → n < (low + first) + others → B) → A ⊎ B
+in_parts : (A B : Type 0) (n low first others : ℕ) → low ≤ n → n < low + (first + others) → (n < low + first → A)
+    → (low + first ≤ n → n < (low + first) + others → B) → A ⊎ B
 in_parts A B n low first others above below one other = by_part (cases_lt n (low + first))
   where
     by_part : (n < low + first) ⊎ (low + first ≤ n) → A ⊎ B
@@ -28,7 +30,8 @@ mutual
   in_statement (Do at body test) n low h above below = in_statement body n low h above below
   in_statement (For at first test last body) n low h above below = in_statement body n low h.1 above below
   in_statement (Switch at value cases statements) n low h above below = in_statements statements n low h above below
-  in_statement (Label at label body) n low h above below = by_number (cases_eq low n) (λ apart. in_statement body n (suc low) h.1 (omega (arith, above, apart)) (omega (arith, below)))
+  in_statement (Label at label body) n low h above below =
+      by_number (cases_eq low n) (λ apart. in_statement body n (suc low) h.1 (omega (arith, above, apart)) (omega (arith, below)))
     where
       by_number : (low ≡ n) ⊎ (low ≡ n → ⊥) → ((low ≡ n → ⊥) → HasLabel n body) → (label ≡ n) ⊎ HasLabel n body
       by_number (inl is) inner = let same : label ≡ n = cc in inl same

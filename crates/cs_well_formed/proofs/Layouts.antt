@@ -4,7 +4,8 @@ use Rattle.std.specs.Option.{option_map}
 use Rattle.std.proofs.lemmas.Option.{option_and_then_some}
 use Rattle.cs_types.specs.declared.data_model.DataModel.{DataModel}
 use Rattle.cs_types.specs.declared.structs.StructType.{StructType}
-use Rattle.cs_types.specs.Layout.{Layout, padded, side_by_side, offsets, layout_with, member_layouts, members_of, struct_layout, complete_count, layout_of, IsLaidOut}
+use Rattle.cs_types.specs.Layout.{Layout, padded, side_by_side, offsets, layout_with, member_layouts, members_of, struct_layout, complete_count, layout_of}
+use Rattle.cs_types.specs.Layout.{IsLaidOut}
 use Rattle.cs_types.specs.Members.{Member}
 use Rattle.cs_types.specs.Shape.{Shape, void, integer, pointer, array, struct}
 use Rattle.cs_types.specs.Kinds.{is_complete}
@@ -27,11 +28,13 @@ module _ (model : DataModel) (table : List StructType) where
   struct-complete : (depth number : ℕ) (l : Layout) → struct_layout model table depth number ≡ Some l → is_some (members_of table number) ≡ true
   struct-complete zero number l h = absurd cc
   struct-complete (suc depth) number l h =
-      option_and_then_some (λ ms. option_map (λ ls. padded (side_by_side 0 ls)) (member_layouts (layout_with model (struct_layout model table depth)) ms)) (members_of table number) l h
+      option_and_then_some (λ ms. option_map (λ ls. padded (side_by_side 0 ls)) (member_layouts (layout_with model (struct_layout model table depth)) ms))
+      (members_of table number) l h
       (λ ms is _. there (members_of table number) ms is)
 
   -- a type with a layout is complete
-  laid-complete : (depth : ℕ) (ty : Shape) (l : Layout) → layout_with model (struct_layout model table depth) ty ≡ Some l → is_complete table ty ≡ true
+  laid-complete : (depth : ℕ) (ty : Shape) (l : Layout) → layout_with model (struct_layout model table depth) ty ≡ Some l
+      → is_complete table ty ≡ true
   laid-complete depth void l h = absurd cc
   laid-complete depth (integer ty) l h = refl
   laid-complete depth (pointer target) l h = refl
@@ -40,16 +43,19 @@ module _ (model : DataModel) (table : List StructType) where
   laid-complete depth (struct number) l h = struct-complete depth number l h
 
 module _ (p : TypedProgram) where
-  each-whole : (depth : ℕ) (ms : List Member) (ls : List Layout) → member_layouts (layout_with p.model (struct_layout p.model p.table depth)) ms ≡ Some ls → AreWhole p (map (λ (m : Member). m.ty) ms)
+  each-whole : (depth : ℕ) (ms : List Member) (ls : List Layout) → member_layouts (layout_with p.model (struct_layout p.model p.table depth)) ms ≡ Some ls
+      → AreWhole p (map (λ (m : Member). m.ty) ms)
   each-whole depth [] ls h = tt
   each-whole depth (m ∷ ms) ls h =
-      option_and_then_some (λ first. option_map (λ rest. first ∷ rest) (member_layouts (layout_with p.model (struct_layout p.model p.table depth)) ms)) (layout_with p.model (struct_layout p.model p.table depth) m.ty) ls h
+      option_and_then_some (λ first. option_map (λ rest. first ∷ rest) (member_layouts (layout_with p.model (struct_layout p.model p.table depth)) ms))
+      (layout_with p.model (struct_layout p.model p.table depth) m.ty) ls h
       (λ first is rest.
       let found = option_map-there _ (member_layouts (layout_with p.model (struct_layout p.model p.table depth)) ms) ls rest in
       (laid-complete p.model p.table depth m.ty first is, each-whole depth ms found.0 found.1))
 
   -- the members of a struct
-  pub members-whole : (number : ℕ) (members : List Member) → IsLaidOut p.model p.table → members_of p.table number ≡ Some members → AreWhole p (map (λ (m : Member). m.ty) members)
+  pub members-whole : (number : ℕ) (members : List Member) → IsLaidOut p.model p.table → members_of p.table number ≡ Some members
+      → AreWhole p (map (λ (m : Member). m.ty) members)
   members-whole number members laid_out is =
       option_and_then_some (λ (laid : StructType). laid.members) (slice_get p.table number) members is
       (λ laid at has.

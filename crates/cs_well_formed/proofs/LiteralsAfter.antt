@@ -5,7 +5,8 @@ use Rattle.cs_ast.specs.declared.token.Punctuator.TheVariants as punctuator
 use Rattle.cs_ast.specs.declared.raw.expression.RawExprKind.{Row_of-RawExpr, end_of-RawExpr, more_of-RawExpr}
 use Rattle.cs_ast.specs.declared.raw.expression.RawExprKind.TheVariants as kind
 use Rattle.cs_ast.specs.RawView.{written_kind, written_row}
-use Rattle.cs_ast.specs.RawTree.{Written, WrittenList, Enclosed, Index, Call, Member, Arrow, StepAfter, SizeOfType, Cast, Infix, Choice, Assign, Comma, End, More}
+use Rattle.cs_ast.specs.RawTree.{Written, WrittenList, Enclosed, Index, Call, Member, Arrow, StepAfter, SizeOfType, Cast, Infix, Choice, Assign, Comma, End}
+use Rattle.cs_ast.specs.RawTree.{More}
 use Rattle.cs_grammar.specs.Punctuators.{step_punctuator, infix_punctuator, assign_punctuator}
 use Rattle.cs_grammar.specs.Text.{pointers_text, text, listed, after_commas, bounds_text}
 use Rattle.cs_expressions.specs.Primary.{Literals}
@@ -25,11 +26,19 @@ sized-Enclosed e = omega (arith, size-text e (token.Punctuator punctuator.CloseP
 
 pub sized-Index : (a n : Written) → sized (Index a n) ≡ sized a + sized n + 2
 sized-Index a n =
-    omega (arith, size-text a (token.Punctuator punctuator.OpenBracket ∷ text n (token.Punctuator punctuator.CloseBracket ∷ [])), size-text n (token.Punctuator punctuator.CloseBracket ∷ []))
+    omega (
+      arith,
+      size-text a (token.Punctuator punctuator.OpenBracket ∷ text n (token.Punctuator punctuator.CloseBracket ∷ [])),
+      size-text n (token.Punctuator punctuator.CloseBracket ∷ []),
+    )
 
 pub sized-Call : (f : Written) (es : WrittenList) → sized (Call f es) ≡ sized f + size_of (listed es) + 2
 sized-Call f es =
-    omega (arith, size-text f (token.Punctuator punctuator.OpenParenthesis ∷ listed es (token.Punctuator punctuator.CloseParenthesis ∷ [])), size-listed es (token.Punctuator punctuator.CloseParenthesis ∷ []))
+    omega (
+      arith,
+      size-text f (token.Punctuator punctuator.OpenParenthesis ∷ listed es (token.Punctuator punctuator.CloseParenthesis ∷ [])),
+      size-listed es (token.Punctuator punctuator.CloseParenthesis ∷ []),
+    )
 
 pub sized-Member : (e : Written) (name : List ℕ) → sized (Member e name) ≡ sized e + 2
 sized-Member e name = omega (arith, size-text e (token.Punctuator punctuator.Dot ∷ token.Name name ∷ []))
@@ -44,7 +53,11 @@ pub sized-Infix : (op : _) (l r : Written) → sized (Infix op l r) ≡ sized l 
 sized-Infix op l r = omega (arith, size-text l (token.Punctuator (infix_punctuator op) ∷ text r []))
 
 pub sized-Choice : (t l r : Written) → sized (Choice t l r) ≡ sized t + sized l + sized r + 2
-sized-Choice t l r = omega (arith, size-text t (token.Punctuator punctuator.Question ∷ text l (token.Punctuator punctuator.Colon ∷ text r [])), size-text l (token.Punctuator punctuator.Colon ∷ text r []))
+sized-Choice t l r = omega (
+  arith,
+  size-text t (token.Punctuator punctuator.Question ∷ text l (token.Punctuator punctuator.Colon ∷ text r [])),
+  size-text l (token.Punctuator punctuator.Colon ∷ text r []),
+)
 
 pub sized-Assign : (op : _) (l r : Written) → sized (Assign op l r) ≡ sized l + sized r + 1
 sized-Assign op l r = omega (arith, size-text l (token.Punctuator (assign_punctuator op) ∷ text r []))
@@ -54,11 +67,21 @@ sized-Comma l r = omega (arith, size-text l (token.Punctuator punctuator.Comma �
 
 pub sized-SizeOfType : (words : _) (pointers : _) (es : WrittenList) → size_of (bounds_text es) + 3 ≤ sized (SizeOfType words pointers es)
 sized-SizeOfType words pointers es =
-    omega (arith, size-words words (pointers_text pointers (bounds_text es (token.Punctuator punctuator.CloseParenthesis ∷ []))), size-pointers pointers (bounds_text es (token.Punctuator punctuator.CloseParenthesis ∷ [])), size-bounds es (token.Punctuator punctuator.CloseParenthesis ∷ []))
+    omega (
+      arith,
+      size-words words (pointers_text pointers (bounds_text es (token.Punctuator punctuator.CloseParenthesis ∷ []))),
+      size-pointers pointers (bounds_text es (token.Punctuator punctuator.CloseParenthesis ∷ [])),
+      size-bounds es (token.Punctuator punctuator.CloseParenthesis ∷ []),
+    )
 
 pub sized-Cast : (words : _) (pointers : _) (es : WrittenList) (e : Written) → sized e + 2 ≤ sized (Cast words pointers es e)
 sized-Cast words pointers es e =
-    omega (arith, size-words words (pointers_text pointers (bounds_text es (token.Punctuator punctuator.CloseParenthesis ∷ text e []))), size-pointers pointers (bounds_text es (token.Punctuator punctuator.CloseParenthesis ∷ text e [])), size-bounds es (token.Punctuator punctuator.CloseParenthesis ∷ text e []))
+    omega (
+      arith,
+      size-words words (pointers_text pointers (bounds_text es (token.Punctuator punctuator.CloseParenthesis ∷ text e []))),
+      size-pointers pointers (bounds_text es (token.Punctuator punctuator.CloseParenthesis ∷ text e [])),
+      size-bounds es (token.Punctuator punctuator.CloseParenthesis ∷ text e []),
+    )
 
 -- a row with commas before each, and without the first comma
 pub sized-commas : (e : Written) (es : WrittenList) → size_of (after_commas (More e es)) ≡ sized e + size_of (after_commas es) + 1
@@ -75,7 +98,8 @@ sized-bounds e es = omega (arith, size-text e (token.Punctuator punctuator.Close
 grows-self : (literals : Literals) (size : ℕ) → TextsGrow literals literals size
 grows-self literals size = record { no_fewer = omega arith; no_more = omega arith }
 
-grows-then : (one other following : Literals) (m n size : ℕ) → TextsGrow one other m → TextsGrow other following n → m + n ≤ size → TextsGrow one following size
+grows-then : (one other following : Literals) (m n size : ℕ) → TextsGrow one other m → TextsGrow other following n → m + n ≤ size
+    → TextsGrow one following size
 grows-then one other following m n size h g room = record { no_fewer = omega (arith, h.no_fewer, g.no_fewer); no_more = omega (arith, h.no_more, g.no_more) }
 
 grows-more : (literals following : Literals) (m size : ℕ) → TextsGrow literals following m → m ≤ size → TextsGrow literals following size
@@ -94,40 +118,54 @@ mutual
     where
       more : texts_nodes (literals ++ bytes ∷ []) ≡ texts_nodes literals + (length bytes + 1)
       more = omega (arith, all_nodes-append literal_nodes literals (bytes ∷ []))
-  literals-grow literals (kind.Parenthesis' place p e) = grows-more literals _ (sized (written_kind e)) _ (literals-grow literals e) (omega (arith, sized-Enclosed (written_kind e)))
+  literals-grow literals (kind.Parenthesis' place p e) =
+      grows-more literals _ (sized (written_kind e)) _ (literals-grow literals e) (omega (arith, sized-Enclosed (written_kind e)))
   literals-grow literals (kind.Index' place p left place' q right) =
-      grows-then literals (literals_after literals left) _ (sized (written_kind left)) (sized (written_kind right)) _ (literals-grow literals left) (literals-grow (literals_after literals left) right)
+      grows-then literals (literals_after literals left) _ (sized (written_kind left)) (sized (written_kind right)) _ (literals-grow literals left)
+      (literals-grow (literals_after literals left) right)
       (omega (arith, sized-Index (written_kind left) (written_kind right)))
   literals-grow literals (kind.Call' place p function shape row) =
-      grows-more literals _ (size_of (after_commas (written_row row))) _ (row-grows literals row) (omega (arith, sized-Call (written_kind function) (written_row row), sized-listed (written_row row)))
-  literals-grow literals (kind.Member' place p e name) = grows-more literals _ (sized (written_kind e)) _ (literals-grow literals e) (omega (arith, sized-Member (written_kind e) name.name))
-  literals-grow literals (kind.Arrow' place p e name) = grows-more literals _ (sized (written_kind e)) _ (literals-grow literals e) (omega (arith, sized-Arrow (written_kind e) name.name))
-  literals-grow literals (kind.StepAfter' step place p e) = grows-more literals _ (sized (written_kind e)) _ (literals-grow literals e) (omega (arith, sized-StepAfter step (written_kind e)))
+      grows-more literals _ (size_of (after_commas (written_row row))) _ (row-grows literals row)
+      (omega (arith, sized-Call (written_kind function) (written_row row), sized-listed (written_row row)))
+  literals-grow literals (kind.Member' place p e name) =
+      grows-more literals _ (sized (written_kind e)) _ (literals-grow literals e) (omega (arith, sized-Member (written_kind e) name.name))
+  literals-grow literals (kind.Arrow' place p e name) =
+      grows-more literals _ (sized (written_kind e)) _ (literals-grow literals e) (omega (arith, sized-Arrow (written_kind e) name.name))
+  literals-grow literals (kind.StepAfter' step place p e) =
+      grows-more literals _ (sized (written_kind e)) _ (literals-grow literals e) (omega (arith, sized-StepAfter step (written_kind e)))
   literals-grow literals (kind.StepBefore' step place p e) = grows-more literals _ (sized (written_kind e)) _ (literals-grow literals e) (omega arith)
   literals-grow literals (kind.Prefix' operator place p e) = grows-more literals _ (sized (written_kind e)) _ (literals-grow literals e) (omega arith)
   literals-grow literals (kind.SizeOf' place p e) = grows-more literals _ (sized (written_kind e)) _ (literals-grow literals e) (omega arith)
   literals-grow literals (kind.SizeOfType' ty shape row) =
-      grows-more literals _ (size_of (after_commas (written_row row))) _ (row-grows literals row) (omega (arith, listed-bounds (written_row row), sized-SizeOfType ty.words.items ty.pointers.items (written_row row)))
+      grows-more literals _ (size_of (after_commas (written_row row))) _ (row-grows literals row)
+      (omega (arith, listed-bounds (written_row row), sized-SizeOfType ty.words.items ty.pointers.items (written_row row)))
   literals-grow literals (kind.Cast' ty shape row place p e) =
-      grows-more literals _ (sized (written_kind e)) _ (literals-grow literals e) (omega (arith, sized-Cast ty.words.items ty.pointers.items (written_row row) (written_kind e)))
+      grows-more literals _ (sized (written_kind e)) _ (literals-grow literals e)
+      (omega (arith, sized-Cast ty.words.items ty.pointers.items (written_row row) (written_kind e)))
   literals-grow literals (kind.Infix' operator place p left place' q right) =
-      grows-then literals (literals_after literals left) _ (sized (written_kind left)) (sized (written_kind right)) _ (literals-grow literals left) (literals-grow (literals_after literals left) right)
+      grows-then literals (literals_after literals left) _ (sized (written_kind left)) (sized (written_kind right)) _ (literals-grow literals left)
+      (literals-grow (literals_after literals left) right)
       (omega (arith, sized-Infix operator (written_kind left) (written_kind right)))
   literals-grow literals (kind.Choice' place p test place' q one place'' r other) =
       let following = literals_after literals test in
       grows-then literals (literals_after following one) _ (sized (written_kind test) + sized (written_kind one)) (sized (written_kind other)) _
-      (grows-then literals following (literals_after following one) (sized (written_kind test)) (sized (written_kind one)) _ (literals-grow literals test) (literals-grow following one) (omega arith))
+      (grows-then literals following (literals_after following one) (sized (written_kind test)) (sized (written_kind one)) _ (literals-grow literals test)
+      (literals-grow following one) (omega arith))
       (literals-grow (literals_after following one) other)
       (omega (arith, sized-Choice (written_kind test) (written_kind one) (written_kind other)))
   literals-grow literals (kind.Assign' operator place p left place' q right) =
-      grows-then literals (literals_after literals left) _ (sized (written_kind left)) (sized (written_kind right)) _ (literals-grow literals left) (literals-grow (literals_after literals left) right)
+      grows-then literals (literals_after literals left) _ (sized (written_kind left)) (sized (written_kind right)) _ (literals-grow literals left)
+      (literals-grow (literals_after literals left) right)
       (omega (arith, sized-Assign operator (written_kind left) (written_kind right)))
   literals-grow literals (kind.Comma' place p left place' q right) =
-      grows-then literals (literals_after literals left) _ (sized (written_kind left)) (sized (written_kind right)) _ (literals-grow literals left) (literals-grow (literals_after literals left) right)
+      grows-then literals (literals_after literals left) _ (sized (written_kind left)) (sized (written_kind right)) _ (literals-grow literals left)
+      (literals-grow (literals_after literals left) right)
       (omega (arith, sized-Comma (written_kind left) (written_kind right)))
 
-  row-grows : (literals : Literals) {n : _} (row : Row_of-RawExpr n) → TextsGrow literals (literals_after_row literals row) (size_of (after_commas (written_row row)))
+  row-grows : (literals : Literals) {n : _} (row : Row_of-RawExpr n)
+      → TextsGrow literals (literals_after_row literals row) (size_of (after_commas (written_row row)))
   row-grows literals end_of-RawExpr = grows-self literals _
   row-grows literals (more_of-RawExpr place p k rest) =
-      grows-then literals (literals_after literals k) _ (sized (written_kind k)) (size_of (after_commas (written_row rest))) _ (literals-grow literals k) (row-grows (literals_after literals k) rest)
+      grows-then literals (literals_after literals k) _ (sized (written_kind k)) (size_of (after_commas (written_row rest))) _ (literals-grow literals k)
+      (row-grows (literals_after literals k) rest)
       (omega (arith, sized-commas (written_kind k) (written_row rest)))

@@ -1,5 +1,6 @@
 -- Names and string literals are well formed: the rules of names, and which literals stand before which.
-use Rattle.std.proofs.Common.{◌≡◌, ℕ, Bool, true, false, cond, List, [], ◌∷◌, ◌++◌, append_assoc, length, Option, Some, None, slice_get, refl, sym, ap, ◌∙◌}
+use Rattle.std.proofs.Common.{◌≡◌, ℕ, Bool, true, false, cond, List, [], ◌∷◌, ◌++◌, append_assoc, length, Option, Some, None, slice_get, refl}
+use Rattle.std.proofs.Common.{sym, ap, ◌∙◌}
 use Rattle.std.specs.Prelude.{nat_eq, nat_le, IfSome}
 use Rattle.std.specs.Option.{option_or}
 use Rattle.std.specs.List.{AllByRecursion}
@@ -39,7 +40,8 @@ mutual
   literals-begin literals (kind.Character value) = begins-self literals
   literals-begin literals (kind.Text bytes) = (bytes ∷ [], refl)
   literals-begin literals (kind.Parenthesis' place p inner) = literals-begin literals inner
-  literals-begin literals (kind.Index' place p left place' q right) = begins-trans _ _ _ (literals-begin literals left) (literals-begin (literals_after literals left) right)
+  literals-begin literals (kind.Index' place p left place' q right) =
+      begins-trans _ _ _ (literals-begin literals left) (literals-begin (literals_after literals left) right)
   literals-begin literals (kind.Call' place p function shape row) = literals-begin_row literals row
   literals-begin literals (kind.Member' place p object name) = literals-begin literals object
   literals-begin literals (kind.Arrow' place p e name) = literals-begin literals e
@@ -49,17 +51,21 @@ mutual
   literals-begin literals (kind.SizeOf' place p e) = literals-begin literals e
   literals-begin literals (kind.SizeOfType' ty shape row) = literals-begin_row literals row
   literals-begin literals (kind.Cast' ty shape row place p e) = literals-begin literals e
-  literals-begin literals (kind.Infix' operator place p left place' q right) = begins-trans _ _ _ (literals-begin literals left) (literals-begin (literals_after literals left) right)
+  literals-begin literals (kind.Infix' operator place p left place' q right) =
+      begins-trans _ _ _ (literals-begin literals left) (literals-begin (literals_after literals left) right)
   literals-begin literals (kind.Choice' place p test place' q one place'' r other) =
       begins-trans _ _ _ (literals-begin literals test)
       (begins-trans _ _ _ (literals-begin (literals_after literals test) one) (literals-begin (literals_after (literals_after literals test) one) other))
-  literals-begin literals (kind.Assign' operator place p object place' q value) = begins-trans _ _ _ (literals-begin literals object) (literals-begin (literals_after literals object) value)
-  literals-begin literals (kind.Comma' place p first place' q second) = begins-trans _ _ _ (literals-begin literals first) (literals-begin (literals_after literals first) second)
+  literals-begin literals (kind.Assign' operator place p object place' q value) =
+      begins-trans _ _ _ (literals-begin literals object) (literals-begin (literals_after literals object) value)
+  literals-begin literals (kind.Comma' place p first place' q second) =
+      begins-trans _ _ _ (literals-begin literals first) (literals-begin (literals_after literals first) second)
 
   -- the same of expressions in a row
   pub literals-begin_row : (literals : Literals) {n : _} (row : Row_of-RawExpr n) → Begins literals (literals_after_row literals row)
   literals-begin_row literals end_of-RawExpr = begins-self literals
-  literals-begin_row literals (more_of-RawExpr place p k rest) = begins-trans _ _ _ (literals-begin literals k) (literals-begin_row (literals_after literals k) rest)
+  literals-begin_row literals (more_of-RawExpr place p k rest) =
+      begins-trans _ _ _ (literals-begin literals k) (literals-begin_row (literals_after literals k) rest)
 
 -- the literals of a part are the first ones of the program, if those of the whole are
 pub first-part : (p : TypedProgram) (some all : Literals) → Begins some all → AreFirst p all → AreFirst p some
@@ -70,7 +76,8 @@ literal-found [] bytes rest = refl
 literal-found (first ∷ before) bytes rest = literal-found before bytes rest
 
 -- a string literal
-pub text-well : (s : Setting) (literals : Literals) (at : Place) (bytes : List ℕ) → AreFirst s.program (literals ++ bytes ∷ []) → IfFine (text_at literals at bytes) (IsWell s)
+pub text-well : (s : Setting) (literals : Literals) (at : Place) (bytes : List ℕ) → AreFirst s.program (literals ++ bytes ∷ [])
+    → IfFine (text_at literals at bytes) (IsWell s)
 unfolding text_at
 text-well s literals at bytes texts =
     cond-then (IsWell s) (nat_le (length bytes) 65535) _ _
@@ -85,7 +92,8 @@ cond_some-holds : {A : Type 0} (P : A → Type 0) (t : Bool) (x : A) → P x →
 cond_some-holds P true x h = h
 cond_some-holds P false x h = tt
 
-pub newest-holds : (P : Meaning → Type 0) (name : List ℕ) (ds : List Declaration) → AllByRecursion (λ (d : Declaration). P d.meaning) ds → IfSome (newest name ds) P
+pub newest-holds : (P : Meaning → Type 0) (name : List ℕ) (ds : List Declaration) → AllByRecursion (λ (d : Declaration). P d.meaning) ds
+    → IfSome (newest name ds) P
 newest-holds P name [] h = tt
 newest-holds P name (d ∷ ds) h =
     option_or-some P (newest name ds) _ (newest-holds P name ds h.1) (cond_some-holds P (pointwise nat_eq d.name name) d.meaning h.0)
@@ -93,7 +101,8 @@ newest-holds P name (d ∷ ds) h =
 module _ (s : Setting) (c : Context) (agrees : Agrees s c) where
   -- what a name stands for is there
   pub newest-there : (name : List ℕ) → IfSome (newest name c.scope.declarations) (IsThere s)
-  newest-there name = newest-holds (IsThere s) name c.scope.declarations (recursion_from_All (λ (d : Declaration). IsThere s d.meaning) c.scope.declarations agrees.declarations)
+  newest-there name = newest-holds (IsThere s) name c.scope.declarations
+      (recursion_from_All (λ (d : Declaration). IsThere s d.meaning) c.scope.declarations agrees.declarations)
 
   function_in-there : (m : Option Meaning) → IfSome m (IsThere s) → IfSome (function_in m) (λ f. IsFunction s.program f.callee f)
   function_in-there (Some (Function f)) h = h

@@ -5,11 +5,15 @@ use Rattle.std.specs.List.{All}
 use Rattle.std.proofs.lemmas.List.Elements.{All-nil, All-weaker}
 use Rattle.cs_types.specs.Members.{Member}
 use Rattle.cs_types.specs.Shape.{Shape, void, integer, pointer, array, struct}
-use Rattle.cs_ast.specs.TypedTree.{Typed, Of, Form, Number, Null, Text, Local, Global, Through, Index, Member as MemberOf, Arrow, Load, Address, Decay, Convert, Unary, Not, Binary, Compare, Sum, Difference, And, Or, Choice, Comma, Assign, Update, Move, Call, Allocate, Free, TypedList, NoMore, Further, Initial, Value, Parts, Bytes, Initials, NoPart, Part, Statement, Block, Declare, Run, If, IfElse, While, Do, For, Switch, Goto, Label, Break, Continue, Return, Statements, Empty, Then}
+use Rattle.cs_ast.specs.TypedTree.{Typed, Of, Form, Number, Null, Text, Local, Global, Through, Index, Member as MemberOf, Arrow, Load, Address, Decay, Convert}
+use Rattle.cs_ast.specs.TypedTree.{Unary, Not, Binary, Compare, Sum, Difference, And, Or, Choice, Comma, Assign, Update, Move, Call, Allocate, Free, TypedList}
+use Rattle.cs_ast.specs.TypedTree.{NoMore, Further, Initial, Value, Parts, Bytes, Initials, NoPart, Part, Statement, Block, Declare, Run, If, IfElse, While, Do}
+use Rattle.cs_ast.specs.TypedTree.{For, Switch, Goto, Label, Break, Continue, Return, Statements, Empty, Then}
 use Rattle.cs_ast.specs.TypedProgram.{TypedProgram, Variable, FileObject, Routine}
 use Rattle.cs_expressions.specs.Calls.{block_of}
 use Rattle.cs_folding.specs.TypedParts.{type_of}
-use Rattle.cs_well_formed.specs.Structs.{NamesStructs, ExpressionNames, PartsName, RowNames, InitialNames, InitialsName, StatementNames, StatementsName, HasNamedTypes, TypesAreNamed, AllTypesAreNamed}
+use Rattle.cs_well_formed.specs.Structs.{NamesStructs, ExpressionNames, PartsName, RowNames, InitialNames, InitialsName, StatementNames, StatementsName}
+use Rattle.cs_well_formed.specs.Structs.{HasNamedTypes, TypesAreNamed, AllTypesAreNamed}
 use Rattle.cs_well_formed.specs.Expressions.{Setting, TypesAroundAreNamed, IsWell, IsWellForm, AreWell, IsConverted, HasMember}
 use Rattle.cs_well_formed.specs.Initials.{IsWellInitial, AreWellParts, HasConstantValues}
 use Rattle.cs_well_formed.specs.Statements.{IsWellStatement, AreWellStatements, IsDroppedIfAny, IsTestIfAny, IsReturned}
@@ -31,7 +35,8 @@ module _ (s : Setting) (types : TypesAroundAreNamed s) where
   target-named : (ty : Shape) (e : Typed) → type_of e ≡ pointer ty → ExpressionNames s.program.table e → Names ty
   target-named ty e is h = as-type (pointer ty) e is h
 
-  element-named : (ty element : Shape) (count : _) (e : Typed) → ty ≡ pointer element → type_of e ≡ array element count → ExpressionNames s.program.table e → Names ty
+  element-named : (ty element : Shape) (count : _) (e : Typed) → ty ≡ pointer element → type_of e ≡ array element count
+      → ExpressionNames s.program.table e → Names ty
   element-named ty element count e is has h = named-as s.program.table ty (pointer element) is (as-type (array element count) e has h)
 
   member-named : (number offset : _) (ty : Shape) → HasMember s.program number offset ty → Names ty
@@ -63,7 +68,8 @@ module _ (s : Setting) (types : TypesAroundAreNamed s) where
   type-named (Local number) ty h parts =
       named-as s.program.table ty h.0.ty (sym h.2) (found-at (λ (v : Variable). NamesStructs s.program.table v.ty) s.variables number h.0 types.variables h.1)
   type-named (Global number) ty h parts =
-      named-as s.program.table ty h.0.ty (sym h.2) (found-at (λ (g : FileObject). NamesStructs s.program.table g.ty) s.program.globals number h.0 types.program.globals h.1)
+      named-as s.program.table ty h.0.ty (sym h.2)
+      (found-at (λ (g : FileObject). NamesStructs s.program.table g.ty) s.program.globals number h.0 types.program.globals h.1)
   type-named (Through e) ty h parts = target-named ty e h.1.1 parts
   type-named (Index elements number order) ty h parts = target-named ty elements h.2.1 parts.0
   type-named (MemberOf object offset) ty h parts = member-named h.2 offset ty h.4
@@ -86,7 +92,8 @@ module _ (s : Setting) (types : TypesAroundAreNamed s) where
   type-named (Update op object value works_in gives) ty h parts = as-type ty object h.4 parts.0
   type-named (Move object amount direction gives) ty h parts = as-type ty object h.4 parts.0
   type-named (Call number arguments) ty h parts =
-      named-as s.program.table ty h.1.0.returns (sym h.1.2) (found-at (HasNamedTypes s.program.table) s.program.routines number h.1.0 types.program.routines h.1.1).returns
+      named-as s.program.table ty h.1.0.returns (sym h.1.2)
+      (found-at (HasNamedTypes s.program.table) s.program.routines number h.1.0 types.program.routines h.1.1).returns
   type-named (Allocate a arguments element) ty h parts = h.5
   type-named (Free e) ty h parts = named-as s.program.table ty void h.1 tt
 
@@ -123,8 +130,10 @@ module _ (s : Setting) (types : TypesAroundAreNamed s) where
     parts-named (Update op object value works_in gives) ty h = (well-named object h.0, well-named value h.1)
     parts-named (Move object amount direction gives) ty h = (well-named object h.0, well-named amount h.1)
     parts-named (Call number arguments) ty h = row-named arguments h.0
-    parts-named (Allocate a arguments element) ty h =
-        (row-named arguments h.0, named-as s.program.table element (block_of h.2) h.4 (block-named h.2 (named-as s.program.table (pointer h.2) ty (sym h.3) h.5)))
+    parts-named (Allocate a arguments element) ty h = (
+      row-named arguments h.0,
+      named-as s.program.table element (block_of h.2) h.4 (block-named h.2 (named-as s.program.table (pointer h.2) ty (sym h.3) h.5)),
+    )
     parts-named (Free e) ty h = well-named e h.0
 
     row-named : (es : TypedList) → AreWell s es → RowNames s.program.table es
@@ -192,17 +201,22 @@ module _ (s : Setting) (types : TypesAroundAreNamed s) where
 pub program-named : (p : TypedProgram) → TypesAreNamed p → All (IsWellGlobal p) p.globals → All (IsWellRoutine p) p.routines → AllTypesAreNamed p
 program-named p types globals routines = record {
   declared = types;
-  globals = All-weaker (IsWellGlobal p) (λ (g : FileObject). IfSome g.initial (InitialNames p.table)) (λ g well. object g.ty g.initial well.1) p.globals globals;
-  routines = All-weaker (IsWellRoutine p) (λ (r : Routine). IfSome r.body (StatementNames p.table)) (λ r well. body r well.named r.body well.body) p.routines routines;
+  globals = All-weaker (IsWellGlobal p) (λ (g : FileObject). IfSome g.initial (InitialNames p.table)) (λ g well. object g.ty g.initial well.1) p.globals
+      globals;
+  routines = All-weaker (IsWellRoutine p) (λ (r : Routine). IfSome r.body (StatementNames p.table)) (λ r well. body r well.named r.body well.body) p.routines
+      routines;
 }
   where
-    object : (ty : Shape) (i : Option Initial) → IfSome i (λ i. IsWellInitial (outside p) ty i × HasConstantValues p.model i) → IfSome i (InitialNames p.table)
+    object : (ty : Shape) (i : Option Initial) → IfSome i (λ i. IsWellInitial (outside p) ty i × HasConstantValues p.model i)
+        → IfSome i (InitialNames p.table)
     object ty None h = tt
-    object ty (Some i) h = initial-named (outside p) (record { program = types; variables = All-nil (λ (v : Variable). NamesStructs p.table v.ty); returns = tt }) i ty h.0
+    object ty (Some i) h =
+        initial-named (outside p) (record { program = types; variables = All-nil (λ (v : Variable). NamesStructs p.table v.ty); returns = tt }) i ty h.0
 
     body : (r : Routine) → HasNamedTypes p.table r → (b : Option Statement) → IfSome b (IsWellBody p r) → IfSome b (StatementNames p.table)
     body r named None h = tt
-    body r named (Some b) h = statement-named (setting_of p r b) (record { program = types; variables = named.variables; returns = named.returns }) b h.statement
+    body r named (Some b) h = statement-named (setting_of p r b) (record { program = types; variables = named.variables; returns = named.returns }) b
+        h.statement
 
 pub expressions_are_named : ExpressionsAreNamed
 expressions_are_named s e types h = well-named s types e h

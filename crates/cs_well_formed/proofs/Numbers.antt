@@ -84,11 +84,13 @@ bytes_in-small model table (struct number) n h =
     option_and_then_some (λ (laid : StructType). limited laid.size) (complete_of table number) n h (λ laid _ is. limited-small laid.size n is)
 
 -- the first type with room for a number holds it, if the last one does
-first-InRange : (model : DataModel) (n : ℕ) (last : IntType) (types : List IntType) → InRange model last (pos n) → InRange model (first_with_room model n last types) (pos n)
+first-InRange : (model : DataModel) (n : ℕ) (last : IntType) (types : List IntType) → InRange model last (pos n)
+    → InRange model (first_with_room model n last types) (pos n)
 first-InRange model n last [] h = h
 first-InRange model n last (ty ∷ types) h = by_room (has_room model ty n) refl (first-InRange model n last types h)
   where
-    by_room : (room : Bool) → has_room model ty n ≡ room → InRange model (first_with_room model n last types) (pos n) → InRange model (cond room ty (first_with_room model n last types)) (pos n)
+    by_room : (room : Bool) → has_room model ty n ≡ room → InRange model (first_with_room model n last types) (pos n)
+        → InRange model (cond room ty (first_with_room model n last types)) (pos n)
     by_room true is rest = upto-InRange model ty n (under (greatest_of model ty) is)
       where
         under : (high : ℤ) → int_le (pos n) high ≡ true → pos n ≤ℤ high
@@ -106,7 +108,10 @@ constant-InRange model k h = by_suffix k.unsigned refl k.decimal refl
     widest_signed : k.value < 2 ^ 63 → InRange model LLong (pos k.value)
     widest_signed below = record { from_least = omega (arith, ints); to_greatest = omega (arith, ints) }
 
-    by_suffix : (unsigned : Bool) → k.unsigned ≡ unsigned → (decimal : Bool) → k.decimal ≡ decimal → InRange model (cond unsigned (first_with_room model k.value ULLong (unsigned_types k.length)) (cond decimal (first_with_room model k.value LLong (decimal_types k.length)) (first_with_room model k.value ULLong (other_types k.length)))) (pos k.value)
+    by_suffix : (unsigned : Bool) → k.unsigned ≡ unsigned → (decimal : Bool) → k.decimal ≡ decimal
+        → InRange model (cond unsigned (first_with_room model k.value ULLong (unsigned_types k.length))
+        (cond decimal (first_with_room model k.value LLong (decimal_types k.length)) (first_with_room model k.value ULLong (other_types k.length))))
+        (pos k.value)
     by_suffix true is decimal is' = first-InRange model k.value ULLong (unsigned_types k.length) widest
     by_suffix false is true is' = first-InRange model k.value LLong (decimal_types k.length) (widest_signed (h.fits_signed is' is))
     by_suffix false is false is' = first-InRange model k.value ULLong (other_types k.length) widest

@@ -28,17 +28,20 @@ module _ (s : Setting) (c : Context) (agrees : Agrees s c) where
   complete-IsWhole (array element count) h = complete-IsWhole element h
   complete-IsWhole (struct number) h = by_members (members_of c.table.list number) refl h
     where
-      by_members : (found : Option (List Member)) → members_of c.table.list number ≡ found → is_some found ≡ true → is_some (members_of s.program.table number) ≡ true
+      by_members : (found : Option (List Member)) → members_of c.table.list number ≡ found → is_some found ≡ true
+          → is_some (members_of s.program.table number) ≡ true
       by_members (Some members) is there = ap is_some (agrees.table.members number members is)
       by_members None is there = absurd cc
 
-  load-well : (at : Place) (e : Typed) (ty : Shape) → IsWell s e → IsObject e → HasType e ty → is_array ty ≡ false → IfFine (cond (is_complete c.table.list ty) (Fine (Of at ty (Load e))) (Fault code.IncompleteType at)) (λ v. IsWell s v × IsValue v)
+  load-well : (at : Place) (e : Typed) (ty : Shape) → IsWell s e → IsObject e → HasType e ty → is_array ty ≡ false
+      → IfFine (cond (is_complete c.table.list ty) (Fine (Of at ty (Load e))) (Fault code.IncompleteType at)) (λ v. IsWell s v × IsValue v)
   load-well at e ty well object is flat =
       cond-then (λ v. IsWell s v × IsValue v) (is_complete c.table.list ty) _ _
       (λ whole. ((well, object, is, (complete-IsWhole ty whole, flat)), refl))
       (λ _. tt)
 
-  held-well : (at : Place) (e : Typed) (ty : Shape) → IsWell s e → IsObject e → HasType e ty → IfFine (held c.table.list at e ty) (λ v. IsWell s v × IsValue v)
+  held-well : (at : Place) (e : Typed) (ty : Shape) → IsWell s e → IsObject e → HasType e ty
+      → IfFine (held c.table.list at e ty) (λ v. IsWell s v × IsValue v)
   unfolding held
   held-well at e (array element count) well object is = ((well, object, element, count, is, refl), refl)
   held-well at e void well object is = tt
@@ -58,7 +61,8 @@ module _ (s : Setting) (c : Context) (agrees : Agrees s c) where
   unfolding operand
   operand-well (Of at ty form) well = cond-then (λ v. IsWell s v × IsValue v) (is_void ty) _ _ (λ _. tt) (λ _. valued-well (Of at ty form) well)
 
-  measure-well : (at : Place) (bytes : Option ℕ) → ((n : ℕ) → bytes ≡ Some n → InRange s.program.model (size_type_of c.model) (pos n)) → IfFine (measure_of c.model at bytes) (IsWell s)
+  measure-well : (at : Place) (bytes : Option ℕ) → ((n : ℕ) → bytes ≡ Some n → InRange s.program.model (size_type_of c.model) (pos n))
+      → IfFine (measure_of c.model at bytes) (IsWell s)
   measure-well at (Some n) small = (_, refl, small n refl)
   measure-well at None small = tt
 
@@ -67,5 +71,7 @@ module _ (s : Setting) (c : Context) (agrees : Agrees s c) where
   unfolding measured
   measured-well at ty =
       cond-then (IsWell s) (is_complete c.table.list ty) _ _
-      (λ _. measure-well at (bytes_in c.model c.table.list ty) (λ n is. subst (λ m. InRange m (size_type_of c.model) (pos n)) agrees.model (size-InRange c.model n (bytes_in-small c.model c.table.list ty n is))))
+      (λ _.
+      measure-well at (bytes_in c.model c.table.list ty) (λ n is.
+      subst (λ m. InRange m (size_type_of c.model) (pos n)) agrees.model (size-InRange c.model n (bytes_in-small c.model c.table.list ty n is))))
       (λ _. tt)

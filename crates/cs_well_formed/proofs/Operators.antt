@@ -20,7 +20,8 @@ use Rattle.cs_ast.specs.TypedTree.{Typed, Form, And, Or}
 use Rattle.cs_scopes.specs.declared.context.Context.{Context}
 use Rattle.cs_folding.specs.TypedParts.{type_of}
 use Rattle.cs_types.specs.Kinds.{is_scalar, is_complete}
-use Rattle.cs_expressions.specs.Operators.{int_at, compared_pair, equated, ordered, moved, added, apart, subtracted, tested, denied, both_tested, combined, chosen_pair, alike, chosen, followed}
+use Rattle.cs_expressions.specs.Operators.{int_at, compared_pair, equated, ordered, moved, added, apart, subtracted, tested, denied, both_tested, combined}
+use Rattle.cs_expressions.specs.Operators.{chosen_pair, alike, chosen, followed}
 use Rattle.cs_well_formed.specs.Structs.{NamesStructs}
 use Rattle.cs_well_formed.specs.Expressions.{Setting, TypesAroundAreNamed, IsWell, IsValue, IsValueOf, IsScalar, IsScalarValue}
 use Rattle.cs_well_formed.specs.Agreement.{Agrees}
@@ -56,26 +57,33 @@ module _ (s : Setting) where
   -- a value that is tested
   pub tested-well : (at : Place) (e : Typed) → IsWell s e → IsValue e → IfFine (tested at e) (λ v. IsWell s v × IsScalarValue v)
   unfolding tested
-  tested-well at e well v = cond-then (λ r. IsWell s r × IsScalarValue r) (is_scalar (type_of e)) _ _ (λ h. (well, (v, scalar-true (type_of e) h))) (λ _. tt)
+  tested-well at e well v = cond-then (λ r. IsWell s r × IsScalarValue r) (is_scalar (type_of e)) _ _ (λ h. (well, (v, scalar-true (type_of e) h)))
+      (λ _. tt)
 
   pub denied-well : (at : Place) (e : Typed) → IsWell s e → IsValue e → IfFine (denied at e) (IsWell s)
   unfolding denied
   denied-well at e well v = cond-then (IsWell s) (is_scalar (type_of e)) _ _ (λ h. (well, refl, (v, scalar-true (type_of e) h))) (λ _. tt)
 
-  both_tested-well : (at : Place) (left right : Typed) (form : Form) → IsValue left → IsValue right → (IsScalarValue left → IsScalarValue right → IsWell s (int_at at form)) → IfFine (both_tested at left right form) (IsWell s)
+  both_tested-well : (at : Place) (left right : Typed) (form : Form) → IsValue left → IsValue right
+      → (IsScalarValue left → IsScalarValue right → IsWell s (int_at at form)) → IfFine (both_tested at left right form) (IsWell s)
   unfolding both_tested
   both_tested-well at left right form v v' well =
       cond-then (IsWell s) (is_scalar (type_of left) && is_scalar (type_of right)) _ _
-      (λ h. let both = both_true (is_scalar (type_of left)) (is_scalar (type_of right)) h in well (v, scalar-true (type_of left) both.0) (v', scalar-true (type_of right) both.1))
+      (λ h. let both = both_true (is_scalar (type_of left)) (is_scalar (type_of right)) h in
+      well (v, scalar-true (type_of left) both.0) (v', scalar-true (type_of right) both.1))
       (λ _. tt)
 
-  equated-well : (model : DataModel) (op : CmpOp) (at : Place) (left right : Typed) → TypesAroundAreNamed s → IsWell s left → IsValue left → IsWell s right → IsValue right → IfFine (equated model op at left right) (IsWell s)
+  equated-well : (model : DataModel) (op : CmpOp) (at : Place) (left right : Typed) → TypesAroundAreNamed s → IsWell s left → IsValue left
+      → IsWell s right → IsValue right → IfFine (equated model op at left right) (IsWell s)
   unfolding equated
   equated-well model op at left right types w v w' v' =
-      lift-then (AreMet s) (IsWell s) (compared_pair op at) _ (met-well s model at left right (type_of left) (type_of right) (type_of-named s types left w) (type_of-named s types right w') w (v, refl) w' (v', refl))
+      lift-then (AreMet s) (IsWell s) (compared_pair op at) _
+      (met-well s model at left right (type_of left) (type_of right) (type_of-named s types left w) (type_of-named s types right w') w (v, refl) w'
+      (v', refl))
       (λ pair both. (both.left, both.right, refl, both.scalar, both.same))
 
-  ordered-well : (model : DataModel) (op : CmpOp) (at : Place) (left right : Typed) (t u : Shape) → IsWell s left → IsValueOf left t → IsWell s right → IsValueOf right u → IfFine (ordered model op at left right t u) (IsWell s)
+  ordered-well : (model : DataModel) (op : CmpOp) (at : Place) (left right : Typed) (t u : Shape) → IsWell s left → IsValueOf left t → IsWell s right
+      → IsValueOf right u → IfFine (ordered model op at left right t u) (IsWell s)
   unfolding ordered
   ordered-well model op at left right (integer t) (integer u) w v w' v' =
       let one = in_type-well s at (common_type model t u) left w (integer-value left t v) in
@@ -88,7 +96,8 @@ module _ (s : Setting) where
   ordered-well model op at left right t u w v w' v' = tt
 
   -- a choice between two values
-  pub chosen-well : (model : DataModel) (at : Place) (test one other : Typed) (t u : Shape) → NamesStructs s.program.table t → NamesStructs s.program.table u → IsWell s test → IsScalarValue test → IsWell s one → IsValueOf one t →
+  pub chosen-well : (model : DataModel) (at : Place) (test one other : Typed) (t u : Shape) → NamesStructs s.program.table t
+      → NamesStructs s.program.table u → IsWell s test → IsScalarValue test → IsWell s one → IsValueOf one t →
       IsWell s other → IsValueOf other u → IfFine (chosen model at test one other t u) (IsWell s)
   unfolding chosen
   chosen-well model at test one other t u names names' yields scalar w v w' v' =
@@ -97,35 +106,48 @@ module _ (s : Setting) where
       (λ _. lift-then (AreMet s) (IsWell s) (chosen_pair at test) _ (met-well s model at one other t u names names' w v w' v')
       (λ pair both. (yields, both.left, both.right, scalar, (both.scalar.0, refl), both.same)))
 
-  pub followed-well : (at : Place) (first second : Typed) → IsWell s first → IsValue first → IsWell s second → IsValue second → IfFine (followed at first second) (IsWell s)
+  pub followed-well : (at : Place) (first second : Typed) → IsWell s first → IsValue first → IsWell s second → IsValue second
+      → IfFine (followed at first second) (IsWell s)
   followed-well at first second w v w' v' = (w, w', v, (v', refl))
 
 module _ (s : Setting) (c : Context) (agrees : Agrees s c) where
   -- a pointer that moves by elements
-  moved-well : (at : Place) (e amount : Typed) (target : Shape) (ty : IntType) (direction : Direction) (order : Order) → IsWell s e → IsValueOf e (pointer target) → IsWell s amount → IsValueOf amount (integer ty) → IfFine (moved c.table.list at e amount target direction order) (IsWell s)
+  moved-well : (at : Place) (e amount : Typed) (target : Shape) (ty : IntType) (direction : Direction) (order : Order) → IsWell s e
+      → IsValueOf e (pointer target) → IsWell s amount → IsValueOf amount (integer ty)
+      → IfFine (moved c.table.list at e amount target direction order) (IsWell s)
   unfolding moved
   moved-well at e amount target ty direction order w v w' v' =
       cond-then (IsWell s) (is_complete c.table.list target) _ _
       (λ h. (w, w', (target, refl, complete-IsWhole s c agrees target h), v, (v'.0, (ty, v'.1))))
       (λ _. tt)
 
-  added-well : (at : Place) (left right : Typed) (t u : Shape) → IsWell s left → IsValueOf left t → IsWell s right → IsValueOf right u → IfFine (added c.model c.table.list at left right t u) (IsWell s)
+  added-well : (at : Place) (left right : Typed) (t u : Shape) → IsWell s left → IsValueOf left t → IsWell s right → IsValueOf right u
+      → IfFine (added c.model c.table.list at left right t u) (IsWell s)
   unfolding added
   added-well at left right (integer t) (integer u) w v w' v' = joined-well s c.model at bin.Add left right (integer t) (integer u) w v w' v'
   added-well at left right (pointer t) (integer u) w v w' v' = moved-well at left right t u Forward PointerFirst w v w' v'
   added-well at left right (integer t) (pointer u) w v w' v' = moved-well at right left u t Forward AmountFirst w' v' w v
   added-well at left right t u w v w' v' = tt
 
-  apart-well : (at : Place) (left right : Typed) (t u : Shape) → IsWell s left → IsValueOf left (pointer t) → IsWell s right → IsValueOf right (pointer u) → IfFine (apart c.model c.table.list at left right t u) (IsWell s)
+  apart-well : (at : Place) (left right : Typed) (t u : Shape) → IsWell s left → IsValueOf left (pointer t) → IsWell s right
+      → IsValueOf right (pointer u) → IfFine (apart c.model c.table.list at left right t u) (IsWell s)
   unfolding apart
   apart-well at left right t u w v w' v' =
       cond-then (IsWell s) (same_shape t u) _ _
       (λ h. cond-then (IsWell s) (is_complete c.table.list t) _ _
-      (λ h'. (w, w', ap (λ m. integer (difference_type_of m)) agrees.model, (t, v.1, complete-IsWhole s c agrees t h'), v.0, (v'.0, v'.1 ∙ ap pointer (sym (same_shape-true t u h)) ∙ sym v.1)))
+      (λ h'. (
+        w,
+        w',
+        ap (λ m. integer (difference_type_of m)) agrees.model,
+        (t, v.1, complete-IsWhole s c agrees t h'),
+        v.0,
+        (v'.0, v'.1 ∙ ap pointer (sym (same_shape-true t u h)) ∙ sym v.1),
+      ))
       (λ _. tt))
       (λ _. tt)
 
-  subtracted-well : (at : Place) (left right : Typed) (t u : Shape) → IsWell s left → IsValueOf left t → IsWell s right → IsValueOf right u → IfFine (subtracted c.model c.table.list at left right t u) (IsWell s)
+  subtracted-well : (at : Place) (left right : Typed) (t u : Shape) → IsWell s left → IsValueOf left t → IsWell s right → IsValueOf right u
+      → IfFine (subtracted c.model c.table.list at left right t u) (IsWell s)
   unfolding subtracted
   subtracted-well at left right (integer t) (integer u) w v w' v' = joined-well s c.model at bin.Sub left right (integer t) (integer u) w v w' v'
   subtracted-well at left right (pointer t) (integer u) w v w' v' = moved-well at left right t u Back PointerFirst w v w' v'
@@ -133,7 +155,8 @@ module _ (s : Setting) (c : Context) (agrees : Agrees s c) where
   subtracted-well at left right t u w v w' v' = tt
 
   -- an operator between two values
-  pub combined-well : (op : InfixOp) (at : Place) (left right : Typed) → IsWell s left → IsValue left → IsWell s right → IsValue right → IfFine (combined c.model c.table.list op at left right) (IsWell s)
+  pub combined-well : (op : InfixOp) (at : Place) (left right : Typed) → IsWell s left → IsValue left → IsWell s right → IsValue right
+      → IfFine (combined c.model c.table.list op at left right) (IsWell s)
   unfolding combined
   combined-well infix_op.Or at left right w v w' v' = both_tested-well s at left right (Or left right) v v' (λ one other. (w, w', refl, one, other))
   combined-well infix_op.And at left right w v w' v' = both_tested-well s at left right (And left right) v v' (λ one other. (w, w', refl, one, other))
@@ -143,13 +166,18 @@ module _ (s : Setting) (c : Context) (agrees : Agrees s c) where
   combined-well infix_op.Equal at left right w v w' v' = equated-well s c.model cmp.Equal at left right agrees.types w v w' v'
   combined-well infix_op.Differs at left right w v w' v' = equated-well s c.model cmp.Differs at left right agrees.types w v w' v'
   combined-well infix_op.Less at left right w v w' v' = ordered-well s c.model cmp.Less at left right (type_of left) (type_of right) w (v, refl) w' (v', refl)
-  combined-well infix_op.AtMost at left right w v w' v' = ordered-well s c.model cmp.AtMost at left right (type_of left) (type_of right) w (v, refl) w' (v', refl)
+  combined-well infix_op.AtMost at left right w v w' v' =
+      ordered-well s c.model cmp.AtMost at left right (type_of left) (type_of right) w (v, refl) w' (v', refl)
   combined-well infix_op.More at left right w v w' v' = ordered-well s c.model cmp.More at left right (type_of left) (type_of right) w (v, refl) w' (v', refl)
-  combined-well infix_op.AtLeast at left right w v w' v' = ordered-well s c.model cmp.AtLeast at left right (type_of left) (type_of right) w (v, refl) w' (v', refl)
-  combined-well infix_op.ShiftLeft at left right w v w' v' = shifted-well s c.model at bin.Shl left right (type_of left) (type_of right) (λ _ _ h. h) w (v, refl) w' (v', refl)
-  combined-well infix_op.ShiftRight at left right w v w' v' = shifted-well s c.model at bin.Shr left right (type_of left) (type_of right) (λ _ _ h. h) w (v, refl) w' (v', refl)
+  combined-well infix_op.AtLeast at left right w v w' v' =
+      ordered-well s c.model cmp.AtLeast at left right (type_of left) (type_of right) w (v, refl) w' (v', refl)
+  combined-well infix_op.ShiftLeft at left right w v w' v' =
+      shifted-well s c.model at bin.Shl left right (type_of left) (type_of right) (λ _ _ h. h) w (v, refl) w' (v', refl)
+  combined-well infix_op.ShiftRight at left right w v w' v' =
+      shifted-well s c.model at bin.Shr left right (type_of left) (type_of right) (λ _ _ h. h) w (v, refl) w' (v', refl)
   combined-well infix_op.Add at left right w v w' v' = added-well at left right (type_of left) (type_of right) w (v, refl) w' (v', refl)
   combined-well infix_op.Subtract at left right w v w' v' = subtracted-well at left right (type_of left) (type_of right) w (v, refl) w' (v', refl)
   combined-well infix_op.Multiply at left right w v w' v' = joined-well s c.model at bin.Mul left right (type_of left) (type_of right) w (v, refl) w' (v', refl)
   combined-well infix_op.Divide at left right w v w' v' = joined-well s c.model at bin.Div left right (type_of left) (type_of right) w (v, refl) w' (v', refl)
-  combined-well infix_op.Remainder at left right w v w' v' = joined-well s c.model at bin.Rem left right (type_of left) (type_of right) w (v, refl) w' (v', refl)
+  combined-well infix_op.Remainder at left right w v w' v' =
+      joined-well s c.model at bin.Rem left right (type_of left) (type_of right) w (v, refl) w' (v', refl)

@@ -14,7 +14,8 @@ use Rattle.cs_scopes.specs.declared.context.Context.{Context}
 use Rattle.cs_folding.specs.TypedParts.{type_of, form_of}
 use Rattle.cs_expressions.specs.Objects.{is_object}
 use Rattle.cs_types.specs.Kinds.{is_void, is_complete}
-use Rattle.cs_expressions.specs.Places.{address_of, through, element, indexed, member_named, member_at, member_found, member_in, member_after, struct_number, member_by, selected, selected_through}
+use Rattle.cs_expressions.specs.Places.{address_of, through, element, indexed, member_named, member_at, member_found, member_in, member_after, struct_number}
+use Rattle.cs_expressions.specs.Places.{member_by, selected, selected_through}
 use Rattle.cs_well_formed.specs.Expressions.{Setting, IsWell, IsObject, IsValueOf, HasType, HasMember}
 use Rattle.cs_well_formed.specs.Agreement.{Agrees}
 use Rattle.cs_well_formed.proofs.Verdicts.{IfFine, lift-then, cond-then}
@@ -25,7 +26,8 @@ named-among : (name : List ℕ) (ms : List Member) (m : Member) → member_named
 named-among name [] m h = absurd cc
 named-among name (first ∷ ms) m h = by_name (pointwise nat_eq first.name name) h (named-among name ms m)
   where
-    by_name : (same : Bool) → cond same (Some first) (member_named name ms) ≡ Some m → (member_named name ms ≡ Some m → (i : ℕ) × (slice_get ms i ≡ Some m)) → (i : ℕ) × (slice_get (first ∷ ms) i ≡ Some m)
+    by_name : (same : Bool) → cond same (Some first) (member_named name ms) ≡ Some m
+        → (member_named name ms ≡ Some m → (i : ℕ) × (slice_get ms i ≡ Some m)) → (i : ℕ) × (slice_get (first ∷ ms) i ≡ Some m)
     by_name true is rest = (zero, is)
     by_name false is rest = let found = rest is in (suc found.0, found.1)
 
@@ -40,29 +42,42 @@ module _ (s : Setting) where
   through-well at e ty well v = tt
 
 module _ (s : Setting) (c : Context) (agrees : Agrees s c) where
-  element-well : (at : Place) (e number : Typed) (target : Shape) (ty : IntType) (order : Order) → IsWell s e → IsValueOf e (pointer target) → IsWell s number → IsValueOf number (integer ty) → IfFine (element c.table.list at e number target order) (IsWell s)
+  element-well : (at : Place) (e number : Typed) (target : Shape) (ty : IntType) (order : Order) → IsWell s e → IsValueOf e (pointer target)
+      → IsWell s number → IsValueOf number (integer ty) → IfFine (element c.table.list at e number target order) (IsWell s)
   unfolding element
   element-well at e number target ty order w v w' v' =
       cond-then (IsWell s) (is_complete c.table.list target) _ _ (λ h. (w, w', v, complete-IsWhole s c agrees target h, (v'.0, (ty, v'.1)))) (λ _. tt)
 
-  pub indexed-well : (at : Place) (left right : Typed) (t u : Shape) → IsWell s left → IsValueOf left t → IsWell s right → IsValueOf right u → IfFine (indexed c.table.list at left right t u) (IsWell s)
+  pub indexed-well : (at : Place) (left right : Typed) (t u : Shape) → IsWell s left → IsValueOf left t → IsWell s right → IsValueOf right u
+      → IfFine (indexed c.table.list at left right t u) (IsWell s)
   unfolding indexed
   indexed-well at left right (pointer t) (integer u) w v w' v' = element-well at left right t u PointerFirst w v w' v'
   indexed-well at left right (integer t) (pointer u) w v w' v' = element-well at right left u t AmountFirst w' v' w v
   indexed-well at left right t u w v w' v' = tt
 
   -- a member of a struct is one of the program
-  member-found : (at : Place) (name : List ℕ) (number : ℕ) → IfFine (member_found at name (members_of c.table.list number)) (λ m. HasMember s.program number m.offset m.ty)
+  member-found : (at : Place) (name : List ℕ) (number : ℕ)
+      → IfFine (member_found at name (members_of c.table.list number)) (λ m. HasMember s.program number m.offset m.ty)
   unfolding member_found
   member-found at name number = by_members (members_of c.table.list number) refl
     where
-      by_name : (members : List Member) → members_of c.table.list number ≡ Some members → (found : Option Member) → member_named name members ≡ found → IfFine (member_at at found) (λ m. HasMember s.program number m.offset m.ty)
+      by_name : (members : List Member) → members_of c.table.list number ≡ Some members → (found : Option Member) → member_named name members ≡ found
+          → IfFine (member_at at found) (λ m. HasMember s.program number m.offset m.ty)
       by_name members is (Some m) named =
           let among = named-among name members m named in
-          record { members = members; complete = agrees.table.members number members is; index = among.0; member = m; found = among.1; offset_is = refl; type_is = refl }
+          record {
+            members = members;
+            complete = agrees.table.members number members is;
+            index = among.0;
+            member = m;
+            found = among.1;
+            offset_is = refl;
+            type_is = refl;
+          }
       by_name members is None named = tt
 
-      by_members : (found : Option (List Member)) → members_of c.table.list number ≡ found → IfFine (member_found at name found) (λ m. HasMember s.program number m.offset m.ty)
+      by_members : (found : Option (List Member)) → members_of c.table.list number ≡ found
+          → IfFine (member_found at name found) (λ m. HasMember s.program number m.offset m.ty)
       by_members (Some members) is = by_name members is (member_named name members) refl
       by_members None is = tt
 
@@ -73,11 +88,14 @@ module _ (s : Setting) (c : Context) (agrees : Agrees s c) where
     where
       by_type : (ty : Shape) → IsObject e → HasType e ty → IfFine (member_by c.table.list at name_at name (member_in at e) (struct_number ty)) (IsWell s)
       by_type (struct number) object is =
-          lift-then (λ m. HasMember s.program number m.offset m.ty) (IsWell s) (member_in at e) _ (member-found name_at name number) (λ m has. (well, object, number, is, has))
+          lift-then (λ m. HasMember s.program number m.offset m.ty) (IsWell s) (member_in at e) _ (member-found name_at name number)
+          (λ m has. (well, object, number, is, has))
       by_type ty object is = tt
 
-  pub selected_through-well : (at name_at : Place) (name : List ℕ) (e : Typed) (ty : Shape) → IsWell s e → IsValueOf e ty → IfFine (selected_through c.table.list at name_at name e ty) (IsWell s)
+  pub selected_through-well : (at name_at : Place) (name : List ℕ) (e : Typed) (ty : Shape) → IsWell s e → IsValueOf e ty
+      → IfFine (selected_through c.table.list at name_at name e ty) (IsWell s)
   unfolding selected_through
   selected_through-well at name_at name e (pointer (struct number)) well v =
-      lift-then (λ m. HasMember s.program number m.offset m.ty) (IsWell s) (member_after at e) _ (member-found name_at name number) (λ m has. (well, number, v, has))
+      lift-then (λ m. HasMember s.program number m.offset m.ty) (IsWell s) (member_after at e) _ (member-found name_at name number)
+      (λ m has. (well, number, v, has))
   selected_through-well at name_at name e ty well v = tt

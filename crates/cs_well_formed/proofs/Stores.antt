@@ -54,7 +54,8 @@ left-named s true e types h = type_of-named s types e h.well
 left-named s false e types h = type_of-named s types e h.well
 
 -- a right operand is one of its operator in the type that the operator works in
-taken-IsRight : (model : DataModel) (op : BinOp) (t u : IntType) (e : Typed) → IsValueOf e (integer (taken_in model op t u)) → IsRight op (integer (works_in model op t u)) e
+taken-IsRight : (model : DataModel) (op : BinOp) (t u : IntType) (e : Typed) → IsValueOf e (integer (taken_in model op t u))
+    → IsRight op (integer (works_in model op t u)) e
 taken-IsRight model Shl t u e v = (v.0, (_, v.1))
 taken-IsRight model Shr t u e v = (v.0, (_, v.1))
 taken-IsRight model other t u e v = v
@@ -64,7 +65,8 @@ module _ (s : Setting) where
   one-well at ty = (ty, refl, small-InRange s.program.model ty 1 (omega arith))
 
   -- a step of an object
-  pub stepped-well : (model : DataModel) (op : BinOp) (gives : Gives) (at : Place) (object : Typed) (ty : Shape) → IsUpdated s object → HasType object ty → IfFine (stepped model op gives at object ty) (IsWell s)
+  pub stepped-well : (model : DataModel) (op : BinOp) (gives : Gives) (at : Place) (object : Typed) (ty : Shape) → IsUpdated s object → HasType object ty
+      → IfFine (stepped model op gives at object ty) (IsWell s)
   unfolding stepped
   stepped-well model op gives at object (integer t) left is =
       (left.well, one-well at (promoted model t), left.object, (t, refl), is, value-IsRight op (promoted model t) (one_in at (promoted model t)) (refl, refl))
@@ -73,7 +75,8 @@ module _ (s : Setting) where
   stepped-well model op gives at object ty left is = tt
 
   -- a compound assignment
-  updated-well : (model : DataModel) (op : BinOp) (at : Place) (object value : Typed) (t u : Shape) → IsUpdated s object → HasType object t → IsWell s value → IsValueOf value u → IfFine (updated model op at object value t u) (IsWell s)
+  updated-well : (model : DataModel) (op : BinOp) (at : Place) (object value : Typed) (t u : Shape) → IsUpdated s object → HasType object t
+      → IsWell s value → IsValueOf value u → IfFine (updated model op at object value t u) (IsWell s)
   unfolding updated
   updated-well model op at object value (integer t) (integer u) left is well v =
       let taken = in_type-well s at (taken_in model op t u) value well (integer-value value u v) in
@@ -82,7 +85,8 @@ module _ (s : Setting) where
       (left.well, well, left.object, (target, refl, left.elements target is), is, (v.0, (u, v.1)))
   updated-well model op at object value t u left is well v = tt
 
-  assigned-well : (model : DataModel) (at : Place) (object value : Typed) → NamesStructs s.program.table (type_of object) → IsAssigned s object → IsWell s value → IsValue value →
+  assigned-well : (model : DataModel) (at : Place) (object value : Typed) → NamesStructs s.program.table (type_of object) → IsAssigned s object
+      → IsWell s value → IsValue value →
       IfFine (lift (assigned at object) (converted model at value (type_of object) (type_of value))) (IsWell s)
   assigned-well model at object value names left well v =
       lift-then (λ r. IsWell s r × IsValueOf r (type_of object)) (IsWell s) (assigned at object) _
@@ -105,7 +109,8 @@ module _ (s : Setting) (c : Context) (agrees : Agrees s c) where
       record { well = well; object = to.0; held = (complete-IsWhole s c agrees (type_of e) (not_false (is_complete c.table.list (type_of e)) h'), to.1) })
       (λ _. tt)))
 
-  updatable_as-well : (op : BinOp) (at : Place) (e : Typed) (ty : Shape) → IsWell s e → IsObject e → HasType e ty → IfFine (updatable_as c.table.list op at e ty) (IsUpdated s)
+  updatable_as-well : (op : BinOp) (at : Place) (e : Typed) (ty : Shape) → IsWell s e → IsObject e → HasType e ty
+      → IfFine (updatable_as c.table.list op at e ty) (IsUpdated s)
   unfolding updatable_as
   updatable_as-well op at e (integer ty) well object is =
       record { well = well; object = object; elements = λ target is'. absurd cc }
@@ -113,7 +118,12 @@ module _ (s : Setting) (c : Context) (agrees : Agrees s c) where
       cond-then (IsUpdated s) (not (is_additive op)) _ _
       (λ _. tt)
       (λ _. cond-then (IsUpdated s) (is_complete c.table.list target) _ _
-      (λ h. record { well = well; object = object; elements = λ other is'. let same : target ≡ other = cc in subst (IsWhole s.program) same (complete-IsWhole s c agrees target h) })
+      (λ h.
+      record {
+        well = well;
+        object = object;
+        elements = λ other is'. let same : target ≡ other = cc in subst (IsWhole s.program) same (complete-IsWhole s c agrees target h);
+      })
       (λ _. tt))
   updatable_as-well op at e ty well object is = tt
 
@@ -133,10 +143,13 @@ module _ (s : Setting) (c : Context) (agrees : Agrees s c) where
       by_plain false = updatable-well (operator_of op) at e well
 
   -- an operator that stores
-  pub stored-well : (op : AssignOp) (at : Place) (object value : Typed) → IsLeft s (is_plain op) object → IsWell s value → IsValue value → IfFine (stored c op at object value) (IsWell s)
+  pub stored-well : (op : AssignOp) (at : Place) (object value : Typed) → IsLeft s (is_plain op) object → IsWell s value → IsValue value
+      → IfFine (stored c op at object value) (IsWell s)
   unfolding stored
   stored-well op at object value left well v = by_plain (is_plain op) left
     where
-      by_plain : (plain : Bool) → IsLeft s plain object → IfFine (cond plain (lift (assigned at object) (converted c.model at value (type_of object) (type_of value))) (updated c.model (operator_of op) at object value (type_of object) (type_of value))) (IsWell s)
+      by_plain : (plain : Bool) → IsLeft s plain object
+          → IfFine (cond plain (lift (assigned at object) (converted c.model at value (type_of object) (type_of value)))
+          (updated c.model (operator_of op) at object value (type_of object) (type_of value))) (IsWell s)
       by_plain true left = assigned-well s c.model at object value (type_of-named s agrees.types object left.well) left well v
       by_plain false left = updated-well s c.model (operator_of op) at object value (type_of object) (type_of value) left refl well (v, refl)

@@ -38,7 +38,8 @@ abbrev pub AreNamed : List StructType → List Shape → Type 0
 AreNamed table [] = Unit {0}
 AreNamed table (ty ∷ types) = NamesStructs table ty × AreNamed table types
 
-pub each-named : {A : Type 0} (table : List StructType) (type_in : A → Shape) (xs : List A) → All (λ x. NamesStructs table (type_in x)) xs → AreNamed table (map type_in xs)
+pub each-named : {A : Type 0} (table : List StructType) (type_in : A → Shape) (xs : List A) → All (λ x. NamesStructs table (type_in x)) xs
+    → AreNamed table (map type_in xs)
 each-named table type_in xs h = by_recursion xs (recursion_from_All (λ x. NamesStructs table (type_in x)) xs h)
   where
     by_recursion : (ys : List _) → AllByRecursion (λ x. NamesStructs table (type_in x)) ys → AreNamed table (map type_in ys)
@@ -54,18 +55,21 @@ module _ (table longer : List StructType) (more : length table ≤ length longer
   names-longer (struct number) h = omega (arith, h, more)
 
   pub members-longer : (members : List Member) → MembersName table members → MembersName longer members
-  members-longer members h = All-weaker (λ (m : Member). NamesStructs table m.ty) (λ (m : Member). NamesStructs longer m.ty) (λ m n. names-longer m.ty n) members h
+  members-longer members h = All-weaker (λ (m : Member). NamesStructs table m.ty) (λ (m : Member). NamesStructs longer m.ty) (λ m n. names-longer m.ty n)
+      members h
 
   pub structs-longer : (structs : List StructType) → StructsName table structs → StructsName longer structs
   structs-longer structs h =
-      All-weaker (λ (s : StructType). IfSome s.members (MembersName table)) (λ (s : StructType). IfSome s.members (MembersName longer)) (λ s n. each s.members n) structs h
+      All-weaker (λ (s : StructType). IfSome s.members (MembersName table)) (λ (s : StructType). IfSome s.members (MembersName longer))
+      (λ s n. each s.members n) structs h
     where
       each : (members : Option (List Member)) → IfSome members (MembersName table) → IfSome members (MembersName longer)
       each None n = tt
       each (Some members) n = members-longer members n
 
   pub variables-longer : (variables : List Variable) → VariablesName table variables → VariablesName longer variables
-  variables-longer variables h = All-weaker (λ (v : Variable). NamesStructs table v.ty) (λ (v : Variable). NamesStructs longer v.ty) (λ v n. names-longer v.ty n) variables h
+  variables-longer variables h =
+      All-weaker (λ (v : Variable). NamesStructs table v.ty) (λ (v : Variable). NamesStructs longer v.ty) (λ v n. names-longer v.ty n) variables h
 
   pub routine-longer : (r : Routine) → HasNamedTypes table r → HasNamedTypes longer r
   routine-longer r h = record { returns = names-longer r.returns h.returns; variables = variables-longer r.variables h.variables }
@@ -73,8 +77,10 @@ module _ (table longer : List StructType) (more : length table ≤ length longer
   pub routines-longer : (rs : List Routine) → All (HasNamedTypes table) rs → All (HasNamedTypes longer) rs
   routines-longer rs h = All-weaker (HasNamedTypes table) (HasNamedTypes longer) routine-longer rs h
 
-  pub globals-longer : (gs : List FileObject) → All (λ (g : FileObject). NamesStructs table g.ty) gs → All (λ (g : FileObject). NamesStructs longer g.ty) gs
-  globals-longer gs h = All-weaker (λ (g : FileObject). NamesStructs table g.ty) (λ (g : FileObject). NamesStructs longer g.ty) (λ g n. names-longer g.ty n) gs h
+  pub globals-longer : (gs : List FileObject) → All (λ (g : FileObject). NamesStructs table g.ty) gs
+      → All (λ (g : FileObject). NamesStructs longer g.ty) gs
+  globals-longer gs h = All-weaker (λ (g : FileObject). NamesStructs table g.ty) (λ (g : FileObject). NamesStructs longer g.ty) (λ g n. names-longer g.ty n)
+      gs h
 
   pub meaning-longer : (m : Meaning) → IsNamed table m → IsNamed longer m
   meaning-longer (Typedef ty) h = names-longer ty h
@@ -88,7 +94,9 @@ module _ (table longer : List StructType) (more : length table ≤ length longer
   tag-longer tag.Enum h = tt
 
 -- the members of a struct
-pub members-named : (table structs : List StructType) (number : ℕ) (members : List Member) → StructsName table structs → members_of structs number ≡ Some members → MembersName table members
+pub members-named : (table structs : List StructType) (number : ℕ) (members : List Member) → StructsName table structs
+    → members_of structs number ≡ Some members → MembersName table members
 members-named table structs number members h is =
     option_and_then_some (λ (laid : StructType). laid.members) (slice_get structs number) members is
-    (λ laid at has. subst (λ o. IfSome o (MembersName table)) has (found-at (λ (s : StructType). IfSome s.members (MembersName table)) structs number laid h at))
+    (λ laid at has.
+    subst (λ o. IfSome o (MembersName table)) has (found-at (λ (s : StructType). IfSome s.members (MembersName table)) structs number laid h at))

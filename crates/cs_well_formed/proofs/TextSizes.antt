@@ -9,9 +9,11 @@ use Rattle.cs_ast.specs.declared.raw.written_type.PointerWord.{PointerWord}
 use Rattle.cs_ast.specs.RawTree.{Written, WrittenList}
 use Rattle.cs_ast.specs.RawDeclarations.{Declarator, Spec, Specs, Members, Initial, Initials, Parameter, Parameters}
 use Rattle.cs_grammar.specs.Text.{Kinds, words_text, pointers_text, text, listed, after_commas, bounds_text}
-use Rattle.cs_grammar.specs.FileText.{each_after_comma, with_commas, declarator_text, spec_text, specs_text, members_text, initial_text, initials_text, further_initials_text, parameter_text, parameters_text}
+use Rattle.cs_grammar.specs.FileText.{each_after_comma, with_commas, declarator_text, spec_text, specs_text, members_text, initial_text, initials_text}
+use Rattle.cs_grammar.specs.FileText.{further_initials_text, parameter_text, parameters_text}
 use Rattle.cs_grammar.proofs.Texts.{words_append, pointers_append, text_append, listed_append, commas_append, bounds_append}
-use Rattle.cs_grammar.proofs.FileTexts.{each_append, with_commas_append, declarator_append, spec_append, specs_append, members_append, initial_append, initials_append, further_initials_append, parameter_append, parameters_append}
+use Rattle.cs_grammar.proofs.FileTexts.{each_append, with_commas_append, declarator_append, spec_append, specs_append, members_append, initial_append}
+use Rattle.cs_grammar.proofs.FileTexts.{initials_append, further_initials_append, parameter_append, parameters_append}
 use Rattle.cs_well_formed.specs.Nodes.{all_nodes}
 use Rattle.cs_ast.specs.TokenSizes.{token_size}
 use Rattle.cs_well_formed.specs.Sizes.{text_size, size_of}
@@ -22,7 +24,8 @@ text_size-append [] y = omega arith
 text_size-append (t ∷ x) y = omega (arith, text_size-append x y)
 
 -- what is written so, and what stands after it
-pub size-following : (spell : Kinds → Kinds) → ((x y : Kinds) → spell x ++ y ≡ spell (x ++ y)) → (rest : Kinds) → text_size (spell rest) ≡ size_of spell + text_size rest
+pub size-following : (spell : Kinds → Kinds) → ((x y : Kinds) → spell x ++ y ≡ spell (x ++ y))
+    → (rest : Kinds) → text_size (spell rest) ≡ size_of spell + text_size rest
 size-following spell law rest = ap text_size (sym (law [] rest)) ∙ text_size-append (spell []) rest
 
 pub size-text : (e : Written) (rest : Kinds) → text_size (text e rest) ≡ size_of (text e) + text_size rest
@@ -40,13 +43,16 @@ size-bounds es = size-following (bounds_text es) (bounds_append es)
 pub size-words : (words : List TypeWord) (rest : Kinds) → text_size (words_text words rest) ≡ size_of (words_text words) + text_size rest
 size-words words = size-following (words_text words) (words_append words)
 
-pub size-pointers : (pointers : List PointerWord) (rest : Kinds) → text_size (pointers_text pointers rest) ≡ size_of (pointers_text pointers) + text_size rest
+pub size-pointers : (pointers : List PointerWord) (rest : Kinds)
+    → text_size (pointers_text pointers rest) ≡ size_of (pointers_text pointers) + text_size rest
 size-pointers pointers = size-following (pointers_text pointers) (pointers_append pointers)
 
-pub size-each : {A : Type 0} (of : A → Kinds → Kinds) → ((a : A) (x y : Kinds) → of a x ++ y ≡ of a (x ++ y)) → (all : List A) (rest : Kinds) → text_size (each_after_comma of all rest) ≡ size_of (each_after_comma of all) + text_size rest
+pub size-each : {A : Type 0} (of : A → Kinds → Kinds) → ((a : A) (x y : Kinds) → of a x ++ y ≡ of a (x ++ y))
+    → (all : List A) (rest : Kinds) → text_size (each_after_comma of all rest) ≡ size_of (each_after_comma of all) + text_size rest
 size-each of law all = size-following (each_after_comma of all) (each_append of law all)
 
-pub size-with_commas : {A : Type 0} (of : A → Kinds → Kinds) → ((a : A) (x y : Kinds) → of a x ++ y ≡ of a (x ++ y)) → (all : List A) (rest : Kinds) → text_size (with_commas of all rest) ≡ size_of (with_commas of all) + text_size rest
+pub size-with_commas : {A : Type 0} (of : A → Kinds → Kinds) → ((a : A) (x y : Kinds) → of a x ++ y ≡ of a (x ++ y))
+    → (all : List A) (rest : Kinds) → text_size (with_commas of all rest) ≡ size_of (with_commas of all) + text_size rest
 size-with_commas of law all = size-following (with_commas of all) (with_commas_append of law all)
 
 pub size-declarator : (d : Declarator) (rest : Kinds) → text_size (declarator_text d rest) ≡ size_of (declarator_text d) + text_size rest

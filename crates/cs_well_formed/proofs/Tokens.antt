@@ -5,7 +5,8 @@ use Rattle.std.proofs.lemmas.List.Elements.{recursion_from_All}
 use Rattle.cs_ast.specs.declared.raw.written_type.TypeWord.{TypeWord}
 use Rattle.cs_ast.specs.declared.raw.written_type.TypeWord.TheVariants as word
 use Rattle.cs_ast.specs.declared.raw.written_type.PointerWord.{PointerWord}
-use Rattle.cs_ast.specs.RawTree.{Written, WrittenList, Named, Numeral, Character, Literal, Enclosed, Index, Call, Member, Arrow, StepAfter, StepBefore, Prefix, SizeOf, SizeOfType, Cast, Infix, Choice, Assign, Comma, End, More}
+use Rattle.cs_ast.specs.RawTree.{Written, WrittenList, Named, Numeral, Character, Literal, Enclosed, Index, Call, Member, Arrow, StepAfter, StepBefore, Prefix}
+use Rattle.cs_ast.specs.RawTree.{SizeOf, SizeOfType, Cast, Infix, Choice, Assign, Comma, End, More}
 use Rattle.cs_ast.specs.RawDeclarations.{Initial, Single, Listed, Initials, NoItem, MoreItems}
 use Rattle.cs_grammar.specs.Text.{Kinds, words_text, pointers_text, text, listed, after_commas, bounds_text}
 use Rattle.cs_grammar.specs.FileText.{comma_text, initial_text, initials_text, further_initials_text}
@@ -39,7 +40,8 @@ mutual
   text-held (Literal bytes) rest h = (tt, h.1)
   text-held (Enclosed inner) rest h = let one = text-held inner _ h.1 in (one.0, one.1.1)
   text-held (Index array number) rest h = let one = text-held array _ h in let other = text-held number _ one.1.1 in ((one.0, other.0), other.1.1)
-  text-held (Call function arguments) rest h = let one = text-held function _ h in let others = listed-held arguments _ one.1.1 in ((one.0, others.0), others.1.1)
+  text-held (Call function arguments) rest h = let one = text-held function _ h in let others = listed-held arguments _ one.1.1 in
+      ((one.0, others.0), others.1.1)
   text-held (Member object name) rest h = let one = text-held object _ h in (one.0, one.1.1.1)
   text-held (Arrow pointer name) rest h = let one = text-held pointer _ h in (one.0, one.1.1.1)
   text-held (StepAfter step object) rest h = let one = text-held object _ h in (one.0, one.1.1)
@@ -49,7 +51,8 @@ mutual
   text-held (SizeOfType words pointers bounds) rest h =
       let some = bounds-held bounds _ (after_pointers pointers _ (after_words words _ h.1.1)) in (some.0, some.1.1)
   text-held (Cast words pointers bounds operand) rest h =
-      let some = bounds-held bounds _ (after_pointers pointers _ (after_words words _ h.1)) in let one = text-held operand rest some.1.1 in ((some.0, one.0), one.1)
+      let some = bounds-held bounds _ (after_pointers pointers _ (after_words words _ h.1)) in let one = text-held operand rest some.1.1 in
+      ((some.0, one.0), one.1)
   text-held (Infix operator left right) rest h = let one = text-held left _ h in let other = text-held right rest one.1.1 in ((one.0, other.0), other.1)
   text-held (Choice test one other) rest h =
       let a = text-held test _ h in let b = text-held one _ a.1.1 in let c = text-held other rest b.1.1 in ((a.0, b.0, c.0), c.1)
@@ -80,11 +83,13 @@ mutual
 
   initials_text-held : (is : Initials) (rest : Kinds) → AreHeld (initials_text is rest) → InitialsHaveConstants is × AreHeld rest
   initials_text-held NoItem rest h = (tt, h)
-  initials_text-held (MoreItems first others) rest h = let one = initial_text-held first _ h in let more = further-held others rest one.1 in ((one.0, more.0), more.1)
+  initials_text-held (MoreItems first others) rest h = let one = initial_text-held first _ h in let more = further-held others rest one.1 in
+      ((one.0, more.0), more.1)
 
   further-held : (is : Initials) (rest : Kinds) → AreHeld (further_initials_text is rest) → InitialsHaveConstants is × AreHeld rest
   further-held NoItem rest h = (tt, h)
-  further-held (MoreItems first others) rest h = let one = initial_text-held first _ h.1 in let more = further-held others rest one.1 in ((one.0, more.0), more.1)
+  further-held (MoreItems first others) rest h = let one = initial_text-held first _ h.1 in let more = further-held others rest one.1 in
+      ((one.0, more.0), more.1)
 
 pub texts_hold_constants : TextsHoldConstants
 texts_hold_constants e following h = (text-held e following (recursion_from_All IsHeldToken (text e following) h)).0

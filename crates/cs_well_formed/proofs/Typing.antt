@@ -32,7 +32,10 @@ use Rattle.cs_expressions.specs.Stores.{updatable, step_operator}
 use Rattle.cs_scopes.specs.Scopes.{newest}
 use Rattle.cs_expressions.specs.Calls.{called, parameters_of}
 use Rattle.cs_expressions.specs.Primary.{Literals, constant_type}
-use Rattle.cs_consts.specs.Typing.{literals_after, literals_after_row, row_length, done, value_in, operand_in, purpose_if, purpose_after, is_address, prefixed_value, prefixed, indexed_values, arrow_on, stepped_object, is_plain, left_side, stored, type_in, right_target, cast_type, given_shape, cast_operand, cast_to, chosen_values, measured_type, measured_arrays, base_in, further, formed, arguments_formed}
+use Rattle.cs_consts.specs.Typing.{literals_after, literals_after_row, row_length, done, value_in, operand_in, purpose_if, purpose_after, is_address}
+use Rattle.cs_consts.specs.Typing.{prefixed_value, prefixed, indexed_values, arrow_on, stepped_object, is_plain, left_side, stored, type_in, right_target}
+use Rattle.cs_consts.specs.Typing.{cast_type, given_shape, cast_operand, cast_to, chosen_values, measured_type, measured_arrays, base_in, further, formed}
+use Rattle.cs_consts.specs.Typing.{arguments_formed}
 use Rattle.cs_well_formed.specs.Structs.{NamesStructs}
 use Rattle.cs_well_formed.specs.Expressions.{Setting, IsWell, IsWellForm, IsValue, IsScalarValue}
 use Rattle.cs_ast.specs.HeldTokens.{IsHeldConstant}
@@ -59,7 +62,8 @@ abbrev pub IsWellValue : Setting → Typed → Type 0
 IsWellValue s e = IsWell s e × IsValue e
 
 -- literals after literals
-both-first : (s : Setting) (literals : Literals) (left right : RawExprKind) → AreFirst s.program (literals_after (literals_after literals left) right) → AreFirst s.program (literals_after literals left)
+both-first : (s : Setting) (literals : Literals) (left right : RawExprKind) → AreFirst s.program (literals_after (literals_after literals left) right)
+    → AreFirst s.program (literals_after literals left)
 both-first s literals left right texts = first-part s.program (literals_after literals left) _ (literals-begin (literals_after literals left) right) texts
 
 module _ (s : Setting) (c : Context) (agrees : Agrees s c) where
@@ -69,22 +73,26 @@ module _ (s : Setting) (c : Context) (agrees : Agrees s c) where
 
   pub value_in-well : (purpose : Purpose) (v : Verdict Typed) → IfFine v (IsWell s) → IfFine (value_in c purpose v) (IsWellValue s)
   unfolding value_in
-  value_in-well purpose v well = lift-then (IsWell s) (IsWellValue s) (valued c.table.list) (done c purpose v) (done-well purpose v well) (valued-well s c agrees)
+  value_in-well purpose v well =
+      lift-then (IsWell s) (IsWellValue s) (valued c.table.list) (done c purpose v) (done-well purpose v well) (valued-well s c agrees)
 
   pub operand_in-well : (purpose : Purpose) (v : Verdict Typed) → IfFine v (IsWell s) → IfFine (operand_in c purpose v) (IsWellValue s)
   unfolding operand_in
-  operand_in-well purpose v well = lift-then (IsWell s) (IsWellValue s) (operand c.table.list) (done c purpose v) (done-well purpose v well) (operand-well s c agrees)
+  operand_in-well purpose v well =
+      lift-then (IsWell s) (IsWellValue s) (operand c.table.list) (done c purpose v) (done-well purpose v well) (operand-well s c agrees)
 
   -- an integer constant
   number-well : (k : IntegerConstant) → IsHeldConstant k → IsWellForm s (integer (constant_type c.model k)) (Number (pos k.value))
-  number-well k fit = (constant_type c.model k, refl, subst (λ m. InRange m (constant_type c.model k) (pos k.value)) agrees.model (constant-InRange c.model k fit))
+  number-well k fit =
+      (constant_type c.model k, refl, subst (λ m. InRange m (constant_type c.model k) (pos k.value)) agrees.model (constant-InRange c.model k fit))
 
   -- an operator before one operand
   prefixed_value-well : (op : PrefixOp) (at : Place) (v : Typed) → IsWellValue s v → IfFine (prefixed_value c op at v) (IsWell s)
   unfolding prefixed_value
   prefixed_value-well prefix_op.Address at v held = address_of-well s at v held.0
   prefixed_value-well prefix_op.Through at v held = through-well s at v (type_of v) held.0 (held.1, refl)
-  prefixed_value-well prefix_op.Plus at v held = if_fine-weaker _ (IsWell s) (raised c.model at v (type_of v)) (raised-well s c.model at v (type_of v) held.0 (held.1, refl)) (λ _ given. given.0)
+  prefixed_value-well prefix_op.Plus at v held =
+      if_fine-weaker _ (IsWell s) (raised c.model at v (type_of v)) (raised-well s c.model at v (type_of v) held.0 (held.1, refl)) (λ _ given. given.0)
   prefixed_value-well prefix_op.Minus at v held = turned-well s c.model at un.Negate v (type_of v) held.0 (held.1, refl)
   prefixed_value-well prefix_op.Complement at v held = turned-well s c.model at un.Complement v (type_of v) held.0 (held.1, refl)
   prefixed_value-well prefix_op.Not at v held = denied-well s at v held.0 held.1
@@ -94,7 +102,9 @@ module _ (s : Setting) (c : Context) (agrees : Agrees s c) where
   prefixed-well op at e well =
       cond-then (IsWell s) (is_address op) _ _
       (λ _. address_of-well s at e well)
-      (λ _. lift-then (IsWellValue s) (IsWell s) (prefixed_value c op at) (operand c.table.list e) (operand-well s c agrees e well) (λ v held. prefixed_value-well op at v held))
+      (λ _.
+      lift-then (IsWellValue s) (IsWell s) (prefixed_value c op at) (operand c.table.list e) (operand-well s c agrees e well)
+      (λ v held. prefixed_value-well op at v held))
 
   -- a cast
   cast_operand-well : (target : Shape) (e : Typed) → IsWell s e → IfFine (cast_operand c target e) (IsWellValue s)
@@ -104,7 +114,8 @@ module _ (s : Setting) (c : Context) (agrees : Agrees s c) where
   -- the type of a cast
   given_named : (at : Place) (count : ℕ) (ty : WrittenType) → IfFine (cast_type at count (base_in c at ty)) (NamesStructs s.program.table)
   given_named at count ty =
-      if_fine-weaker (NamesStructs c.table.list) (NamesStructs s.program.table) (cast_type at count (base_in c at ty)) (cast_type-named c agrees.named at count ty)
+      if_fine-weaker (NamesStructs c.table.list) (NamesStructs s.program.table) (cast_type at count (base_in c at ty))
+      (cast_type-named c agrees.named at count ty)
       (λ shape n. names-longer c.table.list s.program.table agrees.table.longer shape n)
 
   cast_to-well : (at : Place) (target : Shape) (e : Typed) → NamesStructs s.program.table target → IsWell s e → IfFine (cast_to c at target e) (IsWell s)
@@ -123,7 +134,8 @@ module _ (s : Setting) (c : Context) (agrees : Agrees s c) where
       by_plain false v h = tt
 
   -- a step
-  step-well : (op : _) (gives : _) (at : Place) (v : Verdict Typed) → IfFine v (IsWell s) → IfFine (lift (stepped_object c op gives at) (lift (updatable c.table.list op at) v)) (IsWell s)
+  step-well : (op : _) (gives : _) (at : Place) (v : Verdict Typed) → IfFine v (IsWell s)
+      → IfFine (lift (stepped_object c op gives at) (lift (updatable c.table.list op at) v)) (IsWell s)
   step-well op gives at v well =
       lift-then (IsUpdated s) (IsWell s) (stepped_object c op gives at) _
       (lift-then (IsWell s) (IsUpdated s) (updatable c.table.list op at) v well (updatable-well s c agrees op at))
@@ -140,26 +152,32 @@ module _ (s : Setting) (c : Context) (agrees : Agrees s c) where
       (λ base ns _ _. lift-then (λ _. Unit {0}) (IsWell s) (measured c.model c.table.list at) _ (if_fine-any _) (λ ty _. measured-well s c agrees at ty))
 
   -- operators on two operands
-  infix-well : (op : InfixOp) (at : Place) (v w : Verdict Typed) → IfFine v (IsWellValue s) → IfFine w (IsWellValue s) → IfFine (lift2 (combined c.model c.table.list op at) v w) (IsWell s)
+  infix-well : (op : InfixOp) (at : Place) (v w : Verdict Typed) → IfFine v (IsWellValue s) → IfFine w (IsWellValue s)
+      → IfFine (lift2 (combined c.model c.table.list op at) v w) (IsWell s)
   infix-well op at v w one other =
       lift2-then (IsWellValue s) (IsWellValue s) (IsWell s) (combined c.model c.table.list op at) v w one other
       (λ a b h k. combined-well s c agrees op at a b h.0 h.1 k.0 k.1)
 
   -- one more argument
-  further-given : (ty : Shape) (types : List Shape) (count : ℕ) (v : Verdict Typed) (w : Verdict TypedList) → IfFine v (IsWellValue s) → IfFine w (λ vs. length types ≡ count → AreGiven s types vs) → IfFine (lift2 further v w) (λ vs. length (ty ∷ types) ≡ suc count → AreGiven s (ty ∷ types) vs)
+  further-given : (ty : Shape) (types : List Shape) (count : ℕ) (v : Verdict Typed) (w : Verdict TypedList) → IfFine v (IsWellValue s)
+      → IfFine w (λ vs. length types ≡ count → AreGiven s types vs)
+      → IfFine (lift2 further v w) (λ vs. length (ty ∷ types) ≡ suc count → AreGiven s (ty ∷ types) vs)
   further-given ty types count v w one others =
-      lift2-then (IsWellValue s) (λ vs. length types ≡ count → AreGiven s types vs) (λ vs. length (ty ∷ types) ≡ suc count → AreGiven s (ty ∷ types) vs) further v w one others
+      lift2-then (IsWellValue s) (λ vs. length types ≡ count → AreGiven s types vs)
+      (λ vs. length (ty ∷ types) ≡ suc count → AreGiven s (ty ∷ types) vs) further v w one others
       (λ e es h k counted. (h.0, h.1, k (omega (arith, counted))))
 
   mutual
     -- an expression, for any purpose and any target
-    pub formed-well : (purpose : Purpose) (literals : Literals) (target : Option Shape) → TargetNames s target → (at : Place) (k : RawExprKind) → HasConstants (written_kind k) → AreFirst s.program (literals_after literals k) →
+    pub formed-well : (purpose : Purpose) (literals : Literals) (target : Option Shape) → TargetNames s target
+        → (at : Place) (k : RawExprKind) → HasConstants (written_kind k) → AreFirst s.program (literals_after literals k) →
         IfFine (formed c purpose literals target at k) (IsWell s)
     formed-well purpose literals target names at (kind.Name name) fit texts = named-well s at (newest name c.scope.declarations) (newest-there s c agrees name)
     formed-well purpose literals target names at (kind.Number k) fit texts = number-well k fit
     formed-well purpose literals target names at (kind.Character n) fit texts = (Int, refl, character-InRange s.program.model n fit)
     formed-well purpose literals target names at (kind.Text bytes) fit texts = text-well s literals at bytes texts
-    formed-well purpose literals target names at (kind.Parenthesis' place p inner) fit texts = done-well purpose _ (formed-well purpose literals target names place inner fit texts)
+    formed-well purpose literals target names at (kind.Parenthesis' place p inner) fit texts =
+        done-well purpose _ (formed-well purpose literals target names place inner fit texts)
     formed-well purpose literals target names at (kind.Index' place p left place' q right) fit texts =
         lift2-then (IsWellValue s) (IsWellValue s) (IsWell s) (indexed_values c at) _ _
         (operand_in-well purpose _ (formed-well purpose literals None tt place left fit.0 (both-first s literals left right texts)))
@@ -170,7 +188,8 @@ module _ (s : Setting) (c : Context) (agrees : Agrees s c) where
         (operand_in c purpose (formed c purpose literals None place function))
         (arguments_formed c purpose literals (parameters_of (called c.scope.declarations function)) row)
         names agrees.types.program (called-there s c agrees function)
-        (arguments-given purpose literals (parameters_of (called c.scope.declarations function)) (parameters_of-named s.program agrees.types.program (called c.scope.declarations function) (called-there s c agrees function)) row fit.1 texts)
+        (arguments-given purpose literals (parameters_of (called c.scope.declarations function))
+        (parameters_of-named s.program agrees.types.program (called c.scope.declarations function) (called-there s c agrees function)) row fit.1 texts)
     formed-well purpose literals target names at (kind.Member' place p object name) fit texts =
         lift-then (IsWell s) (IsWell s) (selected c.table.list at name.place name.name) _
         (done-well purpose _ (formed-well purpose literals None tt place object fit texts))
@@ -184,7 +203,8 @@ module _ (s : Setting) (c : Context) (agrees : Agrees s c) where
     formed-well purpose literals target names at (kind.StepBefore' step place p object) fit texts =
         step-well (step_operator step) New at _ (done-well purpose _ (formed-well purpose literals None tt place object fit texts))
     formed-well purpose literals target names at (kind.Prefix' operator place p e) fit texts =
-        lift-then (IsWell s) (IsWell s) (prefixed c operator at) _ (done-well purpose _ (formed-well purpose literals None tt place e fit texts)) (prefixed-well operator at)
+        lift-then (IsWell s) (IsWell s) (prefixed c operator at) _ (done-well purpose _ (formed-well purpose literals None tt place e fit texts))
+        (prefixed-well operator at)
     formed-well purpose literals target names at (kind.SizeOf' place p e) fit texts = sized-well at _
     formed-well purpose literals target names at (kind.SizeOfType' ty shape row) fit texts = sized_type-well at _ _
     formed-well purpose literals target names at (kind.Cast' ty shape row place p e) fit texts =
@@ -198,7 +218,8 @@ module _ (s : Setting) (c : Context) (agrees : Agrees s c) where
         let one = operand_in c purpose (formed c purpose literals None place left) in
         infix-well operator at _ _
         (operand_in-well purpose _ (formed-well purpose literals None tt place left fit.0 (both-first s literals left right texts)))
-        (operand_in-well (purpose_after operator purpose one) _ (formed-well (purpose_after operator purpose one) (literals_after literals left) None tt place' right fit.1 texts))
+        (operand_in-well (purpose_after operator purpose one) _
+        (formed-well (purpose_after operator purpose one) (literals_after literals left) None tt place' right fit.1 texts))
     formed-well purpose literals target names at (kind.Choice' place p test place' q one place'' r other) fit texts =
         let yields = lift (tested at) (operand_in c purpose (formed c purpose literals None place test)) in
         let following = literals_after literals test in
@@ -208,8 +229,11 @@ module _ (s : Setting) (c : Context) (agrees : Agrees s c) where
         (operand_in-well purpose _ (formed-well purpose literals None tt place test fit.0 (both-first s literals test one before)))
         (λ v h. tested-well s at v h.0 h.1))
         (value_in-well (purpose_if true purpose yields) _ (formed-well (purpose_if true purpose yields) following None tt place' one fit.1 before))
-        (value_in-well (purpose_if false purpose yields) _ (formed-well (purpose_if false purpose yields) (literals_after following one) None tt place'' other fit.2 texts))
-        (λ t a b h k l. chosen-well s c.model at t a b (type_of a) (type_of b) (type_of-named s agrees.types a k.0) (type_of-named s agrees.types b l.0) h.0 h.1 k.0 (k.1, refl) l.0 (l.1, refl))
+        (value_in-well (purpose_if false purpose yields) _
+        (formed-well (purpose_if false purpose yields) (literals_after following one) None tt place'' other fit.2 texts))
+        (λ t a b h k l.
+        chosen-well s c.model at t a b (type_of a) (type_of b) (type_of-named s agrees.types a k.0) (type_of-named s agrees.types b l.0) h.0 h.1 k.0
+        (k.1, refl) l.0 (l.1, refl))
     formed-well purpose literals target names at (kind.Assign' operator place p object place' q value) fit texts =
         let left = lift (left_side c operator at) (done c purpose (formed c purpose literals None place object)) in
         let is_left =
@@ -227,8 +251,10 @@ module _ (s : Setting) (c : Context) (agrees : Agrees s c) where
         (λ a b h k. followed-well s at a b h.0 h.1 k.0 k.1)
 
     -- the values of arguments
-    pub arguments-given : (purpose : Purpose) (literals : Literals) (types : List Shape) → AreNamed s.program.table types → {n : _} (row : Row_of-RawExpr n) → HaveConstants (written_row row) →
-        AreFirst s.program (literals_after_row literals row) → IfFine (arguments_formed c purpose literals types row) (λ vs. length types ≡ row_length row → AreGiven s types vs)
+    pub arguments-given : (purpose : Purpose) (literals : Literals) (types : List Shape) → AreNamed s.program.table types
+        → {n : _} (row : Row_of-RawExpr n) → HaveConstants (written_row row) →
+        AreFirst s.program (literals_after_row literals row)
+        → IfFine (arguments_formed c purpose literals types row) (λ vs. length types ≡ row_length row → AreGiven s types vs)
     arguments-given purpose literals types names end_of-RawExpr fit texts = none types
       where
         none : (types : List Shape) → length types ≡ 0 → AreGiven s types NoMore
@@ -237,5 +263,6 @@ module _ (s : Setting) (c : Context) (agrees : Agrees s c) where
     arguments-given purpose literals [] names (more_of-RawExpr place p k rest) fit texts = λ h. absurd (omega (arith, h))
     arguments-given purpose literals (ty ∷ types) names (more_of-RawExpr place p k rest) fit texts =
         further-given ty types (row_length rest) _ _
-        (operand_in-well purpose _ (formed-well purpose literals (Some ty) names.0 place k fit.0 (first-part s.program (literals_after literals k) _ (literals-begin_row (literals_after literals k) rest) texts)))
+        (operand_in-well purpose _ (formed-well purpose literals (Some ty) names.0 place k fit.0
+        (first-part s.program (literals_after literals k) _ (literals-begin_row (literals_after literals k) rest) texts)))
         (arguments-given purpose (literals_after literals k) types names.1 rest fit.1 texts)

@@ -19,18 +19,22 @@ if_fine-any (Fine a) = tt
 if_fine-any (Fault code place) = tt
 
 -- of a rule on what others give
-pub lift-then : {A B : Type 0} (P : A → Type 0) (Q : B → Type 0) (rule : A → Verdict B) (v : Verdict A) → IfFine v P → ((a : A) → P a → IfFine (rule a) Q) → IfFine (lift rule v) Q
+pub lift-then : {A B : Type 0} (P : A → Type 0) (Q : B → Type 0) (rule : A → Verdict B) (v : Verdict A) → IfFine v P
+    → ((a : A) → P a → IfFine (rule a) Q) → IfFine (lift rule v) Q
 unfolding lift
 lift-then P Q rule (Fine a) held follows = follows a held
 lift-then P Q rule (Fault code place) held follows = tt
 
-pub lift2-then : {A B C : Type 0} (P : A → Type 0) (Q : B → Type 0) (R : C → Type 0) (rule : A → B → Verdict C) (v : Verdict A) (w : Verdict B) → IfFine v P → IfFine w Q → ((a : A) (b : B) → P a → Q b → IfFine (rule a b) R) → IfFine (lift2 rule v w) R
+pub lift2-then : {A B C : Type 0} (P : A → Type 0) (Q : B → Type 0) (R : C → Type 0) (rule : A → B → Verdict C) (v : Verdict A) (w : Verdict B)
+    → IfFine v P → IfFine w Q → ((a : A) (b : B) → P a → Q b → IfFine (rule a b) R) → IfFine (lift2 rule v w) R
 unfolding lift2
 lift2-then P Q R rule (Fine a) (Fine b) first second follows = follows a b first second
 lift2-then P Q R rule (Fine a) (Fault code place) first second follows = tt
 lift2-then P Q R rule (Fault code place) w first second follows = tt
 
-pub lift3-then : {A B C D : Type 0} (P : A → Type 0) (Q : B → Type 0) (R : C → Type 0) (S : D → Type 0) (rule : A → B → C → Verdict D) (u : Verdict A) (v : Verdict B) (w : Verdict C) → IfFine u P → IfFine v Q → IfFine w R → ((a : A) (b : B) (c : C) → P a → Q b → R c → IfFine (rule a b c) S) → IfFine (lift3 rule u v w) S
+pub lift3-then : {A B C D : Type 0} (P : A → Type 0) (Q : B → Type 0) (R : C → Type 0) (S : D → Type 0) (rule : A → B → C
+    → Verdict D) (u : Verdict A) (v : Verdict B) (w : Verdict C) → IfFine u P → IfFine v Q → IfFine w R
+    → ((a : A) (b : B) (c : C) → P a → Q b → R c → IfFine (rule a b c) S) → IfFine (lift3 rule u v w) S
 unfolding lift3
 lift3-then P Q R S rule (Fine a) (Fine b) (Fine c) first second third follows = follows a b c first second third
 lift3-then P Q R S rule (Fine a) (Fine b) (Fault code place) first second third follows = tt
@@ -38,7 +42,8 @@ lift3-then P Q R S rule (Fine a) (Fault code place) w first second third follows
 lift3-then P Q R S rule (Fault code place) v w first second third follows = tt
 
 -- of a choice by a test
-pub cond-then : {A : Type 0} (P : A → Type 0) (test : Bool) (v w : Verdict A) → (test ≡ true → IfFine v P) → (test ≡ false → IfFine w P) → IfFine (cond test v w) P
+pub cond-then : {A : Type 0} (P : A → Type 0) (test : Bool) (v w : Verdict A) → (test ≡ true → IfFine v P) → (test ≡ false → IfFine w P)
+    → IfFine (cond test v w) P
 cond-then P true v w one other = one refl
 cond-then P false v w one other = other refl
 

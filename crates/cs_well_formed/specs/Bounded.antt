@@ -52,7 +52,8 @@ IsBoundedBy Is literals e v = IsBounded Is literals (literals_after literals e.k
 abbrev pub FormedAreBounded : (Place → Type 0) → Type 0
 FormedAreBounded Is =
     (c : Context) (purpose : Purpose) (literals : Literals) (target : Option Shape) (at : Place) (k : RawExprKind) (e : Typed) →
-    WrittenAmong Is at k → formed c purpose literals target at k ≡ Fine e → IsBounded Is literals (literals_after literals k) (size_of (text (written_kind k))) e
+    WrittenAmong Is at k → formed c purpose literals target at k ≡ Fine e
+    → IsBounded Is literals (literals_after literals k) (size_of (text (written_kind k))) e
 
 -- an expression that has to have a value
 abbrev pub OperandsAreBounded : (Place → Type 0) → Type 0
@@ -91,7 +92,8 @@ LiteralsAreBounded = (literals : Literals) (k : RawExprKind) → TextsGrow liter
 abbrev pub InitialsAreBounded : (Place → Type 0) → Type 0
 InitialsAreBounded Is =
     (c : Context) (literals following : Literals) (storage : Storage) (at : Place) (ty : Shape) (raw : RawInitial) (found : Initial) →
-    Is at → ValuesAmong Is raw → initial_typed c literals storage at ty raw ≡ Fine (found, following) → IsBoundedInitial Is literals following (size_of (initial_text (initial raw))) found
+    Is at → ValuesAmong Is raw → initial_typed c literals storage at ty raw ≡ Fine (found, following)
+    → IsBoundedInitial Is literals following (size_of (initial_text (initial raw))) found
 
 -- the nodes of the structs that are known
 abbrev pub known_nodes : Environment → ℕ
@@ -104,7 +106,8 @@ pub record Grows (k m : Environment) (size : ℕ) : Type 0 where
 
 -- the words before declarators, with the bodies of structs and enums
 abbrev pub WordsAreBounded : Type 0
-WordsAreBounded = (k m : Environment) (at : Place) (raw : RawSpecs) (ty : Shape) → specs_type k at raw ≡ Fine (ty, m) → Grows k m (size_of (specs_text (specs raw)))
+WordsAreBounded = (k m : Environment) (at : Place) (raw : RawSpecs) (ty : Shape) → specs_type k at raw ≡ Fine (ty, m)
+    → Grows k m (size_of (specs_text (specs raw)))
 
 -- typedefs make no structs
 abbrev pub TypedefsAreBounded : Type 0
@@ -116,4 +119,5 @@ pub record IsBoundedHead (k : Environment) (head : Head) (size : ℕ) : Type 0 w
   pub nodes : length head.variables + length head.written + known_nodes head.known ≤ known_nodes k + 16 * size + 16
 
 abbrev pub ParametersAreBounded : Type 0
-ParametersAreBounded = (k : Environment) (raw : RawParameters) (head : Head) → parameters_typed k raw ≡ Fine head → IsBoundedHead k head (size_of (parameters_text (parameters raw)))
+ParametersAreBounded = (k : Environment) (raw : RawParameters) (head : Head) → parameters_typed k raw ≡ Fine head
+    → IsBoundedHead k head (size_of (parameters_text (parameters raw)))

@@ -12,7 +12,9 @@ use Rattle.cs_ast.specs.declared.typed.operator.BinOp.{BinOp}
 use Rattle.cs_ast.specs.declared.typed.operator.BinOp.TheVariants.{Shl, Shr}
 use Rattle.cs_ast.specs.declared.typed.operator.Allocator.{Allocator}
 use Rattle.cs_ast.specs.declared.typed.operator.Allocator.TheVariants.{Malloc, Calloc}
-use Rattle.cs_ast.specs.TypedTree.{Typed, Of, Form, Number, Null, Text, Local, Global, Through, Index, Member as MemberOf, Arrow, Load, Address, Decay, Convert, Unary, Not, Binary, Compare, Sum, Difference, And, Or, Choice, Comma, Assign, Update, Move, Call, Allocate, Free, TypedList, NoMore, Further}
+use Rattle.cs_ast.specs.TypedTree.{Typed, Of, Form, Number, Null, Text, Local, Global, Through, Index, Member as MemberOf, Arrow, Load, Address, Decay, Convert}
+use Rattle.cs_ast.specs.TypedTree.{Unary, Not, Binary, Compare, Sum, Difference, And, Or, Choice, Comma, Assign, Update, Move, Call, Allocate, Free, TypedList}
+use Rattle.cs_ast.specs.TypedTree.{NoMore, Further}
 use Rattle.cs_ast.specs.TypedProgram.{TypedProgram, Variable, FileObject, Routine}
 use Rattle.cs_expressions.specs.Objects.{is_object}
 use Rattle.cs_types.specs.Kinds.{is_void, is_array, is_complete}
@@ -128,12 +130,15 @@ abbrev mutual
   IsWellForm s ty (Local number) = (v : Variable) × (slice_get s.variables number ≡ Some v) × (v.ty ≡ ty)
   IsWellForm s ty (Global number) = (g : FileObject) × (slice_get s.program.globals number ≡ Some g) × (g.ty ≡ ty)
   IsWellForm s ty (Through e) = IsWell s e × IsValueOf e (pointer ty) × (is_void ty ≡ false)
-  IsWellForm s ty (Index elements number order) = IsWell s elements × IsWell s number × IsValueOf elements (pointer ty) × IsWhole s.program ty × IsIntegerValue number
-  IsWellForm s ty (MemberOf object offset) = IsWell s object × IsObject object × (number : ℕ) × HasType object (struct number) × HasMember s.program number offset ty
+  IsWellForm s ty (Index elements number order) = IsWell s elements × IsWell s number × IsValueOf elements (pointer ty) × IsWhole s.program ty
+      × IsIntegerValue number
+  IsWellForm s ty (MemberOf object offset) = IsWell s object × IsObject object × (number : ℕ) × HasType object (struct number)
+      × HasMember s.program number offset ty
   IsWellForm s ty (Arrow e offset) = IsWell s e × (number : ℕ) × IsValueOf e (pointer (struct number)) × HasMember s.program number offset ty
   IsWellForm s ty (Load object) = IsWell s object × IsObject object × HasType object ty × IsHeld s.program ty
   IsWellForm s ty (Address object) = IsWell s object × IsObject object × (ty ≡ pointer (type_of object))
-  IsWellForm s ty (Decay object) = IsWell s object × IsObject object × (element : Shape) × (count : ℕ) × HasType object (array element count) × (ty ≡ pointer element)
+  IsWellForm s ty (Decay object) = IsWell s object × IsObject object × (element : Shape) × (count : ℕ) × HasType object (array element count)
+      × (ty ≡ pointer element)
   IsWellForm s ty (Convert e) = IsWell s e × IsValue e × IsConverted ty (type_of e)
   IsWellForm s ty (Unary op e) = IsWell s e × IsInteger ty × IsValueOf e ty
   IsWellForm s ty (Not e) = IsWell s e × (ty ≡ integer Int) × IsScalarValue e
@@ -141,7 +146,8 @@ abbrev mutual
   IsWellForm s ty (Compare op left right) = IsWell s left × IsWell s right × (ty ≡ integer Int) × IsScalarValue left × IsValueOf right (type_of left)
   IsWellForm s ty (Sum e amount direction order) = IsWell s e × IsWell s amount × IsElementPointer s.program ty × IsValueOf e ty × IsIntegerValue amount
   IsWellForm s ty (Difference left right) =
-      IsWell s left × IsWell s right × (ty ≡ integer (difference_type_of s.program.model)) × IsElementPointer s.program (type_of left) × IsValue left × IsValueOf right (type_of left)
+      IsWell s left × IsWell s right × (ty ≡ integer (difference_type_of s.program.model)) × IsElementPointer s.program (type_of left) × IsValue left
+      × IsValueOf right (type_of left)
   IsWellForm s ty (And left right) = IsWell s left × IsWell s right × (ty ≡ integer Int) × IsScalarValue left × IsScalarValue right
   IsWellForm s ty (Or left right) = IsWell s left × IsWell s right × (ty ≡ integer Int) × IsScalarValue left × IsScalarValue right
   IsWellForm s ty (Choice test one other) = IsWell s test × IsWell s one × IsWell s other × IsScalarValue test × IsValueOf one ty × IsValueOf other ty
@@ -153,7 +159,8 @@ abbrev mutual
       IsWell s object × IsWell s amount × IsObject object × IsElementPointer s.program ty × HasType object ty × IsIntegerValue amount
   IsWellForm s ty (Call number arguments) = AreWell s arguments × IsCalled s.program number arguments ty
   IsWellForm s ty (Allocate allocator arguments element) =
-      AreWell s arguments × AreValuesOf arguments (sizes_of s.program.model allocator) × (target : Shape) × (ty ≡ pointer target) × (element ≡ block_of target) × NamesStructs s.program.table ty
+      AreWell s arguments × AreValuesOf arguments (sizes_of s.program.model allocator) × (target : Shape) × (ty ≡ pointer target)
+      × (element ≡ block_of target) × NamesStructs s.program.table ty
   IsWellForm s ty (Free e) = IsWell s e × (ty ≡ void) × IsValueOf e (pointer void)
 
   -- the same of expressions in a row

@@ -15,13 +15,16 @@ pub record Extends (p q : TypedProgram) : Type 0 where
   pub model : p.model ≡ q.model
   pub table : Keeps p.table q.table
   pub literals : (number : ℕ) (bytes : List ℕ) → slice_get p.literals number ≡ Some bytes → slice_get q.literals number ≡ Some bytes
-  pub globals : (number : ℕ) (g : FileObject) → slice_get p.globals number ≡ Some g → (h : FileObject) × (slice_get q.globals number ≡ Some h) × (h.ty ≡ g.ty)
-  pub routines : (number : ℕ) (r : Routine) → slice_get p.routines number ≡ Some r → (o : Routine) × (slice_get q.routines number ≡ Some o) × (o.returns ≡ r.returns) × (parameter_types o ≡ parameter_types r)
+  pub globals : (number : ℕ) (g : FileObject) → slice_get p.globals number ≡ Some g
+      → (h : FileObject) × (slice_get q.globals number ≡ Some h) × (h.ty ≡ g.ty)
+  pub routines : (number : ℕ) (r : Routine) → slice_get p.routines number ≡ Some r
+      → (o : Routine) × (slice_get q.routines number ≡ Some o) × (o.returns ≡ r.returns) × (parameter_types o ≡ parameter_types r)
 
 -- the same of where expressions stand
 pub record Grows (s t : Setting) : Type 0 where
   pub program : Extends s.program t.program
-  pub variables : (number : ℕ) (v : Variable) → slice_get s.variables number ≡ Some v → (w : Variable) × (slice_get t.variables number ≡ Some w) × (w.ty ≡ v.ty)
+  pub variables : (number : ℕ) (v : Variable) → slice_get s.variables number ≡ Some v
+      → (w : Variable) × (slice_get t.variables number ≡ Some w) × (w.ty ≡ v.ty)
   pub labels : s.labels ≤ t.labels
   pub returns : s.returns ≡ t.returns
 

@@ -1,6 +1,7 @@
 -- Jumps lead to labels that are there (C11 6.8.6.1).
 use Rattle.std.specs.Prelude.{◌≡◌, ◌⊎◌, ℕ, ◌<◌}
-use Rattle.cs_ast.specs.TypedTree.{Statement, Block, Declare, Run, If, IfElse, While, Do, For, Switch, Goto, Label, Break, Continue, Return, Statements, Empty, Then}
+use Rattle.cs_ast.specs.TypedTree.{Statement, Block, Declare, Run, If, IfElse, While, Do, For, Switch, Goto, Label, Break, Continue, Return, Statements, Empty}
+use Rattle.cs_ast.specs.TypedTree.{Then}
 use Rattle.cs_well_formed.specs.Statements.{label_count, AreNumbered}
 
 abbrev mutual

@@ -48,7 +48,8 @@ OperandsAreWell = (s : Setting) (c : Context) (literals : Literals) (target : Op
 -- an expression whose value goes to a type as if by assignment has that type
 abbrev pub AssignedAreWell : Type 0
 AssignedAreWell = (s : Setting) (c : Context) (literals : Literals) (at : Place) (target : Shape) (e : RawExpr) (v : Typed) →
-    IsTyped s c literals e.kind.value → NamesStructs s.program.table target → assigned_value c literals at target e ≡ Fine v → IsWell s v × IsValueOf v target
+    IsTyped s c literals e.kind.value → NamesStructs s.program.table target → assigned_value c literals at target e ≡ Fine v
+    → IsWell s v × IsValueOf v target
 
 -- an expression that is tested is an integer or a pointer
 abbrev pub TestsAreWell : Type 0
@@ -72,8 +73,10 @@ ConstantsAreInRange = (s : Setting) (c : Context) (e : RawExpr) (ty : IntType) (
 
 -- what an object of a whole type holds at first, where the structs of the program are laid out
 abbrev pub InitialsAreWell : Type 0
-InitialsAreWell = (s : Setting) (c : Context) (literals following : Literals) (storage : Storage) (at : Place) (ty : Shape) (raw : RawInitial) (found : Initial) →
-    Agrees s c → IsLaidOut s.program.model s.program.table → IsWhole s.program ty → NamesStructs s.program.table ty → InitialHasConstants (initial raw) → AreFirst s.program following →
+InitialsAreWell = (s : Setting) (c : Context) (literals following : Literals) (storage : Storage) (at : Place) (ty : Shape) (raw : RawInitial) (found : Initial)
+    →
+    Agrees s c → IsLaidOut s.program.model s.program.table → IsWhole s.program ty → NamesStructs s.program.table ty → InitialHasConstants (initial raw)
+    → AreFirst s.program following →
     initial_typed c literals storage at ty raw ≡ Fine (found, following) → IsWellInitial s ty found
 
 -- what an object of a file holds at first is constant

@@ -27,11 +27,13 @@ pub record Leads (s : Setting) (k m : Environment) : Type 0 where
 
 -- the variables are the first ones of the function
 abbrev pub AreVariables : Setting → List Variable → Type 0
-AreVariables s variables = (number : ℕ) (v : Variable) → slice_get variables number ≡ Some v → (w : Variable) × (slice_get s.variables number ≡ Some w) × (w.ty ≡ v.ty)
+AreVariables s variables = (number : ℕ) (v : Variable) → slice_get variables number ≡ Some v
+    → (w : Variable) × (slice_get s.variables number ≡ Some w) × (w.ty ≡ v.ty)
 
 -- the words before declarators, with the bodies of structs and enums
 abbrev pub WordsLead : Type 0
-WordsLead = (s : Setting) (k m : Environment) (at : Place) (words : RawSpecs) (ty : Shape) → k.context.model ≡ s.program.model → specs_type k at words ≡ Fine (ty, m) → Leads s k m
+WordsLead = (s : Setting) (k m : Environment) (at : Place) (words : RawSpecs) (ty : Shape) → k.context.model ≡ s.program.model
+    → specs_type k at words ≡ Fine (ty, m) → Leads s k m
 
 -- typedefs
 abbrev pub TypedefsLead : Type 0
@@ -39,8 +41,10 @@ TypedefsLead = (s : Setting) (k m : Environment) (base : Shape) (names : List Ra
 
 -- the parameters of a function
 abbrev pub ParametersLead : Type 0
-ParametersLead = (s : Setting) (k : Environment) (raw : RawParameters) (head : Head) → k.context.model ≡ s.program.model → AreVariables s head.variables → parameters_typed k raw ≡ Fine head → Leads s k head.known
+ParametersLead = (s : Setting) (k : Environment) (raw : RawParameters) (head : Head) → k.context.model ≡ s.program.model → AreVariables s head.variables
+    → parameters_typed k raw ≡ Fine head → Leads s k head.known
 
 -- the type of a declared object is whole
 abbrev pub ObjectsAreWhole : Type 0
-ObjectsAreWhole = (s : Setting) (c : Context) (base : Shape) (d : RawInit) (ty : Shape) → Agrees s c → object_type c base d ≡ Fine ty → IsWhole s.program ty
+ObjectsAreWhole = (s : Setting) (c : Context) (base : Shape) (d : RawInit) (ty : Shape) → Agrees s c → object_type c base d ≡ Fine ty
+    → IsWhole s.program ty

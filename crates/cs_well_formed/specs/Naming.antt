@@ -31,16 +31,20 @@ StatementsAreNamed = (s : Setting) (b : Statement) → TypesAroundAreNamed s →
 
 -- the type that words name, and all that is known after them
 abbrev pub WordsAreNamed : Type 0
-WordsAreNamed = (k m : Environment) (at : Place) (words : RawSpecs) (ty : Shape) → KnownTypesAreNamed k.context → specs_type k at words ≡ Fine (ty, m) → NamesStructs (table_of m) ty × KnownTypesAreNamed m.context
+WordsAreNamed = (k m : Environment) (at : Place) (words : RawSpecs) (ty : Shape) → KnownTypesAreNamed k.context → specs_type k at words ≡ Fine (ty, m)
+    → NamesStructs (table_of m) ty × KnownTypesAreNamed m.context
 
 -- typedefs
 abbrev pub TypedefsAreNamed : Type 0
-TypedefsAreNamed = (k m : Environment) (base : Shape) (names : List RawDeclarator) → NamesStructs (table_of k) base → KnownTypesAreNamed k.context → typedefs_added base names k ≡ Fine m → KnownTypesAreNamed m.context
+TypedefsAreNamed = (k m : Environment) (base : Shape) (names : List RawDeclarator) → NamesStructs (table_of k) base → KnownTypesAreNamed k.context
+    → typedefs_added base names k ≡ Fine m → KnownTypesAreNamed m.context
 
 -- the parameters of a function
 abbrev pub ParametersAreNamed : Type 0
-ParametersAreNamed = (k : Environment) (raw : RawParameters) (head : Head) → KnownTypesAreNamed k.context → parameters_typed k raw ≡ Fine head → VariablesName (table_of head.known) head.variables × KnownTypesAreNamed head.known.context
+ParametersAreNamed = (k : Environment) (raw : RawParameters) (head : Head) → KnownTypesAreNamed k.context → parameters_typed k raw ≡ Fine head
+    → VariablesName (table_of head.known) head.variables × KnownTypesAreNamed head.known.context
 
 -- the type of a declared object
 abbrev pub ObjectsAreNamed : Type 0
-ObjectsAreNamed = (c : Context) (base : Shape) (d : RawInit) (ty : Shape) → NamesStructs c.table.list base → object_type c base d ≡ Fine ty → NamesStructs c.table.list ty
+ObjectsAreNamed = (c : Context) (base : Shape) (d : RawInit) (ty : Shape) → NamesStructs c.table.list base → object_type c base d ≡ Fine ty
+    → NamesStructs c.table.list ty

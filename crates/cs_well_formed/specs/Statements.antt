@@ -6,7 +6,8 @@ use Rattle.cs_types.specs.declared.int_type.IntType.{IntType}
 use Rattle.cs_types.specs.IntType.{InRange}
 use Rattle.cs_types.specs.Shape.{Shape, void, integer}
 use Rattle.cs_ast.specs.declared.typed.statement.Case.{Case}
-use Rattle.cs_ast.specs.TypedTree.{Typed, Statement, Block, Declare, Run, If, IfElse, While, Do, For, Switch, Goto, Label, Break, Continue, Return, Statements, Empty, Then, count_of}
+use Rattle.cs_ast.specs.TypedTree.{Typed, Statement, Block, Declare, Run, If, IfElse, While, Do, For, Switch, Goto, Label, Break, Continue, Return, Statements}
+use Rattle.cs_ast.specs.TypedTree.{Empty, Then, count_of}
 use Rattle.cs_ast.specs.TypedProgram.{Variable}
 use Rattle.cs_folding.specs.TypedParts.{type_of}
 use Rattle.cs_well_formed.specs.Expressions.{Setting, IsWell, IsValue, IsScalarValue, IsIntegerValue, IsValueOf}

@@ -9,20 +9,24 @@ abbrev pub first_some : Option (List ℕ) → Option (List ℕ) → Option (List
 first_some None other = other
 first_some (Some text) other = Some text
 
-choose : (test : Bool) (text : List ℕ) (one other both : Option (List ℕ)) → both ≡ first_some one other → (if test then Some text else both) ≡ first_some (if test then Some text else one) other
+choose : (test : Bool) (text : List ℕ) (one other both : Option (List ℕ)) → both ≡ first_some one other
+    → (if test then Some text else both) ≡ first_some (if test then Some text else one) other
 choose true text one other both e = refl
 choose false text one other both e = e
 
-pub text_append : (setting : Setting) (given later : List Given) → text_of setting (given ++ later) ≡ first_some (text_of setting given) (text_of setting later)
+pub text_append : (setting : Setting) (given later : List Given)
+    → text_of setting (given ++ later) ≡ first_some (text_of setting given) (text_of setting later)
 text_append setting [] later = refl
-text_append setting (g ∷ gs) later = choose (is_same setting g.setting) g.text (text_of setting gs) (text_of setting later) (text_of setting (gs ++ later)) (text_append setting gs later)
+text_append setting (g ∷ gs) later =
+    choose (is_same setting g.setting) g.text (text_of setting gs) (text_of setting later) (text_of setting (gs ++ later)) (text_append setting gs later)
 
 own_text : (g : Given) (later : List Given) → text_of g.setting (g ∷ later) ≡ Some g.text
 own_text g later = ap (λ (b : Bool). if b then Some g.text else text_of g.setting later) (is_same-itself g.setting)
 
 -- an option that isn't given before has the text that is given here
 pub text_here : (g : Given) (given later : List Given) → text_of g.setting given ≡ None → text_of g.setting (given ++ g ∷ later) ≡ Some g.text
-text_here g given later none = text_append g.setting given (g ∷ later) ∙ ap (λ (t : Option (List ℕ)). first_some t (text_of g.setting (g ∷ later))) none ∙ own_text g later
+text_here g given later none = text_append g.setting given (g ∷ later)
+    ∙ ap (λ (t : Option (List ℕ)). first_some t (text_of g.setting (g ∷ later))) none ∙ own_text g later
 
 never_none : (reported : Option (List ℕ)) (text : List ℕ) → first_some reported (Some text) ≡ None → ⊥
 never_none None text e = absurd (cc)
@@ -30,10 +34,12 @@ never_none (Some reported) text e = absurd (cc)
 
 given_somewhere : (g : Given) (given later : List Given) → text_of g.setting (given ++ g ∷ later) ≡ None → ⊥
 given_somewhere g given later none =
-    never_none (text_of g.setting given) g.text (ap (first_some (text_of g.setting given)) (sym (own_text g later)) ∙ sym (text_append g.setting given (g ∷ later)) ∙ none)
+    never_none (text_of g.setting given) g.text (ap (first_some (text_of g.setting given)) (sym (own_text g later))
+    ∙ sym (text_append g.setting given (g ∷ later)) ∙ none)
 
 -- an option that is given before isn't given here
-same_first : (g h : Given) (given later : List Given) (same : Bool) → is_same g.setting h.setting ≡ same → text_of h.setting (given ++ g ∷ later) ≡ None → same ≡ false
+same_first : (g h : Given) (given later : List Given) (same : Bool) → is_same g.setting h.setting ≡ same
+    → text_of h.setting (given ++ g ∷ later) ≡ None → same ≡ false
 same_first g h given later false is none = refl
 same_first g h given later true is none =
     let settings : g.setting ≡ h.setting = same_place g.setting h.setting is in
@@ -61,8 +67,10 @@ different_more g [] different none = (refl, tt)
 different_more g (h ∷ hs) different none =
     let parts = branch (is_same g.setting h.setting) h.text (text_of g.setting hs) none in
     let other : is_same h.setting g.setting ≡ false = other_way g.setting h.setting (is_same h.setting g.setting) refl parts.0 in
-    let last : text_of h.setting (g ∷ []) ≡ None = ap (λ (b : Bool). if b then Some g.text else None) other in
-    (text_append h.setting hs (g ∷ []) ∙ ap (λ (t : Option (List ℕ)). first_some t (text_of h.setting (g ∷ []))) different.0 ∙ last, different_more g hs different.1 parts.1)
+    let last : text_of h.setting (g ∷ []) ≡ None = ap (λ (b : Bool). if b then Some g.text else None) other in (
+      text_append h.setting hs (g ∷ []) ∙ ap (λ (t : Option (List ℕ)). first_some t (text_of h.setting (g ∷ []))) different.0 ∙ last,
+      different_more g hs different.1 parts.1,
+    )
 
 pub taken_more : (verb : Verb) (g : Given) (given : List Given) → AreTaken verb given → takes verb g.setting ≡ true → AreTaken verb (given ++ g ∷ [])
 taken_more verb g [] taken takes = (takes, tt)
@@ -73,9 +81,11 @@ taken_here verb g [] later taken = taken.0
 taken_here verb g (h ∷ hs) later taken = taken_here verb g hs later taken.1
 
 -- the text that an option has with one more setting
-pub text_more : (setting : Setting) (g : Given) (given : List Given) → is_same setting g.setting ≡ false → text_of setting (given ++ g ∷ []) ≡ text_of setting given
+pub text_more : (setting : Setting) (g : Given) (given : List Given) → is_same setting g.setting ≡ false
+    → text_of setting (given ++ g ∷ []) ≡ text_of setting given
 text_more setting g given other =
-    text_append setting given (g ∷ []) ∙ ap (λ (b : Bool). first_some (text_of setting given) (if b then Some g.text else None)) other ∙ kept (text_of setting given)
+    text_append setting given (g ∷ []) ∙ ap (λ (b : Bool). first_some (text_of setting given) (if b then Some g.text else None)) other
+    ∙ kept (text_of setting given)
   where
     kept : (reported : Option (List ℕ)) → first_some reported None ≡ reported
     kept None = refl

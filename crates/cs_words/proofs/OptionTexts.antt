@@ -1,6 +1,7 @@
 -- Commands and options are told apart by their texts, and a word names one option in one way: for `option_of` and
 -- `settings_of`.
-use Rattle.std.proofs.Common.{◌≡◌, ℕ, true, false, not, List, [], ◌∷◌, ◌++◌, Option, Some, None, drop, ap, sym, ◌∙◌, refl, append_assoc, eqb-true}
+use Rattle.std.proofs.Common.{◌≡◌, ℕ, true, false, not, List, [], ◌∷◌, ◌++◌, Option, Some, None, drop, ap, sym, ◌∙◌, refl, append_assoc}
+use Rattle.std.proofs.Common.{eqb-true}
 use Rattle.std.specs.Prelude.{◌==◌, nat_eq, codes, if◌then◌else◌}
 use Rattle.std.specs.List.{list_all}
 use Rattle.std.specs.Cmp.Lexicographic.{pointwise}
@@ -27,7 +28,8 @@ pub same_verb : (one other : Verb) → verb_text one ≡ verb_text other → one
 same_verb one other e = sym (verb_back one) ∙ ap verb_of e ∙ verb_back other
 
 setting_of : List ℕ → Setting
-setting_of name = if pointwise nat_eq name (codes "visits") then Visits else if pointwise nat_eq name (codes "depth") then Depth else if pointwise nat_eq name (codes "events") then Events else Model
+setting_of name = if pointwise nat_eq name (codes "visits") then Visits else if pointwise nat_eq name (codes "depth") then Depth
+    else if pointwise nat_eq name (codes "events") then Events else Model
 
 setting_back : (setting : Setting) → setting_of (setting_text setting) ≡ setting
 unfolding setting_of
@@ -83,13 +85,16 @@ same_tail None (Some text) e = absurd (cc)
 same_tail (Some text) None e = absurd (cc)
 same_tail (Some one) (Some other) e = ap Some (ap (drop 1) e)
 
-pub same_cut_text : (one : Setting) (name tail : List ℕ) (text : Option (List ℕ)) → list_all (λ b. not (b == 61)) name ≡ true → IsEmptyOrAt 61 tail → setting_text one ++ tail_text text ≡ name ++ tail → (setting_text one ≡ name) × (tail_text text ≡ tail)
+pub same_cut_text : (one : Setting) (name tail : List ℕ) (text : Option (List ℕ)) → list_all (λ b. not (b == 61)) name ≡ true → IsEmptyOrAt 61 tail
+    → setting_text one ++ tail_text text ≡ name ++ tail → (setting_text one ≡ name) × (tail_text text ≡ tail)
 same_cut_text one name tail text none at e = one_cut 61 (setting_text one) name (tail_text text) tail (no_equals one) none (tail_at text) at e
 
 -- a word is of one option, and with one value's text or none
-pub same_option : (one other : Setting) (text reported : Option (List ℕ)) → option_text one text ≡ option_text other reported → (one ≡ other) × (text ≡ reported)
+pub same_option : (one other : Setting) (text reported : Option (List ℕ)) → option_text one text ≡ option_text other reported
+    → (one ≡ other) × (text ≡ reported)
 same_option one other text reported e =
-    let bodies : setting_text one ++ tail_text text ≡ setting_text other ++ tail_text reported = ap (drop 2) (sym (after_dashes one text) ∙ e ∙ after_dashes other reported) in
+    let bodies : setting_text one ++ tail_text text ≡ setting_text other ++ tail_text reported =
+    ap (drop 2) (sym (after_dashes one text) ∙ e ∙ after_dashes other reported) in
     let cut = same_cut_text one (setting_text other) (tail_text reported) text (no_equals other) (tail_at reported) bodies in
     (same_setting one other cut.0, same_tail text reported cut.1)
 
@@ -99,7 +104,8 @@ no_name setting None = refl
 no_name setting (Some text) = refl
 
 -- ---- what `option_of` finds
-pub alone : (word body name tail : List ℕ) (setting : Setting) → word ≡ 45 ∷ 45 ∷ body → SplitsBefore 61 body name tail → setting_text setting ≡ name → tail ≡ [] → word ≡ option_text setting None
+pub alone : (word body name tail : List ℕ) (setting : Setting) → word ≡ 45 ∷ 45 ∷ body → SplitsBefore 61 body name tail
+    → setting_text setting ≡ name → tail ≡ [] → word ≡ option_text setting None
 alone word body name tail setting is cut named none =
     is ∙ ap (λ (t : List ℕ). 45 ∷ 45 ∷ t) (cut.whole ∙ ap (λ (t : List ℕ). name ++ t) none ∙ append-nil name ∙ sym named)
 
@@ -109,14 +115,19 @@ joined_at name (b ∷ bs) text mark at is =
     let rest : bs ≡ text = ap (drop 1) is in
     (λ i. at i ∷ rest i)
 
-pub with_text : (word body name tail text : List ℕ) (mark : ℕ) (setting : Setting) → word ≡ 45 ∷ 45 ∷ body → SplitsBefore 61 body name tail → setting_text setting ≡ name → tail ≡ mark ∷ text → word ≡ option_text setting (Some text)
+pub with_text : (word body name tail text : List ℕ) (mark : ℕ) (setting : Setting) → word ≡ 45 ∷ 45 ∷ body → SplitsBefore 61 body name tail
+    → setting_text setting ≡ name → tail ≡ mark ∷ text → word ≡ option_text setting (Some text)
 with_text word body name tail text mark setting is cut named marked =
-    is ∙ ap (λ (t : List ℕ). 45 ∷ 45 ∷ t) (cut.whole ∙ ap (λ (t : List ℕ). name ++ t) (joined_at name tail text mark cut.at marked) ∙ ap (λ (t : List ℕ). t ++ (codes "=" ++ text)) (sym named)) ∙ sym (after_dashes setting (Some text))
+    is ∙ ap (λ (t : List ℕ). 45 ∷ 45 ∷ t) (cut.whole ∙ ap (λ (t : List ℕ). name ++ t) (joined_at name tail text mark cut.at marked)
+    ∙ ap (λ (t : List ℕ). t ++ (codes "=" ++ text)) (sym named)) ∙ sym (after_dashes setting (Some text))
 
-pub unknown : (word body name tail : List ℕ) → word ≡ 45 ∷ 45 ∷ body → SplitsBefore 61 body name tail → ((setting : Setting) → setting_text setting ≡ name → ⊥) → (setting : Setting) (text : Option (List ℕ)) → word ≡ option_text setting text → ⊥
+pub unknown : (word body name tail : List ℕ) → word ≡ 45 ∷ 45 ∷ body → SplitsBefore 61 body name tail
+    → ((setting : Setting) → setting_text setting ≡ name → ⊥) → (setting : Setting) (text : Option (List ℕ)) → word ≡ option_text setting text
+    → ⊥
 unknown word body name tail is cut none setting text e =
     let bodies : setting_text setting ++ tail_text text ≡ name ++ tail = ap (drop 2) (sym (after_dashes setting text) ∙ sym e ∙ is) ∙ cut.whole in
     none setting (same_cut_text setting name tail text cut.none cut.at bodies).0
 
-pub no_dashes : (word : List ℕ) → ((body : List ℕ) → word ≡ 45 ∷ 45 ∷ body → ⊥) → (setting : Setting) (text : Option (List ℕ)) → word ≡ option_text setting text → ⊥
+pub no_dashes : (word : List ℕ) → ((body : List ℕ) → word ≡ 45 ∷ 45 ∷ body → ⊥)
+    → (setting : Setting) (text : Option (List ℕ)) → word ≡ option_text setting text → ⊥
 no_dashes word none setting text e = none (setting_text setting ++ tail_text text) (e ∙ after_dashes setting text)

@@ -1,6 +1,7 @@
 -- Where a command's word and some settings are read: which words go on to a command, and how the settings grow. For
 -- `settings_of`, `with_option` and what reads the rest.
-use Rattle.std.proofs.Common.{◌≡◌, ℕ, Bool, true, false, List, [], ◌∷◌, ◌++◌, Option, Some, None, ap, sym, ◌∙◌, refl, subst, append_assoc, inl, inr}
+use Rattle.std.proofs.Common.{◌≡◌, ℕ, Bool, true, false, List, [], ◌∷◌, ◌++◌, Option, Some, None, ap, sym, ◌∙◌, refl, subst}
+use Rattle.std.proofs.Common.{append_assoc, inl, inr}
 use Rattle.std.specs.Prelude.{◌⊎◌, codes}
 use Rattle.std.proofs.lemmas.List.{append-nil}
 use Rattle.cs_words.specs.declared.command.Command.TheVariants.{Analyze, Flow, Replay}
@@ -13,7 +14,8 @@ use Rattle.cs_words.specs.Scan.{Settings, IsSetTo, is_set, HasValue, IsSetBeside
 use Rattle.cs_words.proofs.OptionTexts.{same_verb, same_option, same_place}
 use Rattle.cs_words.proofs.GivenTexts.{text_here, not_given, different_more, taken_more, taken_here, text_more}
 use Rattle.cs_words.proofs.SettingWords.{heads, joined, followed, asks_no_option, after_read, none_left}
-use Rattle.cs_words.proofs.FoundFields.{IsReported, not_set, reported_from, reported_some, some_budgets, some_model, visits_reported, depth_reported, events_reported, model_reported}
+use Rattle.cs_words.proofs.FoundFields.{IsReported, not_set, reported_from, reported_some, some_budgets, some_model, visits_reported, depth_reported}
+use Rattle.cs_words.proofs.FoundFields.{events_reported, model_reported}
 
 -- ---- words that go on
 -- words after settings that were read go on to a command
@@ -25,22 +27,26 @@ pub record GoOn (verb : Verb) (given : List Given) (words : List (List ℕ)) (co
   pub different : AreDifferent (given ++ later)
   pub asks : AskFor verb (given ++ later) others command
 
-pub goes_on : (verb : Verb) (given : List Given) (done words : List (List ℕ)) (command : Command) → BeginWithSettings given [] done → WordsMean ((verb_text verb ∷ done) ++ words) command → GoOn verb given words command
+pub goes_on : (verb : Verb) (given : List Given) (done words : List (List ℕ)) (command : Command) → BeginWithSettings given [] done
+    → WordsMean ((verb_text verb ∷ done) ++ words) command → GoOn verb given words command
 goes_on verb given done words command spelled m =
     let first = heads (verb_text verb) (verb_text m.verb) (done ++ words) m.following m.first in
     let verbs : m.verb ≡ verb = sym (same_verb verb m.verb first.0) in
-    let read = after_read given m.given done m.others words (asks_no_option m.verb m.given m.others command m.asks) spelled (subst (λ (w : List (List ℕ)). BeginWithSettings m.given m.others w) (sym first.1) m.settings) in
+    let read = after_read given m.given done m.others words (asks_no_option m.verb m.given m.others command m.asks) spelled
+    (subst (λ (w : List (List ℕ)). BeginWithSettings m.given m.others w) (sym first.1) m.settings) in
     record {
       later = read.0;
       others = m.others;
       settings = read.2;
       taken = subst (λ (v : Verb). AreTaken v (given ++ read.0)) verbs (subst (λ (g : List Given). AreTaken m.verb g) read.1 m.taken);
       different = subst (λ (g : List Given). AreDifferent g) read.1 m.different;
-      asks = subst (λ (v : Verb). AskFor v (given ++ read.0) m.others command) verbs (subst (λ (g : List Given). AskFor m.verb g m.others command) read.1 m.asks);
+      asks = subst (λ (v : Verb). AskFor v (given ++ read.0) m.others command) verbs
+          (subst (λ (g : List Given). AskFor m.verb g m.others command) read.1 m.asks);
     }
 
 -- where no option's word stands first, what is asked for stands there
-pub asks_here : (verb : Verb) (given : List Given) (words : List (List ℕ)) (command : Command) → BeginWithNoOption words → GoOn verb given words command → AskFor verb given words command
+pub asks_here : (verb : Verb) (given : List Given) (words : List (List ℕ)) (command : Command) → BeginWithNoOption words → GoOn verb given words command
+    → AskFor verb given words command
 asks_here verb given words command absent on =
     let none = none_left on.later on.others words absent on.settings in
     let whole : given ++ on.later ≡ given = ap (λ (g : List Given). given ++ g) none.0 ∙ append-nil given in
@@ -53,7 +59,8 @@ pub record AreSpelled (verb : Verb) (given : List Given) (done : List (List ℕ)
   pub different : AreDifferent given
   pub reported : (setting : Setting) → IsReported setting (text_of setting given)
 
-pub means_with : (verb : Verb) (given : List Given) (done others : List (List ℕ)) (command : Command) → BeginWithSettings given [] done → AreTaken verb given → AreDifferent given → AskFor verb given others command → WordsMean ((verb_text verb ∷ done) ++ others) command
+pub means_with : (verb : Verb) (given : List Given) (done others : List (List ℕ)) (command : Command) → BeginWithSettings given [] done
+    → AreTaken verb given → AreDifferent given → AskFor verb given others command → WordsMean ((verb_text verb ∷ done) ++ others) command
 means_with verb given done others command words taken different asks = record {
   verb = verb;
   given = given;
@@ -67,7 +74,8 @@ means_with verb given done others command words taken different asks = record {
 }
 
 -- they go on to some command
-completed : (verb : Verb) (given : List Given) → ((setting : Setting) → IsReported setting (text_of setting given)) → (others : List (List ℕ)) × (command : Command) × AskFor verb given others command
+completed : (verb : Verb) (given : List Given) → ((setting : Setting) → IsReported setting (text_of setting given))
+    → (others : List (List ℕ)) × (command : Command) × AskFor verb given others command
 completed verbs.Analyze given reported =
     let model = some_model given reported in
     ([], Analyze (record { model = model.0 }), (refl, model.1))
@@ -76,21 +84,29 @@ completed verbs.Flow given reported =
     ([], Flow (record { model = model.0 }), (refl, model.1))
 completed verbs.Replay given reported =
     let model = some_model given reported in
-    let budgets = some_budgets given reported in
-    (codes "f" ∷ [], Replay (record { budgets = budgets.0; entry = codes "f"; inputs = []; model = model.0 }), record { budgets = budgets.1; model = model.1; name = refl; input_words = []; whole = refl; inputs = refl })
+    let budgets = some_budgets given reported in (
+      codes "f" ∷ [],
+      Replay (record { budgets = budgets.0; entry = codes "f"; inputs = []; model = model.0 }),
+      record { budgets = budgets.1; model = model.1; name = refl; input_words = []; whole = refl; inputs = refl },
+    )
 
 pub begins : (verb : Verb) (given : List Given) (done : List (List ℕ)) → AreSpelled verb given done → BeginsACommand (verb_text verb ∷ done)
 begins verb given done s =
     let end = completed verb given s.reported in
     (end.0, end.1, means_with verb given done end.0 end.1 s.words s.taken s.different end.2)
 
-reported_more : (g : Given) (given : List Given) → text_of g.setting given ≡ None → HasValue g.setting g.text → ((setting : Setting) → IsReported setting (text_of setting given)) → (setting : Setting) (same : Bool) → is_same setting g.setting ≡ same → IsReported setting (text_of setting (given ++ g ∷ []))
+reported_more : (g : Given) (given : List Given) → text_of g.setting given ≡ None → HasValue g.setting g.text
+    → ((setting : Setting) → IsReported setting (text_of setting given)) → (setting : Setting) (same : Bool) → is_same setting g.setting ≡ same
+    → IsReported setting (text_of setting (given ++ g ∷ []))
 reported_more g given none value reported setting true is =
-    subst (λ (s : Setting). IsReported s (text_of s (given ++ g ∷ []))) (sym (same_place setting g.setting is)) (subst (λ (t : Option (List ℕ)). IsReported g.setting t) (sym (text_here g given [] none)) (reported_some g.setting g.text value))
+    subst (λ (s : Setting). IsReported s (text_of s (given ++ g ∷ []))) (sym (same_place setting g.setting is))
+    (subst (λ (t : Option (List ℕ)). IsReported g.setting t) (sym (text_here g given [] none)) (reported_some g.setting g.text value))
 reported_more g given none value reported setting false is =
     subst (λ (t : Option (List ℕ)). IsReported setting t) (sym (text_more setting g given is)) (reported setting)
 
-pub spelled_more : (verb : Verb) (g : Given) (given : List Given) (done words : List (List ℕ)) → AreSpelled verb given done → takes verb g.setting ≡ true → text_of g.setting given ≡ None → HasValue g.setting g.text → BeginWithSetting g [] words → AreSpelled verb (given ++ g ∷ []) (done ++ words)
+pub spelled_more : (verb : Verb) (g : Given) (given : List Given) (done words : List (List ℕ)) → AreSpelled verb given done
+    → takes verb g.setting ≡ true → text_of g.setting given ≡ None → HasValue g.setting g.text → BeginWithSetting g [] words
+    → AreSpelled verb (given ++ g ∷ []) (done ++ words)
 spelled_more verb g given done words s taken none value begins = record {
   words = joined given (g ∷ []) done [] words s.words ([], begins, refl);
   taken = taken_more verb g given s.taken taken;
@@ -99,7 +115,8 @@ spelled_more verb g given done words s taken none value begins = record {
 }
 
 -- ---- the same of what the scan has found
-pub spelled_by : (verb : Verb) (words : List (List ℕ)) (settings : Settings) (rest : List (List ℕ)) → (read : AreReadTo verb words settings rest) → AreSpelled verb read.given read.done
+pub spelled_by : (verb : Verb) (words : List (List ℕ)) (settings : Settings) (rest : List (List ℕ)) → (read : AreReadTo verb words settings rest)
+    → AreSpelled verb read.given read.done
 spelled_by verb words settings rest read = record {
   words = read.spelled;
   taken = read.taken;
@@ -107,19 +124,26 @@ spelled_by verb words settings rest read = record {
   reported = λ setting. reported_from setting (text_of setting read.given) settings (read.fields setting);
 }
 
-fields_more : (g : Given) (given : List Given) (before after : Settings) → text_of g.setting given ≡ None → IsSetBesides g.setting g.text before after → ((setting : Setting) → IsSetTo setting (text_of setting given) before) → (setting : Setting) (same : Bool) → is_same setting g.setting ≡ same → IsSetTo setting (text_of setting (given ++ g ∷ [])) after
+fields_more : (g : Given) (given : List Given) (before after : Settings) → text_of g.setting given ≡ None → IsSetBesides g.setting g.text before after
+    → ((setting : Setting) → IsSetTo setting (text_of setting given) before) → (setting : Setting) (same : Bool) → is_same setting g.setting ≡ same
+    → IsSetTo setting (text_of setting (given ++ g ∷ [])) after
 fields_more g given before after none set fields setting true is =
-    subst (λ (s : Setting). IsSetTo s (text_of s (given ++ g ∷ [])) after) (sym (same_place setting g.setting is)) (subst (λ (t : Option (List ℕ)). IsSetTo g.setting t after) (sym (text_here g given [] none)) set.here)
+    subst (λ (s : Setting). IsSetTo s (text_of s (given ++ g ∷ [])) after) (sym (same_place setting g.setting is))
+    (subst (λ (t : Option (List ℕ)). IsSetTo g.setting t after) (sym (text_here g given [] none)) set.here)
 fields_more g given before after none set fields setting false is =
-    subst (λ (t : Option (List ℕ)). IsSetTo setting t after) (sym (text_more setting g given is)) (set.elsewhere setting is (text_of setting given) (fields setting))
+    subst (λ (t : Option (List ℕ)). IsSetTo setting t after) (sym (text_more setting g given is))
+    (set.elsewhere setting is (text_of setting given) (fields setting))
 
-pub read_more : (verb : Verb) (g : Given) (words : List (List ℕ)) (before after : Settings) (rest own left : List (List ℕ)) → AreReadTo verb words before rest → rest ≡ own ++ left → BeginWithSetting g [] own → takes verb g.setting ≡ true → is_set g.setting before ≡ false → IsSetBesides g.setting g.text before after → AreReadTo verb words after left
+pub read_more : (verb : Verb) (g : Given) (words : List (List ℕ)) (before after : Settings) (rest own left : List (List ℕ))
+    → AreReadTo verb words before rest → rest ≡ own ++ left → BeginWithSetting g [] own → takes verb g.setting ≡ true
+    → is_set g.setting before ≡ false → IsSetBesides g.setting g.text before after → AreReadTo verb words after left
 read_more verb g words before after rest own left read whole begins taken unset set =
     let none : text_of g.setting read.given ≡ None = not_set g.setting (text_of g.setting read.given) before (read.fields g.setting) unset in
     record {
       given = read.given ++ g ∷ [];
       done = read.done ++ own;
-      whole = read.whole ∙ ap (λ (w : List (List ℕ)). (verb_text verb ∷ read.done) ++ w) whole ∙ sym (append_assoc (verb_text verb ∷ read.done) own left);
+      whole = read.whole ∙ ap (λ (w : List (List ℕ)). (verb_text verb ∷ read.done) ++ w) whole
+          ∙ sym (append_assoc (verb_text verb ∷ read.done) own left);
       spelled = joined read.given (g ∷ []) read.done [] own read.spelled ([], begins, refl);
       taken = taken_more verb g read.given read.taken taken;
       different = different_more g read.given read.different none;
@@ -127,7 +151,8 @@ read_more verb g words before after rest own left read whole begins taken unset 
     }
 
 -- ---- an option's word that goes on
-asked_value : (verb : Verb) (setting : Setting) (given : List Given) (others : List (List ℕ)) (command : Command) (text : List ℕ) → AskFor verb given others command → takes verb setting ≡ true → text_of setting given ≡ Some text → HasValue setting text
+asked_value : (verb : Verb) (setting : Setting) (given : List Given) (others : List (List ℕ)) (command : Command) (text : List ℕ)
+    → AskFor verb given others command → takes verb setting ≡ true → text_of setting given ≡ Some text → HasValue setting text
 asked_value verbs.Analyze Model given others (Analyze words) text asks taken e = model_reported given words.model text asks.1 e
 asked_value verbs.Analyze Model given others (Flow words) text asks taken e = absurd asks
 asked_value verbs.Analyze Model given others (Replay words) text asks taken e = absurd asks
@@ -151,19 +176,30 @@ pub record IsGoodOption (verb : Verb) (given : List Given) (setting : Setting) (
   pub value : HasValue setting text
   pub place : (reported ≡ Some text) ⊎ ((reported ≡ None) × (rest : List (List ℕ)) × (following ≡ text ∷ rest))
 
-good_here : (verb : Verb) (given later : List Given) (g : Given) (others : List (List ℕ)) (command : Command) (setting : Setting) (reported : Option (List ℕ)) (following : List (List ℕ)) → setting ≡ g.setting → ((reported ≡ Some g.text) ⊎ ((reported ≡ None) × (rest : List (List ℕ)) × (following ≡ g.text ∷ rest))) → AreTaken verb (given ++ g ∷ later) → AreDifferent (given ++ g ∷ later) → AskFor verb (given ++ g ∷ later) others command → IsGoodOption verb given setting reported following
+good_here : (verb : Verb) (given later : List Given) (g : Given) (others : List (List ℕ)) (command : Command) (setting : Setting)
+    (reported : Option (List ℕ)) (following : List (List ℕ)) → setting ≡ g.setting
+    → ((reported ≡ Some g.text) ⊎ ((reported ≡ None) × (rest : List (List ℕ)) × (following ≡ g.text ∷ rest)))
+    → AreTaken verb (given ++ g ∷ later) → AreDifferent (given ++ g ∷ later) → AskFor verb (given ++ g ∷ later) others command
+    → IsGoodOption verb given setting reported following
 good_here verb given later g others command setting reported following same place taken different asks =
     let takes_it : takes verb g.setting ≡ true = taken_here verb g given later taken in
     let new : text_of g.setting given ≡ None = not_given g given later different in
-    let value : HasValue g.setting g.text = asked_value verb g.setting (given ++ g ∷ later) others command g.text asks takes_it (text_here g given later new) in
-    subst (λ (s : Setting). IsGoodOption verb given s reported following) (sym same) (record { text = g.text; taken = takes_it; new = new; value = value; place = place })
+    let value : HasValue g.setting g.text =
+    asked_value verb g.setting (given ++ g ∷ later) others command g.text asks takes_it (text_here g given later new) in
+    subst (λ (s : Setting). IsGoodOption verb given s reported following) (sym same)
+    (record { text = g.text; taken = takes_it; new = new; value = value; place = place })
 
-begin_alone : (setting : Setting) (reported : Option (List ℕ)) (word : List ℕ) (following others : List (List ℕ)) → word ≡ option_text setting reported → word ∷ following ≡ others → BeginWithNoOption others → ⊥
+begin_alone : (setting : Setting) (reported : Option (List ℕ)) (word : List ℕ) (following others : List (List ℕ))
+    → word ≡ option_text setting reported → word ∷ following ≡ others → BeginWithNoOption others → ⊥
 begin_alone setting reported word following [] is e absent = absurd (cc)
 begin_alone setting reported word following (w ∷ ws) is e absent = absent setting reported (sym (heads word w following ws e).0 ∙ is)
 
-named : (verb : Verb) (given later : List Given) (others following : List (List ℕ)) (command : Command) (setting : Setting) (reported : Option (List ℕ)) (word : List ℕ) → word ≡ option_text setting reported → BeginWithNoOption others → BeginWithSettings later others (word ∷ following) → AreTaken verb (given ++ later) → AreDifferent (given ++ later) → AskFor verb (given ++ later) others command → IsGoodOption verb given setting reported following
-named verb given [] others following command setting reported word is absent begins taken different asks = absurd (begin_alone setting reported word following others is begins absent)
+named : (verb : Verb) (given later : List Given) (others following : List (List ℕ)) (command : Command) (setting : Setting) (reported : Option (List ℕ))
+    (word : List ℕ) → word ≡ option_text setting reported → BeginWithNoOption others → BeginWithSettings later others (word ∷ following)
+    → AreTaken verb (given ++ later) → AreDifferent (given ++ later) → AskFor verb (given ++ later) others command
+    → IsGoodOption verb given setting reported following
+named verb given [] others following command setting reported word is absent begins taken different asks =
+    absurd (begin_alone setting reported word following others is begins absent)
 named verb given (g ∷ gs) others following command setting reported word is absent begins taken different asks = at begins.1
   where
     at : BeginWithSetting g begins.0 (word ∷ following) → IsGoodOption verb given setting reported following
@@ -176,6 +212,9 @@ named verb given (g ∷ gs) others following command setting reported word is ab
         let same = same_option setting g.setting reported (Some g.text) (sym is ∙ first.0) in
         good_here verb given gs g others command setting reported following same.0 (inl same.1) taken different asks
 
-pub good_option : (verb : Verb) (given : List Given) (following : List (List ℕ)) (command : Command) (setting : Setting) (reported : Option (List ℕ)) (word : List ℕ) → word ≡ option_text setting reported → GoOn verb given (word ∷ following) command → IsGoodOption verb given setting reported following
+pub good_option : (verb : Verb) (given : List Given) (following : List (List ℕ)) (command : Command) (setting : Setting) (reported : Option (List ℕ))
+    (word : List ℕ) → word ≡ option_text setting reported → GoOn verb given (word ∷ following) command
+    → IsGoodOption verb given setting reported following
 good_option verb given following command setting reported word is on =
-    named verb given on.later on.others following command setting reported word is (asks_no_option verb (given ++ on.later) on.others command on.asks) on.settings on.taken on.different on.asks
+    named verb given on.later on.others following command setting reported word is (asks_no_option verb (given ++ on.later) on.others command on.asks)
+    on.settings on.taken on.different on.asks

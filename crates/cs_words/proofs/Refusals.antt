@@ -1,5 +1,6 @@
 -- Which word is refused, and that there is one such word where no command is meant: for `words_of` and all that refuses.
-use Rattle.std.proofs.Common.{◌≡◌, ℕ, ◌+◌, true, false, List, [], ◌∷◌, ◌++◌, length, Option, Some, None, ap, sym, ◌∙◌, refl, subst, append_assoc, inl, inr, arith, length-append, lit<, lit≤}
+use Rattle.std.proofs.Common.{◌≡◌, ℕ, ◌+◌, true, false, List, [], ◌∷◌, ◌++◌, length, Option, Some, None, ap, sym, ◌∙◌, refl, subst}
+use Rattle.std.proofs.Common.{append_assoc, inl, inr, arith, length-append, lit<, lit≤}
 use Rattle.std.specs.Prelude.{◌⊎◌, codes}
 use Rattle.std.proofs.lemmas.List.{append-nil}
 use Rattle.cs_types.specs.declared.data_model.DataModel.TheVariants.{Lp64}
@@ -20,7 +21,8 @@ begins_itself : (words : List (List ℕ)) (command : Command) → WordsMean word
 begins_itself words command m = ([], command, subst (λ (w : List (List ℕ)). WordsMean w command) (sym (append-nil words)) m)
 
 -- a word that is refused ends each command that the words before it begin
-ends_there : (before following : List (List ℕ)) → EndBefore before following → (word : List ℕ) (more : List (List ℕ)) → following ≡ word ∷ more → BeginsACommand (before ++ word ∷ []) → ⊥
+ends_there : (before following : List (List ℕ)) → EndBefore before following → (word : List ℕ) (more : List (List ℕ)) → following ≡ word ∷ more
+    → BeginsACommand (before ++ word ∷ []) → ⊥
 ends_there before [] end word more e h = absurd (cc)
 ends_there before (w ∷ ws) end word more e h = end (subst (λ (v : List ℕ). BeginsACommand (before ++ v ∷ [])) (let s : word ≡ w = cc in s) h)
 
@@ -33,7 +35,9 @@ pub not_meant : (words : List (List ℕ)) (number : ℕ) → AreRefusedAt words 
 not_meant words number r command m = none_meant r.before r.following r.end command (subst (λ (w : List (List ℕ)). WordsMean w command) r.whole m)
 
 -- of two fronts of the same words one goes on to the other
-one_front : (a c b d : List (List ℕ)) → a ++ b ≡ c ++ d → (a ≡ c) ⊎ (((word : List ℕ) × (more : List (List ℕ)) × (others : List (List ℕ)) × (b ≡ word ∷ others) × (c ≡ a ++ word ∷ more)) ⊎ ((word : List ℕ) × (more : List (List ℕ)) × (others : List (List ℕ)) × (d ≡ word ∷ others) × (a ≡ c ++ word ∷ more)))
+one_front : (a c b d : List (List ℕ)) → a ++ b ≡ c ++ d
+    → (a ≡ c) ⊎ (((word : List ℕ) × (more : List (List ℕ)) × (others : List (List ℕ)) × (b ≡ word ∷ others) × (c ≡ a ++ word ∷ more))
+    ⊎ ((word : List ℕ) × (more : List (List ℕ)) × (others : List (List ℕ)) × (d ≡ word ∷ others) × (a ≡ c ++ word ∷ more)))
 one_front [] [] b d e = inl refl
 one_front [] (y ∷ c) b d e = inr (inl (y, c, c ++ d, e, refl))
 one_front (x ∷ a) [] b d e = inr (inr (x, a, a ++ b, sym e, refl))
@@ -48,9 +52,11 @@ one_front (x ∷ a) (y ∷ c) b d e =
       ]
     ]
 
-past_end : (before following more : List (List ℕ)) (word : List ℕ) (others front : List (List ℕ)) → EndBefore before following → following ≡ word ∷ others → front ≡ before ++ word ∷ more → BeginsACommand front → ⊥
+past_end : (before following more : List (List ℕ)) (word : List ℕ) (others front : List (List ℕ)) → EndBefore before following
+    → following ≡ word ∷ others → front ≡ before ++ word ∷ more → BeginsACommand front → ⊥
 past_end before following more word others front end e longer h =
-    ends_there before following end word others e (shorter (before ++ word ∷ []) more (subst BeginsACommand (longer ∙ sym (append_assoc before (word ∷ []) more)) h))
+    ends_there before following end word others e
+    (shorter (before ++ word ∷ []) more (subst BeginsACommand (longer ∙ sym (append_assoc before (word ∷ []) more)) h))
 
 -- one word is refused
 pub one_refusal : (words : List (List ℕ)) (m n : ℕ) → AreRefusedAt words m → AreRefusedAt words n → m ≡ n
@@ -64,7 +70,8 @@ one_refusal words m n r s =
     ]
 
 -- ---- the refusal of a word by what is left
-pub refused_so : (words before following : List (List ℕ)) (number : ℕ) → words ≡ before ++ following → number + length following ≡ length words + 1 → BeginsACommand before → EndBefore before following → AreRefusedAt words number
+pub refused_so : (words before following : List (List ℕ)) (number : ℕ) → words ≡ before ++ following → number + length following ≡ length words + 1
+    → BeginsACommand before → EndBefore before following → AreRefusedAt words number
 refused_so words before following number whole counts begin end = record {
   before = before;
   following = following;
@@ -75,38 +82,60 @@ refused_so words before following number whole counts begin end = record {
 }
 
 -- a word after settings that were read is refused where none goes on with it
-pub no_word : (verb : Verb) (given : List Given) (done : List (List ℕ)) (word : List ℕ) → BeginWithSettings given [] done → ((more : List (List ℕ)) (command : Command) → GoOn verb given (word ∷ more) command → ⊥) → BeginsACommand ((verb_text verb ∷ done) ++ word ∷ []) → ⊥
+pub no_word : (verb : Verb) (given : List Given) (done : List (List ℕ)) (word : List ℕ) → BeginWithSettings given [] done
+    → ((more : List (List ℕ)) (command : Command) → GoOn verb given (word ∷ more) command → ⊥)
+    → BeginsACommand ((verb_text verb ∷ done) ++ word ∷ []) → ⊥
 no_word verb given done word spelled none h =
-    none h.0 h.1 (goes_on verb given done (word ∷ h.0) h.1 spelled (subst (λ (w : List (List ℕ)). WordsMean w h.1) (append_assoc (verb_text verb ∷ done) (word ∷ []) h.0) h.2))
+    none h.0 h.1 (goes_on verb given done (word ∷ h.0) h.1 spelled
+    (subst (λ (w : List (List ℕ)). WordsMean w h.1) (append_assoc (verb_text verb ∷ done) (word ∷ []) h.0) h.2))
 
-pub refused_first : (verb : Verb) (words : List (List ℕ)) (settings : Settings) (rest : List (List ℕ)) (number : ℕ) (word : List ℕ) (following : List (List ℕ)) → (read : AreReadTo verb words settings rest) → rest ≡ word ∷ following → number + length rest ≡ length words + 1 → ((more : List (List ℕ)) (command : Command) → GoOn verb read.given (word ∷ more) command → ⊥) → AreRefusedAt words number
+pub refused_first : (verb : Verb) (words : List (List ℕ)) (settings : Settings) (rest : List (List ℕ)) (number : ℕ) (word : List ℕ)
+    (following : List (List ℕ)) → (read : AreReadTo verb words settings rest) → rest ≡ word ∷ following → number + length rest ≡ length words + 1
+    → ((more : List (List ℕ)) (command : Command) → GoOn verb read.given (word ∷ more) command → ⊥) → AreRefusedAt words number
 refused_first verb words settings rest number word following read is counts none =
-    refused_so words (verb_text verb ∷ read.done) (word ∷ following) number (read.whole ∙ ap (λ (w : List (List ℕ)). (verb_text verb ∷ read.done) ++ w) is) (ap (λ (w : List (List ℕ)). number + length w) (sym is) ∙ counts) (begins verb read.given read.done (spelled_by verb words settings rest read)) (no_word verb read.given read.done word read.spelled none)
+    refused_so words (verb_text verb ∷ read.done) (word ∷ following) number (read.whole
+    ∙ ap (λ (w : List (List ℕ)). (verb_text verb ∷ read.done) ++ w) is) (ap (λ (w : List (List ℕ)). number + length w) (sym is) ∙ counts)
+    (begins verb read.given read.done (spelled_by verb words settings rest read)) (no_word verb read.given read.done word read.spelled none)
 
 -- the same where words are missing
-pub refused_end : (verb : Verb) (words : List (List ℕ)) (settings : Settings) (rest : List (List ℕ)) (number : ℕ) → (read : AreReadTo verb words settings rest) → rest ≡ [] → number + length rest ≡ length words + 1 → ((command : Command) → GoOn verb read.given [] command → ⊥) → AreRefusedAt words number
+pub refused_end : (verb : Verb) (words : List (List ℕ)) (settings : Settings) (rest : List (List ℕ)) (number : ℕ)
+    → (read : AreReadTo verb words settings rest) → rest ≡ [] → number + length rest ≡ length words + 1
+    → ((command : Command) → GoOn verb read.given [] command → ⊥) → AreRefusedAt words number
 refused_end verb words settings rest number read is counts none =
-    refused_so words (verb_text verb ∷ read.done) [] number (read.whole ∙ ap (λ (w : List (List ℕ)). (verb_text verb ∷ read.done) ++ w) is) (ap (λ (w : List (List ℕ)). number + length w) (sym is) ∙ counts) (begins verb read.given read.done (spelled_by verb words settings rest read))
-    (λ command m. none command (goes_on verb read.given read.done [] command read.spelled (subst (λ (w : List (List ℕ)). WordsMean w command) (sym (append-nil (verb_text verb ∷ read.done))) m)))
+    refused_so words (verb_text verb ∷ read.done) [] number (read.whole ∙ ap (λ (w : List (List ℕ)). (verb_text verb ∷ read.done) ++ w) is)
+    (ap (λ (w : List (List ℕ)). number + length w) (sym is) ∙ counts) (begins verb read.given read.done (spelled_by verb words settings rest read))
+    (λ command m.
+    none command (goes_on verb read.given read.done [] command read.spelled
+    (subst (λ (w : List (List ℕ)). WordsMean w command) (sym (append-nil (verb_text verb ∷ read.done))) m)))
 
 -- ---- an option's word
 -- an option that the command doesn't have, or that is given before
-pub unfit : (verb : Verb) (words : List (List ℕ)) (settings : Settings) (rest others : List (List ℕ)) (number : ℕ) (option : OptionWord) → AreReadTo verb words settings rest → IsFirstOption option others rest → number + length rest ≡ length words + 1 → (takes verb (setting_in option) ≡ false) ⊎ (is_set (setting_in option) settings ≡ true) → AreRefusedAt words number
+pub unfit : (verb : Verb) (words : List (List ℕ)) (settings : Settings) (rest others : List (List ℕ)) (number : ℕ) (option : OptionWord)
+    → AreReadTo verb words settings rest → IsFirstOption option others rest → number + length rest ≡ length words + 1
+    → (takes verb (setting_in option) ≡ false) ⊎ (is_set (setting_in option) settings ≡ true) → AreRefusedAt words number
 unfit verb words settings rest others number option read first counts fault =
-    refused_first verb words settings rest number first.word others read first.whole counts (λ more command on. absent (good_option verb read.given more command (setting_in option) (text_in option) first.word first.names on) fault)
+    refused_first verb words settings rest number first.word others read first.whole counts
+    (λ more command on. absent (good_option verb read.given more command (setting_in option) (text_in option) first.word first.names on) fault)
   where
-    absent : {more : List (List ℕ)} → IsGoodOption verb read.given (setting_in option) (text_in option) more → (takes verb (setting_in option) ≡ false) ⊎ (is_set (setting_in option) settings ≡ true) → ⊥
+    absent : {more : List (List ℕ)} → IsGoodOption verb read.given (setting_in option) (text_in option) more
+        → (takes verb (setting_in option) ≡ false) ⊎ (is_set (setting_in option) settings ≡ true) → ⊥
     absent good (inl f) = let t = good.taken in absurd (cc)
     absent good (inr t) =
-        let f : is_set (setting_in option) settings ≡ false = none_is_unset (setting_in option) settings (subst (λ (o : Option (List ℕ)). IsSetTo (setting_in option) o settings) good.new (read.fields (setting_in option))) in
+        let f : is_set (setting_in option) settings ≡ false =
+        none_is_unset (setting_in option) settings
+        (subst (λ (o : Option (List ℕ)). IsSetTo (setting_in option) o settings) good.new (read.fields (setting_in option))) in
         absurd (cc)
 
 -- no value after the `=`
-pub bad_joined : (verb : Verb) (words : List (List ℕ)) (settings : Settings) (rest others : List (List ℕ)) (number : ℕ) (option : OptionWord) (text : List ℕ) → AreReadTo verb words settings rest → IsFirstOption option others rest → number + length rest ≡ length words + 1 → text_in option ≡ Some text → (HasValue (setting_in option) text → ⊥) → AreRefusedAt words number
+pub bad_joined : (verb : Verb) (words : List (List ℕ)) (settings : Settings) (rest others : List (List ℕ)) (number : ℕ) (option : OptionWord)
+    (text : List ℕ) → AreReadTo verb words settings rest → IsFirstOption option others rest → number + length rest ≡ length words + 1
+    → text_in option ≡ Some text → (HasValue (setting_in option) text → ⊥) → AreRefusedAt words number
 bad_joined verb words settings rest others number option text read first counts is none =
-    refused_first verb words settings rest number first.word others read first.whole counts (λ more command on. absent (good_option verb read.given more command (setting_in option) (text_in option) first.word first.names on))
+    refused_first verb words settings rest number first.word others read first.whole counts
+    (λ more command on. absent (good_option verb read.given more command (setting_in option) (text_in option) first.word first.names on))
   where
-    at : (good_text : List ℕ) (more : List (List ℕ)) → HasValue (setting_in option) good_text → (text_in option ≡ Some good_text) ⊎ ((text_in option ≡ None) × (rest : List (List ℕ)) × (more ≡ good_text ∷ rest)) → ⊥
+    at : (good_text : List ℕ) (more : List (List ℕ)) → HasValue (setting_in option) good_text
+        → (text_in option ≡ Some good_text) ⊎ ((text_in option ≡ None) × (rest : List (List ℕ)) × (more ≡ good_text ∷ rest)) → ⊥
     at good_text more value (inl e) = none (subst (λ (t : List ℕ). HasValue (setting_in option) t) (let s : good_text ≡ text = cc in s) value)
     at good_text more value (inr e) = let f = e.0 in absurd (cc)
 
@@ -120,43 +149,68 @@ sample Depth = (codes "1", (1, record { digits = refl; some = lit< tt; few = lit
 sample Events = (codes "1", (1, record { digits = refl; some = lit< tt; few = lit≤ tt; value = refl; from_least = lit≤ tt; to_greatest = lit≤ tt }))
 sample Model = (codes "lp64", (Lp64, refl))
 
-begins_alone : (verb : Verb) (words : List (List ℕ)) (settings : Settings) (rest others : List (List ℕ)) (option : OptionWord) → (read : AreReadTo verb words settings rest) → (first : IsFirstOption option others rest) → text_in option ≡ None → takes verb (setting_in option) ≡ true → is_set (setting_in option) settings ≡ false → BeginsACommand ((verb_text verb ∷ read.done) ++ first.word ∷ [])
+begins_alone : (verb : Verb) (words : List (List ℕ)) (settings : Settings) (rest others : List (List ℕ)) (option : OptionWord)
+    → (read : AreReadTo verb words settings rest) → (first : IsFirstOption option others rest) → text_in option ≡ None
+    → takes verb (setting_in option) ≡ true → is_set (setting_in option) settings ≡ false
+    → BeginsACommand ((verb_text verb ∷ read.done) ++ first.word ∷ [])
 begins_alone verb words settings rest others option read first is taken unset =
     let setting = setting_in option in
     let value = sample setting in
     let word : first.word ≡ option_text setting None = first.names ∙ ap (option_text setting) is in
     let none : text_of setting read.given ≡ None = not_set setting (text_of setting read.given) settings (read.fields setting) unset in
-    let more = spelled_more verb (record { setting = setting; text = value.0 }) read.given read.done (first.word ∷ value.0 ∷ []) (spelled_by verb words settings rest read) taken none value.1 (inl (ap (λ (w : List ℕ). w ∷ value.0 ∷ []) word)) in
-    shorter ((verb_text verb ∷ read.done) ++ first.word ∷ []) (value.0 ∷ []) (subst BeginsACommand (sym (append_assoc (verb_text verb ∷ read.done) (first.word ∷ []) (value.0 ∷ []))) (begins verb (read.given ++ record { setting = setting; text = value.0 } ∷ []) (read.done ++ first.word ∷ value.0 ∷ []) more))
+    let more = spelled_more verb (record { setting = setting; text = value.0 }) read.given read.done (first.word ∷ value.0 ∷ [])
+    (spelled_by verb words settings rest read) taken none value.1 (inl (ap (λ (w : List ℕ). w ∷ value.0 ∷ []) word)) in
+    shorter ((verb_text verb ∷ read.done) ++ first.word ∷ []) (value.0 ∷ [])
+    (subst BeginsACommand (sym (append_assoc (verb_text verb ∷ read.done) (first.word ∷ []) (value.0 ∷ [])))
+    (begins verb (read.given ++ record { setting = setting; text = value.0 } ∷ []) (read.done ++ first.word ∷ value.0 ∷ []) more))
 
 -- what stands after an option's word that is no value, or is missing
-pub bad_after : (verb : Verb) (words : List (List ℕ)) (settings : Settings) (rest others : List (List ℕ)) (number : ℕ) (option : OptionWord) → AreReadTo verb words settings rest → IsFirstOption option others rest → number + length others ≡ length words + 1 → text_in option ≡ None → takes verb (setting_in option) ≡ true → is_set (setting_in option) settings ≡ false → ((text : List ℕ) (left : List (List ℕ)) → others ≡ text ∷ left → HasValue (setting_in option) text → ⊥) → AreRefusedAt words number
+pub bad_after : (verb : Verb) (words : List (List ℕ)) (settings : Settings) (rest others : List (List ℕ)) (number : ℕ) (option : OptionWord)
+    → AreReadTo verb words settings rest → IsFirstOption option others rest → number + length others ≡ length words + 1 → text_in option ≡ None
+    → takes verb (setting_in option) ≡ true → is_set (setting_in option) settings ≡ false
+    → ((text : List ℕ) (left : List (List ℕ)) → others ≡ text ∷ left → HasValue (setting_in option) text → ⊥) → AreRefusedAt words number
 bad_after verb words settings rest others number option read first counts is taken unset none =
-    refused_so words ((verb_text verb ∷ read.done) ++ first.word ∷ []) others number (read.whole ∙ ap (λ (w : List (List ℕ)). (verb_text verb ∷ read.done) ++ w) first.whole ∙ sym (append_assoc (verb_text verb ∷ read.done) (first.word ∷ []) others)) counts (begins_alone verb words settings rest others option read first is taken unset) (at others none)
+    refused_so words ((verb_text verb ∷ read.done) ++ first.word ∷ []) others number (read.whole
+    ∙ ap (λ (w : List (List ℕ)). (verb_text verb ∷ read.done) ++ w) first.whole
+    ∙ sym (append_assoc (verb_text verb ∷ read.done) (first.word ∷ []) others)) counts
+    (begins_alone verb words settings rest others option read first is taken unset) (at others none)
   where
-    absent : (more : List (List ℕ)) (command : Command) → WordsMean ((verb_text verb ∷ read.done) ++ first.word ∷ more) command → (text : List ℕ) × HasValue (setting_in option) text × (left : List (List ℕ)) × (more ≡ text ∷ left)
+    absent : (more : List (List ℕ)) (command : Command) → WordsMean ((verb_text verb ∷ read.done) ++ first.word ∷ more) command
+        → (text : List ℕ) × HasValue (setting_in option) text × (left : List (List ℕ)) × (more ≡ text ∷ left)
     absent more command m =
-        let good = good_option verb read.given more command (setting_in option) (text_in option) first.word first.names (goes_on verb read.given read.done (first.word ∷ more) command read.spelled m) in
+        let good = good_option verb read.given more command (setting_in option) (text_in option) first.word first.names
+        (goes_on verb read.given read.done (first.word ∷ more) command read.spelled m) in
         elim good.place [
           | inl e ↦ absurd (let f : None ≡ Some good.text = sym is ∙ e in cc)
           | inr e ↦ (good.text, good.value, e.1, e.2)
         ]
 
-    at : (following : List (List ℕ)) → ((text : List ℕ) (left : List (List ℕ)) → following ≡ text ∷ left → HasValue (setting_in option) text → ⊥) → EndBefore ((verb_text verb ∷ read.done) ++ first.word ∷ []) following
+    at : (following : List (List ℕ))
+        → ((text : List ℕ) (left : List (List ℕ)) → following ≡ text ∷ left → HasValue (setting_in option) text → ⊥)
+        → EndBefore ((verb_text verb ∷ read.done) ++ first.word ∷ []) following
     at [] none = λ command m.
         let good = absent [] command m in
         let e = good.3 in absurd (cc)
     at (word ∷ left) none = λ h.
-        let whole = append_assoc ((verb_text verb ∷ read.done) ++ first.word ∷ []) (word ∷ []) h.0 ∙ append_assoc (verb_text verb ∷ read.done) (first.word ∷ []) (word ∷ h.0) in
+        let whole = append_assoc ((verb_text verb ∷ read.done) ++ first.word ∷ []) (word ∷ []) h.0
+        ∙ append_assoc (verb_text verb ∷ read.done) (first.word ∷ []) (word ∷ h.0) in
         let good = absent (word ∷ h.0) h.1 (subst (λ (w : List (List ℕ)). WordsMean w h.1) whole h.2) in
         let e = good.3 in
         none word left refl (subst (λ (t : List ℕ). HasValue (setting_in option) t) (let s : good.0 ≡ word = cc in s) good.1)
 
 -- ---- a setting is read
-pub joined_read : (verb : Verb) (words : List (List ℕ)) (before after : Settings) (rest others : List (List ℕ)) (option : OptionWord) (text : List ℕ) → AreReadTo verb words before rest → IsFirstOption option others rest → text_in option ≡ Some text → takes verb (setting_in option) ≡ true → is_set (setting_in option) before ≡ false → IsSetBesides (setting_in option) text before after → AreReadTo verb words after others
+pub joined_read : (verb : Verb) (words : List (List ℕ)) (before after : Settings) (rest others : List (List ℕ)) (option : OptionWord) (text : List ℕ)
+    → AreReadTo verb words before rest → IsFirstOption option others rest → text_in option ≡ Some text → takes verb (setting_in option) ≡ true
+    → is_set (setting_in option) before ≡ false → IsSetBesides (setting_in option) text before after → AreReadTo verb words after others
 joined_read verb words before after rest others option text read first is taken unset set =
-    read_more verb (record { setting = setting_in option; text = text }) words before after rest (first.word ∷ []) others read first.whole (inr (ap (λ (w : List ℕ). w ∷ []) (first.names ∙ ap (option_text (setting_in option)) is))) taken unset set
+    read_more verb (record { setting = setting_in option; text = text }) words before after rest (first.word ∷ []) others read first.whole
+    (inr (ap (λ (w : List ℕ). w ∷ []) (first.names ∙ ap (option_text (setting_in option)) is))) taken unset set
 
-pub after_read : (verb : Verb) (words : List (List ℕ)) (before after : Settings) (rest others left : List (List ℕ)) (option : OptionWord) (text : List ℕ) → AreReadTo verb words before rest → IsFirstOption option others rest → text_in option ≡ None → others ≡ text ∷ left → takes verb (setting_in option) ≡ true → is_set (setting_in option) before ≡ false → IsSetBesides (setting_in option) text before after → AreReadTo verb words after left
+pub after_read : (verb : Verb) (words : List (List ℕ)) (before after : Settings) (rest others left : List (List ℕ)) (option : OptionWord) (text : List ℕ)
+    → AreReadTo verb words before rest → IsFirstOption option others rest → text_in option ≡ None → others ≡ text ∷ left
+    → takes verb (setting_in option) ≡ true → is_set (setting_in option) before ≡ false → IsSetBesides (setting_in option) text before after
+    → AreReadTo verb words after left
 after_read verb words before after rest others left option text read first is following taken unset set =
-    read_more verb (record { setting = setting_in option; text = text }) words before after rest (first.word ∷ text ∷ []) left read (first.whole ∙ ap (λ (w : List (List ℕ)). first.word ∷ w) following) (inl (ap (λ (w : List ℕ). w ∷ text ∷ []) (first.names ∙ ap (option_text (setting_in option)) is))) taken unset set
+    read_more verb (record { setting = setting_in option; text = text }) words before after rest (first.word ∷ text ∷ []) left read (first.whole
+    ∙ ap (λ (w : List (List ℕ)). first.word ∷ w) following)
+    (inl (ap (λ (w : List ℕ). w ∷ text ∷ []) (first.names ∙ ap (option_text (setting_in option)) is))) taken unset set

@@ -40,7 +40,8 @@ longer : (g : Given) (b words t : List (List ℕ)) → BeginWithSetting g b word
 longer g b words t (inl e) = inl (ap (λ (w : List (List ℕ)). w ++ t) e)
 longer g b words t (inr e) = inr (ap (λ (w : List (List ℕ)). w ++ t) e)
 
-pub joined : (given later : List Given) (done others t : List (List ℕ)) → BeginWithSettings given [] done → BeginWithSettings later others t → BeginWithSettings (given ++ later) others (done ++ t)
+pub joined : (given later : List Given) (done others t : List (List ℕ)) → BeginWithSettings given [] done → BeginWithSettings later others t
+    → BeginWithSettings (given ++ later) others (done ++ t)
 joined [] later done others t h k = subst (λ (d : List (List ℕ)). BeginWithSettings later others (d ++ t)) (sym h) k
 joined (g ∷ gs) later done others t h k = (h.0 ++ t, longer g h.0 done t h.1, joined gs later h.0 others t h.2 k)
 
@@ -49,16 +50,21 @@ followed [] done others h = ap (λ (d : List (List ℕ)). d ++ others) h
 followed (g ∷ gs) done others h = (h.0 ++ others, longer g h.0 done others h.1, followed gs h.0 others h.2)
 
 -- settings are cut off the words after them
-pub cut_off : (given : List Given) (others words : List (List ℕ)) → BeginWithSettings given others words → (done : List (List ℕ)) × (words ≡ done ++ others) × BeginWithSettings given [] done
+pub cut_off : (given : List Given) (others words : List (List ℕ)) → BeginWithSettings given others words
+    → (done : List (List ℕ)) × (words ≡ done ++ others) × BeginWithSettings given [] done
 cut_off [] others words h = ([], h, refl)
 cut_off (g ∷ gs) others words h =
     let rest = cut_off gs others h.0 h.2 in
     let first = shortened g h.0 words h.1 rest.0 others rest.1 in
     (first.0, first.1, (rest.0, first.2, rest.2))
   where
-    shortened : (g : Given) (following words : List (List ℕ)) → BeginWithSetting g following words → (done others : List (List ℕ)) → following ≡ done ++ others → (front : List (List ℕ)) × (words ≡ front ++ others) × BeginWithSetting g done front
-    shortened g following words (inl e) done others is = (option_text g.setting None ∷ g.text ∷ done, e ∙ ap (λ (w : List (List ℕ)). option_text g.setting None ∷ g.text ∷ w) is, inl refl)
-    shortened g following words (inr e) done others is = (option_text g.setting (Some g.text) ∷ done, e ∙ ap (λ (w : List (List ℕ)). option_text g.setting (Some g.text) ∷ w) is, inr refl)
+    shortened : (g : Given) (following words : List (List ℕ)) → BeginWithSetting g following words
+        → (done others : List (List ℕ)) → following ≡ done ++ others
+        → (front : List (List ℕ)) × (words ≡ front ++ others) × BeginWithSetting g done front
+    shortened g following words (inl e) done others is =
+        (option_text g.setting None ∷ g.text ∷ done, e ∙ ap (λ (w : List (List ℕ)). option_text g.setting None ∷ g.text ∷ w) is, inl refl)
+    shortened g following words (inr e) done others is =
+        (option_text g.setting (Some g.text) ∷ done, e ∙ ap (λ (w : List (List ℕ)). option_text g.setting (Some g.text) ∷ w) is, inr refl)
 
 -- ---- where settings end
 pub no_setting : (g : Given) (b words : List (List ℕ)) → BeginWithNoOption words → BeginWithSetting g b words → ⊥
@@ -79,7 +85,8 @@ nothing_first : (others : List (List ℕ)) → others ≡ [] → BeginWithNoOpti
 nothing_first [] e = tt
 nothing_first (word ∷ words) e = absurd (cc)
 
-pub asks_no_option : (verb : Verb) (given : List Given) (others : List (List ℕ)) (command : Command) → AskFor verb given others command → BeginWithNoOption others
+pub asks_no_option : (verb : Verb) (given : List Given) (others : List (List ℕ)) (command : Command) → AskFor verb given others command
+    → BeginWithNoOption others
 asks_no_option verbs.Analyze given others (Analyze words) asks = nothing_first others asks.0
 asks_no_option verbs.Analyze given others (Flow words) asks = absurd asks
 asks_no_option verbs.Analyze given others (Replay words) asks = absurd asks
@@ -91,15 +98,18 @@ asks_no_option verbs.Replay given others (Flow words) asks = absurd asks
 asks_no_option verbs.Replay given others (Replay words) asks = named_first words.entry asks.input_words others asks.name asks.whole
 
 -- ---- settings that were read are the first of all
-pub after_read : (given all : List Given) (done others t : List (List ℕ)) → BeginWithNoOption others → BeginWithSettings given [] done → BeginWithSettings all others (done ++ t) → (later : List Given) × (all ≡ given ++ later) × BeginWithSettings later others t
+pub after_read : (given all : List Given) (done others t : List (List ℕ)) → BeginWithNoOption others → BeginWithSettings given [] done
+    → BeginWithSettings all others (done ++ t) → (later : List Given) × (all ≡ given ++ later) × BeginWithSettings later others t
 after_read [] all done others t absent h k = (all, refl, subst (λ (d : List (List ℕ)). BeginWithSettings all others (d ++ t)) h k)
-after_read (g ∷ gs) [] done others t absent h k = absurd (no_setting g (h.0 ++ t) others absent (subst (λ (w : List (List ℕ)). BeginWithSetting g (h.0 ++ t) w) k (longer g h.0 done t h.1)))
+after_read (g ∷ gs) [] done others t absent h k =
+    absurd (no_setting g (h.0 ++ t) others absent (subst (λ (w : List (List ℕ)). BeginWithSetting g (h.0 ++ t) w) k (longer g h.0 done t h.1)))
 after_read (g ∷ gs) (a ∷ more) done others t absent h k =
     let same = one_setting a g k.0 (h.0 ++ t) (done ++ t) k.1 (longer g h.0 done t h.1) in
     let rest = after_read gs more h.0 others t absent h.2 (subst (λ (w : List (List ℕ)). BeginWithSettings more others w) same.1 k.2) in
     (rest.0, (λ i. same.0 i ∷ rest.1 i), rest.2)
 
 -- before words that begin with no option's there are no settings
-pub none_left : (later : List Given) (others words : List (List ℕ)) → BeginWithNoOption words → BeginWithSettings later others words → (later ≡ []) × (words ≡ others)
+pub none_left : (later : List Given) (others words : List (List ℕ)) → BeginWithNoOption words → BeginWithSettings later others words
+    → (later ≡ []) × (words ≡ others)
 none_left [] others words absent h = (refl, h)
 none_left (g ∷ gs) others words absent h = absurd (no_setting g h.0 words absent h.1)

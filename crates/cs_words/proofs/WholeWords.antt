@@ -1,6 +1,7 @@
 -- What is read of all words of a command, and that nothing else is meant by them: for `analyze_words`, `replay_words` and
 -- `words_of`.
-use Rattle.std.proofs.Common.{◌≡◌, ℕ, ◌+◌, ◌<◌, true, false, List, [], ◌∷◌, ◌++◌, length, Result, Ok, Err, ap, sym, ◌∙◌, refl, subst, append_assoc, inl, inr, arith}
+use Rattle.std.proofs.Common.{◌≡◌, ℕ, ◌+◌, ◌<◌, true, false, List, [], ◌∷◌, ◌++◌, length, Result, Ok, Err, ap, sym, ◌∙◌, refl}
+use Rattle.std.proofs.Common.{subst, append_assoc, inl, inr, arith}
 use Rattle.std.specs.Prelude.{◌⊎◌, ℤ, unwrap_or, IfOk, IfErr}
 use Rattle.std.proofs.lemmas.List.{append-nil}
 use Rattle.cs_inputs.specs.declared.path.Path.{Path}
@@ -33,49 +34,64 @@ pub right_err : (words : List (List ℕ)) (r : Result Command WordsRefusal) → 
 right_err words (Ok command) h = tt
 right_err words (Err refusal) h = h
 
-pub accepts : (words : List (List ℕ)) (r : Result Command WordsRefusal) → IsRight words r → (command : Command) → WordsMean words command → (r ≡ Ok command) ⊎ (r ≡ Err Memory)
+pub accepts : (words : List (List ℕ)) (r : Result Command WordsRefusal) → IsRight words r → (command : Command) → WordsMean words command
+    → (r ≡ Ok command) ⊎ (r ≡ Err Memory)
 accepts words (Ok found) h command m = inl (ap Ok (sym (h.1 command m)))
 accepts words (Err (Words number)) h command m = absurd (not_meant words number h command m)
 accepts words (Err Memory) h command m = inr refl
 
-pub refuses : (words : List (List ℕ)) (r : Result Command WordsRefusal) → IsRight words r → (number : ℕ) → AreRefusedAt words number → (r ≡ Err (Words number)) ⊎ (r ≡ Err Memory)
+pub refuses : (words : List (List ℕ)) (r : Result Command WordsRefusal) → IsRight words r → (number : ℕ) → AreRefusedAt words number
+    → (r ≡ Err (Words number)) ⊎ (r ≡ Err Memory)
 refuses words (Ok found) h number r = absurd (not_meant words number r found h.0)
 refuses words (Err (Words other)) h number r = inl (ap (λ (n : ℕ). Err (Words n)) (one_refusal words other number h r))
 refuses words (Err Memory) h number r = inr refl
 
 -- ---- what is meant where all settings are read
-pub all_asked : (verb : Verb) (words : List (List ℕ)) (settings : Settings) (rest : List (List ℕ)) → (whole : AreReadWhole verb words settings rest) → (command : Command) → WordsMean words command → AskFor verb whole.read.given rest command
+pub all_asked : (verb : Verb) (words : List (List ℕ)) (settings : Settings) (rest : List (List ℕ)) → (whole : AreReadWhole verb words settings rest)
+    → (command : Command) → WordsMean words command → AskFor verb whole.read.given rest command
 all_asked verb words settings rest whole command m =
-    asks_here verb whole.read.given rest command whole.no_more (goes_on verb whole.read.given whole.read.done rest command whole.read.spelled (subst (λ (w : List (List ℕ)). WordsMean w command) whole.read.whole m))
+    asks_here verb whole.read.given rest command whole.no_more
+    (goes_on verb whole.read.given whole.read.done rest command whole.read.spelled
+    (subst (λ (w : List (List ℕ)). WordsMean w command) whole.read.whole m))
 
-all_meant : (verb : Verb) (words : List (List ℕ)) (settings : Settings) (rest : List (List ℕ)) → (read : AreReadTo verb words settings rest) → (command : Command) → AskFor verb read.given rest command → WordsMean words command
+all_meant : (verb : Verb) (words : List (List ℕ)) (settings : Settings) (rest : List (List ℕ)) → (read : AreReadTo verb words settings rest)
+    → (command : Command) → AskFor verb read.given rest command → WordsMean words command
 all_meant verb words settings rest read command asks =
-    subst (λ (w : List (List ℕ)). WordsMean w command) (sym read.whole) (means_with verb read.given read.done rest command read.spelled read.taken read.different asks)
+    subst (λ (w : List (List ℕ)). WordsMean w command) (sym read.whole)
+    (means_with verb read.given read.done rest command read.spelled read.taken read.different asks)
 
 -- ---- `analyze` and `flow`
-only_analyze : (given : List Given) (rest : List (List ℕ)) (words : AnalyzeWords) → IsDataModel given words.model → (other : Command) → AskFor verbs.Analyze given rest other → other ≡ Analyze words
+only_analyze : (given : List Given) (rest : List (List ℕ)) (words : AnalyzeWords) → IsDataModel given words.model
+    → (other : Command) → AskFor verbs.Analyze given rest other → other ≡ Analyze words
 only_analyze given rest words model (Analyze other) asks =
     let models : other.model ≡ words.model = same_model given other.model words.model asks.1 model in
     (λ i. Analyze (record { model = models i }))
 only_analyze given rest words model (Flow other) asks = absurd asks
 only_analyze given rest words model (Replay other) asks = absurd asks
 
-only_flow : (given : List Given) (rest : List (List ℕ)) (words : FlowWords) → IsDataModel given words.model → (other : Command) → AskFor verbs.Flow given rest other → other ≡ Flow words
+only_flow : (given : List Given) (rest : List (List ℕ)) (words : FlowWords) → IsDataModel given words.model
+    → (other : Command) → AskFor verbs.Flow given rest other → other ≡ Flow words
 only_flow given rest words model (Analyze other) asks = absurd asks
 only_flow given rest words model (Flow other) asks =
     let models : other.model ≡ words.model = same_model given other.model words.model asks.1 model in
     (λ i. Flow (record { model = models i }))
 only_flow given rest words model (Replay other) asks = absurd asks
 
-pub analyze_right : (words : List (List ℕ)) (settings : Settings) (rest : List (List ℕ)) (found : AnalyzeWords) → AreReadWhole verbs.Analyze words settings rest → rest ≡ [] → found.model ≡ unwrap_or settings.model Lp64 → IsRight words (Ok (Analyze found))
+pub analyze_right : (words : List (List ℕ)) (settings : Settings) (rest : List (List ℕ)) (found : AnalyzeWords)
+    → AreReadWhole verbs.Analyze words settings rest → rest ≡ [] → found.model ≡ unwrap_or settings.model Lp64 → IsRight words (Ok (Analyze found))
 analyze_right words settings rest found whole none is =
-    let model = model_found whole.read.given settings found.model whole.read.fields is in
-    (all_meant verbs.Analyze words settings rest whole.read (Analyze found) (none, model), λ other m. only_analyze whole.read.given rest found model other (all_asked verbs.Analyze words settings rest whole other m))
+    let model = model_found whole.read.given settings found.model whole.read.fields is in (
+      all_meant verbs.Analyze words settings rest whole.read (Analyze found) (none, model),
+      λ other m. only_analyze whole.read.given rest found model other (all_asked verbs.Analyze words settings rest whole other m),
+    )
 
-pub flow_right : (words : List (List ℕ)) (settings : Settings) (rest : List (List ℕ)) (found : FlowWords) → AreReadWhole verbs.Flow words settings rest → rest ≡ [] → found.model ≡ unwrap_or settings.model Lp64 → IsRight words (Ok (Flow found))
+pub flow_right : (words : List (List ℕ)) (settings : Settings) (rest : List (List ℕ)) (found : FlowWords) → AreReadWhole verbs.Flow words settings rest
+    → rest ≡ [] → found.model ≡ unwrap_or settings.model Lp64 → IsRight words (Ok (Flow found))
 flow_right words settings rest found whole none is =
-    let model = model_found whole.read.given settings found.model whole.read.fields is in
-    (all_meant verbs.Flow words settings rest whole.read (Flow found) (none, model), λ other m. only_flow whole.read.given rest found model other (all_asked verbs.Flow words settings rest whole other m))
+    let model = model_found whole.read.given settings found.model whole.read.fields is in (
+      all_meant verbs.Flow words settings rest whole.read (Flow found) (none, model),
+      λ other m. only_flow whole.read.given rest found model other (all_asked verbs.Flow words settings rest whole other m),
+    )
 
 -- a command that asks for nothing after its settings
 abbrev pub AsksForNoMore : Verb → Type 0
@@ -91,10 +107,12 @@ nothing_reported given word more (Analyze words) asks = asks
 nothing_reported given word more (Flow words) asks = let e = asks.0 in absurd (cc)
 nothing_reported given word more (Replay words) asks = asks
 
-pub one_more : (verb : Verb) → AsksForNoMore verb → (words : List (List ℕ)) (settings : Settings) (rest : List (List ℕ)) (number : ℕ) → AreReadWhole verb words settings rest → 0 < length rest → number + length rest ≡ length words + 1 → AreRefusedAt words number
+pub one_more : (verb : Verb) → AsksForNoMore verb → (words : List (List ℕ)) (settings : Settings) (rest : List (List ℕ)) (number : ℕ)
+    → AreReadWhole verb words settings rest → 0 < length rest → number + length rest ≡ length words + 1 → AreRefusedAt words number
 one_more verb none words settings [] number whole some counts = absurd (omega arith)
 one_more verb none words settings (word ∷ following) number whole some counts =
-    refused_first verb words settings (word ∷ following) number word following whole.read refl counts (λ more command on. none whole.read.given word more command (asks_here verb whole.read.given (word ∷ more) command whole.no_more on))
+    refused_first verb words settings (word ∷ following) number word following whole.read refl counts
+    (λ more command on. none whole.read.given word more command (asks_here verb whole.read.given (word ∷ more) command whole.no_more on))
 
 -- ---- `replay`
 no_entry_asked : (given : List Given) (command : Command) → AskFor verbs.Replay given [] command → ⊥
@@ -102,11 +120,14 @@ no_entry_asked given (Analyze words) asks = asks
 no_entry_asked given (Flow words) asks = asks
 no_entry_asked given (Replay words) asks = let e = asks.whole in absurd (cc)
 
-pub no_entry : (words : List (List ℕ)) (settings : Settings) (rest : List (List ℕ)) (number : ℕ) → AreReadWhole verbs.Replay words settings rest → rest ≡ [] → number + length rest ≡ length words + 1 → AreRefusedAt words number
+pub no_entry : (words : List (List ℕ)) (settings : Settings) (rest : List (List ℕ)) (number : ℕ) → AreReadWhole verbs.Replay words settings rest
+    → rest ≡ [] → number + length rest ≡ length words + 1 → AreRefusedAt words number
 no_entry words settings rest number whole none counts =
-    refused_end verbs.Replay words settings rest number whole.read none counts (λ command on. no_entry_asked whole.read.given command (asks_here verbs.Replay whole.read.given [] command tt on))
+    refused_end verbs.Replay words settings rest number whole.read none counts
+    (λ command on. no_entry_asked whole.read.given command (asks_here verbs.Replay whole.read.given [] command tt on))
 
-entry_asked : (given : List Given) (word : List ℕ) (more : List (List ℕ)) (command : Command) → is_name word ≡ false → AskFor verbs.Replay given (word ∷ more) command → ⊥
+entry_asked : (given : List Given) (word : List ℕ) (more : List (List ℕ)) (command : Command) → is_name word ≡ false
+    → AskFor verbs.Replay given (word ∷ more) command → ⊥
 entry_asked given word more (Analyze words) absent asks = asks
 entry_asked given word more (Flow words) absent asks = asks
 entry_asked given word more (Replay words) absent asks =
@@ -116,13 +137,18 @@ entry_asked given word more (Replay words) absent asks =
     let both : is_name words.entry ≡ false = ap is_name same ∙ absent in
     absurd (cc)
 
-pub bad_entry : (words : List (List ℕ)) (settings : Settings) (rest : List (List ℕ)) (number : ℕ) (word : List ℕ) (following : List (List ℕ)) → AreReadWhole verbs.Replay words settings rest → rest ≡ word ∷ following → is_name word ≡ false → number + length rest ≡ length words + 1 → AreRefusedAt words number
+pub bad_entry : (words : List (List ℕ)) (settings : Settings) (rest : List (List ℕ)) (number : ℕ) (word : List ℕ) (following : List (List ℕ))
+    → AreReadWhole verbs.Replay words settings rest → rest ≡ word ∷ following → is_name word ≡ false → number + length rest ≡ length words + 1
+    → AreRefusedAt words number
 bad_entry words settings rest number word following whole is absent counts =
     let first : BeginWithNoOption (word ∷ following) = subst BeginWithNoOption is whole.no_more in
-    refused_first verbs.Replay words settings rest number word following whole.read is counts (λ more command on. entry_asked whole.read.given word more command absent (asks_here verbs.Replay whole.read.given (word ∷ more) command first on))
+    refused_first verbs.Replay words settings rest number word following whole.read is counts
+    (λ more command on. entry_asked whole.read.given word more command absent (asks_here verbs.Replay whole.read.given (word ∷ more) command first on))
 
 -- a run that the words read so far ask for, whatever its inputs
-replay_of : (given : List Given) (settings : Settings) (rest : List (List ℕ)) (found : ReplayWords) (numbers : List (List ℕ)) → AreBudgets given found.budgets → IsDataModel given found.model → rest ≡ found.entry ∷ numbers → is_name found.entry ≡ true → AreEntered [] numbers found.inputs → IsReplay given rest found
+replay_of : (given : List Given) (settings : Settings) (rest : List (List ℕ)) (found : ReplayWords) (numbers : List (List ℕ))
+    → AreBudgets given found.budgets → IsDataModel given found.model → rest ≡ found.entry ∷ numbers → is_name found.entry ≡ true
+    → AreEntered [] numbers found.inputs → IsReplay given rest found
 replay_of given settings rest found numbers budgets model whole name inputs = record {
   budgets = budgets;
   model = model;
@@ -132,7 +158,9 @@ replay_of given settings rest found numbers budgets model whole name inputs = re
   inputs = inputs;
 }
 
-input_asked : (given : List Given) (entry : List ℕ) (before : List (List ℕ)) (word : List ℕ) (more : List (List ℕ)) (command : Command) → ((path : Path) (number : ℤ) → SpellsInput word path number → ⊥) → AskFor verbs.Replay given (entry ∷ before ++ word ∷ more) command → ⊥
+input_asked : (given : List Given) (entry : List ℕ) (before : List (List ℕ)) (word : List ℕ) (more : List (List ℕ)) (command : Command)
+    → ((path : Path) (number : ℤ) → SpellsInput word path number → ⊥) → AskFor verbs.Replay given (entry ∷ before ++ word ∷ more) command
+    → ⊥
 input_asked given entry before word more (Analyze words) none asks = asks
 input_asked given entry before word more (Flow words) none asks = asks
 input_asked given entry before word more (Replay words) none asks =
@@ -141,12 +169,16 @@ input_asked given entry before word more (Replay words) none asks =
     let at = entered_at [] before word more words.inputs (subst (λ (w : List (List ℕ)). AreEntered [] w words.inputs) numbers asks.inputs) in
     none at.0 at.1 at.2
 
-pub bad_input : (words : List (List ℕ)) (settings : Settings) (rest : List (List ℕ)) (number : ℕ) (entry : List ℕ) (others : List (List ℕ)) → AreReadWhole verbs.Replay words settings rest → rest ≡ entry ∷ others → is_name entry ≡ true → IsNoInputAt others (length words) number → AreRefusedAt words number
+pub bad_input : (words : List (List ℕ)) (settings : Settings) (rest : List (List ℕ)) (number : ℕ) (entry : List ℕ) (others : List (List ℕ))
+    → AreReadWhole verbs.Replay words settings rest → rest ≡ entry ∷ others → is_name entry ≡ true → IsNoInputAt others (length words) number
+    → AreRefusedAt words number
 bad_input words settings rest number entry others whole is name bad =
     let given = whole.read.given in
     let done = verb_text verbs.Replay ∷ whole.read.done in
     let front : List (List ℕ) = entry ∷ bad.before in
-    let parts : words ≡ (done ++ front) ++ bad.word ∷ bad.following = whole.read.whole ∙ ap (λ (w : List (List ℕ)). done ++ w) (is ∙ ap (λ (w : List (List ℕ)). entry ∷ w) bad.whole) ∙ sym (append_assoc done front (bad.word ∷ bad.following)) in
+    let parts : words ≡ (done ++ front) ++ bad.word ∷ bad.following = whole.read.whole
+    ∙ ap (λ (w : List (List ℕ)). done ++ w) (is ∙ ap (λ (w : List (List ℕ)). entry ∷ w) bad.whole)
+    ∙ sym (append_assoc done front (bad.word ∷ bad.following)) in
     refused_so words (done ++ front) (bad.word ∷ bad.following) number parts bad.counts begin end
   where
     begin : BeginsACommand ((verb_text verbs.Replay ∷ whole.read.done) ++ entry ∷ bad.before)
@@ -155,18 +187,27 @@ bad_input words settings rest number entry others whole is name bad =
         let budgets = some_budgets whole.read.given reported in
         let model = some_model whole.read.given reported in
         let found : ReplayWords = record { budgets = budgets.0; entry = entry; inputs = bad.inputs; model = model.0 } in
-        let asks : IsReplay whole.read.given (entry ∷ bad.before) found = replay_of whole.read.given settings (entry ∷ bad.before) found bad.before budgets.1 model.1 refl name bad.entered in
-        ([], Replay found, subst (λ (w : List (List ℕ)). WordsMean w (Replay found)) (sym (append-nil ((verb_text verbs.Replay ∷ whole.read.done) ++ entry ∷ bad.before))) (means_with verbs.Replay whole.read.given whole.read.done (entry ∷ bad.before) (Replay found) whole.read.spelled whole.read.taken whole.read.different asks))
+        let asks : IsReplay whole.read.given (entry ∷ bad.before) found =
+        replay_of whole.read.given settings (entry ∷ bad.before) found bad.before budgets.1 model.1 refl name bad.entered in (
+          [],
+          Replay found,
+          subst (λ (w : List (List ℕ)). WordsMean w (Replay found)) (sym (append-nil ((verb_text verbs.Replay ∷ whole.read.done) ++ entry ∷ bad.before)))
+              (means_with verbs.Replay whole.read.given whole.read.done (entry ∷ bad.before) (Replay found) whole.read.spelled whole.read.taken
+              whole.read.different asks),
+        )
 
     end : BeginsACommand (((verb_text verbs.Replay ∷ whole.read.done) ++ entry ∷ bad.before) ++ bad.word ∷ []) → ⊥
     end h =
         let done = verb_text verbs.Replay ∷ whole.read.done in
         let parts = append_assoc (done ++ entry ∷ bad.before) (bad.word ∷ []) h.0 ∙ append_assoc done (entry ∷ bad.before) (bad.word ∷ h.0) in
-        let on = goes_on verbs.Replay whole.read.given whole.read.done (entry ∷ bad.before ++ bad.word ∷ h.0) h.1 whole.read.spelled (subst (λ (w : List (List ℕ)). WordsMean w h.1) parts h.2) in
+        let on = goes_on verbs.Replay whole.read.given whole.read.done (entry ∷ bad.before ++ bad.word ∷ h.0) h.1 whole.read.spelled
+        (subst (λ (w : List (List ℕ)). WordsMean w h.1) parts h.2) in
         let first : BeginWithNoOption (entry ∷ others) = subst BeginWithNoOption is whole.no_more in
-        input_asked whole.read.given entry bad.before bad.word h.0 h.1 bad.none (asks_here verbs.Replay whole.read.given (entry ∷ bad.before ++ bad.word ∷ h.0) h.1 first on)
+        input_asked whole.read.given entry bad.before bad.word h.0 h.1 bad.none
+        (asks_here verbs.Replay whole.read.given (entry ∷ bad.before ++ bad.word ∷ h.0) h.1 first on)
 
-only_replay : (given : List Given) (rest : List (List ℕ)) (found : ReplayWords) → IsReplay given rest found → (other : Command) → AskFor verbs.Replay given rest other → other ≡ Replay found
+only_replay : (given : List Given) (rest : List (List ℕ)) (found : ReplayWords) → IsReplay given rest found
+    → (other : Command) → AskFor verbs.Replay given rest other → other ≡ Replay found
 only_replay given rest found is (Analyze other) asks = absurd asks
 only_replay given rest found is (Flow other) asks = absurd asks
 only_replay given rest found is (Replay other) asks =
@@ -176,17 +217,27 @@ only_replay given rest found is (Replay other) asks =
     let two = is.whole in
     let entry : other.entry ≡ found.entry = cc in
     let numbers : asks.input_words ≡ is.input_words = cc in
-    let inputs : other.inputs ≡ found.inputs = same_entered is.input_words [] other.inputs found.inputs (subst (λ (w : List (List ℕ)). AreEntered [] w other.inputs) numbers asks.inputs) is.inputs in
+    let inputs : other.inputs ≡ found.inputs =
+    same_entered is.input_words [] other.inputs found.inputs (subst (λ (w : List (List ℕ)). AreEntered [] w other.inputs) numbers asks.inputs)
+    is.inputs in
     (λ i. Replay (record { budgets = budgets i; entry = entry i; inputs = inputs i; model = model i }))
 
-pub replay_right : (words : List (List ℕ)) (settings : Settings) (rest : List (List ℕ)) (found : ReplayWords) (others : List (List ℕ)) → AreReadWhole verbs.Replay words settings rest → rest ≡ found.entry ∷ others → is_name found.entry ≡ true → AreEntered [] others found.inputs → found.budgets.visits ≡ unwrap_or settings.visits 4 → found.budgets.depth ≡ unwrap_or settings.depth 5 → found.budgets.events ≡ unwrap_or settings.events 20000 → found.model ≡ unwrap_or settings.model Lp64 → IsRight words (Ok (Replay found))
+pub replay_right : (words : List (List ℕ)) (settings : Settings) (rest : List (List ℕ)) (found : ReplayWords) (others : List (List ℕ))
+    → AreReadWhole verbs.Replay words settings rest → rest ≡ found.entry ∷ others → is_name found.entry ≡ true → AreEntered [] others found.inputs
+    → found.budgets.visits ≡ unwrap_or settings.visits 4 → found.budgets.depth ≡ unwrap_or settings.depth 5
+    → found.budgets.events ≡ unwrap_or settings.events 20000 → found.model ≡ unwrap_or settings.model Lp64 → IsRight words (Ok (Replay found))
 replay_right words settings rest found others whole is name inputs v d e m =
     let given = whole.read.given in
-    let asks : IsReplay given rest found = replay_of given settings rest found others (budgets_found given settings found.budgets whole.read.fields v d e) (model_found given settings found.model whole.read.fields m) is name inputs in
-    (all_meant verbs.Replay words settings rest whole.read (Replay found) asks, λ other means. only_replay given rest found asks other (all_asked verbs.Replay words settings rest whole other means))
+    let asks : IsReplay given rest found =
+    replay_of given settings rest found others (budgets_found given settings found.budgets whole.read.fields v d e)
+    (model_found given settings found.model whole.read.fields m) is name inputs in (
+      all_meant verbs.Replay words settings rest whole.read (Replay found) asks,
+      λ other means. only_replay given rest found asks other (all_asked verbs.Replay words settings rest whole other means),
+    )
 
 -- ---- words mean one command
-only_asked : (verb : Verb) (given : List Given) (rest : List (List ℕ)) (one other : Command) → AskFor verb given rest one → AskFor verb given rest other → other ≡ one
+only_asked : (verb : Verb) (given : List Given) (rest : List (List ℕ)) (one other : Command) → AskFor verb given rest one → AskFor verb given rest other
+    → other ≡ one
 only_asked verbs.Analyze given rest (Analyze found) other one asks = only_analyze given rest found one.1 other asks
 only_asked verbs.Analyze given rest (Flow found) other one asks = absurd one
 only_asked verbs.Analyze given rest (Replay found) other one asks = absurd one

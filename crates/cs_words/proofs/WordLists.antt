@@ -1,5 +1,6 @@
 -- Words as lists of bytes, and what the scan's answers are at them: for all functions that go over the words.
-use Rattle.std.proofs.Common.{◌≡◌, ℕ, ◌+◌, ◌<◌, true, false, List, [], ◌∷◌, length, Some, None, Result, Ok, Err, ap, sym, ◌∙◌, refl, subst, inl, inr, arith}
+use Rattle.std.proofs.Common.{◌≡◌, ℕ, ◌+◌, ◌<◌, true, false, List, [], ◌∷◌, length, Some, None, Result, Ok, Err, ap, sym, ◌∙◌, refl}
+use Rattle.std.proofs.Common.{subst, inl, inr, arith}
 use Rattle.std.specs.Prelude.{◌⊎◌, ℤ, MatchResult, IsErrAnd, string_bytes, codes}
 use Rattle.std.proofs.lemmas.List.{length-map}
 use Rattle.cs_inputs.specs.declared.path.Path.{Path}
@@ -16,7 +17,8 @@ use Rattle.cs_words.specs.declared.refusal.WordsRefusal.TheVariants.{Words, Memo
 use Rattle.cs_words.specs.declared.verb.Verb.TheVariants as verbs
 use Rattle.cs_words.specs.Options.{Verb, Setting, verb_text, takes}
 use Rattle.cs_words.specs.Meaning.{Word, words_text, Command, BeginsACommand, AreRefusedAt}
-use Rattle.cs_words.specs.Scan.{Settings, is_set, HasValue, IsSetBesides, AreReadTo, AreReadWhole, IsFirstOption, setting_in, text_in, IsRefusal, IsRefusalBefore, IsRefusalFor, IsRight, AreInputsRead}
+use Rattle.cs_words.specs.Scan.{Settings, is_set, HasValue, IsSetBesides, AreReadTo, AreReadWhole, IsFirstOption, setting_in, text_in, IsRefusal}
+use Rattle.cs_words.specs.Scan.{IsRefusalBefore, IsRefusalFor, IsRight, AreInputsRead}
 use Rattle.cs_words.proofs.EnteredInputs.{AreEnteredTo, no_input}
 use Rattle.cs_words.proofs.SettingWords.{heads}
 use Rattle.cs_words.proofs.Refusals.{unfit, bad_joined, bad_after, joined_read, after_read}
@@ -26,10 +28,12 @@ use Rattle.cs_words.proofs.WholeWords.{AsksForNoMore, one_more, no_entry, bad_en
 words_length : (words : List Word) → length (words_text words) ≡ length words
 words_length words = length-map words (λ (word : Word). string_bytes word)
 
-counts_text : (words rest : List Word) (number : ℕ) → number + length rest ≡ length words + 1 → number + length (words_text rest) ≡ length (words_text words) + 1
+counts_text : (words rest : List Word) (number : ℕ) → number + length rest ≡ length words + 1
+    → number + length (words_text rest) ≡ length (words_text words) + 1
 counts_text words rest number counts = omega (arith, words_length words, words_length rest)
 
-pub first_text : (words : List Word) (word : Word) (others : List Word) (bytes : List ℕ) → words ≡ word ∷ others → bytes ≡ string_bytes word → words_text words ≡ bytes ∷ words_text others
+pub first_text : (words : List Word) (word : Word) (others : List Word) (bytes : List ℕ) → words ≡ word ∷ others → bytes ≡ string_bytes word
+    → words_text words ≡ bytes ∷ words_text others
 first_text words word others bytes whole is = ap words_text whole ∙ ap (λ (b : List ℕ). b ∷ words_text others) (sym is)
 
 pub no_text : (words : List Word) → length words ≡ 0 → words_text words ≡ []
@@ -40,15 +44,22 @@ some_text : (words : List Word) → 0 < length words → 0 < length (words_text 
 some_text words some = omega (arith, words_length words)
 
 -- a refusal by what is left
-refusal_before : (words rest : List Word) (refusal : WordsRefusal) → IsRefusalBefore (length words) (length rest) refusal → ((number : ℕ) → number + length (words_text rest) ≡ length (words_text words) + 1 → AreRefusedAt (words_text words) number) → IsRefusal (words_text words) refusal
+refusal_before : (words rest : List Word) (refusal : WordsRefusal) → IsRefusalBefore (length words) (length rest) refusal
+    → ((number : ℕ) → number + length (words_text rest) ≡ length (words_text words) + 1 → AreRefusedAt (words_text words) number)
+    → IsRefusal (words_text words) refusal
 refusal_before words rest (Words number) counts so = so number (counts_text words rest number counts)
 refusal_before words rest Memory counts so = absurd counts
 
 -- ---- the first word
 begins_empty : BeginsACommand []
-begins_empty = (codes "analyze" ∷ [], Analyze (record { model = Lp64 }), record { verb = verbs.Analyze; given = []; others = []; following = []; first = refl; settings = refl; taken = tt; different = tt; asks = (refl, refl) })
+begins_empty = (
+  codes "analyze" ∷ [],
+  Analyze (record { model = Lp64 }),
+  record { verb = verbs.Analyze; given = []; others = []; following = []; first = refl; settings = refl; taken = tt; different = tt; asks = (refl, refl) },
+)
 
-pub no_verb : (words : List (List ℕ)) (first : List ℕ) (following : List (List ℕ)) → words ≡ first ∷ following → ((verb : Verb) → verb_text verb ≡ first → ⊥) → AreRefusedAt words 1
+pub no_verb : (words : List (List ℕ)) (first : List ℕ) (following : List (List ℕ)) → words ≡ first ∷ following
+    → ((verb : Verb) → verb_text verb ≡ first → ⊥) → AreRefusedAt words 1
 no_verb words first following whole none = record {
   before = [];
   following = first ∷ following;
@@ -69,58 +80,97 @@ no_words words none = record {
 }
 
 -- ---- an option's word
-pub unfit_option : (verb : Verb) (words rest others : List Word) (settings : Settings) (option : OptionWord) (refusal : WordsRefusal) → AreReadTo verb (words_text words) settings (words_text rest) → IsFirstOption option (words_text others) (words_text rest) → IsRefusalBefore (length words) (length rest) refusal → (takes verb (setting_in option) ≡ false) ⊎ (is_set (setting_in option) settings ≡ true) → IsRefusal (words_text words) refusal
+pub unfit_option : (verb : Verb) (words rest others : List Word) (settings : Settings) (option : OptionWord) (refusal : WordsRefusal)
+    → AreReadTo verb (words_text words) settings (words_text rest) → IsFirstOption option (words_text others) (words_text rest)
+    → IsRefusalBefore (length words) (length rest) refusal → (takes verb (setting_in option) ≡ false) ⊎ (is_set (setting_in option) settings ≡ true)
+    → IsRefusal (words_text words) refusal
 unfit_option verb words rest others settings option refusal read first counts fault =
-    refusal_before words rest refusal counts (λ number c. unfit verb (words_text words) settings (words_text rest) (words_text others) number option read first c fault)
+    refusal_before words rest refusal counts (λ number c.
+    unfit verb (words_text words) settings (words_text rest) (words_text others) number option read first c fault)
 
 abbrev pub IsValueRead : (words at left : List Word) (setting : Setting) (text : List ℕ) (before : Settings) → Result Found WordsRefusal → Type 0
-IsValueRead words at left setting text before result = MatchResult result (λ after. IsSetBesides setting text before after.settings × (after.rest.now ≡ left)) (λ refusal. (HasValue setting text → ⊥) × IsRefusalBefore (length words) (length at) refusal)
+IsValueRead words at left setting text before result =
+    MatchResult result (λ after. IsSetBesides setting text before after.settings × (after.rest.now ≡ left))
+    (λ refusal. (HasValue setting text → ⊥) × IsRefusalBefore (length words) (length at) refusal)
 
 abbrev pub IsSettingRead : (verb : Verb) (words : List Word) → Result Found WordsRefusal → Type 0
-IsSettingRead verb words result = MatchResult result (λ after. AreReadTo verb (words_text words) after.settings (words_text after.rest.now)) (IsRefusal (words_text words))
+IsSettingRead verb words result =
+    MatchResult result (λ after. AreReadTo verb (words_text words) after.settings (words_text after.rest.now)) (IsRefusal (words_text words))
 
-pub joined_step : (verb : Verb) (words rest others : List Word) (settings : Settings) (option : OptionWord) (text : List ℕ) (result : Result Found WordsRefusal) → AreReadTo verb (words_text words) settings (words_text rest) → IsFirstOption option (words_text others) (words_text rest) → text_in option ≡ Some text → takes verb (setting_in option) ≡ true → is_set (setting_in option) settings ≡ false → IsValueRead words rest others (setting_in option) text settings result → IsSettingRead verb words result
+pub joined_step : (verb : Verb) (words rest others : List Word) (settings : Settings) (option : OptionWord) (text : List ℕ)
+    (result : Result Found WordsRefusal) → AreReadTo verb (words_text words) settings (words_text rest)
+    → IsFirstOption option (words_text others) (words_text rest) → text_in option ≡ Some text → takes verb (setting_in option) ≡ true
+    → is_set (setting_in option) settings ≡ false → IsValueRead words rest others (setting_in option) text settings result
+    → IsSettingRead verb words result
 joined_step verb words rest others settings option text (Ok after) read first is taken unset h =
-    subst (λ (w : List Word). AreReadTo verb (words_text words) after.settings (words_text w)) (sym h.1) (joined_read verb (words_text words) settings after.settings (words_text rest) (words_text others) option text read first is taken unset h.0)
+    subst (λ (w : List Word). AreReadTo verb (words_text words) after.settings (words_text w)) (sym h.1)
+    (joined_read verb (words_text words) settings after.settings (words_text rest) (words_text others) option text read first is taken unset h.0)
 joined_step verb words rest others settings option text (Err refusal) read first is taken unset h =
-    refusal_before words rest refusal h.1 (λ number c. bad_joined verb (words_text words) settings (words_text rest) (words_text others) number option text read first c is h.0)
+    refusal_before words rest refusal h.1 (λ number c.
+    bad_joined verb (words_text words) settings (words_text rest) (words_text others) number option text read first c is h.0)
 
-pub after_step : (verb : Verb) (words rest others left : List Word) (settings : Settings) (option : OptionWord) (text : List ℕ) (result : Result Found WordsRefusal) → AreReadTo verb (words_text words) settings (words_text rest) → IsFirstOption option (words_text others) (words_text rest) → text_in option ≡ None → words_text others ≡ text ∷ words_text left → takes verb (setting_in option) ≡ true → is_set (setting_in option) settings ≡ false → IsValueRead words others left (setting_in option) text settings result → IsSettingRead verb words result
+pub after_step : (verb : Verb) (words rest others left : List Word) (settings : Settings) (option : OptionWord) (text : List ℕ)
+    (result : Result Found WordsRefusal) → AreReadTo verb (words_text words) settings (words_text rest)
+    → IsFirstOption option (words_text others) (words_text rest) → text_in option ≡ None → words_text others ≡ text ∷ words_text left
+    → takes verb (setting_in option) ≡ true → is_set (setting_in option) settings ≡ false
+    → IsValueRead words others left (setting_in option) text settings result → IsSettingRead verb words result
 after_step verb words rest others left settings option text (Ok after) read first is following taken unset h =
-    subst (λ (w : List Word). AreReadTo verb (words_text words) after.settings (words_text w)) (sym h.1) (after_read verb (words_text words) settings after.settings (words_text rest) (words_text others) (words_text left) option text read first is following taken unset h.0)
+    subst (λ (w : List Word). AreReadTo verb (words_text words) after.settings (words_text w)) (sym h.1)
+    (after_read verb (words_text words) settings after.settings (words_text rest) (words_text others) (words_text left) option text read first is following
+    taken unset h.0)
 after_step verb words rest others left settings option text (Err refusal) read first is following taken unset h =
     refusal_before words others refusal h.1
     (λ number c. bad_after verb (words_text words) settings (words_text rest) (words_text others) number option read first c is taken unset
-    (λ reported more e value. h.0 (subst (λ (t : List ℕ). HasValue (setting_in option) t) (heads reported text more (words_text left) (sym e ∙ following)).0 value)))
+    (λ reported more e value.
+    h.0 (subst (λ (t : List ℕ). HasValue (setting_in option) t) (heads reported text more (words_text left) (sym e ∙ following)).0 value)))
 
-pub nothing_after : (verb : Verb) (words rest others : List Word) (settings : Settings) (option : OptionWord) (refusal : WordsRefusal) → AreReadTo verb (words_text words) settings (words_text rest) → IsFirstOption option (words_text others) (words_text rest) → text_in option ≡ None → length others ≡ 0 → takes verb (setting_in option) ≡ true → is_set (setting_in option) settings ≡ false → IsRefusalBefore (length words) (length others) refusal → IsRefusal (words_text words) refusal
+pub nothing_after : (verb : Verb) (words rest others : List Word) (settings : Settings) (option : OptionWord) (refusal : WordsRefusal)
+    → AreReadTo verb (words_text words) settings (words_text rest) → IsFirstOption option (words_text others) (words_text rest) → text_in option ≡ None
+    → length others ≡ 0 → takes verb (setting_in option) ≡ true → is_set (setting_in option) settings ≡ false
+    → IsRefusalBefore (length words) (length others) refusal → IsRefusal (words_text words) refusal
 nothing_after verb words rest others settings option refusal read first is none taken unset counts =
     refusal_before words others refusal counts
-    (λ number c. bad_after verb (words_text words) settings (words_text rest) (words_text others) number option read first c is taken unset (λ reported more e value. absurd (let no_more = no_text others none in cc)))
+    (λ number c.
+    bad_after verb (words_text words) settings (words_text rest) (words_text others) number option read first c is taken unset
+    (λ reported more e value. absurd (let no_more = no_text others none in cc)))
 
 -- ---- what stands after the settings
-pub extra_word : (verb : Verb) → AsksForNoMore verb → (words rest : List Word) (settings : Settings) (refusal : WordsRefusal) → AreReadWhole verb (words_text words) settings (words_text rest) → 0 < length rest → IsRefusalBefore (length words) (length rest) refusal → IsRefusal (words_text words) refusal
+pub extra_word : (verb : Verb) → AsksForNoMore verb → (words rest : List Word) (settings : Settings) (refusal : WordsRefusal)
+    → AreReadWhole verb (words_text words) settings (words_text rest) → 0 < length rest → IsRefusalBefore (length words) (length rest) refusal
+    → IsRefusal (words_text words) refusal
 extra_word verb none words rest settings refusal whole some counts =
-    refusal_before words rest refusal counts (λ number c. one_more verb none (words_text words) settings (words_text rest) number whole (some_text rest some) c)
+    refusal_before words rest refusal counts (λ number c.
+    one_more verb none (words_text words) settings (words_text rest) number whole (some_text rest some) c)
 
-pub missing_entry : (words rest : List Word) (settings : Settings) (refusal : WordsRefusal) → AreReadWhole verbs.Replay (words_text words) settings (words_text rest) → length rest ≡ 0 → IsRefusalBefore (length words) (length rest) refusal → IsRefusal (words_text words) refusal
+pub missing_entry : (words rest : List Word) (settings : Settings) (refusal : WordsRefusal)
+    → AreReadWhole verbs.Replay (words_text words) settings (words_text rest) → length rest ≡ 0 → IsRefusalBefore (length words) (length rest) refusal
+    → IsRefusal (words_text words) refusal
 missing_entry words rest settings refusal whole none counts =
     refusal_before words rest refusal counts (λ number c. no_entry (words_text words) settings (words_text rest) number whole (no_text rest none) c)
 
-pub no_name_there : (words rest others : List Word) (settings : Settings) (entry : List ℕ) (refusal : WordsRefusal) → AreReadWhole verbs.Replay (words_text words) settings (words_text rest) → words_text rest ≡ entry ∷ words_text others → is_name entry ≡ false → IsRefusalBefore (length words) (length rest) refusal → IsRefusal (words_text words) refusal
+pub no_name_there : (words rest others : List Word) (settings : Settings) (entry : List ℕ) (refusal : WordsRefusal)
+    → AreReadWhole verbs.Replay (words_text words) settings (words_text rest) → words_text rest ≡ entry ∷ words_text others → is_name entry ≡ false
+    → IsRefusalBefore (length words) (length rest) refusal → IsRefusal (words_text words) refusal
 no_name_there words rest others settings entry refusal whole is name counts =
-    refusal_before words rest refusal counts (λ number c. bad_entry (words_text words) settings (words_text rest) number entry (words_text others) whole is name c)
+    refusal_before words rest refusal counts (λ number c.
+    bad_entry (words_text words) settings (words_text rest) number entry (words_text others) whole is name c)
 
-refused_input : (words rest others : List Word) (settings : Settings) (entry : List ℕ) (refusal : WordsRefusal) → AreReadWhole verbs.Replay (words_text words) settings (words_text rest) → words_text rest ≡ entry ∷ words_text others → is_name entry ≡ true → AreInputsRead (words_text others) (length words) (Err refusal) → IsRefusal (words_text words) refusal
+refused_input : (words rest others : List Word) (settings : Settings) (entry : List ℕ) (refusal : WordsRefusal)
+    → AreReadWhole verbs.Replay (words_text words) settings (words_text rest) → words_text rest ≡ entry ∷ words_text others → is_name entry ≡ true
+    → AreInputsRead (words_text others) (length words) (Err refusal) → IsRefusal (words_text words) refusal
 refused_input words rest others settings entry (Words number) whole is name bad =
-    bad_input (words_text words) settings (words_text rest) number entry (words_text others) whole is name (subst (λ (n : ℕ). AreInputsRead (words_text others) n (Err (Words number))) (sym (words_length words)) bad)
+    bad_input (words_text words) settings (words_text rest) number entry (words_text others) whole is name
+    (subst (λ (n : ℕ). AreInputsRead (words_text others) n (Err (Words number))) (sym (words_length words)) bad)
 refused_input words rest others settings entry Memory whole is name bad = tt
 
-pub passed_on : (words : List (List ℕ)) (result : Result Command WordsRefusal) (refusal : WordsRefusal) → IsErrAnd result (λ e. e ≡ refusal) → IsRefusal words refusal → IsRight words result
+pub passed_on : (words : List (List ℕ)) (result : Result Command WordsRefusal) (refusal : WordsRefusal) → IsErrAnd result (λ e. e ≡ refusal)
+    → IsRefusal words refusal → IsRight words result
 passed_on words (Ok command) refusal e h = absurd e
 passed_on words (Err other) refusal e h = subst (λ (r : WordsRefusal). IsRefusal words r) (sym e) h
 
-pub input_refused : (words rest others : List Word) (settings : Settings) (entry : List ℕ) (refusal : WordsRefusal) (result : Result Command WordsRefusal) → AreReadWhole verbs.Replay (words_text words) settings (words_text rest) → words_text rest ≡ entry ∷ words_text others → is_name entry ≡ true → AreInputsRead (words_text others) (length words) (Err refusal) → IsErrAnd result (λ e. e ≡ refusal) → IsRight (words_text words) result
+pub input_refused : (words rest others : List Word) (settings : Settings) (entry : List ℕ) (refusal : WordsRefusal) (result : Result Command WordsRefusal)
+    → AreReadWhole verbs.Replay (words_text words) settings (words_text rest) → words_text rest ≡ entry ∷ words_text others → is_name entry ≡ true
+    → AreInputsRead (words_text others) (length words) (Err refusal) → IsErrAnd result (λ e. e ≡ refusal) → IsRight (words_text words) result
 input_refused words rest others settings entry refusal result whole is name bad e =
     passed_on (words_text words) result refusal e (refused_input words rest others settings entry refusal whole is name bad)
 
@@ -128,16 +178,24 @@ input_refused words rest others settings entry refusal result whole is name bad 
 abbrev pub AcceptsInputs : List ℕ → Result (Path × ℤ) PathRefusal → Type 0
 AcceptsInputs word result = (path : Path) (number : ℤ) → SpellsInput word path number → (result ≡ Ok (path, number)) ⊎ (result ≡ Err paths.Memory)
 
-not_spelled : (word : List ℕ) (result : Result (Path × ℤ) PathRefusal) (cause : PathRefusal) → result ≡ Err cause → (cause ≡ paths.Memory → ⊥) → AcceptsInputs word result → (path : Path) (number : ℤ) → SpellsInput word path number → ⊥
+not_spelled : (word : List ℕ) (result : Result (Path × ℤ) PathRefusal) (cause : PathRefusal) → result ≡ Err cause → (cause ≡ paths.Memory → ⊥)
+    → AcceptsInputs word result → (path : Path) (number : ℤ) → SpellsInput word path number → ⊥
 not_spelled word result cause is other accepts path number spells = elim (accepts path number spells) [ inl e ↦ absurd (cc) | inr e ↦ other (cc) ]
 
-pub no_input_there : (words following rest others : List Word) (inputs : List (Path × ℤ)) (word : List ℕ) (result : Result (Path × ℤ) PathRefusal) (cause : PathRefusal) (refusal : WordsRefusal) → AreEnteredTo (words_text following) inputs (words_text rest) → words_text rest ≡ word ∷ words_text others → result ≡ Err cause → AcceptsInputs word result → IsRefusalFor cause (length words) (length rest) refusal → AreInputsRead (words_text following) (length words) (Err refusal)
+pub no_input_there : (words following rest others : List Word) (inputs : List (Path × ℤ)) (word : List ℕ) (result : Result (Path × ℤ) PathRefusal)
+    (cause : PathRefusal) (refusal : WordsRefusal) → AreEnteredTo (words_text following) inputs (words_text rest)
+    → words_text rest ≡ word ∷ words_text others → result ≡ Err cause → AcceptsInputs word result
+    → IsRefusalFor cause (length words) (length rest) refusal → AreInputsRead (words_text following) (length words) (Err refusal)
 no_input_there words following rest others inputs word result cause refusal to first is accepts fault = at cause refusal is fault
   where
-    so : (number : ℕ) → number + length rest ≡ length words + 1 → (cause : PathRefusal) → result ≡ Err cause → (cause ≡ paths.Memory → ⊥) → AreInputsRead (words_text following) (length words) (Err (Words number))
-    so number counts cause is other = no_input (words_text following) inputs (words_text rest) word (words_text others) (length words) number to first (omega (arith, words_length rest)) (not_spelled word result cause is other accepts)
+    so : (number : ℕ) → number + length rest ≡ length words + 1 → (cause : PathRefusal) → result ≡ Err cause → (cause ≡ paths.Memory → ⊥)
+        → AreInputsRead (words_text following) (length words) (Err (Words number))
+    so number counts cause is other =
+        no_input (words_text following) inputs (words_text rest) word (words_text others) (length words) number to first (omega (arith, words_length rest))
+        (not_spelled word result cause is other accepts)
 
-    at : (cause : PathRefusal) (refusal : WordsRefusal) → result ≡ Err cause → IsRefusalFor cause (length words) (length rest) refusal → AreInputsRead (words_text following) (length words) (Err refusal)
+    at : (cause : PathRefusal) (refusal : WordsRefusal) → result ≡ Err cause → IsRefusalFor cause (length words) (length rest) refusal
+        → AreInputsRead (words_text following) (length words) (Err refusal)
     at paths.BadPath (Words number) is counts = so number counts paths.BadPath is (λ e. absurd (cc))
     at paths.BadPath Memory is counts = absurd counts
     at paths.BadNumber (Words number) is counts = so number counts paths.BadNumber is (λ e. absurd (cc))

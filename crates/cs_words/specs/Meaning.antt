@@ -25,7 +25,8 @@ words_text words = map (λ (word : Word). string_bytes word) words
 -- the numbers of paths with those of words' texts, entered in order
 abbrev pub AreEntered : List (Path × ℤ) → List (List ℕ) → List (Path × ℤ) → Type 0
 AreEntered before [] after = after ≡ before
-AreEntered before (word ∷ words) after = (path : Path) × (number : ℤ) × SpellsInput word path number × AreEntered (insert_entry path_order before path number) words after
+AreEntered before (word ∷ words) after = (path : Path) × (number : ℤ) × SpellsInput word path number
+    × AreEntered (insert_entry path_order before path number) words after
 
 -- a run of the machine: its settings, and after them a function's name and any number of inputs
 pub record IsReplay (given : List Given) (others : List (List ℕ)) (replay : ReplayWords) : Type 0 where

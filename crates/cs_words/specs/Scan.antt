@@ -64,7 +64,8 @@ HasValue Model text = (value : DataModel) × IsModel text value
 -- settings with one more: the option is set to the text's value, and the others are as before
 pub record IsSetBesides (setting : Setting) (text : List ℕ) (before after : Settings) : Type 0 where
   pub here : IsSetTo setting (Some text) after
-  pub elsewhere : (other : Setting) → is_same other setting ≡ false → (reported : Option (List ℕ)) → IsSetTo other reported before → IsSetTo other reported after
+  pub elsewhere : (other : Setting) → is_same other setting ≡ false → (reported : Option (List ℕ)) → IsSetTo other reported before
+      → IsSetTo other reported after
 
 -- words that are read up to the rest: a command's word, and settings of its options that the fields tell
 pub record AreReadTo (verb : Verb) (words : List (List ℕ)) (settings : Settings) (rest : List (List ℕ)) : Type 0 where

@@ -19,12 +19,14 @@ option_text setting (Some text) = codes "--" ++ setting_text setting ++ codes "=
 
 -- words begin with a setting's, as `--name value` or `--name=value`, and go on with others
 abbrev pub BeginWithSetting : Given → List (List ℕ) → List (List ℕ) → Type 0
-BeginWithSetting given others words = (words ≡ option_text given.setting None ∷ given.text ∷ others) ⊎ (words ≡ option_text given.setting (Some given.text) ∷ others)
+BeginWithSetting given others words = (words ≡ option_text given.setting None ∷ given.text ∷ others)
+    ⊎ (words ≡ option_text given.setting (Some given.text) ∷ others)
 
 -- words are those of settings, in order, and others after them
 abbrev pub BeginWithSettings : List Given → List (List ℕ) → List (List ℕ) → Type 0
 BeginWithSettings [] others words = words ≡ others
-BeginWithSettings (given ∷ rest) others words = (following : List (List ℕ)) × BeginWithSetting given following words × BeginWithSettings rest others following
+BeginWithSettings (given ∷ rest) others words = (following : List (List ℕ)) × BeginWithSetting given following words
+    × BeginWithSettings rest others following
 
 -- the options' places in their table, which tell them apart
 abbrev pub place_of : Setting → ℕ

@@ -28,7 +28,8 @@ impl OptionWord<'_> {
 
 /// The option that a word names, with the value's text in it.
 pub fn option_of(word: &[u8]) -> Option<OptionWord<'_>>
-    ensures { MatchOption result ((setting : given.Setting) (text : Option (List ℕ)) → word.now ≡ option_text setting text → ⊥) (IsOption word.now) }
+    ensures { MatchOption result ((setting : given.Setting) (text : Option (List ℕ))
+        → word.now ≡ option_text setting text → ⊥) (IsOption word.now) }
 {
     let (name, value) = split_before(word.strip_prefix(b"--")?, b'=');
     let setting = setting_named(name)?;

@@ -24,7 +24,9 @@ pub fn settings_of<'a>(
     following: &'a [String],
 ) -> Result<Found<'a>, WordsRefusal>
     requires { words_text words.now ≡ verb_text verb ∷ words_text following.now }
-    ensures { MatchResult result (λ found. AreReadWhole verb (words_text words.now) found.settings (words_text found.rest.now)) (IsRefusal (words_text words.now)) }
+    ensures { MatchResult result (λ found.
+        AreReadWhole verb (words_text words.now) found.settings (words_text found.rest.now))
+        (IsRefusal (words_text words.now)) }
 {
     let mut found = Found {
         settings: Settings::none(),
@@ -47,9 +49,12 @@ fn with_option<'a>(
     option: OptionWord<'_>,
     others: &'a [String],
 ) -> Result<Found<'a>, WordsRefusal>
-    requires read { AreReadTo verb (words_text words.now) found.settings (words_text found.rest.now) }
+    requires read { AreReadTo verb (words_text words.now) found.settings
+        (words_text found.rest.now) }
     requires first { IsFirstOption option (words_text others.now) (words_text found.rest.now) }
-    ensures read { MatchResult result (λ after. AreReadTo verb (words_text words.now) after.settings (words_text after.rest.now)) (IsRefusal (words_text words.now)) }
+    ensures read { MatchResult result (λ after.
+        AreReadTo verb (words_text words.now) after.settings (words_text after.rest.now))
+        (IsRefusal (words_text words.now)) }
     ensures shorter { IfOk result (λ after. length after.rest.now ≤ length others.now) }
 {
     let setting = option.setting();
@@ -90,7 +95,11 @@ fn with_value<'a>(
     left: &'a [String],
 ) -> Result<Found<'a>, WordsRefusal>
     requires { length at.now ≤ length words.now }
-    ensures { MatchResult result (λ after. IsSetBesides setting text.now settings after.settings × (after.rest.now ≡ left.now)) (λ refusal. (HasValue setting text.now → ⊥) × IsRefusalBefore (length words.now) (length at.now) refusal) }
+    ensures { MatchResult result (λ after.
+        IsSetBesides setting text.now settings after.settings
+        × (after.rest.now ≡ left.now)) (λ refusal.
+        (HasValue setting text.now → ⊥)
+        × IsRefusalBefore (length words.now) (length at.now) refusal) }
 {
     match settings.with(setting, text) {
         Some(settings) => Ok(Found {

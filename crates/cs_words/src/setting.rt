@@ -18,7 +18,8 @@ pub enum Setting {
 
 /// The option with this name.
 pub fn setting_named(name: &[u8]) -> Option<Setting>
-    ensures { MatchOption result ((setting : options.Setting) → setting_text setting ≢ name.now) (λ setting. setting_text setting ≡ name.now) }
+    ensures { MatchOption result ((setting : options.Setting)
+        → setting_text setting ≢ name.now) (λ setting. setting_text setting ≡ name.now) }
 {
     match name {
         b"visits" => Some(Setting::Visits),

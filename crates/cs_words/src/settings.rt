@@ -44,7 +44,8 @@ impl Settings {
 
     /// The settings with one more, if the text is that of a value of the option.
     pub fn with(self, setting: Setting, text: &[u8]) -> Option<Settings>
-        ensures { MatchOption result (HasValue setting text.now → ⊥) (λ after. IsSetBesides setting text.now self after) }
+        ensures { MatchOption result (HasValue setting text.now
+            → ⊥) (λ after. IsSetBesides setting text.now self after) }
     {
         match setting {
             Setting::Visits => Some(Settings {

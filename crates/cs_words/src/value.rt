@@ -11,7 +11,8 @@ use std::str;
 
 /// The number of one to nine digits, where it is in the range.
 pub fn number_in(text: &[u8], least: u32, greatest: u32) -> Option<u32>
-    ensures { MatchOption result ((number : ℕ) → IsNumberIn least greatest text.now number → ⊥) (IsNumberIn least greatest text.now) }
+    ensures { MatchOption result ((number : ℕ) → IsNumberIn least greatest text.now number
+        → ⊥) (IsNumberIn least greatest text.now) }
 {
     if text.is_empty() || text.len() > 9 || !are_digits(text) {
         return None;
@@ -46,7 +47,8 @@ fn are_digits(bytes: &[u8]) -> bool
 
 /// The data model with this name.
 pub fn model_named(text: &[u8]) -> Option<DataModel>
-    ensures { MatchOption result ((model : values.DataModel) → model_text model ≢ text.now) (λ model. model_text model ≡ text.now) }
+    ensures { MatchOption result ((model : values.DataModel)
+        → model_text model ≢ text.now) (λ model. model_text model ≡ text.now) }
 {
     match text {
         b"lp64" => Some(DataModel::Lp64),

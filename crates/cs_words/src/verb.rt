@@ -15,7 +15,8 @@ pub enum Verb {
 
 /// The command with this word.
 pub fn verb_named(word: &[u8]) -> Option<Verb>
-    ensures { MatchOption result ((verb : options.Verb) → verb_text verb ≢ word.now) (λ verb. verb_text verb ≡ word.now) }
+    ensures { MatchOption result ((verb : options.Verb)
+        → verb_text verb ≢ word.now) (λ verb. verb_text verb ≡ word.now) }
 {
     match word {
         b"analyze" => Some(Verb::Analyze),

@@ -21,9 +21,11 @@ use std::alloc::Global;
 /// are missing.
 pub fn words_of(alloc: Global, words: &[String]) -> Result<Command, WordsRefusal>
     ensures ok { IfOk result (λ command. WordsMean (words_text words.now) command) }
-    ensures accepts { (command : meaning.Command) → WordsMean (words_text words.now) command → (result ≡ Ok command) ⊎ (result ≡ Err WordsRefusal.Memory) }
+    ensures accepts { (command : meaning.Command) → WordsMean (words_text words.now) command
+        → (result ≡ Ok command) ⊎ (result ≡ Err WordsRefusal.Memory) }
     ensures err { IfErr result (IsRefusal (words_text words.now)) }
-    ensures refuses { (number : ℕ) → AreRefusedAt (words_text words.now) number → (result ≡ Err (WordsRefusal.Words number)) ⊎ (result ≡ Err WordsRefusal.Memory) }
+    ensures refuses { (number : ℕ) → AreRefusedAt (words_text words.now) number
+        → (result ≡ Err (WordsRefusal.Words number)) ⊎ (result ≡ Err WordsRefusal.Memory) }
 {
     match words.split_first() {
         Some((first, following)) => command_of(alloc, words, first.as_bytes(), following),

@@ -49,7 +49,8 @@ fn parenthesis(alloc: Global, inner: RawExpr) -> Result<RawExpr, AllocError>
 fn call(alloc: Global, function: RawExpr, arguments: Vec<RawExpr>) -> Result<RawExpr, AllocError>
     ensures { IfOk result
         (λ e. tree.height (written e)
-        ≡ 1 + max (tree.height (written function)) (1 + tree.highest (written_list arguments.items))) }
+        ≡ 1 + max (tree.height (written function))
+        (1 + tree.highest (written_list arguments.items))) }
 {
     Ok(at(alloc, RawExprKind::Call(function, arguments))?)
 }
@@ -117,7 +118,8 @@ fn head(alloc: Global) -> Result<RawFunction, AllocError>
 /// `int f(int x){` what stands there `}`
 fn definition(alloc: Global, body: RawStmtKind) -> Result<RawExternal, AllocError>
     ensures { IfOk result
-        (λ e. file.external_height (external e) ≡ 1 + max 4 (1 + file.sentence_height (sentence body))) }
+        (λ e. file.external_height (external e)
+        ≡ 1 + max 4 (1 + file.sentence_height (sentence body))) }
 {
     let body = RawStmt {
         place: PLACE,
@@ -153,7 +155,8 @@ fn switch_on(alloc: Global, value: RawExpr) -> Result<RawStmtKind, AllocError>
 /// `int a[bound]`
 fn array(alloc: Global, bound: RawExpr) -> Result<RawMember, AllocError>
     ensures { IfOk result
-        (λ m. file.members_height (view.members_list (m ∷ [])) ≡ 2 + tree.height (written bound)) }
+        (λ m. file.members_height (view.members_list (m ∷ []))
+        ≡ 2 + tree.height (written bound)) }
 {
     let declarator = RawDeclarator {
         pointers: Vec::new(alloc),
@@ -170,7 +173,8 @@ fn array(alloc: Global, bound: RawExpr) -> Result<RawMember, AllocError>
 /// `struct{` a member `}`
 fn body(alloc: Global, member: RawMember) -> Result<SpecWord, AllocError>
     ensures { IfOk result
-        (λ w. file.spec_height (view.spec w) ≡ 1 + file.members_height (view.members_list (member ∷ []))) }
+        (λ w. file.spec_height (view.spec w)
+        ≡ 1 + file.members_height (view.members_list (member ∷ []))) }
 {
     Ok(SpecWord::Struct(None, vec![in alloc; member]?))
 }

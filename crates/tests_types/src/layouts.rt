@@ -20,7 +20,18 @@ fn struct_of(
     second: CType,
     offset: u64,
 ) -> Result<StructType, AllocError>
-    ensures { IfOk result (λ made. made ≡ record { tag = []; members = Some (record { name = []; ty = shape_of first; offset = 0 } ∷ record { name = []; ty = shape_of second; offset = offset } ∷ []); size = size; align = align }) }
+    ensures { IfOk result (λ made.
+        made ≡ record {
+          tag = [];
+          members =
+              Some (record {
+                name = [];
+                ty = shape_of first;
+                offset = 0;
+              } ∷ record { name = []; ty = shape_of second; offset = offset } ∷ []);
+          size = size;
+          align = align;
+        }) }
 {
     let mut members = Members::new(alloc);
     members.push(member_of(alloc, first, 0)?)?;
@@ -34,7 +45,8 @@ fn struct_of(
 }
 
 fn member_of(alloc: Global, ty: CType, offset: u64) -> Result<Member, AllocError>
-    ensures { IfOk result (λ made. made ≡ record { name = []; ty = shape_of ty; offset = offset }) }
+    ensures { IfOk result (λ made.
+        made ≡ record { name = []; ty = shape_of ty; offset = offset }) }
 {
     Ok(Member::new(Name::from_slice(alloc, b"")?, ty, offset))
 }

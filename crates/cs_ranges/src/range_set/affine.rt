@@ -16,8 +16,11 @@ pub fn affine_preimage(
     set: &RangeSet,
     within: &RangeSet,
 ) -> Result<RangeSet, AllocError>
-    requires values_inside { (s : ℤ) → IsTrue (contains within.now s) → IsInside (affine slope at value s) }
-    ensures { IfOk result (λ p. (s : ℤ) → contains p s ≡ (contains within.now s && contains set.now (affine slope at value s))) }
+    requires values_inside { (s : ℤ) → IsTrue (contains within.now s)
+        → IsInside (affine slope at value s) }
+    ensures { IfOk result (λ p.
+        (s : ℤ) → contains p s
+        ≡ (contains within.now s && contains set.now (affine slope at value s))) }
 {
     let (Some(first), Some(last)) = (within.least(), within.greatest()) else {
         return Ok(RangeSet::empty(alloc));
@@ -59,10 +62,13 @@ impl Line {
     /// The line of an affine function's values, or, where these fall, of their negatives.
     fn rising(slope: i128, at: i128, value: i128, first: i128, last: i128) -> Line
         requires over { IsInside first × IsInside last × (first ≤ℤ last) }
-        requires inside { IsInside (affine slope at value first) × IsInside (affine slope at value last) }
+        requires inside { IsInside (affine slope at value first)
+            × IsInside (affine slope at value last) }
         ensures ends { (result.first ≡ first) × (result.last ≡ last) }
-        ensures values { pos 0 ≤ℤ slope → (s : ℤ) → value_of result s ≡ affine slope at value s }
-        ensures negatives { slope <ℤ pos 0 → (s : ℤ) → value_of result s ≡ neg_ℤ (affine slope at value s) }
+        ensures values { pos 0 ≤ℤ slope → (s : ℤ)
+            → value_of result s ≡ affine slope at value s }
+        ensures negatives { slope <ℤ pos 0
+            → (s : ℤ) → value_of result s ≡ neg_ℤ (affine slope at value s) }
     {
         let start = affine_value(slope, at, value, first);
         let end = affine_value(slope, at, value, last);
@@ -87,7 +93,9 @@ impl Line {
 
     /// The numbers from `first` to `last` at which the line has a value in the set.
     fn preimage(&self, alloc: Global, set: &RangeSet) -> Result<RangeSet, AllocError>
-        ensures { IfOk result (λ p. (s : ℤ) → contains p s ≡ (is_over self.now s && contains set.now (value_of self.now s))) }
+        ensures { IfOk result (λ p.
+            (s : ℤ) → contains p s
+            ≡ (is_over self.now s && contains set.now (value_of self.now s))) }
     {
         let mut found = RangeSet::empty(alloc);
         for interval in set.intervals() {
@@ -114,7 +122,8 @@ impl Line {
     fn first_at_least(&self, low: i128) -> i128
         requires { IsInside low }
         ensures from { self.now.first ≤ℤ result }
-        ensures value { (s : ℤ) → IsTrue (is_over self.now s) → int_le low (value_of self.now s) ≡ int_le result s }
+        ensures value { (s : ℤ) → IsTrue (is_over self.now s)
+            → int_le low (value_of self.now s) ≡ int_le result s }
     {
         if low <= self.start {
             self.first
@@ -130,7 +139,8 @@ impl Line {
     fn last_at_most(&self, high: i128) -> i128
         requires { IsInside high }
         ensures upto { result ≤ℤ self.now.last }
-        ensures value { (s : ℤ) → IsTrue (is_over self.now s) → int_le (value_of self.now s) high ≡ int_le s result }
+        ensures value { (s : ℤ) → IsTrue (is_over self.now s)
+            → int_le (value_of self.now s) high ≡ int_le s result }
     {
         if self.end <= high {
             self.last

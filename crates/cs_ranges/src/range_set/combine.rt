@@ -10,7 +10,8 @@ use std::alloc::{AllocError, Global};
 impl RangeSet {
     /// The numbers that both sets have.
     pub fn intersect(&self, other: &RangeSet) -> Result<RangeSet, AllocError>
-        ensures { IfOk result (λ s. (x : ℤ) → contains s x ≡ (contains self.now x && contains other.now x)) }
+        ensures { IfOk result (λ s.
+            (x : ℤ) → contains s x ≡ (contains self.now x && contains other.now x)) }
     {
         let mut common = RangeSet::empty(*self.intervals.allocator());
         let mut left = self.intervals.as_slice();
@@ -34,7 +35,9 @@ impl RangeSet {
         requires a_proper { IsProper a }
         requires b_proper { IsProper b }
         requires following { last_low self.old ≤ℤ int_max a.low b.low }
-        ensures members { OnOk result ((x : ℤ) → contains self.new x ≡ (contains self.old x || (in_interval a x && in_interval b x))) }
+        ensures members { OnOk result ((x : ℤ)
+            → contains self.new x
+            ≡ (contains self.old x || (in_interval a x && in_interval b x))) }
         ensures last { OnOk result (last_low self.new ≤ℤ int_max a.low b.low) }
     {
         let low = a.low.max(b.low);
@@ -47,7 +50,8 @@ impl RangeSet {
 
     /// The numbers that either set has.
     pub fn union(&self, other: &RangeSet) -> Result<RangeSet, AllocError>
-        ensures { IfOk result (λ s. (x : ℤ) → contains s x ≡ (contains self.now x || contains other.now x)) }
+        ensures { IfOk result (λ s.
+            (x : ℤ) → contains s x ≡ (contains self.now x || contains other.now x)) }
     {
         let mut joined = RangeSet::empty(*self.intervals.allocator());
         let mut left = self.intervals.as_slice();
@@ -73,7 +77,8 @@ impl RangeSet {
     fn push_all(&mut self, intervals: &[Interval]) -> Result<(), AllocError>
         requires spread { IsSpread intervals.now }
         requires following { IsSpreadFrom (last_low self.old) intervals.now }
-        ensures members { OnOk result ((x : ℤ) → contains self.new x ≡ (contains self.old x || contains intervals.now x)) }
+        ensures members { OnOk result ((x : ℤ)
+            → contains self.new x ≡ (contains self.old x || contains intervals.now x)) }
         ensures none { OnOk result (intervals.now ≡ [] → self.new ≡ self.old) }
     {
         for interval in intervals {
@@ -84,7 +89,8 @@ impl RangeSet {
 
     /// The numbers of this set that the other one hasn't.
     pub fn minus(&self, other: &RangeSet) -> Result<RangeSet, AllocError>
-        ensures { IfOk result (λ s. (x : ℤ) → contains s x ≡ (contains self.now x && not (contains other.now x))) }
+        ensures { IfOk result (λ s.
+            (x : ℤ) → contains s x ≡ (contains self.now x && not (contains other.now x))) }
     {
         let others = other.complement(*self.intervals.allocator())?;
         self.intersect(&others)
@@ -92,7 +98,8 @@ impl RangeSet {
 
     /// The numbers from `LEAST` to `GREATEST` that the set hasn't.
     fn complement(&self, alloc: Global) -> Result<RangeSet, AllocError>
-        ensures { IfOk result (λ s. (x : ℤ) → IsInside x → contains s x ≡ not (contains self.now x)) }
+        ensures { IfOk result (λ s.
+            (x : ℤ) → IsInside x → contains s x ≡ not (contains self.now x)) }
     {
         let mut gaps = RangeSet::empty(alloc);
         let mut next = LEAST;

@@ -1,4 +1,5 @@
-use Rattle.cs_well_formed.proofs.Doors.{formed_are_well, operands_are_well, assigned_are_well, tests_are_well, selectors_are_well, discarded_are_well, constants_are_in_range}
+use Rattle.cs_well_formed.proofs.Doors.{formed_are_well, operands_are_well, assigned_are_well, tests_are_well, selectors_are_well, discarded_are_well}
+use Rattle.cs_well_formed.proofs.Doors.{constants_are_in_range}
 use Rattle.cs_well_formed.proofs.expressions_are_well_formed.Goals as goal
 
 pub returns-clause-formed : goal.returns-clause-formed

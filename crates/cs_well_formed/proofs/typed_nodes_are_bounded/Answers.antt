@@ -1,6 +1,7 @@
 use Rattle.cs_well_formed.specs.Places.{IsOfFiles}
 use Rattle.cs_well_formed.proofs.LiteralsAfter.{literals-grow}
-use Rattle.cs_well_formed.proofs.FittingDoors.{formed_are_bounded, operands_are_bounded, assigned_are_bounded, tests_are_bounded, selectors_are_bounded, discarded_are_bounded}
+use Rattle.cs_well_formed.proofs.FittingDoors.{formed_are_bounded, operands_are_bounded, assigned_are_bounded, tests_are_bounded, selectors_are_bounded}
+use Rattle.cs_well_formed.proofs.FittingDoors.{discarded_are_bounded}
 use Rattle.cs_well_formed.proofs.FittingInitials.{initials_are_bounded}
 use Rattle.cs_well_formed.proofs.typed_nodes_are_bounded.Goals as goal
 

@@ -4,4 +4,5 @@ use Rattle.cs_app.proofs.app.csa.Goals as goal
 
 pub returns-in-Ok-write_all_of-clause-complete : goal.returns-in-Ok-write_all_of-clause-complete
 returns-in-Ok-write_all_of-clause-complete g c = λ acceptable no_read_fault no_write_fault memory.
-    acceptable_is_answered (words_text c.args.words.now) _ c.in-Ok.answer.status c.in-Ok.answer.text.items acceptable (c.in-Ok.ensures.only acceptable.command acceptable.meant)
+    acceptable_is_answered (words_text c.args.words.now) _ c.in-Ok.answer.status c.in-Ok.answer.text.items acceptable
+    (c.in-Ok.ensures.only acceptable.command acceptable.meant)

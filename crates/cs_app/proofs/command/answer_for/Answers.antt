@@ -8,7 +8,8 @@ returns-in-Ok-clause-whole g c = whole_of_result (words_text c.args.words.now) _
 
 pub returns-in-Ok-clause-only : goal.returns-in-Ok-clause-only
 returns-in-Ok-clause-only g c = λ command meant.
-    only_command (words_text c.args.words.now) _ c.in-Ok.command command (Ok c.in-Ok.command) _ refl (c.in-Ok.ensures.accepts command meant) c.answer_from.ensures.whole
+    only_command (words_text c.args.words.now) _ c.in-Ok.command command (Ok c.in-Ok.command) _ refl (c.in-Ok.ensures.accepts command meant)
+    c.answer_from.ensures.whole
 
 pub returns-in-Ok-clause-unread : goal.returns-in-Ok-clause-unread
 returns-in-Ok-clause-unread g c = λ n refused.
@@ -18,8 +19,10 @@ pub returns-in_ok-answer-in-Err-Words-clause-whole : goal.returns-in_ok-answer-i
 returns-in_ok-answer-in-Err-Words-clause-whole g c =
     let answer = c.in_ok-answer-in-Err-Words.answer in
     let words = c.in-Err-Words in
-    whole_of_words (words_text c.args.words.now) _ answer.status answer.text.items words.field-0 words.number c.in_ok-answer-in-Err-Words.ensures.status words.field-0-is words.ensures.err c.in_ok-answer-in-Err-Words.ensures.text
+    whole_of_words (words_text c.args.words.now) _ answer.status answer.text.items words.field-0 words.number c.in_ok-answer-in-Err-Words.ensures.status
+    words.field-0-is words.ensures.err c.in_ok-answer-in-Err-Words.ensures.text
 
 pub returns-in_ok-answer-in-Err-Words-clause-only : goal.returns-in_ok-answer-in-Err-Words-clause-only
 returns-in_ok-answer-in-Err-Words-clause-only g c = λ command meant.
-    none_meant command c.in-Err-Words.number c.in-Err-Words.field-0 (Err c.in-Err-Words.field-0) refl c.in-Err-Words.field-0-is (c.in-Err-Words.ensures.accepts command meant)
+    none_meant command c.in-Err-Words.number c.in-Err-Words.field-0 (Err c.in-Err-Words.field-0) refl c.in-Err-Words.field-0-is
+    (c.in-Err-Words.ensures.accepts command meant)

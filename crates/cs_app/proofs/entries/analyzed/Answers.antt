@@ -9,7 +9,8 @@ use Rattle.cs_app.proofs.entries.analyzed.Goals as goal
 pub analyze-requires : goal.analyze-requires
 analyze-requires c =
     let item = c.index-functions-number.result in
-    subst (λ f. IsCoverable (definition f)) (sym c.index-functions-number.is) (covered_at c.args.functions.now c.loop-number.number item (omega arith) c.requires).covered
+    subst (λ f. IsCoverable (definition f)) (sym c.index-functions-number.is)
+    (covered_at c.args.functions.now c.loop-number.number item (omega arith) c.requires).covered
 
 pub loop-number-preserved : goal.loop-number-preserved
 loop-number-preserved c =
@@ -19,9 +20,16 @@ loop-number-preserved c =
     let item = c.index-functions-number.result in
     let reported = c.in_ok-reported.reported in
     let text = c.loop-number.text.items in
-    let room = subst (λ f. LeavesRoom (definition f) DEFAULT_BUDGETS) (sym c.index-functions-number.is) (covered_at functions number item (omega arith) c.requires).room in
-    let one : IsResultOf number (definition item) reported = record { numbered = c.in_ok-reported.ensures.entry ∙ c.in_ok-entry.ensures; good = c.in_ok-reported.ensures.good DEFAULT_BUDGETS room; no_budget_met = c.in_ok-reported.ensures.no_budget } in
-    one_more files functions number item reported c.loop-number.status c.found_if-status.result text c.append_entry.new.text.items (omega arith) c.loop-number.invariant
+    let room = subst (λ f. LeavesRoom (definition f) DEFAULT_BUDGETS) (sym c.index-functions-number.is)
+    (covered_at functions number item (omega arith) c.requires).room in
+    let one : IsResultOf number (definition item) reported =
+    record {
+      numbered = c.in_ok-reported.ensures.entry ∙ c.in_ok-entry.ensures;
+      good = c.in_ok-reported.ensures.good DEFAULT_BUDGETS room;
+      no_budget_met = c.in_ok-reported.ensures.no_budget;
+    } in
+    one_more files functions number item reported c.loop-number.status c.found_if-status.result text c.append_entry.new.text.items (omega arith)
+    c.loop-number.invariant
     (subst (λ f. IsResultOf number (definition f) reported) c.index-functions-number.is one)
     (c.found_if-status.ensures ∙ ap (found_if c.loop-number.status) c.deref.ensures.value)
     (c.in_ok-append_entry.ensures ∙ ap (λ f. text ++ entry_lines files (definition f).name reported) c.index-functions-number.is)

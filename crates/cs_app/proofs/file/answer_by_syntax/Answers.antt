@@ -24,4 +24,6 @@ returns-in_ok-answer-in-Err c =
     let answer = c.in_ok-answer-in-Err.answer in
     let refused = rw c.as_slice.ensures.value at c.in-Err.ensures.refused in
     let line = rw c.deref-in-Err.ensures.value at c.in_ok-answer-in-Err.ensures.text in
-    λ file short has. refuses_syntax c.args.command.now file c.args.lexed.now c.in-Err.refusal answer.status answer.text.items c.in_ok-answer-in-Err.ensures.status refused line short has
+    λ file short has.
+    refuses_syntax c.args.command.now file c.args.lexed.now c.in-Err.refusal answer.status answer.text.items c.in_ok-answer-in-Err.ensures.status refused
+    line short has

@@ -7,4 +7,5 @@ answer_by_syntax-requires-clause-lexed c = (c.args.file.now, c.requires, c.in-Ok
 pub returns-in_ok-answer-in-Err : goal.returns-in_ok-answer-in-Err
 returns-in_ok-answer-in-Err c =
     let answer = c.in_ok-answer-in-Err.answer in
-    refuses_tokens c.args.command.now c.args.file.now c.in-Err.refusal answer.status answer.text.items c.in_ok-answer-in-Err.ensures.status c.requires c.in-Err.ensures.refused c.in_ok-answer-in-Err.ensures.text
+    refuses_tokens c.args.command.now c.args.file.now c.in-Err.refusal answer.status answer.text.items c.in_ok-answer-in-Err.ensures.status c.requires
+    c.in-Err.ensures.refused c.in_ok-answer-in-Err.ensures.text

@@ -20,4 +20,5 @@ returns-in_ok-answer-in-None c =
     let program = c.args.program.now in
     let words = c.args.words.now in
     let none = entry_among program.functions.items words.entry ∙ sym (rw c.deref.ensures.value at c.in-None.ensures) in
-    refuses_entry c.args.files.now (typed_program program) words answer.status answer.text.items none c.in_ok-answer-in-None.ensures.status c.in_ok-answer-in-None.ensures.text
+    refuses_entry c.args.files.now (typed_program program) words answer.status answer.text.items none c.in_ok-answer-in-None.ensures.status
+    c.in_ok-answer-in-None.ensures.text

@@ -19,7 +19,9 @@ returns-in-Ok c =
     let answer = c.in_ok-answer-in-Ok.answer in
     let replayed = c.in-Ok.replayed in
     let none = c.deref.ensures.value ∙ c.new-guesses.ensures.items in
-    replay_is c.args.files.now (typed_program c.args.program.now) c.args.words.now c.args.entry c.in_ok-number.number c.deref.result.now replayed.outcome (log_of replayed.log) answer.status answer.text.items c.in_ok-number.ensures none c.in-Ok.ensures.gives c.in_ok-answer-in-Ok.ensures.text c.in_ok-answer-in-Ok.ensures.status
+    replay_is c.args.files.now (typed_program c.args.program.now) c.args.words.now c.args.entry c.in_ok-number.number c.deref.result.now replayed.outcome
+    (log_of replayed.log) answer.status answer.text.items c.in_ok-number.ensures none c.in-Ok.ensures.gives c.in_ok-answer-in-Ok.ensures.text
+    c.in_ok-answer-in-Ok.ensures.status
 
 pub returns-in-Err-NoEntry : goal.returns-in-Err-NoEntry
 returns-in-Err-NoEntry c =

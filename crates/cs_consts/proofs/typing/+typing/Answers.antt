@@ -1,5 +1,6 @@
 -- The cycle of typing: each return is its production's equation at these parts.
-use Rattle.std.proofs.Common.{◌≡◌, ◌+◌, [], ◌∷◌, ◌++◌, max, drop, length, map, Option, Some, None, Ok, Err, rules, arith, refl, sym, ap, subst, ◌∙◌}
+use Rattle.std.proofs.Common.{◌≡◌, ◌+◌, [], ◌∷◌, ◌++◌, max, drop, length, map, Option, Some, None, Ok, Err, rules, arith, refl, sym, ap}
+use Rattle.std.proofs.Common.{subst, ◌∙◌}
 use Rattle.std.specs.Prelude.{option_copied, OnOk, FitsSigned}
 use Rattle.std.specs.Int.{w128}
 use Rattle.std.proofs.lemmas.Int.{to_z-of_z}
@@ -24,19 +25,28 @@ use Rattle.cs_scopes.specs.TypeNames.{complete_at}
 use Rattle.cs_scopes.specs.Meanings.{signature_of}
 use Rattle.cs_expressions.specs.Calls.{shape_in, parameters_of}
 use Rattle.cs_consts.specs.Rows.{expressions_before, numbers_before}
-use Rattle.cs_consts.specs.Typing.{literals_after, literals_after_list, arguments_listed, formed, done, value_in, operand_in, infix_formed, choice_formed, store_formed, cast_formed, call_formed, stepped_object, measured_arrays, measured_type, base_in, numbers_listed, indexed_values, arrow_on, prefixed, number_at}
+use Rattle.cs_consts.specs.Typing.{literals_after, literals_after_list, arguments_listed, formed, done, value_in, operand_in, infix_formed, choice_formed}
+use Rattle.cs_consts.specs.Typing.{store_formed, cast_formed, call_formed, stepped_object, measured_arrays, measured_type, base_in, numbers_listed}
+use Rattle.cs_consts.specs.Typing.{indexed_values, arrow_on, prefixed, number_at}
 use Rattle.cs_scopes.proofs.Lifting.{lift-refused, lift2-refused-first, yields_as}
-use Rattle.cs_consts.proofs.Productions.{done_stops, done_is, value_stops, value_is, operand_stops, operand_is, infix_left_stops, infix_right_stops, infix_taken, choice_test_stops, choice_tested_stops, choice_one_stops, choice_other_stops, choice_taken, store_object_stops, store_left_stops, store_value_stops, store_taken, cast_type_stops, cast_operand_stops, cast_taken, call_other_stops, call_other, call_admitted_stops, call_arguments_stop, call_taken}
+use Rattle.cs_consts.proofs.Productions.{done_stops, done_is, value_stops, value_is, operand_stops, operand_is, infix_left_stops, infix_right_stops}
+use Rattle.cs_consts.proofs.Productions.{infix_taken, choice_test_stops, choice_tested_stops, choice_one_stops, choice_other_stops, choice_taken}
+use Rattle.cs_consts.proofs.Productions.{store_object_stops, store_left_stops, store_value_stops, store_taken, cast_type_stops, cast_operand_stops, cast_taken}
+use Rattle.cs_consts.proofs.Productions.{call_other_stops, call_other, call_admitted_stops, call_arguments_stop, call_taken}
 use Rattle.cs_consts.proofs.Admitting.{admitted_counts}
 use Rattle.cs_consts.proofs.ProductionRows.{formed-Call, formed-SizeOfType, formed-Cast, literals-Call, literals-SizeOfType}
-use Rattle.cs_consts.proofs.RowsSoFar.{none_before, no_numbers_before, at_place, arguments_turn, arguments_stop, arguments_end, numbers_turn, numbers_stop, numbers_end}
-use Rattle.cs_consts.proofs.SingleParts.{part_taken, parts_taken, second_stops, step_object_stops, step_updatable_stops, step_taken, size_base_stops, size_complete_stops, size_numbers_stop, size_taken}
+use Rattle.cs_consts.proofs.RowsSoFar.{none_before, no_numbers_before, at_place, arguments_turn, arguments_stop, arguments_end, numbers_turn, numbers_stop}
+use Rattle.cs_consts.proofs.RowsSoFar.{numbers_end}
+use Rattle.cs_consts.proofs.SingleParts.{part_taken, parts_taken, second_stops, step_object_stops, step_updatable_stops, step_taken, size_base_stops}
+use Rattle.cs_consts.proofs.SingleParts.{size_complete_stops, size_numbers_stop, size_taken}
 use Rattle.cs_consts.proofs.typing.+typing.Goals as goal
 
 pub judged-returns-in_err-value-clause-reported : goal.judged-returns-in_err-value-clause-reported
 judged-returns-in_err-value-clause-reported t c =
     let e : c.from_residual.result ≡ Err c.in_err-value.field-0.0 = search rules in
-    subst (Yields (done c.args.context.now c.args.purpose (formed c.args.context.now c.args.purpose c.args.literals.now.items (shape_in c.args.target) c.args.tree.now.place c.args.tree.now.kind.value))) (sym e) (done_stops c.args.context.now c.args.purpose _ c.in_err-value.field-0.0 c.in_err-value.ensures.reported)
+    subst (Yields (done c.args.context.now c.args.purpose
+    (formed c.args.context.now c.args.purpose c.args.literals.now.items (shape_in c.args.target) c.args.tree.now.place c.args.tree.now.kind.value))) (sym e)
+    (done_stops c.args.context.now c.args.purpose _ c.in_err-value.field-0.0 c.in_err-value.ensures.reported)
 
 pub judged-returns-clause-reported : goal.judged-returns-clause-reported
 judged-returns-clause-reported t c =
@@ -45,7 +55,9 @@ judged-returns-clause-reported t c =
 pub value_in-returns-in_err-value-clause-reported : goal.value_in-returns-in_err-value-clause-reported
 value_in-returns-in_err-value-clause-reported t c =
     let e : c.from_residual.result ≡ Err c.in_err-value.field-0.0 = search rules in
-    subst (Yields (value_in c.args.context.now c.args.purpose (formed c.args.context.now c.args.purpose c.args.literals.now.items None c.args.tree.now.place c.args.tree.now.kind.value))) (sym e) (value_stops c.args.context.now c.args.purpose _ c.in_err-value.field-0.0 c.in_err-value.ensures.reported)
+    subst (Yields (value_in c.args.context.now c.args.purpose
+    (formed c.args.context.now c.args.purpose c.args.literals.now.items None c.args.tree.now.place c.args.tree.now.kind.value))) (sym e)
+    (value_stops c.args.context.now c.args.purpose _ c.in_err-value.field-0.0 c.in_err-value.ensures.reported)
 
 pub value_in-returns-clause-reported : goal.value_in-returns-clause-reported
 value_in-returns-clause-reported t c =
@@ -54,7 +66,9 @@ value_in-returns-clause-reported t c =
 pub operand_in-returns-in_err-value-clause-reported : goal.operand_in-returns-in_err-value-clause-reported
 operand_in-returns-in_err-value-clause-reported t c =
     let e : c.from_residual.result ≡ Err c.in_err-value.field-0.0 = search rules in
-    subst (Yields (operand_in c.args.context.now c.args.purpose (formed c.args.context.now c.args.purpose c.args.literals.now.items (shape_in c.args.target) c.args.tree.now.place c.args.tree.now.kind.value))) (sym e) (operand_stops c.args.context.now c.args.purpose _ c.in_err-value.field-0.0 c.in_err-value.ensures.reported)
+    subst (Yields (operand_in c.args.context.now c.args.purpose
+    (formed c.args.context.now c.args.purpose c.args.literals.now.items (shape_in c.args.target) c.args.tree.now.place c.args.tree.now.kind.value))) (sym e)
+    (operand_stops c.args.context.now c.args.purpose _ c.in_err-value.field-0.0 c.in_err-value.ensures.reported)
 
 pub operand_in-returns-clause-reported : goal.operand_in-returns-clause-reported
 operand_in-returns-clause-reported t c =
@@ -63,303 +77,609 @@ operand_in-returns-clause-reported t c =
 pub infix-returns-in_err-left-clause-reported : goal.infix-returns-in_err-left-clause-reported
 infix-returns-in_err-left-clause-reported t c =
     let e : c.from_residual.result ≡ Err c.in_err-left.field-0.0 = search rules in
-    subst (Yields (infix_formed c.args.context.now c.args.purpose c.args.literals.now.items c.args.place c.args.operator c.args.left.now c.args.right.now)) (sym e) (infix_left_stops c.args.context.now c.args.purpose c.args.literals.now.items c.args.place c.args.operator c.args.left.now c.args.right.now c.in_err-left.field-0.0 c.in_err-left.ensures.reported)
+    subst (Yields (infix_formed c.args.context.now c.args.purpose c.args.literals.now.items c.args.place c.args.operator c.args.left.now c.args.right.now))
+    (sym e) (infix_left_stops c.args.context.now c.args.purpose c.args.literals.now.items c.args.place c.args.operator c.args.left.now c.args.right.now
+    c.in_err-left.field-0.0 c.in_err-left.ensures.reported)
 
 pub infix-returns-in_err-right-clause-reported : goal.infix-returns-in_err-right-clause-reported
 infix-returns-in_err-right-clause-reported t c =
     let e : c.from_residual-in_err-right.result ≡ Err c.in_err-right.field-0.0 = search rules in
-    subst (Yields (infix_formed c.args.context.now c.args.purpose c.args.literals.now.items c.args.place c.args.operator c.args.left.now c.args.right.now)) (sym e) (infix_right_stops c.args.context.now c.args.purpose c.args.literals.now.items c.operand_in.new.literals.items c.args.place c.args.operator c.args.left.now c.args.right.now (typed c.in_ok-left.left) c.purpose_after-following.result c.in_err-right.field-0.0 c.in_ok-left.ensures.reported c.purpose_after-following.ensures c.in_ok-left.ensures.texts c.in_err-right.ensures.reported)
+    subst (Yields (infix_formed c.args.context.now c.args.purpose c.args.literals.now.items c.args.place c.args.operator c.args.left.now c.args.right.now))
+    (sym e) (infix_right_stops c.args.context.now c.args.purpose c.args.literals.now.items c.operand_in.new.literals.items c.args.place c.args.operator
+    c.args.left.now c.args.right.now (typed c.in_ok-left.left) c.purpose_after-following.result c.in_err-right.field-0.0 c.in_ok-left.ensures.reported
+    c.purpose_after-following.ensures c.in_ok-left.ensures.texts c.in_err-right.ensures.reported)
 
 pub infix-returns-clause-reported : goal.infix-returns-clause-reported
 infix-returns-clause-reported t c =
-    infix_taken c.args.context.now c.args.purpose c.args.literals.now.items c.operand_in.new.literals.items c.args.place c.args.operator c.args.left.now c.args.right.now (typed c.in_ok-left.left) (typed c.in_ok-right.right) c.purpose_after-following.result c.combined.result c.in_ok-left.ensures.reported c.purpose_after-following.ensures c.in_ok-left.ensures.texts c.in_ok-right.ensures.reported c.combined.ensures
+    infix_taken c.args.context.now c.args.purpose c.args.literals.now.items c.operand_in.new.literals.items c.args.place c.args.operator c.args.left.now
+    c.args.right.now (typed c.in_ok-left.left) (typed c.in_ok-right.right) c.purpose_after-following.result c.combined.result c.in_ok-left.ensures.reported
+    c.purpose_after-following.ensures c.in_ok-left.ensures.texts c.in_ok-right.ensures.reported c.combined.ensures
 
 pub select-returns-in_err-test-clause-reported : goal.select-returns-in_err-test-clause-reported
 select-returns-in_err-test-clause-reported t c =
     let e : c.from_residual.result ≡ Err c.in_err-test.field-0.0 = search rules in
-    subst (Yields (choice_formed c.args.context.now c.args.purpose c.args.literals.now.items c.args.place c.args.test.now c.args.one.now c.args.other.now)) (sym e) (choice_test_stops c.args.context.now c.args.purpose c.args.literals.now.items c.args.place c.args.test.now c.args.one.now c.args.other.now c.in_err-test.field-0.0 c.in_err-test.ensures.reported)
+    subst (Yields (choice_formed c.args.context.now c.args.purpose c.args.literals.now.items c.args.place c.args.test.now c.args.one.now c.args.other.now))
+    (sym e) (choice_test_stops c.args.context.now c.args.purpose c.args.literals.now.items c.args.place c.args.test.now c.args.one.now c.args.other.now
+    c.in_err-test.field-0.0 c.in_err-test.ensures.reported)
 
 pub select-returns-in_err-test-2-clause-reported : goal.select-returns-in_err-test-2-clause-reported
 select-returns-in_err-test-2-clause-reported t c =
     let e : c.from_residual-in_err-test-2.result ≡ Err c.in_err-test-2.field-0.0 = search rules in
-    subst (Yields (choice_formed c.args.context.now c.args.purpose c.args.literals.now.items c.args.place c.args.test.now c.args.one.now c.args.other.now)) (sym e) (choice_tested_stops c.args.context.now c.args.purpose c.args.literals.now.items c.args.place c.args.test.now c.args.one.now c.args.other.now (typed c.in_ok-test.test) c.in_err-test-2.field-0.0 c.in_ok-test.ensures.reported c.in_err-test-2.ensures)
+    subst (Yields (choice_formed c.args.context.now c.args.purpose c.args.literals.now.items c.args.place c.args.test.now c.args.one.now c.args.other.now))
+    (sym e) (choice_tested_stops c.args.context.now c.args.purpose c.args.literals.now.items c.args.place c.args.test.now c.args.one.now c.args.other.now
+    (typed c.in_ok-test.test) c.in_err-test-2.field-0.0 c.in_ok-test.ensures.reported c.in_err-test-2.ensures)
 
 pub select-returns-in_err-one-clause-reported : goal.select-returns-in_err-one-clause-reported
 select-returns-in_err-one-clause-reported t c =
     let e : c.from_residual-in_err-one.result ≡ Err c.in_err-one.field-0.0 = search rules in
-    subst (Yields (choice_formed c.args.context.now c.args.purpose c.args.literals.now.items c.args.place c.args.test.now c.args.one.now c.args.other.now)) (sym e) (choice_one_stops c.args.context.now c.args.purpose c.args.literals.now.items c.operand_in.new.literals.items c.args.place c.args.test.now c.args.one.now c.args.other.now (typed c.in_ok-test.test) (typed c.in_ok-test-2.test) c.purpose_if-for_one.result c.in_err-one.field-0.0 c.in_ok-test.ensures.reported c.in_ok-test-2.ensures c.purpose_if-for_one.ensures c.in_ok-test.ensures.texts c.in_err-one.ensures.reported)
+    subst (Yields (choice_formed c.args.context.now c.args.purpose c.args.literals.now.items c.args.place c.args.test.now c.args.one.now c.args.other.now))
+    (sym e) (choice_one_stops c.args.context.now c.args.purpose c.args.literals.now.items c.operand_in.new.literals.items c.args.place c.args.test.now
+    c.args.one.now c.args.other.now (typed c.in_ok-test.test) (typed c.in_ok-test-2.test) c.purpose_if-for_one.result c.in_err-one.field-0.0
+    c.in_ok-test.ensures.reported c.in_ok-test-2.ensures c.purpose_if-for_one.ensures c.in_ok-test.ensures.texts c.in_err-one.ensures.reported)
 
 pub select-returns-in_err-other-clause-reported : goal.select-returns-in_err-other-clause-reported
 select-returns-in_err-other-clause-reported t c =
     let e : c.from_residual-in_err-other.result ≡ Err c.in_err-other.field-0.0 = search rules in
-    subst (Yields (choice_formed c.args.context.now c.args.purpose c.args.literals.now.items c.args.place c.args.test.now c.args.one.now c.args.other.now)) (sym e) (choice_other_stops c.args.context.now c.args.purpose c.args.literals.now.items c.operand_in.new.literals.items c.value_in.new.literals.items c.args.place c.args.test.now c.args.one.now c.args.other.now (typed c.in_ok-test.test) (typed c.in_ok-test-2.test) (typed c.in_ok-one.one) c.purpose_if-for_one.result c.purpose_if-for_other.result c.in_err-other.field-0.0 c.in_ok-test.ensures.reported c.in_ok-test-2.ensures c.purpose_if-for_one.ensures c.purpose_if-for_other.ensures c.in_ok-test.ensures.texts c.in_ok-one.ensures.texts c.in_ok-one.ensures.reported c.in_err-other.ensures.reported)
+    subst (Yields (choice_formed c.args.context.now c.args.purpose c.args.literals.now.items c.args.place c.args.test.now c.args.one.now c.args.other.now))
+    (sym e) (choice_other_stops c.args.context.now c.args.purpose c.args.literals.now.items c.operand_in.new.literals.items c.value_in.new.literals.items
+    c.args.place c.args.test.now c.args.one.now c.args.other.now (typed c.in_ok-test.test) (typed c.in_ok-test-2.test) (typed c.in_ok-one.one)
+    c.purpose_if-for_one.result c.purpose_if-for_other.result c.in_err-other.field-0.0 c.in_ok-test.ensures.reported c.in_ok-test-2.ensures
+    c.purpose_if-for_one.ensures c.purpose_if-for_other.ensures c.in_ok-test.ensures.texts c.in_ok-one.ensures.texts c.in_ok-one.ensures.reported
+    c.in_err-other.ensures.reported)
 
 pub select-returns-clause-reported : goal.select-returns-clause-reported
 select-returns-clause-reported t c =
-    choice_taken c.args.context.now c.args.purpose c.args.literals.now.items c.operand_in.new.literals.items c.value_in.new.literals.items c.args.place c.args.test.now c.args.one.now c.args.other.now (typed c.in_ok-test.test) (typed c.in_ok-test-2.test) (typed c.in_ok-one.one) (typed c.in_ok-other.other) c.purpose_if-for_one.result c.purpose_if-for_other.result c.chosen.result c.in_ok-test.ensures.reported c.in_ok-test-2.ensures c.purpose_if-for_one.ensures c.purpose_if-for_other.ensures c.in_ok-test.ensures.texts c.in_ok-one.ensures.texts c.in_ok-one.ensures.reported c.in_ok-other.ensures.reported c.chosen.ensures
+    choice_taken c.args.context.now c.args.purpose c.args.literals.now.items c.operand_in.new.literals.items c.value_in.new.literals.items c.args.place
+    c.args.test.now c.args.one.now c.args.other.now (typed c.in_ok-test.test) (typed c.in_ok-test-2.test) (typed c.in_ok-one.one)
+    (typed c.in_ok-other.other) c.purpose_if-for_one.result c.purpose_if-for_other.result c.chosen.result c.in_ok-test.ensures.reported
+    c.in_ok-test-2.ensures c.purpose_if-for_one.ensures c.purpose_if-for_other.ensures c.in_ok-test.ensures.texts c.in_ok-one.ensures.texts
+    c.in_ok-one.ensures.reported c.in_ok-other.ensures.reported c.chosen.ensures
 
 pub store-returns-in_err-object-clause-reported : goal.store-returns-in_err-object-clause-reported
 store-returns-in_err-object-clause-reported t c =
     let e : c.from_residual.result ≡ Err c.in_err-object.field-0.0 = search rules in
-    subst (Yields (store_formed c.args.context.now c.args.purpose c.args.literals.now.items c.args.place c.args.operator c.args.object.now c.args.value.now)) (sym e) (store_object_stops c.args.context.now c.args.purpose c.args.literals.now.items c.args.place c.args.operator c.args.object.now c.args.value.now c.in_err-object.field-0.0 c.in_err-object.ensures.reported)
+    subst (Yields (store_formed c.args.context.now c.args.purpose c.args.literals.now.items c.args.place c.args.operator c.args.object.now c.args.value.now))
+    (sym e) (store_object_stops c.args.context.now c.args.purpose c.args.literals.now.items c.args.place c.args.operator c.args.object.now c.args.value.now
+    c.in_err-object.field-0.0 c.in_err-object.ensures.reported)
 
 pub store-returns-in_err-object-2-clause-reported : goal.store-returns-in_err-object-2-clause-reported
 store-returns-in_err-object-2-clause-reported t c =
     let e : c.from_residual-in_err-object-2.result ≡ Err c.in_err-object-2.field-0.0 = search rules in
-    subst (Yields (store_formed c.args.context.now c.args.purpose c.args.literals.now.items c.args.place c.args.operator c.args.object.now c.args.value.now)) (sym e) (store_left_stops c.args.context.now c.args.purpose c.args.literals.now.items c.args.place c.args.operator c.args.object.now c.args.value.now (typed c.in_ok-object.object) c.in_err-object-2.field-0.0 c.in_ok-object.ensures.reported c.in_err-object-2.ensures)
+    subst (Yields (store_formed c.args.context.now c.args.purpose c.args.literals.now.items c.args.place c.args.operator c.args.object.now c.args.value.now))
+    (sym e) (store_left_stops c.args.context.now c.args.purpose c.args.literals.now.items c.args.place c.args.operator c.args.object.now c.args.value.now
+    (typed c.in_ok-object.object) c.in_err-object-2.field-0.0 c.in_ok-object.ensures.reported c.in_err-object-2.ensures)
 
 pub store-returns-in_err-value-clause-reported : goal.store-returns-in_err-value-clause-reported
 store-returns-in_err-value-clause-reported t c =
     let e : c.from_residual-in_err-value.result ≡ Err c.in_err-value.field-0.0 = search rules in
-    subst (Yields (store_formed c.args.context.now c.args.purpose c.args.literals.now.items c.args.place c.args.operator c.args.object.now c.args.value.now)) (sym e) (store_value_stops c.args.context.now c.args.purpose c.args.literals.now.items c.judged.new.literals.items c.args.place c.args.operator c.args.object.now c.args.value.now (typed c.in_ok-object.object) (typed c.in_ok-object-2.object) (shape_in c.right_target-target.result) c.in_err-value.field-0.0 c.in_ok-object.ensures.reported c.in_ok-object-2.ensures c.in_ok-object.ensures.texts c.right_target-target.ensures c.in_err-value.ensures.reported)
+    subst (Yields (store_formed c.args.context.now c.args.purpose c.args.literals.now.items c.args.place c.args.operator c.args.object.now c.args.value.now))
+    (sym e) (store_value_stops c.args.context.now c.args.purpose c.args.literals.now.items c.judged.new.literals.items c.args.place c.args.operator
+    c.args.object.now c.args.value.now (typed c.in_ok-object.object) (typed c.in_ok-object-2.object) (shape_in c.right_target-target.result)
+    c.in_err-value.field-0.0 c.in_ok-object.ensures.reported c.in_ok-object-2.ensures c.in_ok-object.ensures.texts c.right_target-target.ensures
+    c.in_err-value.ensures.reported)
 
 pub store-returns-clause-reported : goal.store-returns-clause-reported
 store-returns-clause-reported t c =
-    store_taken c.args.context.now c.args.purpose c.args.literals.now.items c.judged.new.literals.items c.args.place c.args.operator c.args.object.now c.args.value.now (typed c.in_ok-object.object) (typed c.in_ok-object-2.object) (typed c.in_ok-value.value) (shape_in c.right_target-target.result) c.stored.result c.in_ok-object.ensures.reported c.in_ok-object-2.ensures c.in_ok-object.ensures.texts c.right_target-target.ensures c.in_ok-value.ensures.reported c.stored.ensures
+    store_taken c.args.context.now c.args.purpose c.args.literals.now.items c.judged.new.literals.items c.args.place c.args.operator c.args.object.now
+    c.args.value.now (typed c.in_ok-object.object) (typed c.in_ok-object-2.object) (typed c.in_ok-value.value) (shape_in c.right_target-target.result)
+    c.stored.result c.in_ok-object.ensures.reported c.in_ok-object-2.ensures c.in_ok-object.ensures.texts c.right_target-target.ensures
+    c.in_ok-value.ensures.reported c.stored.ensures
 
 pub cast-returns-in_err-target-clause-reported : goal.cast-returns-in_err-target-clause-reported
 cast-returns-in_err-target-clause-reported t c =
     let e : c.from_residual.result ≡ Err c.in_err-target.field-0.0 = search rules in
-    subst (Yields (cast_formed c.args.context.now c.args.purpose c.args.literals.now.items c.args.place c.args.ty.now c.args.bounds c.args.operand.now)) (sym e) (cast_type_stops c.args.context.now c.args.purpose c.args.literals.now.items c.args.place c.args.ty.now c.args.bounds c.args.operand.now c.in_err-target.field-0.0 c.in_err-target.ensures)
+    subst (Yields (cast_formed c.args.context.now c.args.purpose c.args.literals.now.items c.args.place c.args.ty.now c.args.bounds c.args.operand.now)) (sym e)
+    (cast_type_stops c.args.context.now c.args.purpose c.args.literals.now.items c.args.place c.args.ty.now c.args.bounds c.args.operand.now
+    c.in_err-target.field-0.0 c.in_err-target.ensures)
 
 pub cast-returns-in_err-value-clause-reported : goal.cast-returns-in_err-value-clause-reported
 cast-returns-in_err-value-clause-reported t c =
     let e : c.from_residual-in_err-value.result ≡ Err c.in_err-value.field-0.0 = search rules in
-    subst (Yields (cast_formed c.args.context.now c.args.purpose c.args.literals.now.items c.args.place c.args.ty.now c.args.bounds c.args.operand.now)) (sym e) (cast_operand_stops c.args.context.now c.args.purpose c.args.literals.now.items c.args.place c.args.ty.now c.args.bounds c.args.operand.now (shape_of c.in_ok-target.target) c.in_err-value.field-0.0 c.in_ok-target.ensures c.in_err-value.ensures.reported)
+    subst (Yields (cast_formed c.args.context.now c.args.purpose c.args.literals.now.items c.args.place c.args.ty.now c.args.bounds c.args.operand.now)) (sym e)
+    (cast_operand_stops c.args.context.now c.args.purpose c.args.literals.now.items c.args.place c.args.ty.now c.args.bounds c.args.operand.now
+    (shape_of c.in_ok-target.target) c.in_err-value.field-0.0 c.in_ok-target.ensures c.in_err-value.ensures.reported)
 
 pub cast-returns-clause-reported : goal.cast-returns-clause-reported
 cast-returns-clause-reported t c =
-    cast_taken c.args.context.now c.args.purpose c.args.literals.now.items c.args.place c.args.ty.now c.args.bounds c.args.operand.now (shape_of c.in_ok-target.target) (typed c.in_ok-value.value) c.cast_to.result c.in_ok-target.ensures c.in_ok-value.ensures.reported c.cast_to.ensures
+    cast_taken c.args.context.now c.args.purpose c.args.literals.now.items c.args.place c.args.ty.now c.args.bounds c.args.operand.now
+    (shape_of c.in_ok-target.target) (typed c.in_ok-value.value) c.cast_to.result c.in_ok-target.ensures c.in_ok-value.ensures.reported c.cast_to.ensures
 
 pub step-returns-in_err-object-clause-reported : goal.step-returns-in_err-object-clause-reported
 step-returns-in_err-object-clause-reported t c =
     let e : c.from_residual.result ≡ Err c.in_err-object.field-0.0 = search rules in
-    subst (Yields (lift (stepped_object c.args.context.now (step_operator c.args.step) c.args.gives c.args.place) (lift (updatable c.args.context.now.table.list (step_operator c.args.step) c.args.place) (done c.args.context.now c.args.purpose (formed c.args.context.now c.args.purpose c.args.literals.now.items None c.args.object.now.place c.args.object.now.kind.value))))) (sym e) (step_object_stops c.args.context.now c.args.place (step_operator c.args.step) c.args.gives (done c.args.context.now c.args.purpose (formed c.args.context.now c.args.purpose c.args.literals.now.items None c.args.object.now.place c.args.object.now.kind.value)) c.in_err-object.field-0.0 c.in_err-object.ensures.reported)
+    subst (Yields (lift (stepped_object c.args.context.now (step_operator c.args.step) c.args.gives c.args.place)
+    (lift (updatable c.args.context.now.table.list (step_operator c.args.step) c.args.place)
+    (done c.args.context.now c.args.purpose
+    (formed c.args.context.now c.args.purpose c.args.literals.now.items None c.args.object.now.place c.args.object.now.kind.value))))) (sym e)
+    (step_object_stops c.args.context.now c.args.place (step_operator c.args.step) c.args.gives
+    (done c.args.context.now c.args.purpose
+    (formed c.args.context.now c.args.purpose c.args.literals.now.items None c.args.object.now.place c.args.object.now.kind.value))
+    c.in_err-object.field-0.0 c.in_err-object.ensures.reported)
 
 pub step-returns-in_err-object-2-clause-reported : goal.step-returns-in_err-object-2-clause-reported
 step-returns-in_err-object-2-clause-reported t c =
     let e : c.from_residual-in_err-object-2.result ≡ Err c.in_err-object-2.field-0.0 = search rules in
-    subst (Yields (lift (stepped_object c.args.context.now (step_operator c.args.step) c.args.gives c.args.place) (lift (updatable c.args.context.now.table.list (step_operator c.args.step) c.args.place) (done c.args.context.now c.args.purpose (formed c.args.context.now c.args.purpose c.args.literals.now.items None c.args.object.now.place c.args.object.now.kind.value))))) (sym e) (step_updatable_stops c.args.context.now c.args.place (step_operator c.args.step) c.step_operator-operator.result c.args.gives (done c.args.context.now c.args.purpose (formed c.args.context.now c.args.purpose c.args.literals.now.items None c.args.object.now.place c.args.object.now.kind.value)) (typed c.in_ok-object.object) c.in_err-object-2.field-0.0 c.step_operator-operator.ensures c.in_ok-object.ensures.reported c.in_err-object-2.ensures)
+    subst (Yields (lift (stepped_object c.args.context.now (step_operator c.args.step) c.args.gives c.args.place)
+    (lift (updatable c.args.context.now.table.list (step_operator c.args.step) c.args.place)
+    (done c.args.context.now c.args.purpose
+    (formed c.args.context.now c.args.purpose c.args.literals.now.items None c.args.object.now.place c.args.object.now.kind.value))))) (sym e)
+    (step_updatable_stops c.args.context.now c.args.place (step_operator c.args.step) c.step_operator-operator.result c.args.gives
+    (done c.args.context.now c.args.purpose
+    (formed c.args.context.now c.args.purpose c.args.literals.now.items None c.args.object.now.place c.args.object.now.kind.value))
+    (typed c.in_ok-object.object) c.in_err-object-2.field-0.0 c.step_operator-operator.ensures c.in_ok-object.ensures.reported c.in_err-object-2.ensures)
 
 pub step-returns-clause-reported : goal.step-returns-clause-reported
 step-returns-clause-reported t c =
-    step_taken c.args.context.now c.args.place (step_operator c.args.step) c.step_operator-operator.result c.args.gives (done c.args.context.now c.args.purpose (formed c.args.context.now c.args.purpose c.args.literals.now.items None c.args.object.now.place c.args.object.now.kind.value)) (typed c.in_ok-object.object) (typed c.in_ok-object-2.object) c.stepped.result c.step_operator-operator.ensures c.in_ok-object.ensures.reported c.in_ok-object-2.ensures c.stepped.ensures
+    step_taken c.args.context.now c.args.place (step_operator c.args.step) c.step_operator-operator.result c.args.gives
+    (done c.args.context.now c.args.purpose
+    (formed c.args.context.now c.args.purpose c.args.literals.now.items None c.args.object.now.place c.args.object.now.kind.value))
+    (typed c.in_ok-object.object) (typed c.in_ok-object-2.object) c.stepped.result c.step_operator-operator.ensures c.in_ok-object.ensures.reported
+    c.in_ok-object-2.ensures c.stepped.ensures
 
 pub size_of_type-returns-in_err-base-clause-reported : goal.size_of_type-returns-in_err-base-clause-reported
 size_of_type-returns-in_err-base-clause-reported t c =
     let e : c.from_residual.result ≡ Err c.in_err-base.field-0.0 = search rules in
-    subst (Yields (lift2 (measured_arrays c.args.context.now c.args.place) (lift (complete_at c.args.context.now.table.list c.args.place) (base_in c.args.context.now c.args.place c.args.ty.now)) (numbers_listed c.args.context.now c.args.literals.now.items c.args.bounds.now))) (sym e) (size_base_stops c.args.context.now c.args.place (base_in c.args.context.now c.args.place c.args.ty.now) (numbers_listed c.args.context.now c.args.literals.now.items c.args.bounds.now) c.in_err-base.field-0.0 c.in_err-base.ensures)
+    subst (Yields (lift2 (measured_arrays c.args.context.now c.args.place)
+    (lift (complete_at c.args.context.now.table.list c.args.place) (base_in c.args.context.now c.args.place c.args.ty.now))
+    (numbers_listed c.args.context.now c.args.literals.now.items c.args.bounds.now))) (sym e)
+    (size_base_stops c.args.context.now c.args.place (base_in c.args.context.now c.args.place c.args.ty.now)
+    (numbers_listed c.args.context.now c.args.literals.now.items c.args.bounds.now) c.in_err-base.field-0.0 c.in_err-base.ensures)
 
 pub size_of_type-returns-in_err-base-2-clause-reported : goal.size_of_type-returns-in_err-base-2-clause-reported
 size_of_type-returns-in_err-base-2-clause-reported t c =
     let e : c.from_residual-in_err-base-2.result ≡ Err c.in_err-base-2.field-0.0 = search rules in
-    subst (Yields (lift2 (measured_arrays c.args.context.now c.args.place) (lift (complete_at c.args.context.now.table.list c.args.place) (base_in c.args.context.now c.args.place c.args.ty.now)) (numbers_listed c.args.context.now c.args.literals.now.items c.args.bounds.now))) (sym e) (size_complete_stops c.args.context.now c.args.place (base_in c.args.context.now c.args.place c.args.ty.now) (numbers_listed c.args.context.now c.args.literals.now.items c.args.bounds.now) (shape_of c.in_ok-base.base) c.in_err-base-2.field-0.0 c.in_ok-base.ensures c.in_err-base-2.ensures)
+    subst (Yields (lift2 (measured_arrays c.args.context.now c.args.place)
+    (lift (complete_at c.args.context.now.table.list c.args.place) (base_in c.args.context.now c.args.place c.args.ty.now))
+    (numbers_listed c.args.context.now c.args.literals.now.items c.args.bounds.now))) (sym e)
+    (size_complete_stops c.args.context.now c.args.place (base_in c.args.context.now c.args.place c.args.ty.now)
+    (numbers_listed c.args.context.now c.args.literals.now.items c.args.bounds.now) (shape_of c.in_ok-base.base) c.in_err-base-2.field-0.0
+    c.in_ok-base.ensures c.in_err-base-2.ensures)
 
 pub size_of_type-returns-in_err-numbers-clause-reported : goal.size_of_type-returns-in_err-numbers-clause-reported
 size_of_type-returns-in_err-numbers-clause-reported t c =
     let e : c.from_residual-in_err-numbers.result ≡ Err c.in_err-numbers.field-0.0 = search rules in
-    subst (Yields (lift2 (measured_arrays c.args.context.now c.args.place) (lift (complete_at c.args.context.now.table.list c.args.place) (base_in c.args.context.now c.args.place c.args.ty.now)) (numbers_listed c.args.context.now c.args.literals.now.items c.args.bounds.now))) (sym e) (size_numbers_stop c.args.context.now c.args.place (base_in c.args.context.now c.args.place c.args.ty.now) (numbers_listed c.args.context.now c.args.literals.now.items c.args.bounds.now) (shape_of c.in_ok-base.base) (shape_of c.in_ok-base-2.base) c.in_err-numbers.field-0.0 c.in_ok-base.ensures c.in_ok-base-2.ensures c.in_err-numbers.ensures.reported)
+    subst (Yields (lift2 (measured_arrays c.args.context.now c.args.place)
+    (lift (complete_at c.args.context.now.table.list c.args.place) (base_in c.args.context.now c.args.place c.args.ty.now))
+    (numbers_listed c.args.context.now c.args.literals.now.items c.args.bounds.now))) (sym e)
+    (size_numbers_stop c.args.context.now c.args.place (base_in c.args.context.now c.args.place c.args.ty.now)
+    (numbers_listed c.args.context.now c.args.literals.now.items c.args.bounds.now) (shape_of c.in_ok-base.base) (shape_of c.in_ok-base-2.base)
+    c.in_err-numbers.field-0.0 c.in_ok-base.ensures c.in_ok-base-2.ensures c.in_err-numbers.ensures.reported)
 
 pub size_of_type-returns-clause-reported : goal.size_of_type-returns-clause-reported
 size_of_type-returns-clause-reported t c =
-    size_taken c.args.context.now c.args.place (base_in c.args.context.now c.args.place c.args.ty.now) (numbers_listed c.args.context.now c.args.literals.now.items c.args.bounds.now) (shape_of c.in_ok-base.base) (shape_of c.in_ok-base-2.base) c.in_ok-numbers.numbers.items c.measured_arrays.result c.in_ok-base.ensures c.in_ok-base-2.ensures c.in_ok-numbers.ensures.reported (subst (λ ns. Yields (measured_arrays c.args.context.now c.args.place (shape_of c.in_ok-base-2.base) ns) c.measured_arrays.result) c.deref.ensures.value c.measured_arrays.ensures)
+    size_taken c.args.context.now c.args.place (base_in c.args.context.now c.args.place c.args.ty.now)
+    (numbers_listed c.args.context.now c.args.literals.now.items c.args.bounds.now) (shape_of c.in_ok-base.base) (shape_of c.in_ok-base-2.base)
+    c.in_ok-numbers.numbers.items c.measured_arrays.result c.in_ok-base.ensures c.in_ok-base-2.ensures c.in_ok-numbers.ensures.reported
+    (subst (λ ns. Yields (measured_arrays c.args.context.now c.args.place (shape_of c.in_ok-base-2.base) ns) c.measured_arrays.result)
+    c.deref.ensures.value c.measured_arrays.ensures)
 
 pub call-returns-in_err-operand_in-clause-reported : goal.call-returns-in_err-operand_in-clause-reported
 call-returns-in_err-operand_in-clause-reported t c =
     let e : c.from_residual.result ≡ Err c.in_err-operand_in.field-0.0 = search rules in
-    subst (Yields (call_formed c.args.context.now c.args.purpose c.args.literals.now.items (shape_in c.args.target) c.args.place c.args.function.now c.args.arguments.now)) (sym e) (call_other_stops c.args.context.now c.args.purpose c.args.literals.now.items (shape_in c.args.target) c.args.place c.args.function.now c.args.arguments.now c.in_err-operand_in.field-0.0 (sym c.called.ensures ∙ ap (λ r. option_map signature_of (option_copied r)) c.in_default.is) c.in_err-operand_in.ensures.reported)
+    subst (Yields (call_formed c.args.context.now c.args.purpose c.args.literals.now.items (shape_in c.args.target) c.args.place c.args.function.now
+    c.args.arguments.now)) (sym e)
+    (call_other_stops c.args.context.now c.args.purpose c.args.literals.now.items (shape_in c.args.target) c.args.place c.args.function.now
+    c.args.arguments.now c.in_err-operand_in.field-0.0 (sym c.called.ensures ∙ ap (λ r. option_map signature_of (option_copied r)) c.in_default.is)
+    c.in_err-operand_in.ensures.reported)
 
 pub call-returns-in_default-clause-reported : goal.call-returns-in_default-clause-reported
 call-returns-in_default-clause-reported t c =
-    call_other c.args.context.now c.args.purpose c.args.literals.now.items (shape_in c.args.target) c.args.place c.args.function.now c.args.arguments.now (typed c.in_ok-operand_in.field-0) (sym c.called.ensures ∙ ap (λ r. option_map signature_of (option_copied r)) c.in_default.is) c.in_ok-operand_in.ensures.reported
+    call_other c.args.context.now c.args.purpose c.args.literals.now.items (shape_in c.args.target) c.args.place c.args.function.now c.args.arguments.now
+    (typed c.in_ok-operand_in.field-0) (sym c.called.ensures ∙ ap (λ r. option_map signature_of (option_copied r)) c.in_default.is)
+    c.in_ok-operand_in.ensures.reported
 
 pub call-returns-in_err-admitted-clause-reported : goal.call-returns-in_err-admitted-clause-reported
 call-returns-in_err-admitted-clause-reported t c =
     let e : c.from_residual-in_err-admitted.result ≡ Err c.in_err-admitted.field-0.0 = search rules in
-    subst (Yields (call_formed c.args.context.now c.args.purpose c.args.literals.now.items (shape_in c.args.target) c.args.place c.args.function.now c.args.arguments.now)) (sym e) (call_admitted_stops c.args.context.now c.args.purpose c.args.literals.now.items (shape_in c.args.target) c.args.place c.args.function.now c.args.arguments.now (signature_of c.in-Some.called.now) c.in_err-admitted.field-0.0 (sym c.called.ensures ∙ ap (λ r. option_map signature_of (option_copied r)) c.in-Some.is) c.in_err-admitted.ensures)
+    subst (Yields (call_formed c.args.context.now c.args.purpose c.args.literals.now.items (shape_in c.args.target) c.args.place c.args.function.now
+    c.args.arguments.now)) (sym e)
+    (call_admitted_stops c.args.context.now c.args.purpose c.args.literals.now.items (shape_in c.args.target) c.args.place c.args.function.now
+    c.args.arguments.now (signature_of c.in-Some.called.now) c.in_err-admitted.field-0.0 (sym c.called.ensures
+    ∙ ap (λ r. option_map signature_of (option_copied r)) c.in-Some.is) c.in_err-admitted.ensures)
 
 pub call-returns-in_err-values-clause-reported : goal.call-returns-in_err-values-clause-reported
 call-returns-in_err-values-clause-reported t c =
     let e : c.from_residual-in_err-values.result ≡ Err c.in_err-values.field-0.0 = search rules in
-    subst (Yields (call_formed c.args.context.now c.args.purpose c.args.literals.now.items (shape_in c.args.target) c.args.place c.args.function.now c.args.arguments.now)) (sym e) (call_arguments_stop c.args.context.now c.args.purpose c.args.literals.now.items (shape_in c.args.target) c.args.place c.args.function.now c.args.arguments.now (signature_of c.in-Some.called.now) c.in_err-values.field-0.0 (sym c.called.ensures ∙ ap (λ r. option_map signature_of (option_copied r)) c.in-Some.is) c.in_ok-admitted.ensures c.in_err-values.ensures.reported)
+    subst (Yields (call_formed c.args.context.now c.args.purpose c.args.literals.now.items (shape_in c.args.target) c.args.place c.args.function.now
+    c.args.arguments.now)) (sym e)
+    (call_arguments_stop c.args.context.now c.args.purpose c.args.literals.now.items (shape_in c.args.target) c.args.place c.args.function.now
+    c.args.arguments.now (signature_of c.in-Some.called.now) c.in_err-values.field-0.0 (sym c.called.ensures
+    ∙ ap (λ r. option_map signature_of (option_copied r)) c.in-Some.is) c.in_ok-admitted.ensures c.in_err-values.ensures.reported)
 
 pub call-returns-clause-reported : goal.call-returns-clause-reported
 call-returns-clause-reported t c =
-    call_taken c.args.context.now c.args.purpose c.args.literals.now.items (shape_in c.args.target) c.args.place c.args.function.now c.args.arguments.now (signature_of c.in-Some.called.now) (typed_list c.in_ok-values.values.items) c.call_with.result (sym c.called.ensures ∙ ap (λ r. option_map signature_of (option_copied r)) c.in-Some.is) c.in_ok-admitted.ensures c.in_ok-values.ensures.reported c.call_with.ensures
+    call_taken c.args.context.now c.args.purpose c.args.literals.now.items (shape_in c.args.target) c.args.place c.args.function.now c.args.arguments.now
+    (signature_of c.in-Some.called.now) (typed_list c.in_ok-values.values.items) c.call_with.result (sym c.called.ensures
+    ∙ ap (λ r. option_map signature_of (option_copied r)) c.in-Some.is) c.in_ok-admitted.ensures c.in_ok-values.ensures.reported c.call_with.ensures
 
 pub formed-returns-in-Infix-clause-reported : goal.formed-returns-in-Infix-clause-reported
 formed-returns-in-Infix-clause-reported t c =
-    subst (λ k. Yields (formed c.args.context.now c.args.purpose c.args.literals.now.items (shape_in c.args.target) c.args.tree.now.place k) c.infix.result) (sym c.in-Infix.is ∙ c.deref.ensures) c.infix.ensures.reported
+    subst (λ k. Yields (formed c.args.context.now c.args.purpose c.args.literals.now.items (shape_in c.args.target) c.args.tree.now.place k) c.infix.result)
+    (sym c.in-Infix.is ∙ c.deref.ensures) c.infix.ensures.reported
 
 pub formed-returns-in-Choice-clause-reported : goal.formed-returns-in-Choice-clause-reported
 formed-returns-in-Choice-clause-reported t c =
-    subst (λ k. Yields (formed c.args.context.now c.args.purpose c.args.literals.now.items (shape_in c.args.target) c.args.tree.now.place k) c.select.result) (sym c.in-Choice.is ∙ c.deref.ensures) c.select.ensures.reported
+    subst (λ k. Yields (formed c.args.context.now c.args.purpose c.args.literals.now.items (shape_in c.args.target) c.args.tree.now.place k) c.select.result)
+    (sym c.in-Choice.is ∙ c.deref.ensures) c.select.ensures.reported
 
 pub formed-returns-in-Assign-clause-reported : goal.formed-returns-in-Assign-clause-reported
 formed-returns-in-Assign-clause-reported t c =
-    subst (λ k. Yields (formed c.args.context.now c.args.purpose c.args.literals.now.items (shape_in c.args.target) c.args.tree.now.place k) c.store.result) (sym c.in-Assign.is ∙ c.deref.ensures) c.store.ensures.reported
+    subst (λ k. Yields (formed c.args.context.now c.args.purpose c.args.literals.now.items (shape_in c.args.target) c.args.tree.now.place k) c.store.result)
+    (sym c.in-Assign.is ∙ c.deref.ensures) c.store.ensures.reported
 
 pub formed-returns-in-StepAfter-clause-reported : goal.formed-returns-in-StepAfter-clause-reported
 formed-returns-in-StepAfter-clause-reported t c =
-    subst (λ k. Yields (formed c.args.context.now c.args.purpose c.args.literals.now.items (shape_in c.args.target) c.args.tree.now.place k) c.step.result) (sym c.in-StepAfter.is ∙ c.deref.ensures) c.step.ensures.reported
+    subst (λ k. Yields (formed c.args.context.now c.args.purpose c.args.literals.now.items (shape_in c.args.target) c.args.tree.now.place k) c.step.result)
+    (sym c.in-StepAfter.is ∙ c.deref.ensures) c.step.ensures.reported
 
 pub formed-returns-in-StepBefore-clause-reported : goal.formed-returns-in-StepBefore-clause-reported
 formed-returns-in-StepBefore-clause-reported t c =
-    subst (λ k. Yields (formed c.args.context.now c.args.purpose c.args.literals.now.items (shape_in c.args.target) c.args.tree.now.place k) c.step-in-StepBefore.result) (sym c.in-StepBefore.is ∙ c.deref.ensures) c.step-in-StepBefore.ensures.reported
+    subst (λ k.
+    Yields (formed c.args.context.now c.args.purpose c.args.literals.now.items (shape_in c.args.target) c.args.tree.now.place k)
+    c.step-in-StepBefore.result) (sym c.in-StepBefore.is ∙ c.deref.ensures) c.step-in-StepBefore.ensures.reported
 
 pub formed-returns-in-Parenthesis-clause-reported : goal.formed-returns-in-Parenthesis-clause-reported
 formed-returns-in-Parenthesis-clause-reported t c =
-    subst (λ k. Yields (formed c.args.context.now c.args.purpose c.args.literals.now.items (shape_in c.args.target) c.args.tree.now.place k) c.judged.result) (sym c.in-Parenthesis.is ∙ c.deref.ensures) c.judged.ensures.reported
+    subst (λ k. Yields (formed c.args.context.now c.args.purpose c.args.literals.now.items (shape_in c.args.target) c.args.tree.now.place k) c.judged.result)
+    (sym c.in-Parenthesis.is ∙ c.deref.ensures) c.judged.ensures.reported
 
 pub formed-returns-in-Call-clause-reported : goal.formed-returns-in-Call-clause-reported
 formed-returns-in-Call-clause-reported t c =
-    subst (λ k. Yields (formed c.args.context.now c.args.purpose c.args.literals.now.items (shape_in c.args.target) c.args.tree.now.place k) c.call.result) (sym c.in-Call.is ∙ c.deref.ensures) (yields_as c.call.result (formed-Call c.args.context.now c.args.purpose c.args.literals.now.items (shape_in c.args.target) c.args.tree.now.place c.in-Call.function c.in-Call.arguments) (subst (λ x. Yields (call_formed c.args.context.now c.args.purpose c.args.literals.now.items (shape_in c.args.target) c.args.tree.now.place c.in-Call.function x) c.call.result) c.deref-in-Call.ensures.value c.call.ensures.reported))
+    subst (λ k. Yields (formed c.args.context.now c.args.purpose c.args.literals.now.items (shape_in c.args.target) c.args.tree.now.place k) c.call.result)
+    (sym c.in-Call.is ∙ c.deref.ensures)
+    (yields_as c.call.result (formed-Call c.args.context.now c.args.purpose c.args.literals.now.items (shape_in c.args.target) c.args.tree.now.place
+    c.in-Call.function c.in-Call.arguments)
+    (subst (λ x.
+    Yields (call_formed c.args.context.now c.args.purpose c.args.literals.now.items (shape_in c.args.target) c.args.tree.now.place c.in-Call.function x)
+    c.call.result) c.deref-in-Call.ensures.value c.call.ensures.reported))
 
 pub formed-returns-in-Cast-clause-reported : goal.formed-returns-in-Cast-clause-reported
 formed-returns-in-Cast-clause-reported t c =
     let count : c.len-count.result ≡ length c.in-Cast.bounds.items = omega (arith, c.len-count.ensures, c.in-Cast.bounds.ok.0) in
-    subst (λ k. Yields (formed c.args.context.now c.args.purpose c.args.literals.now.items (shape_in c.args.target) c.args.tree.now.place k) c.cast.result) (sym c.in-Cast.is ∙ c.deref.ensures) (yields_as c.cast.result (formed-Cast c.args.context.now c.args.purpose c.args.literals.now.items (shape_in c.args.target) c.args.tree.now.place c.in-Cast.ty c.in-Cast.bounds c.in-Cast.operand) ((subst (λ x. Yields (cast_formed c.args.context.now c.args.purpose c.args.literals.now.items c.args.tree.now.place c.in-Cast.ty x c.in-Cast.operand) c.cast.result) count c.cast.ensures.reported)))
+    subst (λ k. Yields (formed c.args.context.now c.args.purpose c.args.literals.now.items (shape_in c.args.target) c.args.tree.now.place k) c.cast.result)
+    (sym c.in-Cast.is ∙ c.deref.ensures)
+    (yields_as c.cast.result (formed-Cast c.args.context.now c.args.purpose c.args.literals.now.items (shape_in c.args.target) c.args.tree.now.place
+    c.in-Cast.ty c.in-Cast.bounds c.in-Cast.operand)
+    ((subst (λ x.
+    Yields (cast_formed c.args.context.now c.args.purpose c.args.literals.now.items c.args.tree.now.place c.in-Cast.ty x c.in-Cast.operand) c.cast.result)
+    count c.cast.ensures.reported)))
 
 pub formed-returns-in-SizeOfType-clause-reported : goal.formed-returns-in-SizeOfType-clause-reported
 formed-returns-in-SizeOfType-clause-reported t c =
-    subst (λ k. Yields (formed c.args.context.now c.args.purpose c.args.literals.now.items (shape_in c.args.target) c.args.tree.now.place k) c.size_of_type.result) (sym c.in-SizeOfType.is ∙ c.deref.ensures) (yields_as c.size_of_type.result (formed-SizeOfType c.args.context.now c.args.purpose c.args.literals.now.items (shape_in c.args.target) c.args.tree.now.place c.in-SizeOfType.ty c.in-SizeOfType.bounds) (subst (λ x. Yields (lift2 (measured_arrays c.args.context.now c.args.tree.now.place) (lift (complete_at c.args.context.now.table.list c.args.tree.now.place) (base_in c.args.context.now c.args.tree.now.place c.in-SizeOfType.ty)) (numbers_listed c.args.context.now c.args.literals.now.items x)) c.size_of_type.result) c.deref-in-SizeOfType.ensures.value c.size_of_type.ensures.reported))
+    subst (λ k.
+    Yields (formed c.args.context.now c.args.purpose c.args.literals.now.items (shape_in c.args.target) c.args.tree.now.place k) c.size_of_type.result)
+    (sym c.in-SizeOfType.is ∙ c.deref.ensures)
+    (yields_as c.size_of_type.result
+    (formed-SizeOfType c.args.context.now c.args.purpose c.args.literals.now.items (shape_in c.args.target) c.args.tree.now.place c.in-SizeOfType.ty
+    c.in-SizeOfType.bounds) (subst (λ x.
+    Yields (lift2 (measured_arrays c.args.context.now c.args.tree.now.place)
+    (lift (complete_at c.args.context.now.table.list c.args.tree.now.place) (base_in c.args.context.now c.args.tree.now.place c.in-SizeOfType.ty))
+    (numbers_listed c.args.context.now c.args.literals.now.items x)) c.size_of_type.result) c.deref-in-SizeOfType.ensures.value
+    c.size_of_type.ensures.reported))
 
 pub formed-returns-in_err-object-in-Member-clause-reported : goal.formed-returns-in_err-object-in-Member-clause-reported
 formed-returns-in_err-object-in-Member-clause-reported t c =
     let e : c.from_residual-in_err-object-in-Member.result ≡ Err c.in_err-object-in-Member.field-0.0 = search rules in
-    subst (λ k. Yields (formed c.args.context.now c.args.purpose c.args.literals.now.items (shape_in c.args.target) c.args.tree.now.place k) c.from_residual-in_err-object-in-Member.result) (sym c.in-Member.is ∙ c.deref.ensures) (subst (Yields (formed c.args.context.now c.args.purpose c.args.literals.now.items (shape_in c.args.target) c.args.tree.now.place (kind.Member c.in-Member.object c.in-Member.name))) (sym e) (lift-refused (selected c.args.context.now.table.list c.args.tree.now.place c.in-Member.name.place c.in-Member.name.name) _ c.in_err-object-in-Member.field-0.0 c.in_err-object-in-Member.ensures.reported))
+    subst (λ k.
+    Yields (formed c.args.context.now c.args.purpose c.args.literals.now.items (shape_in c.args.target) c.args.tree.now.place k)
+    c.from_residual-in_err-object-in-Member.result) (sym c.in-Member.is ∙ c.deref.ensures)
+    (subst
+    (Yields (formed c.args.context.now c.args.purpose c.args.literals.now.items (shape_in c.args.target) c.args.tree.now.place
+    (kind.Member c.in-Member.object c.in-Member.name))) (sym e)
+    (lift-refused (selected c.args.context.now.table.list c.args.tree.now.place c.in-Member.name.place c.in-Member.name.name) _
+    c.in_err-object-in-Member.field-0.0 c.in_err-object-in-Member.ensures.reported))
 
 pub formed-returns-in_ok-object-in-Member-clause-reported : goal.formed-returns-in_ok-object-in-Member-clause-reported
 formed-returns-in_ok-object-in-Member-clause-reported t c =
-    subst (λ k. Yields (formed c.args.context.now c.args.purpose c.args.literals.now.items (shape_in c.args.target) c.args.tree.now.place k) c.selected.result) (sym c.in-Member.is ∙ c.deref.ensures) (part_taken (selected c.args.context.now.table.list c.args.tree.now.place c.in-Member.name.place c.in-Member.name.name) _ (typed c.in_ok-object-in-Member.object) c.selected.result c.in_ok-object-in-Member.ensures.reported c.selected.ensures)
+    subst (λ k. Yields (formed c.args.context.now c.args.purpose c.args.literals.now.items (shape_in c.args.target) c.args.tree.now.place k) c.selected.result)
+    (sym c.in-Member.is ∙ c.deref.ensures)
+    (part_taken (selected c.args.context.now.table.list c.args.tree.now.place c.in-Member.name.place c.in-Member.name.name) _
+    (typed c.in_ok-object-in-Member.object) c.selected.result c.in_ok-object-in-Member.ensures.reported c.selected.ensures)
 
 pub formed-returns-in_err-value-in-Arrow-clause-reported : goal.formed-returns-in_err-value-in-Arrow-clause-reported
 formed-returns-in_err-value-in-Arrow-clause-reported t c =
     let e : c.from_residual-in_err-value-in-Arrow.result ≡ Err c.in_err-value-in-Arrow.field-0.0 = search rules in
-    subst (λ k. Yields (formed c.args.context.now c.args.purpose c.args.literals.now.items (shape_in c.args.target) c.args.tree.now.place k) c.from_residual-in_err-value-in-Arrow.result) (sym c.in-Arrow.is ∙ c.deref.ensures) (subst (Yields (formed c.args.context.now c.args.purpose c.args.literals.now.items (shape_in c.args.target) c.args.tree.now.place (kind.Arrow c.in-Arrow.value c.in-Arrow.name))) (sym e) (lift-refused (arrow_on c.args.context.now c.args.tree.now.place c.in-Arrow.name.place c.in-Arrow.name.name) _ c.in_err-value-in-Arrow.field-0.0 c.in_err-value-in-Arrow.ensures.reported))
+    subst (λ k.
+    Yields (formed c.args.context.now c.args.purpose c.args.literals.now.items (shape_in c.args.target) c.args.tree.now.place k)
+    c.from_residual-in_err-value-in-Arrow.result) (sym c.in-Arrow.is ∙ c.deref.ensures)
+    (subst
+    (Yields (formed c.args.context.now c.args.purpose c.args.literals.now.items (shape_in c.args.target) c.args.tree.now.place
+    (kind.Arrow c.in-Arrow.value c.in-Arrow.name))) (sym e)
+    (lift-refused (arrow_on c.args.context.now c.args.tree.now.place c.in-Arrow.name.place c.in-Arrow.name.name) _ c.in_err-value-in-Arrow.field-0.0
+    c.in_err-value-in-Arrow.ensures.reported))
 
 pub formed-returns-in_ok-value-in-Arrow-clause-reported : goal.formed-returns-in_ok-value-in-Arrow-clause-reported
 formed-returns-in_ok-value-in-Arrow-clause-reported t c =
-    subst (λ k. Yields (formed c.args.context.now c.args.purpose c.args.literals.now.items (shape_in c.args.target) c.args.tree.now.place k) c.selected_through.result) (sym c.in-Arrow.is ∙ c.deref.ensures) (part_taken (arrow_on c.args.context.now c.args.tree.now.place c.in-Arrow.name.place c.in-Arrow.name.name) _ (typed c.in_ok-value-in-Arrow.value) c.selected_through.result c.in_ok-value-in-Arrow.ensures.reported c.selected_through.ensures)
+    subst (λ k.
+    Yields (formed c.args.context.now c.args.purpose c.args.literals.now.items (shape_in c.args.target) c.args.tree.now.place k) c.selected_through.result)
+    (sym c.in-Arrow.is ∙ c.deref.ensures)
+    (part_taken (arrow_on c.args.context.now c.args.tree.now.place c.in-Arrow.name.place c.in-Arrow.name.name) _ (typed c.in_ok-value-in-Arrow.value)
+    c.selected_through.result c.in_ok-value-in-Arrow.ensures.reported c.selected_through.ensures)
 
 pub formed-returns-in_err-operand-in-Prefix-clause-reported : goal.formed-returns-in_err-operand-in-Prefix-clause-reported
 formed-returns-in_err-operand-in-Prefix-clause-reported t c =
     let e : c.from_residual-in_err-operand-in-Prefix.result ≡ Err c.in_err-operand-in-Prefix.field-0.0 = search rules in
-    subst (λ k. Yields (formed c.args.context.now c.args.purpose c.args.literals.now.items (shape_in c.args.target) c.args.tree.now.place k) c.from_residual-in_err-operand-in-Prefix.result) (sym c.in-Prefix.is ∙ c.deref.ensures) (subst (Yields (formed c.args.context.now c.args.purpose c.args.literals.now.items (shape_in c.args.target) c.args.tree.now.place (kind.Prefix c.in-Prefix.operator c.in-Prefix.operand))) (sym e) (lift-refused (prefixed c.args.context.now c.in-Prefix.operator c.args.tree.now.place) _ c.in_err-operand-in-Prefix.field-0.0 c.in_err-operand-in-Prefix.ensures.reported))
+    subst (λ k.
+    Yields (formed c.args.context.now c.args.purpose c.args.literals.now.items (shape_in c.args.target) c.args.tree.now.place k)
+    c.from_residual-in_err-operand-in-Prefix.result) (sym c.in-Prefix.is ∙ c.deref.ensures)
+    (subst
+    (Yields (formed c.args.context.now c.args.purpose c.args.literals.now.items (shape_in c.args.target) c.args.tree.now.place
+    (kind.Prefix c.in-Prefix.operator c.in-Prefix.operand))) (sym e)
+    (lift-refused (prefixed c.args.context.now c.in-Prefix.operator c.args.tree.now.place) _ c.in_err-operand-in-Prefix.field-0.0
+    c.in_err-operand-in-Prefix.ensures.reported))
 
 pub formed-returns-in_ok-operand-in-Prefix-clause-reported : goal.formed-returns-in_ok-operand-in-Prefix-clause-reported
 formed-returns-in_ok-operand-in-Prefix-clause-reported t c =
-    subst (λ k. Yields (formed c.args.context.now c.args.purpose c.args.literals.now.items (shape_in c.args.target) c.args.tree.now.place k) c.prefixed.result) (sym c.in-Prefix.is ∙ c.deref.ensures) (part_taken (prefixed c.args.context.now c.in-Prefix.operator c.args.tree.now.place) _ (typed c.in_ok-operand-in-Prefix.operand) c.prefixed.result c.in_ok-operand-in-Prefix.ensures.reported c.prefixed.ensures)
+    subst (λ k. Yields (formed c.args.context.now c.args.purpose c.args.literals.now.items (shape_in c.args.target) c.args.tree.now.place k) c.prefixed.result)
+    (sym c.in-Prefix.is ∙ c.deref.ensures)
+    (part_taken (prefixed c.args.context.now c.in-Prefix.operator c.args.tree.now.place) _ (typed c.in_ok-operand-in-Prefix.operand) c.prefixed.result
+    c.in_ok-operand-in-Prefix.ensures.reported c.prefixed.ensures)
 
 pub formed-returns-in_err-operand-in-SizeOf-clause-reported : goal.formed-returns-in_err-operand-in-SizeOf-clause-reported
 formed-returns-in_err-operand-in-SizeOf-clause-reported t c =
     let e : c.from_residual-in_err-operand-in-SizeOf.result ≡ Err c.in_err-operand-in-SizeOf.field-0.0 = search rules in
-    subst (λ k. Yields (formed c.args.context.now c.args.purpose c.args.literals.now.items (shape_in c.args.target) c.args.tree.now.place k) c.from_residual-in_err-operand-in-SizeOf.result) (sym c.in-SizeOf.is ∙ c.deref.ensures) (subst (Yields (formed c.args.context.now c.args.purpose c.args.literals.now.items (shape_in c.args.target) c.args.tree.now.place (kind.SizeOf c.in-SizeOf.operand))) (sym e) (lift-refused (measured_type c.args.context.now c.args.tree.now.place) _ c.in_err-operand-in-SizeOf.field-0.0 c.in_err-operand-in-SizeOf.ensures.reported))
+    subst (λ k.
+    Yields (formed c.args.context.now c.args.purpose c.args.literals.now.items (shape_in c.args.target) c.args.tree.now.place k)
+    c.from_residual-in_err-operand-in-SizeOf.result) (sym c.in-SizeOf.is ∙ c.deref.ensures)
+    (subst
+    (Yields (formed c.args.context.now c.args.purpose c.args.literals.now.items (shape_in c.args.target) c.args.tree.now.place
+    (kind.SizeOf c.in-SizeOf.operand))) (sym e)
+    (lift-refused (measured_type c.args.context.now c.args.tree.now.place) _ c.in_err-operand-in-SizeOf.field-0.0
+    c.in_err-operand-in-SizeOf.ensures.reported))
 
 pub formed-returns-in_ok-operand-in-SizeOf-clause-reported : goal.formed-returns-in_ok-operand-in-SizeOf-clause-reported
 formed-returns-in_ok-operand-in-SizeOf-clause-reported t c =
-    subst (λ k. Yields (formed c.args.context.now c.args.purpose c.args.literals.now.items (shape_in c.args.target) c.args.tree.now.place k) c.measured.result) (sym c.in-SizeOf.is ∙ c.deref.ensures) (part_taken (measured_type c.args.context.now c.args.tree.now.place) _ (typed c.in_ok-operand-in-SizeOf.operand) c.measured.result c.in_ok-operand-in-SizeOf.ensures.reported c.measured.ensures)
+    subst (λ k. Yields (formed c.args.context.now c.args.purpose c.args.literals.now.items (shape_in c.args.target) c.args.tree.now.place k) c.measured.result)
+    (sym c.in-SizeOf.is ∙ c.deref.ensures)
+    (part_taken (measured_type c.args.context.now c.args.tree.now.place) _ (typed c.in_ok-operand-in-SizeOf.operand) c.measured.result
+    c.in_ok-operand-in-SizeOf.ensures.reported c.measured.ensures)
 
 pub formed-returns-in_err-array-in-Index-clause-reported : goal.formed-returns-in_err-array-in-Index-clause-reported
 formed-returns-in_err-array-in-Index-clause-reported t c =
     let e : c.from_residual-in_err-array-in-Index.result ≡ Err c.in_err-array-in-Index.field-0.0 = search rules in
-    subst (λ k. Yields (formed c.args.context.now c.args.purpose c.args.literals.now.items (shape_in c.args.target) c.args.tree.now.place k) c.from_residual-in_err-array-in-Index.result) (sym c.in-Index.is ∙ c.deref.ensures) (subst (Yields (formed c.args.context.now c.args.purpose c.args.literals.now.items (shape_in c.args.target) c.args.tree.now.place (kind.Index c.in-Index.array c.in-Index.number))) (sym e) (lift2-refused-first (indexed_values c.args.context.now c.args.tree.now.place) _ _ c.in_err-array-in-Index.field-0.0 c.in_err-array-in-Index.ensures.reported))
+    subst (λ k.
+    Yields (formed c.args.context.now c.args.purpose c.args.literals.now.items (shape_in c.args.target) c.args.tree.now.place k)
+    c.from_residual-in_err-array-in-Index.result) (sym c.in-Index.is ∙ c.deref.ensures)
+    (subst
+    (Yields (formed c.args.context.now c.args.purpose c.args.literals.now.items (shape_in c.args.target) c.args.tree.now.place
+    (kind.Index c.in-Index.array c.in-Index.number))) (sym e)
+    (lift2-refused-first (indexed_values c.args.context.now c.args.tree.now.place) _ _ c.in_err-array-in-Index.field-0.0
+    c.in_err-array-in-Index.ensures.reported))
 
 pub formed-returns-in_err-number-in-Index-clause-reported : goal.formed-returns-in_err-number-in-Index-clause-reported
 formed-returns-in_err-number-in-Index-clause-reported t c =
     let e : c.from_residual-in_err-number-in-Index.result ≡ Err c.in_err-number-in-Index.field-0.0 = search rules in
-    subst (λ k. Yields (formed c.args.context.now c.args.purpose c.args.literals.now.items (shape_in c.args.target) c.args.tree.now.place k) c.from_residual-in_err-number-in-Index.result) (sym c.in-Index.is ∙ c.deref.ensures) (subst (Yields (formed c.args.context.now c.args.purpose c.args.literals.now.items (shape_in c.args.target) c.args.tree.now.place (kind.Index c.in-Index.array c.in-Index.number))) (sym e) (second_stops (indexed_values c.args.context.now c.args.tree.now.place) (operand_in c.args.context.now c.args.purpose (formed c.args.context.now c.args.purpose c.args.literals.now.items None c.in-Index.array.place c.in-Index.array.kind.value)) (operand_in c.args.context.now c.args.purpose (formed c.args.context.now c.args.purpose (literals_after c.args.literals.now.items c.in-Index.array.kind.value) None c.in-Index.number.place c.in-Index.number.kind.value)) (typed c.in_ok-array-in-Index.array) c.in_err-number-in-Index.field-0.0 c.in_ok-array-in-Index.ensures.reported (subst (λ l. IsRefused (operand_in c.args.context.now c.args.purpose (formed c.args.context.now c.args.purpose l None c.in-Index.number.place c.in-Index.number.kind.value)) c.in_err-number-in-Index.field-0.0) c.in_ok-array-in-Index.ensures.texts c.in_err-number-in-Index.ensures.reported)))
+    subst (λ k.
+    Yields (formed c.args.context.now c.args.purpose c.args.literals.now.items (shape_in c.args.target) c.args.tree.now.place k)
+    c.from_residual-in_err-number-in-Index.result) (sym c.in-Index.is ∙ c.deref.ensures)
+    (subst
+    (Yields (formed c.args.context.now c.args.purpose c.args.literals.now.items (shape_in c.args.target) c.args.tree.now.place
+    (kind.Index c.in-Index.array c.in-Index.number))) (sym e)
+    (second_stops (indexed_values c.args.context.now c.args.tree.now.place)
+    (operand_in c.args.context.now c.args.purpose
+    (formed c.args.context.now c.args.purpose c.args.literals.now.items None c.in-Index.array.place c.in-Index.array.kind.value))
+    (operand_in c.args.context.now c.args.purpose
+    (formed c.args.context.now c.args.purpose (literals_after c.args.literals.now.items c.in-Index.array.kind.value) None c.in-Index.number.place
+    c.in-Index.number.kind.value)) (typed c.in_ok-array-in-Index.array) c.in_err-number-in-Index.field-0.0 c.in_ok-array-in-Index.ensures.reported
+    (subst (λ l.
+    IsRefused (operand_in c.args.context.now c.args.purpose
+    (formed c.args.context.now c.args.purpose l None c.in-Index.number.place c.in-Index.number.kind.value)) c.in_err-number-in-Index.field-0.0)
+    c.in_ok-array-in-Index.ensures.texts c.in_err-number-in-Index.ensures.reported)))
 
 pub formed-returns-in_ok-number-in-Index-clause-reported : goal.formed-returns-in_ok-number-in-Index-clause-reported
 formed-returns-in_ok-number-in-Index-clause-reported t c =
-    subst (λ k. Yields (formed c.args.context.now c.args.purpose c.args.literals.now.items (shape_in c.args.target) c.args.tree.now.place k) c.indexed.result) (sym c.in-Index.is ∙ c.deref.ensures) (parts_taken (indexed_values c.args.context.now c.args.tree.now.place) (operand_in c.args.context.now c.args.purpose (formed c.args.context.now c.args.purpose c.args.literals.now.items None c.in-Index.array.place c.in-Index.array.kind.value)) (operand_in c.args.context.now c.args.purpose (formed c.args.context.now c.args.purpose (literals_after c.args.literals.now.items c.in-Index.array.kind.value) None c.in-Index.number.place c.in-Index.number.kind.value)) (typed c.in_ok-array-in-Index.array) (typed c.in_ok-number-in-Index.number) c.indexed.result c.in_ok-array-in-Index.ensures.reported (subst (λ l. operand_in c.args.context.now c.args.purpose (formed c.args.context.now c.args.purpose l None c.in-Index.number.place c.in-Index.number.kind.value) ≡ Fine (typed c.in_ok-number-in-Index.number)) c.in_ok-array-in-Index.ensures.texts c.in_ok-number-in-Index.ensures.reported) c.indexed.ensures)
+    subst (λ k. Yields (formed c.args.context.now c.args.purpose c.args.literals.now.items (shape_in c.args.target) c.args.tree.now.place k) c.indexed.result)
+    (sym c.in-Index.is ∙ c.deref.ensures)
+    (parts_taken (indexed_values c.args.context.now c.args.tree.now.place)
+    (operand_in c.args.context.now c.args.purpose
+    (formed c.args.context.now c.args.purpose c.args.literals.now.items None c.in-Index.array.place c.in-Index.array.kind.value))
+    (operand_in c.args.context.now c.args.purpose
+    (formed c.args.context.now c.args.purpose (literals_after c.args.literals.now.items c.in-Index.array.kind.value) None c.in-Index.number.place
+    c.in-Index.number.kind.value)) (typed c.in_ok-array-in-Index.array) (typed c.in_ok-number-in-Index.number) c.indexed.result
+    c.in_ok-array-in-Index.ensures.reported (subst (λ l.
+    operand_in c.args.context.now c.args.purpose (formed c.args.context.now c.args.purpose l None c.in-Index.number.place c.in-Index.number.kind.value)
+    ≡ Fine (typed c.in_ok-number-in-Index.number)) c.in_ok-array-in-Index.ensures.texts c.in_ok-number-in-Index.ensures.reported) c.indexed.ensures)
 
 pub arguments_of-loop-i-init : goal.arguments_of-loop-i-init
 arguments_of-loop-i-init t c =
-    record { made = c.new-list.ensures.len; reported = ap (λ l. lift (expressions_before l) (arguments_listed c.args.context.now c.args.purpose c.args.literals.now.items (map (λ (ty : CType). shape_of ty) c.args.function.now.parameters.items) c.args.arguments.now)) c.new-list.ensures.items ∙ none_before (arguments_listed c.args.context.now c.args.purpose c.args.literals.now.items (map (λ (ty : CType). shape_of ty) c.args.function.now.parameters.items) c.args.arguments.now); texts = refl }
+    record {
+      made = c.new-list.ensures.len;
+      reported =
+          ap (λ l.
+          lift (expressions_before l) (arguments_listed c.args.context.now c.args.purpose c.args.literals.now.items
+          (map (λ (ty : CType). shape_of ty) c.args.function.now.parameters.items) c.args.arguments.now)) c.new-list.ensures.items
+          ∙ none_before (arguments_listed c.args.context.now c.args.purpose c.args.literals.now.items
+          (map (λ (ty : CType). shape_of ty) c.args.function.now.parameters.items) c.args.arguments.now);
+      texts = refl;
+    }
 
 pub arguments_of-returns-in_err-value-clause-reported : goal.arguments_of-returns-in_err-value-clause-reported
 arguments_of-returns-in_err-value-clause-reported t c =
     let e : c.from_residual.result ≡ Err c.in_err-value.field-0.0 = search rules in
-    subst (Answers (λ list. typed_list list.items) (arguments_listed c.args.context.now c.args.purpose c.args.literals.now.items (map (λ (ty : CType). shape_of ty) c.args.function.now.parameters.items) c.args.arguments.now)) (sym e) (arguments_stop c.args.context.now c.args.purpose c.loop-i.list.items (arguments_listed c.args.context.now c.args.purpose c.args.literals.now.items (map (λ (ty : CType). shape_of ty) c.args.function.now.parameters.items) c.args.arguments.now) (shape_of c.index-types-i.result) (map (λ (ty : CType). shape_of ty) (drop c.loop-i.i c.args.function.now.parameters.items)) (map (λ (ty : CType). shape_of ty) (drop (c.loop-i.i + 1) c.args.function.now.parameters.items)) c.index-arguments-i.result (drop c.loop-i.i c.args.arguments.now) (drop (c.loop-i.i + 1) c.args.arguments.now) c.loop-i.literals.items c.in_err-value.field-0.0 (ap (map (λ (ty : CType). shape_of ty)) (subst (λ l. drop c.loop-i.i l ≡ c.index-types-i.result ∷ drop (c.loop-i.i + 1) l) c.as_slice-types.ensures.value (at_place c.loop-i.i c.as_slice-types.result.now c.index-types-i.result (omega (arith, ap length c.as_slice-types.ensures.value, c.requires, c.args.function.now.parameters.ok.0)) c.index-types-i.is))) (at_place c.loop-i.i c.args.arguments.now c.index-arguments-i.result c.loop-i-test.true c.index-arguments-i.is) c.in_err-value.ensures.reported c.loop-i.invariant.reported)
+    subst (Answers (λ list. typed_list list.items)
+    (arguments_listed c.args.context.now c.args.purpose c.args.literals.now.items (map (λ (ty : CType). shape_of ty) c.args.function.now.parameters.items)
+    c.args.arguments.now)) (sym e)
+    (arguments_stop c.args.context.now c.args.purpose c.loop-i.list.items
+    (arguments_listed c.args.context.now c.args.purpose c.args.literals.now.items (map (λ (ty : CType). shape_of ty) c.args.function.now.parameters.items)
+    c.args.arguments.now) (shape_of c.index-types-i.result) (map (λ (ty : CType). shape_of ty) (drop c.loop-i.i c.args.function.now.parameters.items))
+    (map (λ (ty : CType). shape_of ty) (drop (c.loop-i.i + 1) c.args.function.now.parameters.items)) c.index-arguments-i.result
+    (drop c.loop-i.i c.args.arguments.now) (drop (c.loop-i.i + 1) c.args.arguments.now) c.loop-i.literals.items c.in_err-value.field-0.0
+    (ap (map (λ (ty : CType). shape_of ty))
+    (subst (λ l. drop c.loop-i.i l ≡ c.index-types-i.result ∷ drop (c.loop-i.i + 1) l) c.as_slice-types.ensures.value
+    (at_place c.loop-i.i c.as_slice-types.result.now c.index-types-i.result
+    (omega (arith, ap length c.as_slice-types.ensures.value, c.requires, c.args.function.now.parameters.ok.0)) c.index-types-i.is)))
+    (at_place c.loop-i.i c.args.arguments.now c.index-arguments-i.result c.loop-i-test.true c.index-arguments-i.is) c.in_err-value.ensures.reported
+    c.loop-i.invariant.reported)
 
 pub arguments_of-loop-i-preserved : goal.arguments_of-loop-i-preserved
 arguments_of-loop-i-preserved t c =
     record {
       made = omega (arith, c.in_ok-push.ensures.len, c.loop-i.invariant.made);
-      reported = ap (λ l. lift (expressions_before l) (arguments_listed c.args.context.now c.args.purpose c.operand_in.new.literals.items (map (λ (ty : CType). shape_of ty) (drop (c.loop-i.i + 1) c.args.function.now.parameters.items)) (drop (c.loop-i.i + 1) c.args.arguments.now))) c.in_ok-push.ensures.items ∙ arguments_turn c.args.context.now c.args.purpose c.loop-i.list.items c.in_ok-value.value (arguments_listed c.args.context.now c.args.purpose c.args.literals.now.items (map (λ (ty : CType). shape_of ty) c.args.function.now.parameters.items) c.args.arguments.now) (shape_of c.index-types-i.result) (map (λ (ty : CType). shape_of ty) (drop c.loop-i.i c.args.function.now.parameters.items)) (map (λ (ty : CType). shape_of ty) (drop (c.loop-i.i + 1) c.args.function.now.parameters.items)) c.index-arguments-i.result (drop c.loop-i.i c.args.arguments.now) (drop (c.loop-i.i + 1) c.args.arguments.now) c.loop-i.literals.items c.operand_in.new.literals.items (ap (map (λ (ty : CType). shape_of ty)) (subst (λ l. drop c.loop-i.i l ≡ c.index-types-i.result ∷ drop (c.loop-i.i + 1) l) c.as_slice-types.ensures.value (at_place c.loop-i.i c.as_slice-types.result.now c.index-types-i.result (omega (arith, ap length c.as_slice-types.ensures.value, c.requires, c.args.function.now.parameters.ok.0)) c.index-types-i.is))) (at_place c.loop-i.i c.args.arguments.now c.index-arguments-i.result c.loop-i-test.true c.index-arguments-i.is) c.in_ok-value.ensures.reported c.in_ok-value.ensures.texts c.loop-i.invariant.reported;
-      texts = ap (λ l. literals_after_list l (drop (c.loop-i.i + 1) c.args.arguments.now)) c.in_ok-value.ensures.texts ∙ ap (literals_after_list c.loop-i.literals.items) (sym (at_place c.loop-i.i c.args.arguments.now c.index-arguments-i.result c.loop-i-test.true c.index-arguments-i.is)) ∙ c.loop-i.invariant.texts;
+      reported =
+          ap (λ l.
+          lift (expressions_before l) (arguments_listed c.args.context.now c.args.purpose c.operand_in.new.literals.items
+          (map (λ (ty : CType). shape_of ty) (drop (c.loop-i.i + 1) c.args.function.now.parameters.items)) (drop (c.loop-i.i + 1) c.args.arguments.now)))
+          c.in_ok-push.ensures.items ∙ arguments_turn c.args.context.now c.args.purpose c.loop-i.list.items c.in_ok-value.value
+          (arguments_listed c.args.context.now c.args.purpose c.args.literals.now.items
+          (map (λ (ty : CType). shape_of ty) c.args.function.now.parameters.items) c.args.arguments.now) (shape_of c.index-types-i.result)
+          (map (λ (ty : CType). shape_of ty) (drop c.loop-i.i c.args.function.now.parameters.items))
+          (map (λ (ty : CType). shape_of ty) (drop (c.loop-i.i + 1) c.args.function.now.parameters.items)) c.index-arguments-i.result
+          (drop c.loop-i.i c.args.arguments.now) (drop (c.loop-i.i + 1) c.args.arguments.now) c.loop-i.literals.items c.operand_in.new.literals.items
+          (ap (map (λ (ty : CType). shape_of ty))
+          (subst (λ l. drop c.loop-i.i l ≡ c.index-types-i.result ∷ drop (c.loop-i.i + 1) l) c.as_slice-types.ensures.value
+          (at_place c.loop-i.i c.as_slice-types.result.now c.index-types-i.result
+          (omega (arith, ap length c.as_slice-types.ensures.value, c.requires, c.args.function.now.parameters.ok.0)) c.index-types-i.is)))
+          (at_place c.loop-i.i c.args.arguments.now c.index-arguments-i.result c.loop-i-test.true c.index-arguments-i.is) c.in_ok-value.ensures.reported
+          c.in_ok-value.ensures.texts c.loop-i.invariant.reported;
+      texts = ap (λ l. literals_after_list l (drop (c.loop-i.i + 1) c.args.arguments.now)) c.in_ok-value.ensures.texts
+          ∙ ap (literals_after_list c.loop-i.literals.items)
+          (sym (at_place c.loop-i.i c.args.arguments.now c.index-arguments-i.result c.loop-i-test.true c.index-arguments-i.is)) ∙ c.loop-i.invariant.texts;
     }
 
 pub call-call_with-requires : goal.call-call_with-requires
 call-call_with-requires t c =
-    omega (arith, c.in_ok-values.ensures.count, c.in-Some.called.now.parameters.ok.0, admitted_counts c.args.place (shape_in c.args.target) (length c.args.arguments.now) (signature_of c.in-Some.called.now) (signature_of c.in-Some.called.now) c.in_ok-admitted.ensures, length-map c.in-Some.called.now.parameters.items (λ (ty : CType). shape_of ty))
+    omega (
+      arith,
+      c.in_ok-values.ensures.count,
+      c.in-Some.called.now.parameters.ok.0,
+      admitted_counts c.args.place (shape_in c.args.target) (length c.args.arguments.now) (signature_of c.in-Some.called.now)
+          (signature_of c.in-Some.called.now) c.in_ok-admitted.ensures,
+      length-map c.in-Some.called.now.parameters.items (λ (ty : CType). shape_of ty),
+    )
 
 pub formed-returns-in_err-first-in-Comma-clause-reported : goal.formed-returns-in_err-first-in-Comma-clause-reported
 formed-returns-in_err-first-in-Comma-clause-reported t c =
     let e : c.from_residual-in_err-first-in-Comma.result ≡ Err c.in_err-first-in-Comma.field-0.0 = search rules in
-    subst (λ k. Yields (formed c.args.context.now c.args.purpose c.args.literals.now.items (shape_in c.args.target) c.args.tree.now.place k) c.from_residual-in_err-first-in-Comma.result) (sym c.in-Comma.is ∙ c.deref.ensures) (subst (Yields (formed c.args.context.now c.args.purpose c.args.literals.now.items (shape_in c.args.target) c.args.tree.now.place (kind.Comma c.in-Comma.first c.in-Comma.second))) (sym e) (lift2-refused-first (followed c.args.tree.now.place) _ _ c.in_err-first-in-Comma.field-0.0 c.in_err-first-in-Comma.ensures.reported))
+    subst (λ k.
+    Yields (formed c.args.context.now c.args.purpose c.args.literals.now.items (shape_in c.args.target) c.args.tree.now.place k)
+    c.from_residual-in_err-first-in-Comma.result) (sym c.in-Comma.is ∙ c.deref.ensures)
+    (subst
+    (Yields (formed c.args.context.now c.args.purpose c.args.literals.now.items (shape_in c.args.target) c.args.tree.now.place
+    (kind.Comma c.in-Comma.first c.in-Comma.second))) (sym e)
+    (lift2-refused-first (followed c.args.tree.now.place) _ _ c.in_err-first-in-Comma.field-0.0 c.in_err-first-in-Comma.ensures.reported))
 
 pub formed-returns-in_err-second-in-Comma-clause-reported : goal.formed-returns-in_err-second-in-Comma-clause-reported
 formed-returns-in_err-second-in-Comma-clause-reported t c =
     let e : c.from_residual-in_err-second-in-Comma.result ≡ Err c.in_err-second-in-Comma.field-0.0 = search rules in
-    subst (λ k. Yields (formed c.args.context.now c.args.purpose c.args.literals.now.items (shape_in c.args.target) c.args.tree.now.place k) c.from_residual-in_err-second-in-Comma.result) (sym c.in-Comma.is ∙ c.deref.ensures) (subst (Yields (formed c.args.context.now c.args.purpose c.args.literals.now.items (shape_in c.args.target) c.args.tree.now.place (kind.Comma c.in-Comma.first c.in-Comma.second))) (sym e) (second_stops (followed c.args.tree.now.place) (value_in c.args.context.now c.args.purpose (formed c.args.context.now c.args.purpose c.args.literals.now.items None c.in-Comma.first.place c.in-Comma.first.kind.value)) (value_in c.args.context.now c.args.purpose (formed c.args.context.now c.args.purpose (literals_after c.args.literals.now.items c.in-Comma.first.kind.value) None c.in-Comma.second.place c.in-Comma.second.kind.value)) (typed c.in_ok-first-in-Comma.first) c.in_err-second-in-Comma.field-0.0 c.in_ok-first-in-Comma.ensures.reported (subst (λ l. IsRefused (value_in c.args.context.now c.args.purpose (formed c.args.context.now c.args.purpose l None c.in-Comma.second.place c.in-Comma.second.kind.value)) c.in_err-second-in-Comma.field-0.0) c.in_ok-first-in-Comma.ensures.texts c.in_err-second-in-Comma.ensures.reported)))
+    subst (λ k.
+    Yields (formed c.args.context.now c.args.purpose c.args.literals.now.items (shape_in c.args.target) c.args.tree.now.place k)
+    c.from_residual-in_err-second-in-Comma.result) (sym c.in-Comma.is ∙ c.deref.ensures)
+    (subst
+    (Yields (formed c.args.context.now c.args.purpose c.args.literals.now.items (shape_in c.args.target) c.args.tree.now.place
+    (kind.Comma c.in-Comma.first c.in-Comma.second))) (sym e)
+    (second_stops (followed c.args.tree.now.place)
+    (value_in c.args.context.now c.args.purpose
+    (formed c.args.context.now c.args.purpose c.args.literals.now.items None c.in-Comma.first.place c.in-Comma.first.kind.value))
+    (value_in c.args.context.now c.args.purpose
+    (formed c.args.context.now c.args.purpose (literals_after c.args.literals.now.items c.in-Comma.first.kind.value) None c.in-Comma.second.place
+    c.in-Comma.second.kind.value)) (typed c.in_ok-first-in-Comma.first) c.in_err-second-in-Comma.field-0.0 c.in_ok-first-in-Comma.ensures.reported
+    (subst (λ l.
+    IsRefused (value_in c.args.context.now c.args.purpose
+    (formed c.args.context.now c.args.purpose l None c.in-Comma.second.place c.in-Comma.second.kind.value)) c.in_err-second-in-Comma.field-0.0)
+    c.in_ok-first-in-Comma.ensures.texts c.in_err-second-in-Comma.ensures.reported)))
 
 pub formed-returns-in_ok-second-in-Comma-clause-reported : goal.formed-returns-in_ok-second-in-Comma-clause-reported
 formed-returns-in_ok-second-in-Comma-clause-reported t c =
-    subst (λ k. Yields (formed c.args.context.now c.args.purpose c.args.literals.now.items (shape_in c.args.target) c.args.tree.now.place k) c.followed.result) (sym c.in-Comma.is ∙ c.deref.ensures) (parts_taken (followed c.args.tree.now.place) (value_in c.args.context.now c.args.purpose (formed c.args.context.now c.args.purpose c.args.literals.now.items None c.in-Comma.first.place c.in-Comma.first.kind.value)) (value_in c.args.context.now c.args.purpose (formed c.args.context.now c.args.purpose (literals_after c.args.literals.now.items c.in-Comma.first.kind.value) None c.in-Comma.second.place c.in-Comma.second.kind.value)) (typed c.in_ok-first-in-Comma.first) (typed c.in_ok-second-in-Comma.second) c.followed.result c.in_ok-first-in-Comma.ensures.reported (subst (λ l. value_in c.args.context.now c.args.purpose (formed c.args.context.now c.args.purpose l None c.in-Comma.second.place c.in-Comma.second.kind.value) ≡ Fine (typed c.in_ok-second-in-Comma.second)) c.in_ok-first-in-Comma.ensures.texts c.in_ok-second-in-Comma.ensures.reported) c.followed.ensures)
+    subst (λ k. Yields (formed c.args.context.now c.args.purpose c.args.literals.now.items (shape_in c.args.target) c.args.tree.now.place k) c.followed.result)
+    (sym c.in-Comma.is ∙ c.deref.ensures)
+    (parts_taken (followed c.args.tree.now.place)
+    (value_in c.args.context.now c.args.purpose
+    (formed c.args.context.now c.args.purpose c.args.literals.now.items None c.in-Comma.first.place c.in-Comma.first.kind.value))
+    (value_in c.args.context.now c.args.purpose
+    (formed c.args.context.now c.args.purpose (literals_after c.args.literals.now.items c.in-Comma.first.kind.value) None c.in-Comma.second.place
+    c.in-Comma.second.kind.value)) (typed c.in_ok-first-in-Comma.first) (typed c.in_ok-second-in-Comma.second) c.followed.result
+    c.in_ok-first-in-Comma.ensures.reported (subst (λ l.
+    value_in c.args.context.now c.args.purpose (formed c.args.context.now c.args.purpose l None c.in-Comma.second.place c.in-Comma.second.kind.value)
+    ≡ Fine (typed c.in_ok-second-in-Comma.second)) c.in_ok-first-in-Comma.ensures.texts c.in_ok-second-in-Comma.ensures.reported) c.followed.ensures)
 
 pub numbers_of-loop-bound-init : goal.numbers_of-loop-bound-init
 numbers_of-loop-bound-init t c =
-    record { reported = ap (λ l. lift (numbers_before l) (numbers_listed c.args.context.now c.args.literals.now.items c.args.bounds.now)) c.new-numbers.ensures.items ∙ no_numbers_before (numbers_listed c.args.context.now c.args.literals.now.items c.args.bounds.now); texts = refl }
+    record {
+      reported = ap (λ l. lift (numbers_before l) (numbers_listed c.args.context.now c.args.literals.now.items c.args.bounds.now)) c.new-numbers.ensures.items
+          ∙ no_numbers_before (numbers_listed c.args.context.now c.args.literals.now.items c.args.bounds.now);
+      texts = refl;
+    }
 
 pub numbers_of-returns-in_err-value-clause-reported : goal.numbers_of-returns-in_err-value-clause-reported
 numbers_of-returns-in_err-value-clause-reported t c =
     let e : c.from_residual.result ≡ Err c.in_err-value.field-0.0 = search rules in
     let i = c.loop-bound.bound-index in
-    subst (Answers (λ numbers. numbers.items) (numbers_listed c.args.context.now c.args.literals.now.items c.args.bounds.now)) (sym e) (numbers_stop c.args.context.now c.loop-bound.numbers.items (numbers_listed c.args.context.now c.args.literals.now.items c.args.bounds.now) c.bound-item.result (drop i c.args.bounds.now) (drop (i + 1) c.args.bounds.now) c.loop-bound.literals.items c.in_err-value.field-0.0 (at_place i c.args.bounds.now c.bound-item.result c.loop-bound-test.true c.bound-item.is) c.in_err-value.ensures.reported c.loop-bound.invariant.reported)
+    subst (Answers (λ numbers. numbers.items) (numbers_listed c.args.context.now c.args.literals.now.items c.args.bounds.now)) (sym e)
+    (numbers_stop c.args.context.now c.loop-bound.numbers.items (numbers_listed c.args.context.now c.args.literals.now.items c.args.bounds.now)
+    c.bound-item.result (drop i c.args.bounds.now) (drop (i + 1) c.args.bounds.now) c.loop-bound.literals.items c.in_err-value.field-0.0
+    (at_place i c.args.bounds.now c.bound-item.result c.loop-bound-test.true c.bound-item.is) c.in_err-value.ensures.reported
+    c.loop-bound.invariant.reported)
 
 pub numbers_of-loop-bound-preserved : goal.numbers_of-loop-bound-preserved
 numbers_of-loop-bound-preserved t c =
     let i = c.loop-bound.bound-index in
-    let there : drop i c.args.bounds.now ≡ c.bound-item.result ∷ drop (i + 1) c.args.bounds.now = at_place i c.args.bounds.now c.bound-item.result c.loop-bound-test.true c.bound-item.is in
+    let there : drop i c.args.bounds.now ≡ c.bound-item.result ∷ drop (i + 1) c.args.bounds.now =
+    at_place i c.args.bounds.now c.bound-item.result c.loop-bound-test.true c.bound-item.is in
     let fits : FitsSigned w128 c.number_at.result = search rules in
     let pushed : c.push.new.self.items ≡ c.loop-bound.numbers.items ++ c.number_at.result ∷ [] = simp to_z-of_z at c.in_ok-push.ensures.items in
     record {
-      reported = ap (λ l. lift (numbers_before l) (numbers_listed c.args.context.now c.judged.new.literals.items (drop (i + 1) c.args.bounds.now))) pushed ∙ numbers_turn c.args.context.now c.loop-bound.numbers.items (typed c.in_ok-value.value) c.number_at.result (numbers_listed c.args.context.now c.args.literals.now.items c.args.bounds.now) c.bound-item.result (drop i c.args.bounds.now) (drop (i + 1) c.args.bounds.now) c.loop-bound.literals.items c.judged.new.literals.items there c.in_ok-value.ensures.reported (ap (λ k. number_at (form k)) (sym c.deref.ensures) ∙ c.number_at.ensures) c.in_ok-value.ensures.texts c.loop-bound.invariant.reported;
-      texts = ap (λ l. literals_after_list l (drop (i + 1) c.args.bounds.now)) c.in_ok-value.ensures.texts ∙ ap (literals_after_list c.loop-bound.literals.items) (sym there) ∙ c.loop-bound.invariant.texts;
+      reported = ap (λ l. lift (numbers_before l) (numbers_listed c.args.context.now c.judged.new.literals.items (drop (i + 1) c.args.bounds.now))) pushed
+          ∙ numbers_turn c.args.context.now c.loop-bound.numbers.items (typed c.in_ok-value.value) c.number_at.result
+          (numbers_listed c.args.context.now c.args.literals.now.items c.args.bounds.now) c.bound-item.result (drop i c.args.bounds.now)
+          (drop (i + 1) c.args.bounds.now) c.loop-bound.literals.items c.judged.new.literals.items there c.in_ok-value.ensures.reported
+          (ap (λ k. number_at (form k)) (sym c.deref.ensures) ∙ c.number_at.ensures) c.in_ok-value.ensures.texts c.loop-bound.invariant.reported;
+      texts = ap (λ l. literals_after_list l (drop (i + 1) c.args.bounds.now)) c.in_ok-value.ensures.texts
+          ∙ ap (literals_after_list c.loop-bound.literals.items) (sym there) ∙ c.loop-bound.invariant.texts;
     }
 
 pub numbers_of-returns-clause-reported : goal.numbers_of-returns-clause-reported
 numbers_of-returns-clause-reported t c =
-    numbers_end c.args.context.now c.loop-bound.numbers.items (numbers_listed c.args.context.now c.args.literals.now.items c.args.bounds.now) (drop c.loop-bound.bound-index c.args.bounds.now) c.loop-bound.literals.items (drop_all c.loop-bound.bound-index c.args.bounds.now c.loop-bound-test.false) c.loop-bound.invariant.reported
+    numbers_end c.args.context.now c.loop-bound.numbers.items (numbers_listed c.args.context.now c.args.literals.now.items c.args.bounds.now)
+    (drop c.loop-bound.bound-index c.args.bounds.now) c.loop-bound.literals.items
+    (drop_all c.loop-bound.bound-index c.args.bounds.now c.loop-bound-test.false) c.loop-bound.invariant.reported
 
 pub arguments_of-returns-clause-reported : goal.arguments_of-returns-clause-reported
 arguments_of-returns-clause-reported t c =
-    arguments_end c.args.context.now c.args.purpose c.loop-i.list.items (arguments_listed c.args.context.now c.args.purpose c.args.literals.now.items (map (λ (ty : CType). shape_of ty) c.args.function.now.parameters.items) c.args.arguments.now) (map (λ (ty : CType). shape_of ty) (drop c.loop-i.i c.args.function.now.parameters.items)) (drop c.loop-i.i c.args.arguments.now) c.loop-i.literals.items (drop_all c.loop-i.i c.args.arguments.now c.loop-i-test.false) c.loop-i.invariant.reported
+    arguments_end c.args.context.now c.args.purpose c.loop-i.list.items
+    (arguments_listed c.args.context.now c.args.purpose c.args.literals.now.items (map (λ (ty : CType). shape_of ty) c.args.function.now.parameters.items)
+    c.args.arguments.now) (map (λ (ty : CType). shape_of ty) (drop c.loop-i.i c.args.function.now.parameters.items)) (drop c.loop-i.i c.args.arguments.now)
+    c.loop-i.literals.items (drop_all c.loop-i.i c.args.arguments.now c.loop-i-test.false) c.loop-i.invariant.reported
 
 pub call-arguments_of-requires : goal.call-arguments_of-requires
-call-arguments_of-requires t c =
-    (grind arith, omega (arith, c.in-Some.called.now.parameters.ok.0, admitted_counts c.args.place (shape_in c.args.target) (length c.args.arguments.now) (signature_of c.in-Some.called.now) (signature_of c.in-Some.called.now) c.in_ok-admitted.ensures, length-map c.in-Some.called.now.parameters.items (λ (ty : CType). shape_of ty)))
+call-arguments_of-requires t c = (
+  grind arith,
+  omega (
+    arith,
+    c.in-Some.called.now.parameters.ok.0,
+    admitted_counts c.args.place (shape_in c.args.target) (length c.args.arguments.now) (signature_of c.in-Some.called.now) (signature_of c.in-Some.called.now)
+        c.in_ok-admitted.ensures,
+    length-map c.in-Some.called.now.parameters.items (λ (ty : CType). shape_of ty),
+  ),
+)
 
 pub formed-returns-in-Call-clause-texts : goal.formed-returns-in-Call-clause-texts
 formed-returns-in-Call-clause-texts t c =
-    subst (λ k. OnOk c.call.result (c.call.new.literals.items ≡ literals_after c.args.literals.now.items k)) (sym c.in-Call.is ∙ c.deref.ensures) (subst (λ ls. OnOk c.call.result (c.call.new.literals.items ≡ ls)) (sym (literals-Call c.args.literals.now.items c.in-Call.function c.in-Call.arguments)) (subst (λ l. OnOk c.call.result (c.call.new.literals.items ≡ literals_after_list c.args.literals.now.items l)) c.deref-in-Call.ensures.value c.call.ensures.texts))
+    subst (λ k. OnOk c.call.result (c.call.new.literals.items ≡ literals_after c.args.literals.now.items k)) (sym c.in-Call.is ∙ c.deref.ensures)
+    (subst (λ ls. OnOk c.call.result (c.call.new.literals.items ≡ ls))
+    (sym (literals-Call c.args.literals.now.items c.in-Call.function c.in-Call.arguments))
+    (subst (λ l. OnOk c.call.result (c.call.new.literals.items ≡ literals_after_list c.args.literals.now.items l)) c.deref-in-Call.ensures.value
+    c.call.ensures.texts))
 
 pub formed-returns-in-SizeOfType-clause-texts : goal.formed-returns-in-SizeOfType-clause-texts
 formed-returns-in-SizeOfType-clause-texts t c =
-    subst (λ k. OnOk c.size_of_type.result (c.size_of_type.new.literals.items ≡ literals_after c.args.literals.now.items k)) (sym c.in-SizeOfType.is ∙ c.deref.ensures) (subst (λ ls. OnOk c.size_of_type.result (c.size_of_type.new.literals.items ≡ ls)) (sym (literals-SizeOfType c.args.literals.now.items c.in-SizeOfType.ty c.in-SizeOfType.bounds)) (subst (λ l. OnOk c.size_of_type.result (c.size_of_type.new.literals.items ≡ literals_after_list c.args.literals.now.items l)) c.deref-in-SizeOfType.ensures.value c.size_of_type.ensures.texts))
+    subst (λ k. OnOk c.size_of_type.result (c.size_of_type.new.literals.items ≡ literals_after c.args.literals.now.items k)) (sym c.in-SizeOfType.is
+    ∙ c.deref.ensures) (subst (λ ls. OnOk c.size_of_type.result (c.size_of_type.new.literals.items ≡ ls))
+    (sym (literals-SizeOfType c.args.literals.now.items c.in-SizeOfType.ty c.in-SizeOfType.bounds))
+    (subst (λ l. OnOk c.size_of_type.result (c.size_of_type.new.literals.items ≡ literals_after_list c.args.literals.now.items l))
+    c.deref-in-SizeOfType.ensures.value c.size_of_type.ensures.texts))
 
 pub formed-call-requires : goal.formed-call-requires
 formed-call-requires t c =
     let e = height-Call c.in-Call.function c.in-Call.arguments c.in-Call.is in
-    let g : highest (written_list c.deref-in-Call.result.now) ≡ highest (written_list c.in-Call.arguments.items) = ap (λ l. highest (written_list l)) c.deref-in-Call.ensures.value in
+    let g : highest (written_list c.deref-in-Call.result.now) ≡ highest (written_list c.in-Call.arguments.items) =
+    ap (λ l. highest (written_list l)) c.deref-in-Call.ensures.value in
     grind arith
 
 pub formed-size_of_type-requires : goal.formed-size_of_type-requires
 formed-size_of_type-requires t c =
     let e = height-SizeOfType c.in-SizeOfType.ty c.in-SizeOfType.bounds c.in-SizeOfType.is in
-    let g : highest (written_list c.deref-in-SizeOfType.result.now) ≡ highest (written_list c.in-SizeOfType.bounds.items) = ap (λ l. highest (written_list l)) c.deref-in-SizeOfType.ensures.value in
+    let g : highest (written_list c.deref-in-SizeOfType.result.now) ≡ highest (written_list c.in-SizeOfType.bounds.items) =
+    ap (λ l. highest (written_list l)) c.deref-in-SizeOfType.ensures.value in
     grind arith
 
 pub formed-cast-requires : goal.formed-cast-requires
@@ -379,15 +699,19 @@ numbers_of-judged-requires t c =
 
 pub formed-infix-requires : goal.formed-infix-requires
 formed-infix-requires t c =
-    let e : height (written c.args.tree.now) ≡ 1 + max (height (written c.in-Infix.left)) (height (written c.in-Infix.right)) = ap (λ k. height (written_kind k)) (sym c.deref.ensures ∙ c.in-Infix.is) in
+    let e : height (written c.args.tree.now) ≡ 1 + max (height (written c.in-Infix.left)) (height (written c.in-Infix.right)) =
+    ap (λ k. height (written_kind k)) (sym c.deref.ensures ∙ c.in-Infix.is) in
     grind arith
 
 pub formed-select-requires : goal.formed-select-requires
 formed-select-requires t c =
-    let e : height (written c.args.tree.now) ≡ 1 + max (height (written c.in-Choice.test)) (max (height (written c.in-Choice.one)) (height (written c.in-Choice.other))) = ap (λ k. height (written_kind k)) (sym c.deref.ensures ∙ c.in-Choice.is) in
+    let e : height (written c.args.tree.now) ≡ 1 + max (height (written c.in-Choice.test))
+    (max (height (written c.in-Choice.one)) (height (written c.in-Choice.other))) =
+    ap (λ k. height (written_kind k)) (sym c.deref.ensures ∙ c.in-Choice.is) in
     grind arith
 
 pub formed-store-requires : goal.formed-store-requires
 formed-store-requires t c =
-    let e : height (written c.args.tree.now) ≡ 1 + max (height (written c.in-Assign.object)) (height (written c.in-Assign.value)) = ap (λ k. height (written_kind k)) (sym c.deref.ensures ∙ c.in-Assign.is) in
+    let e : height (written c.args.tree.now) ≡ 1 + max (height (written c.in-Assign.object)) (height (written c.in-Assign.value)) =
+    ap (λ k. height (written_kind k)) (sym c.deref.ensures ∙ c.in-Assign.is) in
     grind arith

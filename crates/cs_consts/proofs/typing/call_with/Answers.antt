@@ -13,6 +13,11 @@ pub returns-in_err-list : goal.returns-in_err-list
 unfolding call_with
 returns-in_err-list c =
     let e : c.from_residual.result ≡ Err c.in_err-list.field-0.0 = search rules in
-    let refused : IsRefused (converted_list c.args.context.now.model c.args.place (map (λ (ty : CType). shape_of ty) c.args.function.now.parameters.items) (typed_list c.args.values.items)) c.in_err-list.field-0.0 = subst (λ l. IsRefused (converted_list c.args.context.now.model c.args.place (map (λ (ty : CType). shape_of ty) l) (typed_list c.args.values.items)) c.in_err-list.field-0.0) c.deref.ensures.value c.in_err-list.ensures in
-    subst (Yields (call_with c.args.context.now c.args.place (shape_in c.args.target) (signature_of c.args.function.now) (typed_list c.args.values.items))) (sym e)
+    let refused : IsRefused (converted_list c.args.context.now.model c.args.place (map (λ (ty : CType). shape_of ty) c.args.function.now.parameters.items)
+    (typed_list c.args.values.items)) c.in_err-list.field-0.0 =
+    subst (λ l.
+    IsRefused (converted_list c.args.context.now.model c.args.place (map (λ (ty : CType). shape_of ty) l) (typed_list c.args.values.items))
+    c.in_err-list.field-0.0) c.deref.ensures.value c.in_err-list.ensures in
+    subst (Yields (call_with c.args.context.now c.args.place (shape_in c.args.target) (signature_of c.args.function.now) (typed_list c.args.values.items)))
+    (sym e)
     (lift-refused (call_of c.args.place (shape_in c.args.target) (signature_of c.args.function.now)) _ c.in_err-list.field-0.0 refused)

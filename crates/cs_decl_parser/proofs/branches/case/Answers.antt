@@ -9,17 +9,20 @@ use Rattle.cs_decl_parser.proofs.branches.case.Goals as goal
 
 pub returns-then-limit-eq0-clause-parsed : goal.returns-then-limit-eq0-clause-parsed
 returns-then-limit-eq0-clause-parsed c =
-    case_full c.args.source.now.names.now c.args.limit c.args.source.now.tokens.now c.args.from c.refuse_deep.result (let w = c.requires.within in omega arith) c.if-limit-eq0.true c.requires.stands c.refuse_deep.ensures.is
+    case_full c.args.source.now.names.now c.args.limit c.args.source.now.tokens.now c.args.from c.refuse_deep.result (let w = c.requires.within in
+    omega arith) c.if-limit-eq0.true c.requires.stands c.refuse_deep.ensures.is
 
 pub returns-in_err-value-clause-parsed : goal.returns-in_err-value-clause-parsed
 returns-in_err-value-clause-parsed c =
     let e : c.from_residual.result ≡ Err c.in_err-value.field-0.0 = search rules in
     subst (Answers (SwitchParts c.args.source.now.names.now) switch_item c.args.limit c.args.source.now.tokens.now c.args.from) (sym e)
-    (case_stops c.args.source.now.names.now c.args.limit c.args.source.now.tokens.now c.args.from (let some = c.if-limit-eq0.false in omega arith) c.requires.stands c.in_err-value.field-0.0 c.in_err-value.ensures.parsed)
+    (case_stops c.args.source.now.names.now c.args.limit c.args.source.now.tokens.now c.args.from (let some = c.if-limit-eq0.false in
+    omega arith) c.requires.stands c.in_err-value.field-0.0 c.in_err-value.ensures.parsed)
 
 pub returns-clause-parsed : goal.returns-clause-parsed
 returns-clause-parsed c =
-    case_taken c.args.source.now.names.now c.args.limit c.args.source.now.tokens.now c.args.from c.in_ok-value.value _ (let some = c.if-limit-eq0.false in omega arith) c.requires.stands c.in_ok-value.ensures.parsed refl refl refl
+    case_taken c.args.source.now.names.now c.args.limit c.args.source.now.tokens.now c.args.from c.in_ok-value.value _ (let some = c.if-limit-eq0.false in
+    omega arith) c.requires.stands c.in_ok-value.ensures.parsed refl refl refl
 
 pub returns-clause-placed : goal.returns-clause-placed
 returns-clause-placed c =

@@ -26,7 +26,9 @@ pub returns-in_err-last-clause-parsed : goal.returns-in_err-last-clause-parsed
 returns-in_err-last-clause-parsed c =
     let e : c.from_residual.result ≡ Err c.in_err-last.field-0.0 = search rules in
     subst (ConstantsAnswer c.args.source.now.names.now c.args.limit c.args.source.now.tokens.now c.args.from) (sym e)
-    (trailing_first_stops (Constants c.args.source.now.names.now) (token.Punctuator punctuator.CloseBrace) c.args.limit (constant_row c.args.source.now.names.now) c.requires.some c.args.source.now.tokens.now c.args.from c.in_err-last.field-0.0 c.in_err-last.ensures.parsed)
+    (trailing_first_stops (Constants c.args.source.now.names.now) (token.Punctuator punctuator.CloseBrace) c.args.limit
+    (constant_row c.args.source.now.names.now) c.requires.some c.args.source.now.tokens.now c.args.from c.in_err-last.field-0.0
+    c.in_err-last.ensures.parsed)
 
 pub constants-init : goal.constants-init
 constants-init c =
@@ -38,19 +40,33 @@ constants-init c =
       low = b.2;
       apt = c.in_ok-last.ensures.apt;
       placed =
-          subst (λ (x : List RawEnumerator). RowPlaced IsConstantPlaced (λ e. constant_text (constant e)) c.args.source.now.tokens.now c.args.from x c.in_ok-last.last.tree c.in_ok-last.last.next) (sym c.new-list.ensures.items)
-          (row_begun IsConstantPlaced (λ e. constant_text (constant e)) c.args.source.now.tokens.now c.args.from c.in_ok-last.last.tree c.in_ok-last.last.next t.spelled c.in_ok-last.ensures.placed);
+          subst (λ (x : List RawEnumerator).
+          RowPlaced IsConstantPlaced (λ e. constant_text (constant e)) c.args.source.now.tokens.now c.args.from x c.in_ok-last.last.tree
+          c.in_ok-last.last.next) (sym c.new-list.ensures.items)
+          (row_begun IsConstantPlaced (λ e. constant_text (constant e)) c.args.source.now.tokens.now c.args.from c.in_ok-last.last.tree c.in_ok-last.last.next
+          t.spelled c.in_ok-last.ensures.placed);
       so_far =
-          subst (λ (x : List RawEnumerator). TrailingRow (Constants c.args.source.now.names.now) (token.Punctuator punctuator.CloseBrace) c.args.limit c.args.source.now.tokens.now c.args.from (map constant x) (constant c.in_ok-last.last.tree) c.in_ok-last.last.next (is_deep c.in_ok-last.last.otherwise) c.in_ok-last.last.height) (sym c.new-list.ensures.items)
-          (trailing_first (Constants c.args.source.now.names.now) (token.Punctuator punctuator.CloseBrace) c.args.limit (constant_row c.args.source.now.names.now) c.requires.some c.args.source.now.tokens.now c.args.from c.requires.within (constant c.in_ok-last.last.tree) c.in_ok-last.last.next (is_deep c.in_ok-last.last.otherwise) c.in_ok-last.last.height t.spelled t.took t.height_is);
+          subst (λ (x : List RawEnumerator).
+          TrailingRow (Constants c.args.source.now.names.now) (token.Punctuator punctuator.CloseBrace) c.args.limit c.args.source.now.tokens.now c.args.from
+          (map constant x) (constant c.in_ok-last.last.tree) c.in_ok-last.last.next (is_deep c.in_ok-last.last.otherwise) c.in_ok-last.last.height)
+          (sym c.new-list.ensures.items)
+          (trailing_first (Constants c.args.source.now.names.now) (token.Punctuator punctuator.CloseBrace) c.args.limit
+          (constant_row c.args.source.now.names.now) c.requires.some c.args.source.now.tokens.now c.args.from c.requires.within
+          (constant c.in_ok-last.last.tree) c.in_ok-last.last.next (is_deep c.in_ok-last.last.otherwise) c.in_ok-last.last.height t.spelled t.took
+          t.height_is);
     }
 
 pub returns-in_err-another-clause-parsed : goal.returns-in_err-another-clause-parsed
 returns-in_err-another-clause-parsed c =
     let e : c.from_residual-in_err-another.result ≡ Err c.in_err-another.field-0.0 = search rules in
-    let n = (next_stands (kind_or_end c.args.source.now.tokens.now c.constants.last.next) (kind_or_end c.args.source.now.tokens.now (c.constants.last.next + 1)) (sym c.goes_on.ensures.comma ∙ c.constants-test.true)) in
+    let n =
+    (next_stands (kind_or_end c.args.source.now.tokens.now c.constants.last.next) (kind_or_end c.args.source.now.tokens.now (c.constants.last.next + 1))
+    (sym c.goes_on.ensures.comma ∙ c.constants-test.true)) in
     subst (ConstantsAnswer c.args.source.now.names.now c.args.limit c.args.source.now.tokens.now c.args.from) (sym e)
-    (trailing_next_stops (Constants c.args.source.now.names.now) (token.Punctuator punctuator.CloseBrace) c.args.limit (constant_row c.args.source.now.names.now) c.requires.some (no_constant_closes c.args.source.now.names.now) c.args.source.now.tokens.now c.args.from (map constant c.constants.list.items) (constant c.constants.last.tree) c.constants.last.next (is_deep c.constants.last.otherwise) c.constants.height c.constants.invariant.so_far n.0 n.1 c.in_err-another.field-0.0 c.in_err-another.ensures.parsed)
+    (trailing_next_stops (Constants c.args.source.now.names.now) (token.Punctuator punctuator.CloseBrace) c.args.limit
+    (constant_row c.args.source.now.names.now) c.requires.some (no_constant_closes c.args.source.now.names.now) c.args.source.now.tokens.now c.args.from
+    (map constant c.constants.list.items) (constant c.constants.last.tree) c.constants.last.next (is_deep c.constants.last.otherwise) c.constants.height
+    c.constants.invariant.so_far n.0 n.1 c.in_err-another.field-0.0 c.in_err-another.ensures.parsed)
 
 pub constants-preserved : goal.constants-preserved
 constants-preserved c =
@@ -58,39 +74,71 @@ constants-preserved c =
     let b = c.in_ok-another.ensures.bounds in
     let h : c.max-height.result ≡ max c.constants.height c.in_ok-another.another.height = c.max-height.ensures in
     let t = c.in_ok-another.ensures.parsed in
-    let n = (next_stands (kind_or_end c.args.source.now.tokens.now c.constants.last.next) (kind_or_end c.args.source.now.tokens.now (c.constants.last.next + 1)) (sym c.goes_on.ensures.comma ∙ c.constants-test.true)) in
-    let all : map constant c.push.new.self.items ≡ map constant c.constants.list.items ++ constant c.constants.last.tree ∷ [] = ap (map constant) c.in_ok-push.ensures.items ∙ map-append constant c.constants.list.items (c.constants.last.tree ∷ []) in
-    let next = trailing_next (Constants c.args.source.now.names.now) (token.Punctuator punctuator.CloseBrace) c.args.limit (constant_row c.args.source.now.names.now) c.requires.some (no_constant_closes c.args.source.now.names.now) c.args.source.now.tokens.now c.args.from (map constant c.constants.list.items) (constant c.constants.last.tree) c.constants.last.next (is_deep c.constants.last.otherwise) c.constants.height c.constants.invariant.so_far n.0 (constant c.in_ok-another.another.tree) c.in_ok-another.another.next (is_deep c.in_ok-another.another.otherwise) c.in_ok-another.another.height t.spelled t.took t.height_is in
+    let n =
+    (next_stands (kind_or_end c.args.source.now.tokens.now c.constants.last.next) (kind_or_end c.args.source.now.tokens.now (c.constants.last.next + 1))
+    (sym c.goes_on.ensures.comma ∙ c.constants-test.true)) in
+    let all : map constant c.push.new.self.items ≡ map constant c.constants.list.items ++ constant c.constants.last.tree ∷ [] =
+    ap (map constant) c.in_ok-push.ensures.items ∙ map-append constant c.constants.list.items (c.constants.last.tree ∷ []) in
+    let next = trailing_next (Constants c.args.source.now.names.now) (token.Punctuator punctuator.CloseBrace) c.args.limit
+    (constant_row c.args.source.now.names.now) c.requires.some (no_constant_closes c.args.source.now.names.now) c.args.source.now.tokens.now c.args.from
+    (map constant c.constants.list.items) (constant c.constants.last.tree) c.constants.last.next (is_deep c.constants.last.otherwise) c.constants.height
+    c.constants.invariant.so_far n.0 (constant c.in_ok-another.another.tree) c.in_ok-another.another.next (is_deep c.in_ok-another.another.otherwise)
+    c.in_ok-another.another.height t.spelled t.took t.height_is in
     record {
       onward = omega arith;
       inside = b.1;
       low = omega arith;
       apt = c.in_ok-another.ensures.apt;
-      placed = row_goes_on IsConstantPlaced (λ e. constant_text (constant e)) constant_framed c.args.source.now.tokens.now c.args.from c.constants.list.items c.push.new.self.items c.constants.last.tree c.constants.last.next c.in_ok-another.another.tree c.in_ok-another.another.next i.placed c.in_ok-push.ensures.items t.spelled c.in_ok-another.ensures.placed;
+      placed = row_goes_on IsConstantPlaced (λ e. constant_text (constant e)) constant_framed c.args.source.now.tokens.now c.args.from c.constants.list.items
+          c.push.new.self.items c.constants.last.tree c.constants.last.next c.in_ok-another.another.tree c.in_ok-another.another.next i.placed
+          c.in_ok-push.ensures.items t.spelled c.in_ok-another.ensures.placed;
       so_far =
-          subst (λ (x : List Constant). TrailingRow (Constants c.args.source.now.names.now) (token.Punctuator punctuator.CloseBrace) c.args.limit c.args.source.now.tokens.now c.args.from x (constant c.in_ok-another.another.tree) c.in_ok-another.another.next (is_deep c.in_ok-another.another.otherwise) c.max-height.result) (sym all)
-          (subst (λ (x : ℕ). TrailingRow (Constants c.args.source.now.names.now) (token.Punctuator punctuator.CloseBrace) c.args.limit c.args.source.now.tokens.now c.args.from (map constant c.constants.list.items ++ constant c.constants.last.tree ∷ []) (constant c.in_ok-another.another.tree) c.in_ok-another.another.next (is_deep c.in_ok-another.another.otherwise) x) (sym h) next);
+          subst (λ (x : List Constant).
+          TrailingRow (Constants c.args.source.now.names.now) (token.Punctuator punctuator.CloseBrace) c.args.limit c.args.source.now.tokens.now c.args.from
+          x (constant c.in_ok-another.another.tree) c.in_ok-another.another.next (is_deep c.in_ok-another.another.otherwise) c.max-height.result) (sym all)
+          (subst (λ (x : ℕ).
+          TrailingRow (Constants c.args.source.now.names.now) (token.Punctuator punctuator.CloseBrace) c.args.limit c.args.source.now.tokens.now c.args.from
+          (map constant c.constants.list.items ++ constant c.constants.last.tree ∷ []) (constant c.in_ok-another.another.tree)
+          c.in_ok-another.another.next (is_deep c.in_ok-another.another.otherwise) x) (sym h) next);
     }
 
 pub returns-then-not-is_punctuator-clause-parsed : goal.returns-then-not-is_punctuator-clause-parsed
 returns-then-not-is_punctuator-clause-parsed c =
-    subst (λ (n : ℕ). ConstantsAnswer c.args.source.now.names.now c.args.limit c.args.source.now.tokens.now c.args.from (Err (stop.Refused n c.constants.last.otherwise))) (sym c.closing_at-closing.ensures)
-    (list_unclosed (Constants c.args.source.now.names.now) c.args.limit (constant_row c.args.source.now.names.now) (no_constant_closes c.args.source.now.names.now) c.args.source.now.tokens.now c.args.from (map constant c.constants.list.items) (constant c.constants.last.tree) c.constants.last.next c.constants.last.otherwise c.constants.height c.constants.invariant.so_far c.is_punctuator-comma.result (c.is_punctuator-comma.ensures.punctuator.0, c.is_punctuator-comma.ensures.punctuator.1)
+    subst (λ (n : ℕ).
+    ConstantsAnswer c.args.source.now.names.now c.args.limit c.args.source.now.tokens.now c.args.from (Err (stop.Refused n c.constants.last.otherwise)))
+    (sym c.closing_at-closing.ensures)
+    (list_unclosed (Constants c.args.source.now.names.now) c.args.limit (constant_row c.args.source.now.names.now)
+    (no_constant_closes c.args.source.now.names.now) c.args.source.now.tokens.now c.args.from (map constant c.constants.list.items)
+    (constant c.constants.last.tree) c.constants.last.next c.constants.last.otherwise c.constants.height c.constants.invariant.so_far
+    c.is_punctuator-comma.result (c.is_punctuator-comma.ensures.punctuator.0, c.is_punctuator-comma.ensures.punctuator.1)
     (sym c.goes_on.ensures.comma ∙ c.constants-test.false)
-    (λ k. false≢true (sym c.if-not-is_punctuator.true ∙ c.is_punctuator.ensures.punctuator.1 (ap (kind_or_end c.args.source.now.tokens.now) c.closing_at-closing.ensures ∙ k))))
+    (λ k.
+    false≢true (sym c.if-not-is_punctuator.true
+    ∙ c.is_punctuator.ensures.punctuator.1 (ap (kind_or_end c.args.source.now.tokens.now) c.closing_at-closing.ensures ∙ k))))
 
 pub returns-clause-parsed : goal.returns-clause-parsed
 returns-clause-parsed c =
-    let r = trailing_taken (Constants c.args.source.now.names.now) (token.Punctuator punctuator.CloseBrace) c.args.limit (constant_row c.args.source.now.names.now) (λ x. cc) (no_constant_closes c.args.source.now.names.now) c.args.source.now.tokens.now c.args.from (map constant c.constants.list.items) (constant c.constants.last.tree) c.constants.last.next (is_deep c.constants.last.otherwise) c.constants.height c.constants.invariant.so_far c.is_punctuator-comma.result c.is_punctuator-comma.ensures.punctuator.0 (sym (ap (kind_or_end c.args.source.now.tokens.now) c.closing_at-closing.ensures) ∙ c.is_punctuator.ensures.punctuator.0 c.if-not-is_punctuator.false) in
-    row_is_exact (Constants c.args.source.now.names.now) (token.Punctuator punctuator.CloseBrace) c.args.limit _ c.args.source.now.tokens.now c.args.from _ _ c.constants.height _ r
-    (ap (λ (x : List Constant). (x, c.is_punctuator-comma.result)) (ap (map constant) c.in_ok-push-2.ensures.items ∙ map-append constant c.constants.list.items (c.constants.last.tree ∷ []))) refl (ap (λ (n : ℕ). n + 1) c.closing_at-closing.ensures)
+    let r = trailing_taken (Constants c.args.source.now.names.now) (token.Punctuator punctuator.CloseBrace) c.args.limit
+    (constant_row c.args.source.now.names.now) (λ x. cc) (no_constant_closes c.args.source.now.names.now) c.args.source.now.tokens.now c.args.from
+    (map constant c.constants.list.items) (constant c.constants.last.tree) c.constants.last.next (is_deep c.constants.last.otherwise) c.constants.height
+    c.constants.invariant.so_far c.is_punctuator-comma.result c.is_punctuator-comma.ensures.punctuator.0
+    (sym (ap (kind_or_end c.args.source.now.tokens.now) c.closing_at-closing.ensures)
+    ∙ c.is_punctuator.ensures.punctuator.0 c.if-not-is_punctuator.false) in
+    row_is_exact (Constants c.args.source.now.names.now) (token.Punctuator punctuator.CloseBrace) c.args.limit _ c.args.source.now.tokens.now c.args.from _ _
+    c.constants.height _ r
+    (ap (λ (x : List Constant). (x, c.is_punctuator-comma.result)) (ap (map constant) c.in_ok-push-2.ensures.items
+    ∙ map-append constant c.constants.list.items (c.constants.last.tree ∷ []))) refl (ap (λ (n : ℕ). n + 1) c.closing_at-closing.ensures)
 
 pub returns-clause-placed : goal.returns-clause-placed
 returns-clause-placed c =
-    row_placed IsConstantPlaced (λ e. constant_text (constant e)) c.args.source.now.tokens.now c.args.from c.constants.list.items _ c.constants.last.tree c.constants.last.next c.constants.invariant.placed c.in_ok-push-2.ensures.items
+    row_placed IsConstantPlaced (λ e. constant_text (constant e)) c.args.source.now.tokens.now c.args.from c.constants.list.items _ c.constants.last.tree
+    c.constants.last.next c.constants.invariant.placed c.in_ok-push-2.ensures.items
 
 pub returns-then-not-is_punctuator-clause-apt : goal.returns-then-not-is_punctuator-clause-apt
 returns-then-not-is_punctuator-clause-apt c =
     subst (λ (n : ℕ). IsApt scope.File (kind_or_end c.args.source.now.tokens.now n) c.constants.last.otherwise) (sym c.closing_at-closing.ensures)
-    (unclosed_apt scope.File c.args.source.now.tokens.now c.constants.last.next c.constants.last.otherwise c.is_punctuator-comma.result c.is_punctuator-comma.ensures.punctuator.0 (sym c.goes_on.ensures.comma ∙ c.constants-test.false)
-    (λ k. false≢true (sym c.if-not-is_punctuator.true ∙ c.is_punctuator.ensures.punctuator.1 (ap (kind_or_end c.args.source.now.tokens.now) c.closing_at-closing.ensures ∙ k))) c.constants.invariant.apt)
+    (unclosed_apt scope.File c.args.source.now.tokens.now c.constants.last.next c.constants.last.otherwise c.is_punctuator-comma.result
+    c.is_punctuator-comma.ensures.punctuator.0 (sym c.goes_on.ensures.comma ∙ c.constants-test.false)
+    (λ k.
+    false≢true (sym c.if-not-is_punctuator.true
+    ∙ c.is_punctuator.ensures.punctuator.1 (ap (kind_or_end c.args.source.now.tokens.now) c.closing_at-closing.ensures ∙ k))) c.constants.invariant.apt)

@@ -20,7 +20,8 @@ invariant-constants l = record {
   low : l.height ≤ l.limit;
   apt : IsApt scope.File (kind_or_end l.source.tokens.now l.last.next) l.last.otherwise;
   placed : RowPlaced IsConstantPlaced (λ e. constant_text (constant e)) l.source.tokens.now l.from l.list.items l.last.tree l.last.next;
-  so_far : TrailingRow (Constants l.source.names.now) (token.Punctuator punctuator.CloseBrace) l.limit l.source.tokens.now l.from (map constant l.list.items) (constant l.last.tree) l.last.next (is_deep l.last.otherwise) l.height;
+  so_far : TrailingRow (Constants l.source.names.now) (token.Punctuator punctuator.CloseBrace) l.limit l.source.tokens.now l.from (map constant l.list.items)
+      (constant l.last.tree) l.last.next (is_deep l.last.otherwise) l.height;
 }
 
 abbrev pub decreases-constants : goal.decreases-constants

@@ -16,7 +16,9 @@ invariant-declarators l = record {
   inside : l.last.next ≤ length l.source.tokens.now;
   low : l.height ≤ l.limit;
   placed : RowPlaced IsDeclaratorPlaced (λ d. declarator_text (declarator d)) l.source.tokens.now l.from l.list.items l.last.tree l.last.next;
-  so_far : RowSoFar (DeclaratorsFor l.declares l.source.names.now) (token.Punctuator punctuator.Semicolon) l.limit l.source.tokens.now l.from (map declarator l.list.items) (declarator l.last.tree) l.last.next (is_full l.declares (l.limit - 1) (kind_or_end l.source.tokens.now l.last.next)) l.height;
+  so_far : RowSoFar (DeclaratorsFor l.declares l.source.names.now) (token.Punctuator punctuator.Semicolon) l.limit l.source.tokens.now l.from
+      (map declarator l.list.items) (declarator l.last.tree) l.last.next (is_full l.declares (l.limit - 1) (kind_or_end l.source.tokens.now l.last.next))
+      l.height;
 }
 
 abbrev pub decreases-declarators : goal.decreases-declarators

@@ -36,25 +36,30 @@ returns-clause-some c =
 
 pub returns-clause-parsed : goal.returns-clause-parsed
 returns-clause-parsed c =
-    phrase_taken c.args.source.now.names.now (level_asked c.args.level) c.args.limit c.args.source.now.tokens.now c.args.from c.in_ok-phrase.phrase c.unclosed.result c.unclosed.ensures c.in_ok-phrase.ensures.taken
+    phrase_taken c.args.source.now.names.now (level_asked c.args.level) c.args.limit c.args.source.now.tokens.now c.args.from c.in_ok-phrase.phrase
+    c.unclosed.result c.unclosed.ensures c.in_ok-phrase.ensures.taken
 
 pub returns-in_err-phrase-clause-parsed : goal.returns-in_err-phrase-clause-parsed
 returns-in_err-phrase-clause-parsed c =
     let e : c.from_residual.result ≡ Err c.in_err-phrase.field-0.0 = search rules in
-    subst (UnclosedAnswers (Expressions c.args.source.now.names.now (level_asked c.args.level)) written c.args.limit c.args.source.now.tokens.now c.args.from) (sym e)
-    (phrase_stops c.args.source.now.names.now (level_asked c.args.level) c.args.limit c.args.source.now.tokens.now c.args.from c.in_err-phrase.field-0.0 c.in_err-phrase.ensures.stopped)
+    subst (UnclosedAnswers (Expressions c.args.source.now.names.now (level_asked c.args.level)) written c.args.limit c.args.source.now.tokens.now c.args.from)
+    (sym e)
+    (phrase_stops c.args.source.now.names.now (level_asked c.args.level) c.args.limit c.args.source.now.tokens.now c.args.from c.in_err-phrase.field-0.0
+    c.in_err-phrase.ensures.stopped)
 
 pub returns-in_err-phrase-clause-bounds : goal.returns-in_err-phrase-clause-bounds
 returns-in_err-phrase-clause-bounds c =
     let e : c.from_residual.result ≡ Err c.in_err-phrase.field-0.0 = search rules in
     subst (IsUnclosedBounded c.args.limit c.args.source.now.tokens.now c.args.from) (sym e)
-    (phrase_inside c.args.source.now.names.now (level_asked c.args.level) c.args.limit c.args.source.now.tokens.now c.args.from c.in_err-phrase.field-0.0 c.in_err-phrase.ensures.stopped)
+    (phrase_inside c.args.source.now.names.now (level_asked c.args.level) c.args.limit c.args.source.now.tokens.now c.args.from c.in_err-phrase.field-0.0
+    c.in_err-phrase.ensures.stopped)
 
 pub returns-in_err-phrase-clause-apt : goal.returns-in_err-phrase-clause-apt
 returns-in_err-phrase-clause-apt c =
     let e : c.from_residual.result ≡ Err c.in_err-phrase.field-0.0 = search rules in
     subst (IsUnclosedApt scope.Block c.args.source.now.tokens.now) (sym e)
-    (stopped_apt c.args.source.now.names.now (level_asked c.args.level) c.args.limit c.args.source.now.tokens.now c.args.from c.in_err-phrase.field-0.0 c.in_err-phrase.ensures.stopped)
+    (stopped_apt c.args.source.now.names.now (level_asked c.args.level) c.args.limit c.args.source.now.tokens.now c.args.from c.in_err-phrase.field-0.0
+    c.in_err-phrase.ensures.stopped)
 
 pub returns-clause-placed : goal.returns-clause-placed
 returns-clause-placed c =
@@ -63,4 +68,5 @@ returns-clause-placed c =
 
 pub returns-clause-apt : goal.returns-clause-apt
 returns-clause-apt c =
-    phrase_apt c.args.source.now.names.now (level_asked c.args.level) c.args.limit c.args.source.now.tokens.now c.args.from c.in_ok-phrase.phrase c.unclosed.result c.unclosed.ensures c.in_ok-phrase.ensures.taken
+    phrase_apt c.args.source.now.names.now (level_asked c.args.level) c.args.limit c.args.source.now.tokens.now c.args.from c.in_ok-phrase.phrase
+    c.unclosed.result c.unclosed.ensures c.in_ok-phrase.ensures.taken

@@ -13,17 +13,23 @@ pub returns-in_err-specs-clause-parsed : goal.returns-in_err-specs-clause-parsed
 returns-in_err-specs-clause-parsed c =
     let e : c.from_residual.result ≡ Err c.in_err-specs.field-0.0 = search rules in
     subst (ExactAnswers (Externals c.args.source.now.names.now) external_of 200 c.args.source.now.tokens.now c.args.from) (sym e)
-    (declared_type_stops c.args.source.now.names.now c.args.source.now.tokens.now c.args.from c.requires.other c.in_err-specs.field-0.0 c.in_err-specs.ensures.parsed)
+    (declared_type_stops c.args.source.now.names.now c.args.source.now.tokens.now c.args.from c.requires.other c.in_err-specs.field-0.0
+    c.in_err-specs.ensures.parsed)
 
 pub returns-then-is_punctuator-clause-parsed : goal.returns-then-is_punctuator-clause-parsed
 returns-then-is_punctuator-clause-parsed c =
-    external_alone_taken c.args.source.now.names.now c.args.source.now.tokens.now c.args.from c.in_ok-specs.specs _ (record { taken = c.in_ok-specs.ensures.parsed; no_typedef = c.requires.other }) (c.is_punctuator.ensures.punctuator.0 c.if-is_punctuator.true) refl refl refl
+    external_alone_taken c.args.source.now.names.now c.args.source.now.tokens.now c.args.from c.in_ok-specs.specs _
+    (record { taken = c.in_ok-specs.ensures.parsed; no_typedef = c.requires.other }) (c.is_punctuator.ensures.punctuator.0 c.if-is_punctuator.true) refl
+    refl refl
 
 pub returns-in_err-pointed-clause-parsed : goal.returns-in_err-pointed-clause-parsed
 returns-in_err-pointed-clause-parsed c =
     let e : c.from_residual-in_err-pointed.result ≡ Err c.in_err-pointed.field-0.0 = search rules in
     subst (ExactAnswers (Externals c.args.source.now.names.now) external_of 200 c.args.source.now.tokens.now c.args.from) (sym e)
-    (external_name_stops c.args.source.now.names.now c.args.source.now.tokens.now c.args.from c.in_ok-specs.specs (record { taken = c.in_ok-specs.ensures.parsed; no_typedef = c.requires.other }) (λ k. false≢true (sym c.if-is_punctuator.false ∙ c.is_punctuator.ensures.punctuator.1 k)) c.in_err-pointed.field-0.0 c.in_err-pointed.ensures.parsed)
+    (external_name_stops c.args.source.now.names.now c.args.source.now.tokens.now c.args.from c.in_ok-specs.specs
+    (record { taken = c.in_ok-specs.ensures.parsed; no_typedef = c.requires.other })
+    (λ k. false≢true (sym c.if-is_punctuator.false ∙ c.is_punctuator.ensures.punctuator.1 k)) c.in_err-pointed.field-0.0
+    c.in_err-pointed.ensures.parsed)
 
 pub returns-then-is_punctuator-2-clause-parsed : goal.returns-then-is_punctuator-2-clause-parsed
 returns-then-is_punctuator-2-clause-parsed c =
@@ -38,11 +44,17 @@ returns-then-is_punctuator-clause-placed c = c.in_ok-specs.ensures.placed
 
 pub returns-then-is_punctuator-2-clause-placed : goal.returns-then-is_punctuator-2-clause-placed
 returns-then-is_punctuator-2-clause-placed c =
-    c.function.ensures.placed c.args.from (record { taken = c.in_ok-specs.ensures.parsed; no_typedef = c.requires.other }, c.in_ok-specs.ensures.placed) (c.in_ok-pointed.ensures.parsed, c.in_ok-pointed.ensures.placed)
+    c.function.ensures.placed c.args.from (
+      record { taken = c.in_ok-specs.ensures.parsed; no_typedef = c.requires.other },
+      c.in_ok-specs.ensures.placed,
+    ) (c.in_ok-pointed.ensures.parsed, c.in_ok-pointed.ensures.placed)
 
 pub returns-clause-placed : goal.returns-clause-placed
 returns-clause-placed c =
-    c.objects.ensures.placed c.args.from (record { taken = c.in_ok-specs.ensures.parsed; no_typedef = c.requires.other }, c.in_ok-specs.ensures.placed) (c.in_ok-pointed.ensures.parsed, c.in_ok-pointed.ensures.placed)
+    c.objects.ensures.placed c.args.from (
+      record { taken = c.in_ok-specs.ensures.parsed; no_typedef = c.requires.other },
+      c.in_ok-specs.ensures.placed,
+    ) (c.in_ok-pointed.ensures.parsed, c.in_ok-pointed.ensures.placed)
 
 pub returns-in_err-specs-clause-inside : goal.returns-in_err-specs-clause-inside
 returns-in_err-specs-clause-inside c =
@@ -54,10 +66,13 @@ pub returns-in_err-pointed-clause-inside : goal.returns-in_err-pointed-clause-in
 returns-in_err-pointed-clause-inside c =
     let e : c.from_residual-in_err-pointed.result ≡ Err c.in_err-pointed.field-0.0 = search rules in
     subst (IsBodyApt c.args.source.now.names.now c.args.source.now.tokens.now c.args.from) (sym e)
-    (name_body c.args.source.now.names.now c.args.source.now.tokens.now c.args.from c.in_ok-specs.specs (record { taken = c.in_ok-specs.ensures.parsed; no_typedef = c.requires.other }) c.in_err-pointed.field-0.0 c.in_err-pointed.ensures.parsed)
+    (name_body c.args.source.now.names.now c.args.source.now.tokens.now c.args.from c.in_ok-specs.specs
+    (record { taken = c.in_ok-specs.ensures.parsed; no_typedef = c.requires.other }) c.in_err-pointed.field-0.0 c.in_err-pointed.ensures.parsed)
 
 pub returns-then-is_punctuator-2-clause-inside : goal.returns-then-is_punctuator-2-clause-inside
-returns-then-is_punctuator-2-clause-inside c = c.function.ensures.inside c.args.from (record { taken = c.in_ok-specs.ensures.parsed; no_typedef = c.requires.other }) c.in_ok-pointed.ensures.parsed
+returns-then-is_punctuator-2-clause-inside c =
+    c.function.ensures.inside c.args.from (record { taken = c.in_ok-specs.ensures.parsed; no_typedef = c.requires.other }) c.in_ok-pointed.ensures.parsed
 
 pub returns-clause-inside : goal.returns-clause-inside
-returns-clause-inside c = c.objects.ensures.inside c.args.from (record { taken = c.in_ok-specs.ensures.parsed; no_typedef = c.requires.other }) c.in_ok-pointed.ensures.parsed
+returns-clause-inside c = c.objects.ensures.inside c.args.from (record { taken = c.in_ok-specs.ensures.parsed; no_typedef = c.requires.other })
+    c.in_ok-pointed.ensures.parsed

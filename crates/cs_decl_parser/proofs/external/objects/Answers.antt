@@ -17,27 +17,33 @@ returns-in_err-declarator-clause-parsed c =
     λ from t p.
     let e : c.from_residual.result ≡ Err c.in_err-declarator.field-0.0 = search rules in
     subst (ExactAnswers (Externals c.args.source.now.names.now) external_of 200 c.args.source.now.tokens.now from) (sym e)
-    (external_declarator_stops c.args.source.now.names.now c.args.source.now.tokens.now from c.args.specs c.args.pointed t p c.requires.stands c.in_err-declarator.field-0.0 (c.in_err-declarator.ensures.parsed c.args.specs.next p))
+    (external_declarator_stops c.args.source.now.names.now c.args.source.now.tokens.now from c.args.specs c.args.pointed t p c.requires.stands
+    c.in_err-declarator.field-0.0 (c.in_err-declarator.ensures.parsed c.args.specs.next p))
 
 pub returns-in_err-first-clause-parsed : goal.returns-in_err-first-clause-parsed
 returns-in_err-first-clause-parsed c =
     λ from t p.
     let e : c.from_residual-in_err-first.result ≡ Err c.in_err-first.field-0.0 = search rules in
     subst (ExactAnswers (Externals c.args.source.now.names.now) external_of 200 c.args.source.now.tokens.now from) (sym e)
-    (external_value_stops c.args.source.now.names.now c.args.source.now.tokens.now from c.args.specs c.args.pointed t p c.requires.stands c.in_err-first.field-0.0 (c.in_err-first.ensures.parsed c.args.specs.next (c.in_ok-declarator.ensures.parsed c.args.specs.next p)))
+    (external_value_stops c.args.source.now.names.now c.args.source.now.tokens.now from c.args.specs c.args.pointed t p c.requires.stands
+    c.in_err-first.field-0.0 (c.in_err-first.ensures.parsed c.args.specs.next (c.in_ok-declarator.ensures.parsed c.args.specs.next p)))
 
 pub returns-in_err-objects-clause-parsed : goal.returns-in_err-objects-clause-parsed
 returns-in_err-objects-clause-parsed c =
     λ from t p.
     let e : c.from_residual-in_err-objects.result ≡ Err c.in_err-objects.field-0.0 = search rules in
     subst (ExactAnswers (Externals c.args.source.now.names.now) external_of 200 c.args.source.now.tokens.now from) (sym e)
-    (external_object_stops c.args.source.now.names.now c.args.source.now.tokens.now from c.args.specs c.args.pointed t p c.requires.stands c.in_err-objects.field-0.0 (c.in_err-objects.ensures.parsed c.args.specs.next (c.in_ok-first.ensures.parsed c.args.specs.next (c.in_ok-declarator.ensures.parsed c.args.specs.next p))))
+    (external_object_stops c.args.source.now.names.now c.args.source.now.tokens.now from c.args.specs c.args.pointed t p c.requires.stands
+    c.in_err-objects.field-0.0 (c.in_err-objects.ensures.parsed c.args.specs.next
+    (c.in_ok-first.ensures.parsed c.args.specs.next (c.in_ok-declarator.ensures.parsed c.args.specs.next p))))
 
 pub returns-clause-parsed : goal.returns-clause-parsed
 returns-clause-parsed c =
     λ from t p.
     let h = c.max.ensures in
-    external_objects_taken c.args.source.now.names.now c.args.source.now.tokens.now from c.args.specs c.in_ok-objects.objects _ t (c.in_ok-objects.ensures.parsed c.args.specs.next (c.in_ok-first.ensures.parsed c.args.specs.next (c.in_ok-declarator.ensures.parsed c.args.specs.next p))) refl (omega arith) refl
+    external_objects_taken c.args.source.now.names.now c.args.source.now.tokens.now from c.args.specs c.in_ok-objects.objects _ t
+    (c.in_ok-objects.ensures.parsed c.args.specs.next
+    (c.in_ok-first.ensures.parsed c.args.specs.next (c.in_ok-declarator.ensures.parsed c.args.specs.next p))) refl (omega arith) refl
 
 pub returns-clause-placed : goal.returns-clause-placed
 returns-clause-placed c =
@@ -71,4 +77,5 @@ returns-in_err-objects-clause-inside c =
 pub returns-in_err-declarator-clause-apt : goal.returns-in_err-declarator-clause-apt
 returns-in_err-declarator-clause-apt c =
     let e : c.from_residual.result ≡ Err c.in_err-declarator.field-0.0 = search rules in
-    subst (IsAnswerApt scope.File c.args.source.now.tokens.now) (sym e) (stop_apt scope.File c.args.source.now.tokens.now c.in_err-declarator.field-0.0 c.in_err-declarator.ensures.apt)
+    subst (IsAnswerApt scope.File c.args.source.now.tokens.now) (sym e)
+    (stop_apt scope.File c.args.source.now.tokens.now c.in_err-declarator.field-0.0 c.in_err-declarator.ensures.apt)

@@ -5,4 +5,5 @@ use Rattle.cs_grammar.specs.FilePhrases.{with_names}
 use Rattle.cs_decl_parser.proofs.externals.add_names.Given as goal
 
 abbrev pub invariant-loop-declarator : goal.invariant-loop-declarator
-invariant-loop-declarator l = with_names l.names (map declarator (drop l.declarator-index l.declarators)) ≡ with_names l.initial.names (map declarator l.declarators)
+invariant-loop-declarator l = with_names l.names (map declarator (drop l.declarator-index l.declarators))
+    ≡ with_names l.initial.names (map declarator l.declarators)

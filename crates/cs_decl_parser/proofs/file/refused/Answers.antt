@@ -6,4 +6,5 @@ use Rattle.cs_decl_parser.proofs.file.refused.Goals as goal
 
 pub returns-in-Ok : goal.returns-in-Ok
 returns-in-Ok c = λ s.
-    token_refusal c.args.tokens.now c.args.end c.in-Refused.at c.in-Ok.reason c.refusal.result c.refusal.ensures (c.in-Ok.ensures (subst (FileStops c.args.tokens.now) c.in-Refused.is s))
+    token_refusal c.args.tokens.now c.args.end c.in-Refused.at c.in-Ok.reason c.refusal.result c.refusal.ensures
+    (c.in-Ok.ensures (subst (FileStops c.args.tokens.now) c.in-Refused.is s))

@@ -26,7 +26,8 @@ invariant-items-items l = record {
   low : l.height ≤ l.limit - 1;
   apt : IsApt l.scope (kind_or_end l.source.tokens.now l.last.next) l.last.otherwise;
   placed : RowPlaced IsInitialPlaced (λ i. initial_text (initial i)) l.source.tokens.now (l.fn.from + 1) l.list.items l.last.tree l.last.next;
-  so_far : TrailingRow (Values l.source.names.now) (token.Punctuator punctuator.CloseBrace) (l.limit - 1) l.source.tokens.now (l.fn.from + 1) (map initial l.list.items) (initial l.last.tree) l.last.next (is_deep l.last.otherwise) l.height;
+  so_far : TrailingRow (Values l.source.names.now) (token.Punctuator punctuator.CloseBrace) (l.limit - 1) l.source.tokens.now (l.fn.from + 1)
+      (map initial l.list.items) (initial l.last.tree) l.last.next (is_deep l.last.otherwise) l.height;
 }
 
 abbrev pub decreases-items-items : goal.decreases-items-items

@@ -19,8 +19,12 @@ invariant-objects l = record {
   inside : l.last.next ≤ length l.source.tokens.now;
   low : l.height ≤ l.limit;
   apt : IsApt l.scope (kind_or_end l.source.tokens.now l.last.next) l.last.otherwise;
-  placed : (from : ℕ) → IsUnclosed (Objects l.source.names.now) declared l.limit l.source.tokens.now from l.fn.first → IsDeclaredPlaced l.fn.first.tree (drop from l.source.tokens.now) → RowPlaced IsDeclaredPlaced (λ d. declared_text (declared d)) l.source.tokens.now from l.list.items l.last.tree l.last.next;
-  so_far : (from : ℕ) → IsUnclosed (Objects l.source.names.now) declared l.limit l.source.tokens.now from l.fn.first → RowSoFar (Objects l.source.names.now) (token.Punctuator punctuator.Semicolon) l.limit l.source.tokens.now from (map declared l.list.items) (declared l.last.tree) l.last.next (is_deep l.last.otherwise) l.height;
+  placed : (from : ℕ) → IsUnclosed (Objects l.source.names.now) declared l.limit l.source.tokens.now from l.fn.first
+      → IsDeclaredPlaced l.fn.first.tree (drop from l.source.tokens.now)
+      → RowPlaced IsDeclaredPlaced (λ d. declared_text (declared d)) l.source.tokens.now from l.list.items l.last.tree l.last.next;
+  so_far : (from : ℕ) → IsUnclosed (Objects l.source.names.now) declared l.limit l.source.tokens.now from l.fn.first
+      → RowSoFar (Objects l.source.names.now) (token.Punctuator punctuator.Semicolon) l.limit l.source.tokens.now from (map declared l.list.items)
+      (declared l.last.tree) l.last.next (is_deep l.last.otherwise) l.height;
 }
 
 abbrev pub decreases-objects : goal.decreases-objects

@@ -10,7 +10,8 @@ use Rattle.cs_decl_parser.proofs.reason.file_goes_on.Goals as goal
 pub returns-in-Err-Refused : goal.returns-in-Err-Refused
 returns-in-Err-Refused c =
     let copied = c.in_ok-tokens.ensures.items_if_clones_equal token_same in
-    let all : c.deref.result.now ≡ c.args.before.now ++ c.args.next ∷ [] = c.deref.ensures.value ∙ c.in_ok-push.ensures.items ∙ ap (λ (x : List Token). x ++ c.args.next ∷ []) copied in
+    let all : c.deref.result.now ≡ c.args.before.now ++ c.args.next ∷ [] = c.deref.ensures.value ∙ c.in_ok-push.ensures.items
+    ∙ ap (λ (x : List Token). x ++ c.args.next ∷ []) copied in
     goes_on_after c.args.before.now c.args.next c.in-Err-Refused.at c.in-Err-Refused.reason c.is_deep_or_past.result c.is_deep_or_past.ensures
     (subst (λ (x : List Token). IsStoppedAt x c.in-Err-Refused.at c.in-Err-Refused.reason) all
     (subst (FileStops c.deref.result.now) c.in-Err-Refused.field-0-is c.in-Err-Refused.ensures.refused).stopped)
@@ -18,6 +19,7 @@ returns-in-Err-Refused c =
 pub returns-in-Ok : goal.returns-in-Ok
 returns-in-Ok c = λ b.
     let copied = c.in_ok-tokens.ensures.items_if_clones_equal token_same in
-    let all : c.deref.result.now ≡ c.args.before.now ++ c.args.next ∷ [] = c.deref.ensures.value ∙ c.in_ok-push.ensures.items ∙ ap (λ (x : List Token). x ++ c.args.next ∷ []) copied in
+    let all : c.deref.result.now ≡ c.args.before.now ++ c.args.next ∷ [] = c.deref.ensures.value ∙ c.in_ok-push.ensures.items
+    ∙ ap (λ (x : List Token). x ++ c.args.next ∷ []) copied in
     let file = parts_of c.read.new.self.list.items in
     (λ t. goes_on_whole c.args.before.now c.args.next file (subst (λ (x : List Token). IsTheFile x file) all c.in-Ok.ensures.file), λ f. refl)

@@ -7,4 +7,5 @@ use Rattle.cs_decl_parser.proofs.reason.may_open_list.Goals as goal
 
 pub returns : goal.returns
 returns c = λ b.
-    list_reported (kinds (take c.args.at c.args.tokens.now)) c.awaits_list.result c.awaits_list.ensures c.in_ok-on.on (λ f. absurd (false≢true (sym f ∙ c.if-not-awaits_list.false))) (λ t. c.in_ok-on.ensures b)
+    list_reported (kinds (take c.args.at c.args.tokens.now)) c.awaits_list.result c.awaits_list.ensures c.in_ok-on.on
+    (λ f. absurd (false≢true (sym f ∙ c.if-not-awaits_list.false))) (λ t. c.in_ok-on.ensures b)

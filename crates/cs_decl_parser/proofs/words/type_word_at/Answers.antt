@@ -6,4 +6,6 @@ use Rattle.cs_decl_parser.proofs.words.type_word_at.Goals as goal
 
 pub returns-in-Some-keyword_at-clause-word : goal.returns-in-Some-keyword_at-clause-word
 returns-in-Some-keyword_at-clause-word c =
-    keyword_type_word c.args.source.now.names.now (kind_or_end c.args.source.now.tokens.now c.args.at) c.in-Some-keyword_at.keyword c.type_word.result (keyword_is (kind_or_end c.args.source.now.tokens.now c.args.at) c.in-Some-keyword_at.keyword (sym c.in-Some-keyword_at.ensures.keyword)) c.type_word.ensures
+    keyword_type_word c.args.source.now.names.now (kind_or_end c.args.source.now.tokens.now c.args.at) c.in-Some-keyword_at.keyword c.type_word.result
+    (keyword_is (kind_or_end c.args.source.now.tokens.now c.args.at) c.in-Some-keyword_at.keyword (sym c.in-Some-keyword_at.ensures.keyword))
+    c.type_word.ensures

@@ -14,5 +14,6 @@ decreases-have_forms l = 2 * goal.size-have_forms l + 1
 abbrev pub invariant-have_forms-loop-item : goal.invariant-have_forms-loop-item
 invariant-have_forms-loop-item l = record {
   same : l.number ≡ l.item-index;
-  so_far : list_has_forms l.table.list (view.storage l.storage) (drop l.item-index (types_of l.parts)) (drop l.item-index l.items) ≡ list_has_forms l.table.list (view.storage l.storage) (types_of l.parts) l.items;
+  so_far : list_has_forms l.table.list (view.storage l.storage) (drop l.item-index (types_of l.parts)) (drop l.item-index l.items)
+      ≡ list_has_forms l.table.list (view.storage l.storage) (types_of l.parts) l.items;
 }

@@ -15,5 +15,6 @@ decreases-items_read l = 2 * goal.size-items_read l + 1
 abbrev pub invariant-items_read-loop-item : goal.invariant-items_read-loop-item
 invariant-items_read-loop-item l = record {
   same : length l.list.items ≡ l.item-index;
-  so_far : lift (following l.list.items) (list_read l.context l.literals.items (drop l.item-index (types_of l.parts)) (drop l.item-index l.items)) ≡ list_read l.context l.initial.literals.items (types_of l.parts) l.items;
+  so_far : lift (following l.list.items) (list_read l.context l.literals.items (drop l.item-index (types_of l.parts)) (drop l.item-index l.items))
+      ≡ list_read l.context l.initial.literals.items (types_of l.parts) l.items;
 }

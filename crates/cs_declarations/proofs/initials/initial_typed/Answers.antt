@@ -12,31 +12,45 @@ use Rattle.cs_declarations.proofs.initials.initial_typed.Goals.{else-eq-via-then
 pub returns-in_err-read : goal.returns-in_err-read
 returns-in_err-read c =
     let e : c.from_residual.result ≡ Err c.in_err-read.field-0.0 = search rules in
-    let form : has_form c.args.context.now.table.list (view.storage c.args.storage) (shape_of c.args.ty.now) c.args.written.now ≡ true = sym c.has_form.ensures ∙ c.if-not-has_form.false in
-    refused_with reading (initial_typed c.args.context.now c.args.literals.now.items (view.storage c.args.storage) c.args.place (shape_of c.args.ty.now) c.args.written.now) c.from_residual.result c.initial_read.new.literals.items c.in_err-read.field-0.0 e
-    (reading_refused c.args.context.now c.args.literals.now.items (view.storage c.args.storage) c.args.place (shape_of c.args.ty.now) c.args.written.now form c.in_err-read.field-0.0 c.in_err-read.ensures)
+    let form : has_form c.args.context.now.table.list (view.storage c.args.storage) (shape_of c.args.ty.now) c.args.written.now ≡ true =
+    sym c.has_form.ensures ∙ c.if-not-has_form.false in
+    refused_with reading (initial_typed c.args.context.now c.args.literals.now.items (view.storage c.args.storage) c.args.place (shape_of c.args.ty.now)
+    c.args.written.now) c.from_residual.result c.initial_read.new.literals.items c.in_err-read.field-0.0 e
+    (reading_refused c.args.context.now c.args.literals.now.items (view.storage c.args.storage) c.args.place (shape_of c.args.ty.now) c.args.written.now form
+    c.in_err-read.field-0.0 c.in_err-read.ensures)
 
 pub returns-in_err-found : goal.returns-in_err-found
 returns-in_err-found c =
     let e : c.from_residual-in_err-found.result ≡ Err c.in_err-found.field-0.0 = search rules in
-    let form : has_form c.args.context.now.table.list (view.storage c.args.storage) (shape_of c.args.ty.now) c.args.written.now ≡ true = sym c.has_form.ensures ∙ c.if-not-has_form.false in
-    refused_with reading (initial_typed c.args.context.now c.args.literals.now.items (view.storage c.args.storage) c.args.place (shape_of c.args.ty.now) c.args.written.now) c.from_residual-in_err-found.result c.initial_read.new.literals.items c.in_err-found.field-0.0 e
-    (judging_refused c.args.context.now c.args.literals.now.items (view.storage c.args.storage) c.args.place (shape_of c.args.ty.now) c.args.written.now form (initial c.in_ok-read.read) c.initial_read.new.literals.items c.in_ok-read.ensures c.in_err-found.field-0.0 c.in_err-found.ensures)
+    let form : has_form c.args.context.now.table.list (view.storage c.args.storage) (shape_of c.args.ty.now) c.args.written.now ≡ true =
+    sym c.has_form.ensures ∙ c.if-not-has_form.false in
+    refused_with reading (initial_typed c.args.context.now c.args.literals.now.items (view.storage c.args.storage) c.args.place (shape_of c.args.ty.now)
+    c.args.written.now) c.from_residual-in_err-found.result c.initial_read.new.literals.items c.in_err-found.field-0.0 e
+    (judging_refused c.args.context.now c.args.literals.now.items (view.storage c.args.storage) c.args.place (shape_of c.args.ty.now) c.args.written.now form
+    (initial c.in_ok-read.read) c.initial_read.new.literals.items c.in_ok-read.ensures c.in_err-found.field-0.0 c.in_err-found.ensures)
 
 pub returns-then-not-stores_few : goal.returns-then-not-stores_few
 returns-then-not-stores_few c =
     let inside : view.storage c.args.storage ≡ InFunction = search rules in
-    let form : has_form c.args.context.now.table.list (view.storage c.args.storage) (shape_of c.args.ty.now) c.args.written.now ≡ true = sym c.has_form.ensures ∙ c.if-not-has_form.false in
-    stores_many c.args.context.now c.args.literals.now.items (view.storage c.args.storage) c.args.place (shape_of c.args.ty.now) c.args.written.now form (initial c.in_ok-read.read) c.initial_read.new.literals.items c.in_ok-read.ensures (initial c.in_ok-found.found) c.in_ok-found.ensures inside (sym c.stores_few.ensures ∙ c.if-not-stores_few.true)
+    let form : has_form c.args.context.now.table.list (view.storage c.args.storage) (shape_of c.args.ty.now) c.args.written.now ≡ true =
+    sym c.has_form.ensures ∙ c.if-not-has_form.false in
+    stores_many c.args.context.now c.args.literals.now.items (view.storage c.args.storage) c.args.place (shape_of c.args.ty.now) c.args.written.now form
+    (initial c.in_ok-read.read) c.initial_read.new.literals.items c.in_ok-read.ensures (initial c.in_ok-found.found) c.in_ok-found.ensures inside
+    (sym c.stores_few.ensures ∙ c.if-not-stores_few.true)
 
 pub returns : goal.returns
 returns c =
-    let form : has_form c.args.context.now.table.list (view.storage c.args.storage) (shape_of c.args.ty.now) c.args.written.now ≡ true = sym c.has_form.ensures ∙ c.if-not-has_form.false in
+    let form : has_form c.args.context.now.table.list (view.storage c.args.storage) (shape_of c.args.ty.now) c.args.written.now ≡ true =
+    sym c.has_form.ensures ∙ c.if-not-has_form.false in
     elim c.else-eq.branch [
       | else-eq-via-then-eq+else-not-stores_few w ↦
           let inside : view.storage c.args.storage ≡ InFunction = grind rules in
-          stores_few c.args.context.now c.args.literals.now.items (view.storage c.args.storage) c.args.place (shape_of c.args.ty.now) c.args.written.now form (initial c.in_ok-read.read) c.initial_read.new.literals.items c.in_ok-read.ensures (initial c.in_ok-found.found) c.in_ok-found.ensures inside (sym w.stores_few.ensures ∙ w.if-not-stores_few.false)
+          stores_few c.args.context.now c.args.literals.now.items (view.storage c.args.storage) c.args.place (shape_of c.args.ty.now) c.args.written.now form
+          (initial c.in_ok-read.read) c.initial_read.new.literals.items c.in_ok-read.ensures (initial c.in_ok-found.found) c.in_ok-found.ensures inside
+          (sym w.stores_few.ensures ∙ w.if-not-stores_few.false)
       | else-eq-via-else-eq w ↦
           let outside : view.storage c.args.storage ≡ InFile = grind rules in
-          stores_in_file c.args.context.now c.args.literals.now.items (view.storage c.args.storage) c.args.place (shape_of c.args.ty.now) c.args.written.now form (initial c.in_ok-read.read) c.initial_read.new.literals.items c.in_ok-read.ensures (initial c.in_ok-found.found) c.in_ok-found.ensures outside
+          stores_in_file c.args.context.now c.args.literals.now.items (view.storage c.args.storage) c.args.place (shape_of c.args.ty.now) c.args.written.now
+          form (initial c.in_ok-read.read) c.initial_read.new.literals.items c.in_ok-read.ensures (initial c.in_ok-found.found) c.in_ok-found.ensures
+          outside
     ]

@@ -18,5 +18,7 @@ abbrev pub invariant-parts_judged-loop-item : goal.invariant-parts_judged-loop-i
 invariant-parts_judged-loop-item l = record {
   counted : l.number + length (into_iter_items l.item-iterator) ≡ length l.fn.items.items;
   lengths : into_iter_len l.item-iterator ≡ length (into_iter_items l.item-iterator);
-  so_far : joined l.place l.wrong l.list.items (parts_judged l.context (view.storage l.storage) l.place (drop l.number (types_of l.parts)) (initial_list (into_iter_items l.item-iterator))) ≡ parts_judged l.context (view.storage l.storage) l.place (types_of l.parts) (initial_list l.fn.items.items);
+  so_far : joined l.place l.wrong l.list.items
+      (parts_judged l.context (view.storage l.storage) l.place (drop l.number (types_of l.parts)) (initial_list (into_iter_items l.item-iterator)))
+      ≡ parts_judged l.context (view.storage l.storage) l.place (types_of l.parts) (initial_list l.fn.items.items);
 }

@@ -15,5 +15,8 @@ returns-in_ok-array-in-Some c =
     let element = shape_of c.args.element in
     let whole = shape_of c.in_ok-array-in-Some.array in
     let fits : FitsSigned w128 c.in-Some.number = search rules in
-    let made : array_of c.args.context.now.model c.args.context.now.table.list c.args.place c.in-Some.number (shape_of c.args.element) ≡ Fine (shape_of c.in_ok-array-in-Some.array) = simp to_z-of_z at c.in_ok-array-in-Some.ensures in
-    subst (λ v. Answers passed_of v c.plainly_passed.result) (sym (ap (λ size. array_passed context c.args.place size element) c.in-Some.is ∙ array_as_passed context c.args.place c.in-Some.number element whole made)) c.plainly_passed.ensures
+    let made : array_of c.args.context.now.model c.args.context.now.table.list c.args.place c.in-Some.number (shape_of c.args.element)
+    ≡ Fine (shape_of c.in_ok-array-in-Some.array) = simp to_z-of_z at c.in_ok-array-in-Some.ensures in
+    subst (λ v. Answers passed_of v c.plainly_passed.result)
+    (sym (ap (λ size. array_passed context c.args.place size element) c.in-Some.is
+    ∙ array_as_passed context c.args.place c.in-Some.number element whole made)) c.plainly_passed.ensures

@@ -16,12 +16,16 @@ returns-in_err-add-clause-reported c =
     let whole = parameters_typed (environment_of c.args.known.now) c.args.parameters.now in
     let e : c.from_residual.result ≡ Err c.in_err-add.field-0.0 = search rules in
     subst (λ r. AnswersWith head whole r c.add.new.known) (sym e)
-    (part_stops parameters_after parameter_typed parameters_over c.deref-parameter-items.result.now c.loop-parameter.parameter-index c.parameter-item.result whole (head c.loop-parameter.head c.loop-parameter.known) c.in_err-add.field-0.0 c.loop-parameter-test.true c.parameter-item.is c.loop-parameter.invariant c.in_err-add.ensures)
+    (part_stops parameters_after parameter_typed parameters_over c.deref-parameter-items.result.now c.loop-parameter.parameter-index c.parameter-item.result
+    whole (head c.loop-parameter.head c.loop-parameter.known) c.in_err-add.field-0.0 c.loop-parameter-test.true c.parameter-item.is
+    c.loop-parameter.invariant c.in_err-add.ensures)
 
 pub loop-parameter-preserved : goal.loop-parameter-preserved
 loop-parameter-preserved c =
     let whole = parameters_typed (environment_of c.args.known.now) c.args.parameters.now in
-    part_taken parameters_after parameter_typed parameters_over c.deref-parameter-items.result.now c.loop-parameter.parameter-index c.parameter-item.result whole (head c.loop-parameter.head c.loop-parameter.known) (head c.add.new.self c.add.new.known) c.loop-parameter-test.true c.parameter-item.is c.loop-parameter.invariant c.in_ok-add.ensures
+    part_taken parameters_after parameter_typed parameters_over c.deref-parameter-items.result.now c.loop-parameter.parameter-index c.parameter-item.result
+    whole (head c.loop-parameter.head c.loop-parameter.known) (head c.add.new.self c.add.new.known) c.loop-parameter-test.true c.parameter-item.is
+    c.loop-parameter.invariant c.in_ok-add.ensures
 
 pub returns-clause-laid_out : goal.returns-clause-laid_out
 returns-clause-laid_out c =
@@ -29,7 +33,8 @@ returns-clause-laid_out c =
     let reported : whole ≡ Fine (head c.match-parameters.head c.match-parameters.known) =
     elim c.match-parameters.branch [
       | in-List+else-loop-parameter-test w ↦
-          parts_end parameters_after parameter_typed parameters_over w.deref-parameter-items.result.now w.loop-parameter.parameter-index whole (head w.loop-parameter.head w.loop-parameter.known) w.loop-parameter-test.false w.loop-parameter.invariant
+          parts_end parameters_after parameter_typed parameters_over w.deref-parameter-items.result.now w.loop-parameter.parameter-index whole
+          (head w.loop-parameter.head w.loop-parameter.known) w.loop-parameter-test.false w.loop-parameter.invariant
           ∙ ap₂ (λ h k. Fine (head h k)) (sym w.head-is) (sym w.known-is)
       | in_default w ↦ search rules
     ] in

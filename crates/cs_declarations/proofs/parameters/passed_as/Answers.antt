@@ -11,10 +11,13 @@ returns-in_err-element-in-len1-up c =
     let base = shape_of c.args.base in
     let e : c.from_residual.result ≡ Err c.in_err-element-in-len1-up.field-0.0 = search rules in
     subst (Answers passed_of (passed c.args.context.now c.args.place base c.args.sizes.now)) (sym e)
-    (passing_stops c.args.context.now c.args.place base c.args.sizes.now c.in-len1-up.len_at_least c.in_err-element-in-len1-up.field-0.0 c.in_err-element-in-len1-up.ensures)
+    (passing_stops c.args.context.now c.args.place base c.args.sizes.now c.in-len1-up.len_at_least c.in_err-element-in-len1-up.field-0.0
+    c.in_err-element-in-len1-up.ensures)
 
 pub returns-in_ok-element-in-len1-up : goal.returns-in_ok-element-in-len1-up
 returns-in_ok-element-in-len1-up c =
     let base = shape_of c.args.base in
     let element = shape_of c.in_ok-element-in-len1-up.element in
-    subst (λ v. Answers passed_of v c.array_passed.result) (sym (passing_goes_on c.args.context.now c.args.place base c.args.sizes.now c.in-len1-up.len_at_least element c.in_ok-element-in-len1-up.ensures)) c.array_passed.ensures
+    subst (λ v. Answers passed_of v c.array_passed.result)
+    (sym (passing_goes_on c.args.context.now c.args.place base c.args.sizes.now c.in-len1-up.len_at_least element c.in_ok-element-in-len1-up.ensures))
+    c.array_passed.ensures

@@ -7,7 +7,8 @@ use Rattle.cs_declarations.specs.Initializers.{part_types, together, stored_part
 use Rattle.cs_declarations.specs.View.{types_of}
 use Rattle.cs_declarations.proofs.PartTypes.{part_is, no_part}
 use Rattle.cs_declarations.proofs.WrittenLists.{item_there}
-use Rattle.cs_declarations.proofs.StoredSoFar.{few_is, few_same, nothing_yet, stored-List, stored-none, stored_over, stored_end, stored_stops, stored_past, stored_more}
+use Rattle.cs_declarations.proofs.StoredSoFar.{few_is, few_same, nothing_yet, stored-List, stored-none, stored_over, stored_end, stored_stops, stored_past}
+use Rattle.cs_declarations.proofs.StoredSoFar.{stored_more}
 use Rattle.cs_declarations.proofs.stored.+stored.Goals as goal
 
 pub stored-returns-in-Some : goal.stored-returns-in-Some
@@ -30,39 +31,59 @@ stored_parts-loop-item-init t c = record {
 
 pub stored_parts-returns-in_default : goal.stored_parts-returns-in_default
 stored_parts-returns-in_default t c =
-    sym (stored_over c.args.table.now.list (types_of c.args.parts) c.args.items.now c.loop-item.all c.loop-item.item-index _ c.loop-item.invariant.so_far c.loop-item.invariant.few
-    (no_part (λ t. shape_of t.now) (types_of c.args.parts) c.ty.result c.loop-item.number c.loop-item.item-index c.ty.ensures c.loop-item.invariant.same c.in_default.is))
+    sym (stored_over c.args.table.now.list (types_of c.args.parts) c.args.items.now c.loop-item.all c.loop-item.item-index _ c.loop-item.invariant.so_far
+    c.loop-item.invariant.few
+    (no_part (λ t. shape_of t.now) (types_of c.args.parts) c.ty.result c.loop-item.number c.loop-item.item-index c.ty.ensures c.loop-item.invariant.same
+    c.in_default.is))
 
 pub stored_parts-returns-in_err-stored : goal.stored_parts-returns-in_err-stored
 stored_parts-returns-in_err-stored t c =
     let e : c.from_residual.result ≡ None = search rules in
-    let part : slice_get (types_of c.args.parts) c.loop-item.item-index ≡ Some (shape_of c.in-Some.ty.now) = part_is (λ t. shape_of t.now) (types_of c.args.parts) c.ty.result c.loop-item.number c.loop-item.item-index c.ty.ensures c.loop-item.invariant.same c.in-Some.ty c.in-Some.is in
+    let part : slice_get (types_of c.args.parts) c.loop-item.item-index ≡ Some (shape_of c.in-Some.ty.now) =
+    part_is (λ t. shape_of t.now) (types_of c.args.parts) c.ty.result c.loop-item.number c.loop-item.item-index c.ty.ensures c.loop-item.invariant.same
+    c.in-Some.ty c.in-Some.is in
     let there = item_there c.args.items.now c.loop-item.item-index c.item-item.result c.loop-item-test.true c.item-item.is in
-    e ∙ sym (stored_stops c.args.table.now.list (types_of c.args.parts) c.args.items.now c.loop-item.all c.loop-item.item-index _ c.loop-item.invariant.so_far c.item-item.result there (shape_of c.in-Some.ty.now) part (sym c.stored.ensures ∙ c.in_err-stored.was))
+    e
+    ∙ sym (stored_stops c.args.table.now.list (types_of c.args.parts) c.args.items.now c.loop-item.all c.loop-item.item-index _
+    c.loop-item.invariant.so_far c.item-item.result there (shape_of c.in-Some.ty.now) part (sym c.stored.ensures ∙ c.in_err-stored.was))
 
 pub stored_parts-returns-in_err-all : goal.stored_parts-returns-in_err-all
 stored_parts-returns-in_err-all t c =
     let e : c.from_residual-in_err-all.result ≡ None = search rules in
-    let part : slice_get (types_of c.args.parts) c.loop-item.item-index ≡ Some (shape_of c.in-Some.ty.now) = part_is (λ t. shape_of t.now) (types_of c.args.parts) c.ty.result c.loop-item.number c.loop-item.item-index c.ty.ensures c.loop-item.invariant.same c.in-Some.ty c.in-Some.is in
+    let part : slice_get (types_of c.args.parts) c.loop-item.item-index ≡ Some (shape_of c.in-Some.ty.now) =
+    part_is (λ t. shape_of t.now) (types_of c.args.parts) c.ty.result c.loop-item.number c.loop-item.item-index c.ty.ensures c.loop-item.invariant.same
+    c.in-Some.ty c.in-Some.is in
     let there = item_there c.args.items.now c.loop-item.item-index c.item-item.result c.loop-item-test.true c.item-item.is in
-    let sum : few c.saturating_add.result ≡ few (c.loop-item.all + c.in_ok-stored.field-0) = few_same c.saturating_add.result (c.loop-item.all + c.in_ok-stored.field-0) (λ h. grind arith) (λ h. grind arith) in
-    e ∙ sym (stored_past c.args.table.now.list (types_of c.args.parts) c.args.items.now c.loop-item.all c.loop-item.item-index _ c.loop-item.invariant.so_far c.item-item.result there (shape_of c.in-Some.ty.now) part c.in_ok-stored.field-0 (sym c.stored.ensures ∙ c.in_ok-stored.was) (sym sum ∙ sym c.few.ensures ∙ c.in_err-all.was))
+    let sum : few c.saturating_add.result ≡ few (c.loop-item.all + c.in_ok-stored.field-0) =
+    few_same c.saturating_add.result (c.loop-item.all + c.in_ok-stored.field-0) (λ h. grind arith) (λ h. grind arith) in
+    e
+    ∙ sym (stored_past c.args.table.now.list (types_of c.args.parts) c.args.items.now c.loop-item.all c.loop-item.item-index _
+    c.loop-item.invariant.so_far c.item-item.result there (shape_of c.in-Some.ty.now) part c.in_ok-stored.field-0 (sym c.stored.ensures
+    ∙ c.in_ok-stored.was) (sym sum ∙ sym c.few.ensures ∙ c.in_err-all.was))
 
 pub stored_parts-returns : goal.stored_parts-returns
 stored_parts-returns t c =
-    sym (stored_end c.args.table.now.list (types_of c.args.parts) c.args.items.now c.loop-item.all c.loop-item.item-index _ c.loop-item.invariant.so_far c.loop-item.invariant.few c.loop-item-test.false)
+    sym (stored_end c.args.table.now.list (types_of c.args.parts) c.args.items.now c.loop-item.all c.loop-item.item-index _ c.loop-item.invariant.so_far
+    c.loop-item.invariant.few c.loop-item-test.false)
 
 pub stored_parts-loop-item-preserved : goal.stored_parts-loop-item-preserved
 stored_parts-loop-item-preserved t c =
-    let part : slice_get (types_of c.args.parts) c.loop-item.item-index ≡ Some (shape_of c.in-Some.ty.now) = part_is (λ t. shape_of t.now) (types_of c.args.parts) c.ty.result c.loop-item.number c.loop-item.item-index c.ty.ensures c.loop-item.invariant.same c.in-Some.ty c.in-Some.is in
+    let part : slice_get (types_of c.args.parts) c.loop-item.item-index ≡ Some (shape_of c.in-Some.ty.now) =
+    part_is (λ t. shape_of t.now) (types_of c.args.parts) c.ty.result c.loop-item.number c.loop-item.item-index c.ty.ensures c.loop-item.invariant.same
+    c.in-Some.ty c.in-Some.is in
     let there = item_there c.args.items.now c.loop-item.item-index c.item-item.result c.loop-item-test.true c.item-item.is in
-    let sum : few c.saturating_add.result ≡ few (c.loop-item.all + c.in_ok-stored.field-0) = few_same c.saturating_add.result (c.loop-item.all + c.in_ok-stored.field-0) (λ h. grind arith) (λ h. grind arith) in
+    let sum : few c.saturating_add.result ≡ few (c.loop-item.all + c.in_ok-stored.field-0) =
+    few_same c.saturating_add.result (c.loop-item.all + c.in_ok-stored.field-0) (λ h. grind arith) (λ h. grind arith) in
     let more : few (c.loop-item.all + c.in_ok-stored.field-0) ≡ Some c.in_ok-all.all = sym sum ∙ sym c.few.ensures ∙ c.in_ok-all.was in
     let small = few_is (c.loop-item.all + c.in_ok-stored.field-0) c.in_ok-all.all more in
     record {
       same = ap (λ k. k + 1) c.loop-item.invariant.same;
       few = omega (arith, small.0, small.1);
       so_far =
-          ap (λ k. together (Some c.in_ok-all.all) (stored_parts c.args.table.now.list (drop k (types_of c.args.parts)) (initial_list (drop k c.args.items.now)))) (add-one c.loop-item.item-index)
-          ∙ stored_more c.args.table.now.list (types_of c.args.parts) c.args.items.now c.loop-item.all c.loop-item.item-index _ c.loop-item.invariant.so_far c.item-item.result there (shape_of c.in-Some.ty.now) part c.in_ok-stored.field-0 c.in_ok-all.all (sym c.stored.ensures ∙ c.in_ok-stored.was) more;
+          ap (λ k.
+          together (Some c.in_ok-all.all) (stored_parts c.args.table.now.list (drop k (types_of c.args.parts)) (initial_list (drop k c.args.items.now))))
+          (add-one c.loop-item.item-index)
+          ∙ stored_more c.args.table.now.list (types_of c.args.parts) c.args.items.now c.loop-item.all c.loop-item.item-index _ c.loop-item.invariant.so_far
+          c.item-item.result there (shape_of c.in-Some.ty.now) part c.in_ok-stored.field-0 c.in_ok-all.all (sym c.stored.ensures ∙ c.in_ok-stored.was)
+          more;
     }

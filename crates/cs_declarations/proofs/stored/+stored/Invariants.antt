@@ -15,5 +15,6 @@ abbrev pub invariant-stored_parts-loop-item : goal.invariant-stored_parts-loop-i
 invariant-stored_parts-loop-item l = record {
   same : l.number ≡ l.item-index;
   few : l.all ≤ 4096;
-  so_far : together (Some l.all) (stored_parts l.table.list (drop l.item-index (types_of l.parts)) (initial_list (drop l.item-index l.items))) ≡ stored_parts l.table.list (types_of l.parts) (initial_list l.items);
+  so_far : together (Some l.all) (stored_parts l.table.list (drop l.item-index (types_of l.parts)) (initial_list (drop l.item-index l.items)))
+      ≡ stored_parts l.table.list (types_of l.parts) (initial_list l.items);
 }

@@ -10,5 +10,6 @@ pub returns : goal.returns
 returns c =
     let kind = c.args.kind in
     let words = c.args.words.now in
-    count_from_yields_List c.filter.result _ c.count.ensures.ran (YieldsList-from_filter _ (is_kind kind) (YieldsList-from_slice words (cc)) c.filter.ensures.closure (λ x b q k. search (rules, tests)))
+    count_from_yields_List c.filter.result _ c.count.ensures.ran
+    (YieldsList-from_filter _ (is_kind kind) (YieldsList-from_slice words (cc)) c.filter.ensures.closure (λ x b q k. search (rules, tests)))
     ∙ length-filter (is_kind kind) words ∙ times_plain kind words

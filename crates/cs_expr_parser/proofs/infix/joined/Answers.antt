@@ -5,4 +5,6 @@ use Rattle.cs_expr_parser.proofs.infix.joined.Goals as goal
 pub returns-clause-placed : goal.returns-clause-placed
 returns-clause-placed c =
     λ from here ends there.
-    c.in_ok-tree.ensures.placed (drop from c.args.tokens.now) here (between_stands c.args.tokens.now from c.args.left.tree c.args.left.next c.place_at-place.result ends c.place_at-place.ensures) (between_placed c.args.tokens.now from c.args.left.tree c.args.left.next c.args.right.tree ends there)
+    c.in_ok-tree.ensures.placed (drop from c.args.tokens.now) here
+    (between_stands c.args.tokens.now from c.args.left.tree c.args.left.next c.place_at-place.result ends c.place_at-place.ensures)
+    (between_placed c.args.tokens.now from c.args.left.tree c.args.left.next c.args.right.tree ends there)

@@ -5,4 +5,5 @@ use Rattle.cs_expr_parser.proofs.nodes.choice.Goals as goal
 
 pub returns-clause-placed : goal.returns-clause-placed
 returns-clause-placed c =
-    IfOk-weaker c.node.result (PlacesForm c.args.place (kind.Choice c.args.test c.args.one c.args.other)) (PlacesChoice c.args.place c.args.test c.args.one c.args.other) (λ tree here tokens a b d e. here tokens (a, b, d, e)) c.node.ensures.placed
+    IfOk-weaker c.node.result (PlacesForm c.args.place (kind.Choice c.args.test c.args.one c.args.other))
+    (PlacesChoice c.args.place c.args.test c.args.one c.args.other) (λ tree here tokens a b d e. here tokens (a, b, d, e)) c.node.ensures.placed

@@ -5,4 +5,5 @@ use Rattle.cs_expr_parser.proofs.nodes.comma.Goals as goal
 
 pub returns-clause-placed : goal.returns-clause-placed
 returns-clause-placed c =
-    IfOk-weaker c.node.result (PlacesForm c.args.place (kind.Comma c.args.first c.args.second)) (PlacesBetween c.args.place c.args.first c.args.second) (λ tree here tokens a b d. here tokens (a, b, d)) c.node.ensures.placed
+    IfOk-weaker c.node.result (PlacesForm c.args.place (kind.Comma c.args.first c.args.second)) (PlacesBetween c.args.place c.args.first c.args.second)
+    (λ tree here tokens a b d. here tokens (a, b, d)) c.node.ensures.placed

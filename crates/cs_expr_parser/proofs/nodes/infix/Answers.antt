@@ -5,4 +5,5 @@ use Rattle.cs_expr_parser.proofs.nodes.infix.Goals as goal
 
 pub returns-clause-placed : goal.returns-clause-placed
 returns-clause-placed c =
-    IfOk-weaker c.node.result (PlacesForm c.args.place (kind.Infix c.args.operator c.args.left c.args.right)) (PlacesBetween c.args.place c.args.left c.args.right) (λ tree here tokens a b d. here tokens (a, b, d)) c.node.ensures.placed
+    IfOk-weaker c.node.result (PlacesForm c.args.place (kind.Infix c.args.operator c.args.left c.args.right))
+    (PlacesBetween c.args.place c.args.left c.args.right) (λ tree here tokens a b d. here tokens (a, b, d)) c.node.ensures.placed

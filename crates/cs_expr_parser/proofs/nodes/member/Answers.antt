@@ -5,4 +5,5 @@ use Rattle.cs_expr_parser.proofs.nodes.member.Goals as goal
 
 pub returns-clause-placed : goal.returns-clause-placed
 returns-clause-placed c =
-    IfOk-weaker c.node.result (PlacesForm c.args.place (kind.Member c.args.object c.args.name)) (PlacesMember c.args.place c.args.object c.args.name) (λ tree here tokens a b d. here tokens (a, b, d)) c.node.ensures.placed
+    IfOk-weaker c.node.result (PlacesForm c.args.place (kind.Member c.args.object c.args.name)) (PlacesMember c.args.place c.args.object c.args.name)
+    (λ tree here tokens a b d. here tokens (a, b, d)) c.node.ensures.placed

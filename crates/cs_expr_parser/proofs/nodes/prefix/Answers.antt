@@ -5,4 +5,5 @@ use Rattle.cs_expr_parser.proofs.nodes.prefix.Goals as goal
 
 pub returns-clause-placed : goal.returns-clause-placed
 returns-clause-placed c =
-    IfOk-weaker c.node.result (PlacesForm c.args.place (kind.Prefix c.args.operator c.args.operand)) (PlacesBefore c.args.place c.args.operand) (λ tree here tokens a b. here tokens (a, b)) c.node.ensures.placed
+    IfOk-weaker c.node.result (PlacesForm c.args.place (kind.Prefix c.args.operator c.args.operand)) (PlacesBefore c.args.place c.args.operand)
+    (λ tree here tokens a b. here tokens (a, b)) c.node.ensures.placed

@@ -11,7 +11,8 @@ use Rattle.cs_expr_parser.proofs.nodes.size_of_type.Goals as goal
 
 pub returns-clause-tree : goal.returns-clause-tree
 returns-clause-tree c =
-    IfOk-weaker c.node.result (λ (tree : RawExpr). written tree ≡ written_kind (kind.SizeOfType c.args.ty c.args.bounds)) (λ (tree : RawExpr). written tree ≡ SizeOfType c.args.ty.words.items c.args.ty.pointers.items (written_list c.args.bounds.items))
+    IfOk-weaker c.node.result (λ (tree : RawExpr). written tree ≡ written_kind (kind.SizeOfType c.args.ty c.args.bounds))
+    (λ (tree : RawExpr). written tree ≡ SizeOfType c.args.ty.words.items c.args.ty.pointers.items (written_list c.args.bounds.items))
     (λ tree is. is ∙ written_kind-SizeOfType c.args.ty c.args.bounds) c.node.ensures.tree
 
 pub returns-clause-placed : goal.returns-clause-placed

@@ -8,7 +8,8 @@ use Rattle.cs_expr_parser.proofs.parser.expression_at.Goals as goal
 
 pub returns-clause-taken : goal.returns-clause-taken
 returns-clause-taken c =
-    phrase_taken c.args.names.now (level_asked c.args.level) c.args.limit c.args.tokens.now c.args.from c.in_ok-taken.taken c.phrase.result c.in_ok-taken.ensures.parsed c.phrase.ensures.tree c.phrase.ensures.height c.phrase.ensures.next c.phrase.ensures.otherwise c.in_ok-taken.ensures.placed
+    phrase_taken c.args.names.now (level_asked c.args.level) c.args.limit c.args.tokens.now c.args.from c.in_ok-taken.taken c.phrase.result
+    c.in_ok-taken.ensures.parsed c.phrase.ensures.tree c.phrase.ensures.height c.phrase.ensures.next c.phrase.ensures.otherwise c.in_ok-taken.ensures.placed
 
 pub returns-in_err-taken-clause-stopped : goal.returns-in_err-taken-clause-stopped
 returns-in_err-taken-clause-stopped c =

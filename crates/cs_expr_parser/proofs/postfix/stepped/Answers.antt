@@ -5,4 +5,5 @@ use Rattle.cs_expr_parser.proofs.postfix.stepped.Goals as goal
 pub returns-clause-placed : goal.returns-clause-placed
 returns-clause-placed c =
     λ from here ends.
-    c.in_ok-tree.ensures.placed (drop from c.args.tokens.now) here (between_stands c.args.tokens.now from c.args.left.tree c.args.left.next c.place_at.result ends c.place_at.ensures)
+    c.in_ok-tree.ensures.placed (drop from c.args.tokens.now) here
+    (between_stands c.args.tokens.now from c.args.left.tree c.args.left.next c.place_at.result ends c.place_at.ensures)

@@ -6,4 +6,5 @@ pub returns-clause-placed : goal.returns-clause-placed
 returns-clause-placed c =
     λ t there.
     let parts = type_parts c.args.tokens.now c.args.from 1 c.args.taken t in
-    c.in_ok-tree.ensures.placed (drop c.args.from c.args.tokens.now) c.place_at-place.ensures parts.0 parts.1 (operand_placed c.args.tokens.now c.args.from c.args.taken c.args.operand.tree t there)
+    c.in_ok-tree.ensures.placed (drop c.args.from c.args.tokens.now) c.place_at-place.ensures parts.0 parts.1
+    (operand_placed c.args.tokens.now c.args.from c.args.taken c.args.operand.tree t there)

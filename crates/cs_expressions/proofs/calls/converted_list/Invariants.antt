@@ -12,7 +12,8 @@ abbrev pub invariant-loop-value : goal.invariant-loop-value
 invariant-loop-value l = record {
   following : List Expr;
   split : l.initial.left.items ≡ l.left.items ++ following;
-  so_far : converted_list l.model l.place (map (λ (ty : CType). shape_of ty) (drop (vec_len l.left) l.types)) (typed_list following) ≡ outcome l.place l.refused (typed_list (reverse l.list.items));
+  so_far : converted_list l.model l.place (map (λ (ty : CType). shape_of ty) (drop (vec_len l.left) l.types)) (typed_list following)
+      ≡ outcome l.place l.refused (typed_list (reverse l.list.items));
 }
 
 abbrev pub decreases-loop-value : goal.decreases-loop-value

@@ -7,4 +7,5 @@ use Rattle.cs_flow.proofs.lines.append_point.Given as goal
 
 abbrev pub invariant-loop-way : goal.invariant-loop-way
 invariant-loop-way l =
-    l.text.items ++ flat_map (way_line l.files (point_of l.point)) (map way_of (drop l.way-index l.point.ways.items)) ≡ l.initial.text.items ++ flat_map (way_line l.files (point_of l.point)) (map way_of l.point.ways.items)
+    l.text.items ++ flat_map (way_line l.files (point_of l.point)) (map way_of (drop l.way-index l.point.ways.items))
+    ≡ l.initial.text.items ++ flat_map (way_line l.files (point_of l.point)) (map way_of l.point.ways.items)

@@ -8,4 +8,5 @@ use Rattle.cs_flow.proofs.lines.append_points.Given as goal
 
 abbrev pub invariant-loop-point : goal.invariant-loop-point
 invariant-loop-point l =
-    l.text.items ++ flat_map (point_lines l.files) (map point_of (deque_iter_rest l.point-iterator)) ≡ l.initial.text.items ++ flat_map (point_lines l.files) (points_of l.points)
+    l.text.items ++ flat_map (point_lines l.files) (map point_of (deque_iter_rest l.point-iterator))
+    ≡ l.initial.text.items ++ flat_map (point_lines l.files) (points_of l.points)

@@ -8,7 +8,8 @@ use Rattle.cs_inputs.proofs.input_text.parse.Goals as goal
 
 -- the answer is right where the path is refused
 with_no_path : (c : goal.After-from_residual) → IsRight c.args.text.now c.from_residual.result
-with_no_path c = path_refused c.args.text.now c.split_before.result.0.now c.split_before.result.1.now c.in-Some.number.now c.in-Some.field-0-0.now c.split_before.ensures c.in-Some.ensures.cases.0 c.in_err-path.field-0.0 c.from_residual.result c.in_err-path.ensures c.from_residual.ensures.1
+with_no_path c = path_refused c.args.text.now c.split_before.result.0.now c.split_before.result.1.now c.in-Some.number.now c.in-Some.field-0-0.now
+    c.split_before.ensures c.in-Some.ensures.cases.0 c.in_err-path.field-0.0 c.from_residual.result c.in_err-path.ensures c.from_residual.ensures.1
 
 pub returns-in_err-path-clause-accepts : goal.returns-in_err-path-clause-accepts
 returns-in_err-path-clause-accepts c = accepts c.args.text.now c.from_residual.result (with_no_path c)
@@ -24,7 +25,9 @@ returns-in_err-path-clause-round_trip c = round_trip c.args.text.now c.from_resi
 
 -- it is right where the number is refused
 with_no_number : (c : goal.After-drop-path-in_err-number) → IsRight c.args.text.now c.from_residual-in_err-number.result
-with_no_number c = number_refused c.args.text.now c.split_before.result.0.now c.split_before.result.1.now c.in-Some.number.now c.in-Some.field-0-0.now c.split_before.ensures c.in-Some.ensures.cases.0 c.in_ok-path.path c.in_ok-path.ensures c.in_err-number.field-0.0 c.from_residual-in_err-number.result c.in_err-number.ensures c.from_residual-in_err-number.ensures.1
+with_no_number c = number_refused c.args.text.now c.split_before.result.0.now c.split_before.result.1.now c.in-Some.number.now c.in-Some.field-0-0.now
+    c.split_before.ensures c.in-Some.ensures.cases.0 c.in_ok-path.path c.in_ok-path.ensures c.in_err-number.field-0.0 c.from_residual-in_err-number.result
+    c.in_err-number.ensures c.from_residual-in_err-number.ensures.1
 
 pub returns-in_err-number-clause-accepts : goal.returns-in_err-number-clause-accepts
 returns-in_err-number-clause-accepts c = accepts c.args.text.now c.from_residual-in_err-number.result (with_no_number c)
@@ -40,7 +43,8 @@ returns-in_err-number-clause-round_trip c = round_trip c.args.text.now c.from_re
 
 -- and it is right where both are read
 with_both : (c : goal.In_ok-number) → SpellsInput c.args.text.now c.in_ok-path.path c.in_ok-number.number
-with_both c = input_is c.args.text.now c.split_before.result.0.now c.split_before.result.1.now c.in-Some.number.now c.in-Some.field-0-0.now c.split_before.ensures c.in-Some.ensures.cases.0 c.in_ok-path.path c.in_ok-path.ensures c.in_ok-number.number c.in_ok-number.ensures
+with_both c = input_is c.args.text.now c.split_before.result.0.now c.split_before.result.1.now c.in-Some.number.now c.in-Some.field-0-0.now
+    c.split_before.ensures c.in-Some.ensures.cases.0 c.in_ok-path.path c.in_ok-path.ensures c.in_ok-number.number c.in_ok-number.ensures
 
 fits : (c : goal.In_ok-number) → FitsSigned w128 c.in_ok-number.number
 fits c = fits_machine c.in_ok-number.number c.in_ok-number.ensures.1

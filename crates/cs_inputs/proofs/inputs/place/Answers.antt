@@ -14,9 +14,12 @@ use Rattle.cs_inputs.proofs.inputs.place.Goals as goal
 
 pub returns-clause-place : goal.returns-clause-place
 returns-clause-place c =
-    let found : IsBinarySearchResult (λ (e : Path × ℤ). path_order e.0 c.args.path.now) c.args.entries.now c.binary_search_by.result = c.binary_search_by.ensures.position (λ (e : Path × ℤ). path_order e.0 c.args.path.now) (always_returns_same _ _ _ (λ a r f' called. search rules)) in
+    let found : IsBinarySearchResult (λ (e : Path × ℤ). path_order e.0 c.args.path.now) c.args.entries.now c.binary_search_by.result =
+    c.binary_search_by.ensures.position (λ (e : Path × ℤ). path_order e.0 c.args.path.now)
+    (always_returns_same _ _ _ (λ a r f' called. search rules)) in
     place_from_search c.binary_search_by.result
     (HoldsAt (λ (e : Path × ℤ). path_order e.0 c.args.path.now ≡ Equal) c.args.entries.now)
-    (IsPartitionPoint (λ (e : Path × ℤ). path_order e.0 c.args.path.now ≡ Less) (λ (e : Path × ℤ). path_order e.0 c.args.path.now ≡ Greater) c.args.entries.now)
+    (IsPartitionPoint (λ (e : Path × ℤ). path_order e.0 c.args.path.now ≡ Less) (λ (e : Path × ℤ). path_order e.0 c.args.path.now ≡ Greater)
+    c.args.entries.now)
     (IsNonDecreasingBy (λ (e : Path × ℤ). ordering_index (path_order e.0 c.args.path.now)) c.args.entries.now)
     (searchable path_order-total c.args.entries.now c.args.path.now c.requires) found

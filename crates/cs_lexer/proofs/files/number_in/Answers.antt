@@ -7,5 +7,6 @@ use Rattle.cs_lexer.proofs.files.number_in.Goals as goal
 
 pub returns-clause-value : goal.returns-clause-value
 returns-clause-value c =
-    let none : position (pointwise nat_eq c.args.name) c.args.names.now.items ≡ None = sym (c.requires.numbered.each c.args.name) ∙ sym c.find.ensures ∙ c.in_default.is in
+    let none : position (pointwise nat_eq c.args.name) c.args.names.now.items ≡ None = sym (c.requires.numbered.each c.args.name) ∙ sym c.find.ensures
+    ∙ c.in_default.is in
     ap length c.as_slice.ensures.value ∙ sym (next_number (pointwise nat_eq c.args.name) c.args.names.now.items none)

@@ -14,6 +14,9 @@ name-requires c =
 pub returns-in_ok-file-in-Refused-clause-refused : goal.returns-in_ok-file-in-Refused-clause-refused
 returns-in_ok-file-in-Refused-clause-refused c =
     let cutting = c.in_ok-cutting.cutting in
-    let few : length (tokens_of cutting.tokens.items) ≤ MOST_TOKENS = omega (arith, ap length (c.as_slice.ensures.value ∙ c.in_ok-list.ensures), c.if-as_slice-gt-MOST_TOKENS.false) in
+    let few : length (tokens_of cutting.tokens.items) ≤ MOST_TOKENS =
+    omega (arith, ap length (c.as_slice.ensures.value ∙ c.in_ok-list.ensures), c.if-as_slice-gt-MOST_TOKENS.false) in
     subst (λ refusal. IsRefused c.args.bytes.now refusal) (sym c.of.ensures)
-    (first_fault c.args.bytes.now c.in-Refused.fault cutting.place c.in_ok-file-in-Refused.file cutting.files cutting.tokens.items (subst (λ end. EndsAs c.args.bytes.now cutting.files cutting.tokens.items cutting.place end) c.in-Refused.is c.in_ok-cutting.ensures) c.in_ok-file-in-Refused.ensures few)
+    (first_fault c.args.bytes.now c.in-Refused.fault cutting.place c.in_ok-file-in-Refused.file cutting.files cutting.tokens.items
+    (subst (λ end. EndsAs c.args.bytes.now cutting.files cutting.tokens.items cutting.place end) c.in-Refused.is c.in_ok-cutting.ensures)
+    c.in_ok-file-in-Refused.ensures few)

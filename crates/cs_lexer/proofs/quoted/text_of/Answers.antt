@@ -9,4 +9,5 @@ loop-rest-init c = nothing_read c.args.body.now c.new-values.result.items c.new-
 pub loop-rest-preserved : goal.loop-rest-preserved
 loop-rest-preserved c =
     let some : 0 < length c.loop-rest.rest.now = grind (arith, nat_tests, c.is_empty.ensures) in
-    one_more c.args.body.now c.loop-rest.values.items c.loop-rest.rest.now c.push.new.self.items c.following-rest.result.now c.in-Byte.byte c.in-Byte.size c.loop-rest.invariant some (sym c.first_item.ensures.value ∙ c.in-Byte.is) c.in_ok-push-in-Byte.ensures.items c.following-rest.ensures
+    one_more c.args.body.now c.loop-rest.values.items c.loop-rest.rest.now c.push.new.self.items c.following-rest.result.now c.in-Byte.byte c.in-Byte.size
+    c.loop-rest.invariant some (sym c.first_item.ensures.value ∙ c.in-Byte.is) c.in_ok-push-in-Byte.ensures.items c.following-rest.ensures

@@ -16,9 +16,11 @@ loop-function-init c =
 pub loop-function-preserved : goal.loop-function-preserved
 loop-function-preserved c =
     let program = typed_program c.args.program.now in
-    let there = routine_there routine c.args.program.now.functions.items program c.loop-function.function-index c.function-item.result refl (omega arith) (c.function-item.is ∙ ap (λ l. get_or l c.loop-function.function-index c.function-item.result) c.deref-function-items.ensures.value) in
+    let there = routine_there routine c.args.program.now.functions.items program c.loop-function.function-index c.function-item.result refl (omega arith)
+    (c.function-item.is ∙ ap (λ l. get_or l c.loop-function.function-index c.function-item.result) c.deref-function-items.ensures.value) in
     let graph = option_map view.flow c.in_ok-flow.flow in
-    one_more_graph graph (map_push (option_map view.flow) c.loop-function.flows.items c.push.new.self.items c.in_ok-flow.flow graph c.in_ok-push.ensures.items refl) c.loop-function.invariant
+    one_more_graph graph (map_push (option_map view.flow) c.loop-function.flows.items c.push.new.self.items c.in_ok-flow.flow graph c.in_ok-push.ensures.items
+    refl) c.loop-function.invariant
     (subst (λ r. HasGraph program r graph) (sym there) c.in_ok-flow.ensures)
 
 pub returns-clause-placed : goal.returns-clause-placed

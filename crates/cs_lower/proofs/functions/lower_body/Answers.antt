@@ -24,4 +24,5 @@ lower_whole-requires c = record {
 
 pub returns : goal.returns
 returns c =
-    whole_body c.in_ok-entry.ensures c.new-graph.ensures (omega (arith, c.in_ok-counted_points.ensures.next)) c.in_ok-flow.ensures.whole c.in_ok-flow.ensures.no_other c.in_ok-flow.ensures.entry c.in_ok-flow.ensures.counted_points c.requires.own
+    whole_body c.in_ok-entry.ensures c.new-graph.ensures (omega (arith, c.in_ok-counted_points.ensures.next)) c.in_ok-flow.ensures.whole
+    c.in_ok-flow.ensures.no_other c.in_ok-flow.ensures.entry c.in_ok-flow.ensures.counted_points c.requires.own

@@ -5,13 +5,15 @@ use Rattle.cs_pmap.proofs.balance.rotated_right.Goals as goal
 pub fork-requires-clause-sorted : goal.fork-requires-clause-sorted
 fork-requires-clause-sorted g c =
     let root = c.in_Some-root.root.now in
-    sorted_past_left root.left.0 (root.key, root.value) root.right.0 _ _ (ap (λ t. t.0) c.in_Some-root.ensures.0) (ap (λ t. t.0) c.in_ok-copy.ensures) c.requires.sorted
+    sorted_past_left root.left.0 (root.key, root.value) root.right.0 _ _ (ap (λ t. t.0) c.in_Some-root.ensures.0) (ap (λ t. t.0) c.in_ok-copy.ensures)
+    c.requires.sorted
 
 pub between-requires-2-clause-sorted : goal.between-requires-2-clause-sorted
 between-requires-2-clause-sorted g c =
     let root = c.in_Some-root.root.now in
     let inner = c.in_Some-inner.inner.now in
-    rw c.in_ok-copy-3.ensures (sorted_past_right root.left.0 (root.key, root.value) inner.left.0 (inner.key, inner.value) inner.right.0 (ap (λ t. t.0) c.in_Some-inner.ensures.0) (ap (λ t. t.0) c.in_ok-copy-4.ensures) c.in_Some-root.ensures.1.sorted)
+    rw c.in_ok-copy-3.ensures (sorted_past_right root.left.0 (root.key, root.value) inner.left.0 (inner.key, inner.value) inner.right.0
+    (ap (λ t. t.0) c.in_Some-inner.ensures.0) (ap (λ t. t.0) c.in_ok-copy-4.ensures) c.in_Some-root.ensures.1.sorted)
 
 pub fork-requires-2-clause-sorted : goal.fork-requires-2-clause-sorted
 fork-requires-2-clause-sorted g c =

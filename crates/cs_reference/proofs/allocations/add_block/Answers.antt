@@ -11,4 +11,7 @@ pub returns : goal.returns
 unfolding state_of
 returns c =
     let next = length c.args.state.now.memory.heap.items + 1 in
-    rw c.requires ((rw c.requires at c.in_ok-push_cell.ensures) ∙ ap (λ (m : State). push_cell (PointerCell (HeapBlock next) (pos 0)) m) (state_allocated c.args.state.now c.allocate.new.self (with_block (HeapBlock next) (block_of c.args.block) (memory_of c.args.state.now.memory)) c.in_ok-allocate.ensures.memory c.in_ok-allocate.ensures.frames c.in_ok-allocate.ensures.allocations))
+    rw c.requires ((rw c.requires at c.in_ok-push_cell.ensures)
+    ∙ ap (λ (m : State). push_cell (PointerCell (HeapBlock next) (pos 0)) m)
+    (state_allocated c.args.state.now c.allocate.new.self (with_block (HeapBlock next) (block_of c.args.block) (memory_of c.args.state.now.memory))
+    c.in_ok-allocate.ensures.memory c.in_ok-allocate.ensures.frames c.in_ok-allocate.ensures.allocations))

@@ -9,4 +9,6 @@ use Rattle.cs_reference.proofs.allocations.add_none.Goals as goal
 pub returns : goal.returns
 unfolding state_of
 returns c =
-    c.in_ok-push_cell.ensures ∙ ap (λ (m : State). push_cell NullCell m) (state_allocated c.args.state.now c.allocate_none.new.self (memory_of c.args.state.now.memory) c.in_ok-allocate_none.ensures.memory c.in_ok-allocate_none.ensures.frames c.in_ok-allocate_none.ensures.allocations)
+    c.in_ok-push_cell.ensures ∙ ap (λ (m : State). push_cell NullCell m)
+    (state_allocated c.args.state.now c.allocate_none.new.self (memory_of c.args.state.now.memory) c.in_ok-allocate_none.ensures.memory
+    c.in_ok-allocate_none.ensures.frames c.in_ok-allocate_none.ensures.allocations)

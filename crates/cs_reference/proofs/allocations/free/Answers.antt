@@ -9,4 +9,5 @@ use Rattle.cs_reference.proofs.allocations.free.Goals as goal
 pub returns : goal.returns
 unfolding state_of
 returns c =
-    state_with c.args.state.now c.change.new.self (changed (stand Freed) (object_of c.args.object.now) (memory_of c.args.state.now.memory)) c.in_ok-change.ensures.memory c.in_ok-change.ensures.counts
+    state_with c.args.state.now c.change.new.self (changed (stand Freed) (object_of c.args.object.now) (memory_of c.args.state.now.memory))
+    c.in_ok-change.ensures.memory c.in_ok-change.ensures.counts

@@ -9,4 +9,5 @@ use Rattle.cs_reference.proofs.calls.come_back.Goals as goal
 pub returns : goal.returns
 unfolding state_of
 returns c =
-    c.in_ok-push.ensures ∙ state_in_frame c.args.state.now c.args.caller c.end_frame.new.self (operand_of c.args.value) (without_locals c.args.state.now.frame.number (memory_of c.args.state.now.memory)) c.end_frame.ensures.memory c.end_frame.ensures.counts
+    c.in_ok-push.ensures ∙ state_in_frame c.args.state.now c.args.caller c.end_frame.new.self (operand_of c.args.value)
+    (without_locals c.args.state.now.frame.number (memory_of c.args.state.now.memory)) c.end_frame.ensures.memory c.end_frame.ensures.counts

@@ -9,5 +9,8 @@ pub returns : goal.returns
 unfolding state_of
 returns c =
     let m = c.args.state.now in
-    let called : c.push.new.self.items ≡ m.callers.items ++ m.frame ∷ [] = c.in_ok-push.ensures.items ∙ ap (λ (f : Frame). m.callers.items ++ f ∷ []) c.replace-caller.ensures.value in
-    rw c.replace-caller.ensures.after (state_inside m c.args.frame c.push.new.self c.add_frame.new.self (with_frame (length m.memory.frames.items) (block_at c.args.locals.items) (memory_of m.memory)) called c.in_ok-add_frame.ensures.memory c.in_ok-add_frame.ensures.frames c.in_ok-add_frame.ensures.allocations)
+    let called : c.push.new.self.items ≡ m.callers.items ++ m.frame ∷ [] = c.in_ok-push.ensures.items
+    ∙ ap (λ (f : Frame). m.callers.items ++ f ∷ []) c.replace-caller.ensures.value in
+    rw c.replace-caller.ensures.after (state_inside m c.args.frame c.push.new.self c.add_frame.new.self
+    (with_frame (length m.memory.frames.items) (block_at c.args.locals.items) (memory_of m.memory)) called c.in_ok-add_frame.ensures.memory
+    c.in_ok-add_frame.ensures.frames c.in_ok-add_frame.ensures.allocations)

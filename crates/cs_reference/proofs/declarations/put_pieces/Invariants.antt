@@ -9,7 +9,8 @@ use Rattle.cs_reference.proofs.declarations.put_pieces.Given as goal
 abbrev pub invariant-loop-left : goal.invariant-loop-left
 invariant-loop-left l = record {
   within : l.left ≤ length l.pieces;
-  put : state_of l.state ≡ to_do (stores_pieces l.place l.declaration (map piece_of (drop l.left l.pieces)) (state_of l.fn.state).frame.todo) (state_of l.fn.state);
+  put : state_of l.state ≡ to_do (stores_pieces l.place l.declaration (map piece_of (drop l.left l.pieces)) (state_of l.fn.state).frame.todo)
+      (state_of l.fn.state);
 }
 
 abbrev pub decreases-loop-left : goal.decreases-loop-left

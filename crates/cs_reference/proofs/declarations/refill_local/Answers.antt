@@ -8,4 +8,6 @@ use Rattle.cs_reference.proofs.declarations.refill_local.Goals as goal
 pub returns : goal.returns
 unfolding state_of
 returns c =
-    state_with c.args.state.now c.change.new.self (changed (refill (fill_of c.args.fill)) (LocalObject c.args.state.now.frame.number c.args.declaration) (memory_of c.args.state.now.memory)) c.in_ok-change.ensures.memory c.in_ok-change.ensures.counts
+    state_with c.args.state.now c.change.new.self
+    (changed (refill (fill_of c.args.fill)) (LocalObject c.args.state.now.frame.number c.args.declaration) (memory_of c.args.state.now.memory))
+    c.in_ok-change.ensures.memory c.in_ok-change.ensures.counts

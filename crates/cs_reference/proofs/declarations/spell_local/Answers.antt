@@ -13,4 +13,6 @@ use Rattle.cs_reference.proofs.declarations.spell_local.Goals as goal
 pub returns : goal.returns
 unfolding state_of
 returns c =
-    ap (λ (m : State). Goes m) (state_with c.args.state.now c.write_bytes.new.self (changed (write_bytes (typed_program c.args.program.now) c.args.offset c.args.bytes.now) (LocalObject c.args.state.now.frame.number c.args.declaration) (memory_of c.args.state.now.memory)) c.in_ok-write_bytes.ensures.memory c.in_ok-write_bytes.ensures.counts)
+    ap (λ (m : State). Goes m) (state_with c.args.state.now c.write_bytes.new.self
+    (changed (write_bytes (typed_program c.args.program.now) c.args.offset c.args.bytes.now) (LocalObject c.args.state.now.frame.number c.args.declaration)
+    (memory_of c.args.state.now.memory)) c.in_ok-write_bytes.ensures.memory c.in_ok-write_bytes.ensures.counts)

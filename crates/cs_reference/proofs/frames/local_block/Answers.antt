@@ -20,6 +20,7 @@ returns c =
     elim c.match-argument.branch [
       | in-Some+in_ok-copy+in_ok-change w ↦
           (let cell = w.into_cell-cell.ensures ∙ ap (λ (o : machine.Operand). machine.cell_of o) w.in_ok-copy.ensures in
-          rw (w.block-is, w.in-Some.is) (w.in_ok-change.ensures ∙ (ap (λ (b : Block). write_cell 0 (cell_of w.into_cell-cell.result) b) new ∙ ap (λ (held : Cell). write_cell 0 held unset) cell)))
+          rw (w.block-is, w.in-Some.is) (w.in_ok-change.ensures
+          ∙ (ap (λ (b : Block). write_cell 0 (cell_of w.into_cell-cell.result) b) new ∙ ap (λ (held : Cell). write_cell 0 held unset) cell)))
       | in_default w ↦ rw (w.block-is, w.in_default.is) (new ∙ sym (local_without program (variable c.args.local.now)))
     ]

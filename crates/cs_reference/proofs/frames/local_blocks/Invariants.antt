@@ -10,5 +10,6 @@ use Rattle.cs_reference.proofs.frames.local_blocks.Given as goal
 abbrev pub invariant-loop-number : goal.invariant-loop-number
 invariant-loop-number l = record {
   count : length l.made.items ≡ l.number;
-  blocks : (n : ℕ) → n < l.number → block_at l.made.items n ≡ option_map (local_block (typed_program l.program) (slice_get (map operand_of l.arguments) n)) (slice_get (map variable l.locals) n);
+  blocks : (n : ℕ) → n < l.number → block_at l.made.items n
+      ≡ option_map (local_block (typed_program l.program) (slice_get (map operand_of l.arguments) n)) (slice_get (map variable l.locals) n);
 }

@@ -7,6 +7,7 @@ use Rattle.cs_reference.proofs.jumps.+seek.Given as goal
 
 abbrev pub invariant-seek_in-loop-s : goal.invariant-seek_in-loop-s
 invariant-seek_in-loop-s l = record {
-  sought : jumps.landing_in l.label (statement_list l.statements) l.counted_point (todo_of l.fn.todo.items) ≡ jumps.landing_in l.label (statement_list (drop l.s-index l.statements)) l.at (todo_of l.fn.todo.items);
+  sought : jumps.landing_in l.label (statement_list l.statements) l.counted_point (todo_of l.fn.todo.items)
+      ≡ jumps.landing_in l.label (statement_list (drop l.s-index l.statements)) l.at (todo_of l.fn.todo.items);
   put : todo_of l.todo.items ≡ jumps.executes (statement_list (drop l.s-index l.statements)) l.at (todo_of l.fn.todo.items);
 }

@@ -9,7 +9,8 @@ use Rattle.cs_reference.proofs.lists.put_statements.Given as goal
 abbrev pub invariant-loop-left : goal.invariant-loop-left
 invariant-loop-left l = record {
   within : l.left ≤ length l.statements;
-  with_counted_point : l.following + counted_points_in (statement_list (drop l.left l.statements)) ≡ l.counted_point + counted_points_in (statement_list l.statements);
+  with_counted_point : l.following + counted_points_in (statement_list (drop l.left l.statements))
+      ≡ l.counted_point + counted_points_in (statement_list l.statements);
   put : todo_of l.todo.items ≡ executes (statement_list (drop l.left l.statements)) l.following (todo_of l.fn.todo.items);
 }
 

@@ -15,18 +15,24 @@ pub returns-then-gives_nothing-clause-ok : goal.returns-then-gives_nothing-claus
 returns-then-gives_nothing-clause-ok c =
     let ty = type_of c.args.returns in
     let void : is_nothing ty ≡ true = sym c.gives_nothing.ensures ∙ c.if-gives_nothing.true in
-    λ onward. ap (λ (act : Act State). perform (setting_of c.args.setting.now) (log_of c.args.log.now) act) (result_nothing (typed_program c.args.setting.now.program.now) c.args.call (memory_of c.args.memory.now) ty void onward)
+    λ onward.
+    ap (λ (act : Act State). perform (setting_of c.args.setting.now) (log_of c.args.log.now) act)
+    (result_nothing (typed_program c.args.setting.now.program.now) c.args.call (memory_of c.args.memory.now) ty void onward)
 
 pub returns-else-gives_nothing-clause-ok : goal.returns-else-gives_nothing-clause-ok
 returns-else-gives_nothing-clause-ok c =
     let ty = type_of c.args.returns in
     let other : is_nothing ty ≡ false = sym c.gives_nothing.ensures ∙ c.if-gives_nothing.false in
     let same = result_received (typed_program c.args.setting.now.program.now) c.args.call (memory_of c.args.memory.now) ty other in
-    subst (λ (piece : (Memory → Operand → Act State) → Act State). IfOk c.received.result (λ given. GivesBoth c.args.setting.now c.args.log.now c.received.new.log piece (memory_of c.received.new.memory) (operand_of given))) (sym same) c.received.ensures.ok
+    subst (λ (piece : (Memory → Operand → Act State) → Act State).
+    IfOk c.received.result (λ given.
+    GivesBoth c.args.setting.now c.args.log.now c.received.new.log piece (memory_of c.received.new.memory) (operand_of given))) (sym same)
+    c.received.ensures.ok
 
 pub returns-else-gives_nothing-clause-err : goal.returns-else-gives_nothing-clause-err
 returns-else-gives_nothing-clause-err c =
     let ty = type_of c.args.returns in
     let other : is_nothing ty ≡ false = sym c.gives_nothing.ensures ∙ c.if-gives_nothing.false in
     let same = result_received (typed_program c.args.setting.now.program.now) c.args.call (memory_of c.args.memory.now) ty other in
-    subst (λ (piece : (Memory → Operand → Act State) → Act State). IfErr c.received.result (StopsInBoth c.args.setting.now c.args.log.now c.received.new.log piece)) (sym same) c.received.ensures.err
+    subst (λ (piece : (Memory → Operand → Act State) → Act State).
+    IfErr c.received.result (StopsInBoth c.args.setting.now c.args.log.now c.received.new.log piece)) (sym same) c.received.ensures.err

@@ -13,7 +13,9 @@ returns-in_ok-change-in-Some-clause-memory c =
     let memory = memory_of c.args.memory.now in
     let there : memory object ≡ Some (block_of c.in-Some.block.now) = sym (rw c.in-Some.is at c.block.ensures) in
     let writable = sym c.is_writable.ensures ∙ c.if-is_writable.true in
-    c.in_ok-change-in-Some.ensures.memory ∙ changes_as (refill (InputFill c.args.path)) (overwrite (typed_program c.args.program.now) object c.args.path) object memory (block_of c.in-Some.block.now) there (rw writable refl)
+    c.in_ok-change-in-Some.ensures.memory
+    ∙ changes_as (refill (InputFill c.args.path)) (overwrite (typed_program c.args.program.now) object c.args.path) object memory
+    (block_of c.in-Some.block.now) there (rw writable refl)
 
 pub returns-else-is_writable-clause-memory : goal.returns-else-is_writable-clause-memory
 returns-else-is_writable-clause-memory c =
@@ -25,4 +27,5 @@ returns-else-is_writable-clause-memory c =
 
 pub returns-in-None-clause-memory : goal.returns-in-None-clause-memory
 returns-in-None-clause-memory c =
-    changes_none (overwrite (typed_program c.args.program.now) (object_of c.args.object.now) c.args.path) (object_of c.args.object.now) (memory_of c.args.memory.now) (sym (rw c.in-None.is at c.block.ensures))
+    changes_none (overwrite (typed_program c.args.program.now) (object_of c.args.object.now) c.args.path) (object_of c.args.object.now)
+    (memory_of c.args.memory.now) (sym (rw c.in-None.is at c.block.ensures))

@@ -12,7 +12,12 @@ use Rattle.cs_reference.proofs.outside.write_arguments.Given as goal
 
 abbrev pub invariant-loop-argument : goal.invariant-loop-argument
 invariant-loop-argument l = record {
-  writes : (onward : Memory → Act State) → perform (setting_of l.setting) (log_of l.fn.log) (write_arguments (typed_program l.setting.program.now) l.place l.call 0 l.written (map operand_of l.arguments) (memory_of l.fn.memory) onward) ≡ perform (setting_of l.setting) (log_of l.log) (write_arguments (typed_program l.setting.program.now) l.place l.call l.argument (drop l.argument l.written) (map operand_of (drop l.argument l.arguments)) (memory_of l.memory) onward);
+  writes : (onward : Memory → Act State)
+      → perform (setting_of l.setting) (log_of l.fn.log)
+      (write_arguments (typed_program l.setting.program.now) l.place l.call 0 l.written (map operand_of l.arguments) (memory_of l.fn.memory) onward)
+      ≡ perform (setting_of l.setting) (log_of l.log)
+      (write_arguments (typed_program l.setting.program.now) l.place l.call l.argument (drop l.argument l.written)
+      (map operand_of (drop l.argument l.arguments)) (memory_of l.memory) onward);
   counts : KeepsCounts l.fn.memory l.memory;
 }
 

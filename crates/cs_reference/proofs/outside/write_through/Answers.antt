@@ -10,4 +10,8 @@ use Rattle.cs_reference.proofs.outside.write_through.Goals as goal
 pub returns-in_ok-overwrite-in-Pointer-clause-ok : goal.returns-in_ok-overwrite-in-Pointer-clause-ok
 returns-in_ok-overwrite-in-Pointer-clause-ok c =
     let object = object_of c.in-Pointer.object in
-    rw c.in-Pointer.is (λ onward. c.in_ok-show-in-Pointer.ensures.ok (onward (changed (overwrite (typed_program c.args.setting.now.program.now) object c.args.path) object (memory_of c.args.memory.now))) ∙ ap (λ (m : Memory). perform (setting_of c.args.setting.now) (log_of c.show-in-Pointer.new.self) (onward m)) (sym c.in_ok-overwrite-in-Pointer.ensures.memory))
+    rw c.in-Pointer.is (λ onward.
+    c.in_ok-show-in-Pointer.ensures.ok (onward
+    (changed (overwrite (typed_program c.args.setting.now.program.now) object c.args.path) object (memory_of c.args.memory.now)))
+    ∙ ap (λ (m : Memory). perform (setting_of c.args.setting.now) (log_of c.show-in-Pointer.new.self) (onward m))
+    (sym c.in_ok-overwrite-in-Pointer.ensures.memory))

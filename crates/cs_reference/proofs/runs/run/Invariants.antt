@@ -12,9 +12,11 @@ use Rattle.cs_reference.proofs.runs.run.Given as goal
 
 abbrev pub invariant-loop-outcome : goal.invariant-loop-outcome
 invariant-loop-outcome l = record {
-  leads : Leads (step (typed_program l.setting.program.now) l.setting.budgets) (setting_of l.setting) (meaning.start_of (typed_program l.setting.program.now) l.entry (run_of l.setting)) empty (state_of l.runner.machine) (log_of l.runner.log);
+  leads : Leads (step (typed_program l.setting.program.now) l.setting.budgets) (setting_of l.setting)
+      (meaning.start_of (typed_program l.setting.program.now) l.entry (run_of l.setting)) empty (state_of l.runner.machine) (log_of l.runner.log);
   kept : l.runner.setting.now ≡ l.setting;
 }
 
 abbrev pub decreases-loop-outcome : goal.decreases-loop-outcome
-decreases-loop-outcome l = steps_left (typed_program l.runner.setting.now.program.now) l.runner.setting.now.budgets (setting_of l.runner.setting.now) (state_of l.runner.machine) (log_of l.runner.log)
+decreases-loop-outcome l = steps_left (typed_program l.runner.setting.now.program.now) l.runner.setting.now.budgets (setting_of l.runner.setting.now)
+    (state_of l.runner.machine) (log_of l.runner.log)

@@ -6,4 +6,5 @@ use Rattle.cs_run_state.specs.MemoryView.{block_of}
 use Rattle.cs_reference.proofs.starting.global_blocks.Given as goal
 
 abbrev pub invariant-loop-object : goal.invariant-loop-object
-invariant-loop-object l = map block_of l.made.items ≡ map (global_block (typed_program l.program)) (map file_object (take l.object-index l.program.globals.items))
+invariant-loop-object l = map block_of l.made.items
+    ≡ map (global_block (typed_program l.program)) (map file_object (take l.object-index l.program.globals.items))

@@ -9,7 +9,10 @@ use Rattle.cs_reference.proofs.starting.received.Given as goal
 
 abbrev pub invariant-loop-parameter : goal.invariant-loop-parameter
 invariant-loop-parameter l = record {
-  values : map operand_of l.made.items ≡ map (steps.received (typed_program l.setting.program.now) (number_at l.setting.inputs.now)) (map variable (take l.parameter-index l.parameters));
-  memory : steps.with_received (typed_program l.setting.program.now) (number_at l.setting.inputs.now) (map variable (drop l.parameter-index l.parameters)) (memory_of l.memory) ≡ steps.with_received (typed_program l.setting.program.now) (number_at l.setting.inputs.now) (map variable l.parameters) (memory_of l.fn.memory);
+  values : map operand_of l.made.items ≡ map (steps.received (typed_program l.setting.program.now) (number_at l.setting.inputs.now))
+      (map variable (take l.parameter-index l.parameters));
+  memory : steps.with_received (typed_program l.setting.program.now) (number_at l.setting.inputs.now) (map variable (drop l.parameter-index l.parameters))
+      (memory_of l.memory) ≡ steps.with_received (typed_program l.setting.program.now) (number_at l.setting.inputs.now) (map variable l.parameters)
+      (memory_of l.fn.memory);
   counts : KeepsCounts l.fn.memory l.memory;
 }

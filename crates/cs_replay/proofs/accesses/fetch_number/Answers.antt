@@ -10,5 +10,9 @@ use Rattle.cs_replay.proofs.accesses.fetch_number.Goals as goal
 pub returns : goal.returns
 returns c =
     let run = c.args.run.now in
-    let done = subst (λ (object : Access). LeadsOrEnds run.setting.now run.log c.fetch_number.new.log c.fetch_number.result (fetch_number_act (program_of run) c.args.place object c.args.works_in (state_in run)) (state_of c.fetch_number.new.self)) c.access_to-access.ensures c.fetch_number.ensures in
+    let done =
+    subst (λ (object : Access).
+    LeadsOrEnds run.setting.now run.log c.fetch_number.new.log c.fetch_number.result
+    (fetch_number_act (program_of run) c.args.place object c.args.works_in (state_in run)) (state_of c.fetch_number.new.self)) c.access_to-access.ensures
+    c.fetch_number.ensures in
     record { ok = done.ok; err = done.err; kept = on_ok c.fetch_number.result (λ _. refl) done.ok }

@@ -10,5 +10,9 @@ use Rattle.cs_replay.proofs.accesses.update.Goals as goal
 pub returns : goal.returns
 returns c =
     let run = c.args.run.now in
-    let done = subst (λ (object : Access). LeadsOrEnds run.setting.now run.log c.update.new.log c.update.result (update_act (program_of run) c.args.place c.args.operator object c.args.works_in c.args.gives (state_in run)) (state_of c.update.new.self)) c.access_to-access.ensures c.update.ensures in
+    let done =
+    subst (λ (object : Access).
+    LeadsOrEnds run.setting.now run.log c.update.new.log c.update.result
+    (update_act (program_of run) c.args.place c.args.operator object c.args.works_in c.args.gives (state_in run)) (state_of c.update.new.self))
+    c.access_to-access.ensures c.update.ensures in
     record { ok = done.ok; err = done.err; kept = on_ok c.update.result (λ _. refl) done.ok }

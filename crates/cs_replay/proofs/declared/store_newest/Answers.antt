@@ -16,7 +16,13 @@ returns c =
     let popped = c.pop-operand.new.self in
     let program = typed_program c.args.program.now in
     let ty = shape_of c.args.ty.now in
-    let stored = c.in_ok-write_operand.ensures.memory ∙ ap (λ (o : Operand). changed (write_operand program ty c.args.offset o) (LocalObject popped.frame.number c.args.declaration) (memory_of popped.memory)) c.pop-operand.ensures.operand in
+    let stored = c.in_ok-write_operand.ensures.memory
+    ∙ ap (λ (o : Operand).
+    changed (write_operand program ty c.args.offset o) (LocalObject popped.frame.number c.args.declaration) (memory_of popped.memory))
+    c.pop-operand.ensures.operand in
     let newest = operand_at (state_of c.args.state.now) 0 in
-    state_with popped c.write_operand.new.self (changed (write_operand program ty c.args.offset newest) (LocalObject popped.frame.number c.args.declaration) (memory_of popped.memory)) stored c.in_ok-write_operand.ensures.counts
-    ∙ ap (λ (m : State). with_memory (changed (write_operand program ty c.args.offset newest) (LocalObject m.frame.number c.args.declaration) m.memory) m) c.pop-operand.ensures.state
+    state_with popped c.write_operand.new.self
+    (changed (write_operand program ty c.args.offset newest) (LocalObject popped.frame.number c.args.declaration) (memory_of popped.memory)) stored
+    c.in_ok-write_operand.ensures.counts
+    ∙ ap (λ (m : State). with_memory (changed (write_operand program ty c.args.offset newest) (LocalObject m.frame.number c.args.declaration) m.memory) m)
+    c.pop-operand.ensures.state

@@ -9,6 +9,9 @@ use Rattle.cs_replay.proofs.nexts.operation_at.Goals as goal
 pub returns-in-Some : goal.returns-in-Some
 returns-in-Some c =
     let block = c.args.block.now in
-    let there : slice_get block.operations.items c.args.number ≡ Some c.in-Some.operation.now = ap (λ (l : List o.Operation). slice_get l c.args.number) (sym c.deref.ensures.value) ∙ lent_is c.deref.result.now c.args.number c.in-Some.operation c.in-Some.ensures.lookup in
+    let there : slice_get block.operations.items c.args.number ≡ Some c.in-Some.operation.now =
+    ap (λ (l : List o.Operation). slice_get l c.args.number) (sym c.deref.ensures.value)
+    ∙ lent_is c.deref.result.now c.args.number c.in-Some.operation c.in-Some.ensures.lookup in
     let end = view.block_end block.end in
-    ap (λ (left : List Operation). record { operations = left; end = end }) (after_one view.operation block.operations.items c.args.number c.in-Some.operation.now there)
+    ap (λ (left : List Operation). record { operations = left; end = end })
+    (after_one view.operation block.operations.items c.args.number c.in-Some.operation.now there)

@@ -11,4 +11,5 @@ pub returns : goal.returns
 unfolding state_of
 returns c =
     let m = c.args.state.now in
-    ap (λ (operands : List machine.Operand). with_stack operands (state_of m)) (ap (λ (l : List Operand). reverse (map operand_of l)) c.truncate.ensures.items ∙ below_are operand_of m.frame.stack.items c.args.number)
+    ap (λ (operands : List machine.Operand). with_stack operands (state_of m)) (ap (λ (l : List Operand). reverse (map operand_of l)) c.truncate.ensures.items
+    ∙ below_are operand_of m.frame.stack.items c.args.number)

@@ -25,8 +25,10 @@ returns-clause-state c =
     let flow = unwrap_or (flow_of (view.code code) c.args.entry) no_flow in
     let found = sym c.flow_at.ensures in
     let at : block ≡ flow.entry = c.beginning-block.ensures.entry ∙ ap (λ (f : Option Flow). (unwrap_or f no_flow).entry) found in
-    let counted_points : c.beginning-block.result.1 ≡ flow.counted_points = c.beginning-block.ensures.counted_points ∙ ap (λ (f : Option Flow). (unwrap_or f no_flow).counted_points) found in
+    let counted_points : c.beginning-block.result.1 ≡ flow.counted_points = c.beginning-block.ensures.counted_points
+    ∙ ap (λ (f : Option Flow). (unwrap_or f no_flow).counted_points) found in
     let is : frame_of frame ≡ begun c.args.entry 0 flow.counted_points = c.in_ok-frame.ensures ∙ ap (λ (n : ℕ). begun c.args.entry 0 n) counted_points in
     ap (λ (m : Machine). code_state points (callers_of code c.new-callers.result.items) (state_of m)) c.put_in.ensures
     ∙ (ap (λ (waiting : List Caller). code_state points (callers_of code waiting) (state_of machine)) c.new-callers.ensures.items
-    ∙ started_is code program (number_at c.args.setting.now.inputs.now) c.args.entry (routine_of program c.args.entry) block c.in_ok-machine.machine frame at is c.in_ok-machine.ensures)
+    ∙ started_is code program (number_at c.args.setting.now.inputs.now) c.args.entry (routine_of program c.args.entry) block c.in_ok-machine.machine frame at
+    is c.in_ok-machine.ensures)

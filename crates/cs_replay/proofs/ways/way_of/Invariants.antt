@@ -5,4 +5,5 @@ use Rattle.cs_cfg.specs.GraphView as view
 use Rattle.cs_replay.proofs.ways.way_of.Given as goal
 
 abbrev pub invariant-loop-case : goal.invariant-loop-case
-invariant-loop-case l = steps.way_of (map view.switch_case (drop l.case-index l.cases)) l.otherwise l.number l.count ≡ steps.way_of (map view.switch_case l.cases) l.otherwise l.number 0
+invariant-loop-case l = steps.way_of (map view.switch_case (drop l.case-index l.cases)) l.otherwise l.number l.count
+    ≡ steps.way_of (map view.switch_case l.cases) l.otherwise l.number 0

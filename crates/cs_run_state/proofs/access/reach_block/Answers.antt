@@ -14,4 +14,6 @@ returns-in_err-number-in-None-clause-err c =
     let fits : FitsSigned w128 c.args.offset = search rules in
     let plain = to_z-of_z w128 c.args.offset fits in
     let ends = rw plain at c.in_err-number-in-None.ensures.err in
-    rw there (λ onward. ends_following _ _ (ap (λ (act : Act State). perform (setting_of c.args.setting.now) (log_of c.args.log.now) act) (c.in-None.ensures c.args.access.place _)) (ends onward))
+    rw there (λ onward.
+    ends_following _ _ (ap (λ (act : Act State). perform (setting_of c.args.setting.now) (log_of c.args.log.now) act)
+    (c.in-None.ensures c.args.access.place _)) (ends onward))

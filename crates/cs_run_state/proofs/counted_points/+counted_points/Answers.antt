@@ -18,9 +18,11 @@ counted_points-returns-in-Switch t c =
 pub counted_points-returns-in_ok-head-in-For : goal.counted_points-returns-in_ok-head-in-For
 counted_points-returns-in_ok-head-in-For t c =
     let is = for_is c.args.s.now _ _ _ _ (sym c.deref.ensures ∙ c.in-For.is) in
-    let before : c.in_ok-before-in-For.before ≡ counted_points_in (statement_list c.in-For.first.items) = rw c.deref-in-For.ensures.value at c.in_ok-before-in-For.ensures in
+    let before : c.in_ok-before-in-For.before ≡ counted_points_in (statement_list c.in-For.first.items) =
+    rw c.deref-in-For.ensures.value at c.in_ok-before-in-For.ensures in
     let inner : c.in_ok-inner-in-For.inner ≡ counted_points (statement c.in-For.body) = c.in_ok-inner-in-For.ensures in
     let head : c.in_ok-head-in-For.head ≡ 1 + c.in_ok-before-in-For.before = c.in_ok-head-in-For.ensures in
-    let all : c.in_ok-head-in-For.head + c.in_ok-inner-in-For.inner ≡ 1 + counted_points_in (statement_list c.in-For.first.items) + counted_points (statement c.in-For.body) = omega arith in
+    let all : c.in_ok-head-in-For.head + c.in_ok-inner-in-For.inner
+    ≡ 1 + counted_points_in (statement_list c.in-For.first.items) + counted_points (statement c.in-For.body) = omega arith in
     let counts : ℕ → Type 0 = λ n. IfOk c.together-in-For-2.result (λ count. count ≡ n) in
     rw is (subst counts all c.together-in-For-2.ensures)

@@ -5,4 +5,5 @@ use Rattle.cs_meaning.specs.CountedPoints.{counted_points_in}
 use Rattle.cs_run_state.proofs.counted_points.+counted_points.Given as goal
 
 abbrev pub invariant-counted_points_in-loop-s : goal.invariant-counted_points_in-loop-s
-invariant-counted_points_in-loop-s l = l.count + counted_points_in (statement_list (drop l.s-index l.statements)) ≡ counted_points_in (statement_list l.statements)
+invariant-counted_points_in-loop-s l = l.count + counted_points_in (statement_list (drop l.s-index l.statements))
+    ≡ counted_points_in (statement_list l.statements)

@@ -9,4 +9,5 @@ returns-then-contains_key c =
 
 pub returns-in-Ok : goal.returns-in-Ok
 returns-in-Ok c =
-    start_added _ _ c.args.starts.now c.insert.new.self c.args.path c.args.block (λ p q. search rules) (λ q. search rules) (rw c.if-contains_key.false at c.contains_key.ensures) c.in-Ok.ensures.updates
+    start_added _ _ c.args.starts.now c.insert.new.self c.args.path c.args.block (λ p q. search rules) (λ q. search rules)
+    (rw c.if-contains_key.false at c.contains_key.ensures) c.in-Ok.ensures.updates

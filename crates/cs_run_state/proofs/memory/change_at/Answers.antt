@@ -5,7 +5,8 @@ use Rattle.cs_run_state.proofs.memory.change_at.Goals as goal
 
 pub returns-in_ok-change : goal.returns-in_ok-change
 returns-in_ok-change c =
-    row_changed c.args.row.now.items c.args.at c.index_mut.result.now c.change.new.self (change_of c.args.change) (search rules) (search rules) c.in_ok-change.ensures
+    row_changed c.args.row.now.items c.args.at c.index_mut.result.now c.change.new.self (change_of c.args.change) (search rules) (search rules)
+    c.in_ok-change.ensures
 
 pub returns-else-at-len : goal.returns-else-at-len
 returns-else-at-len c = row_stays c.args.row.now.items c.args.at (change_of c.args.change) (search rules)

@@ -11,7 +11,10 @@ on_ok (Err e) f p = tt
 
 pub returns-in-Some : goal.returns-in-Some
 returns-in-Some c =
-    on_ok c.change.result (λ same. start_changed _ _ _ c.args.starts.now (c.get_mut.follows.lender c.change.new.self) c.args.path.now c.in-Some.block.now c.change.new.self (change_of c.args.change) (λ p q. search rules) (λ q. search rules) (λ q. search rules) (c.get_mut.follows.holds c.change.new.self) c.in-Some.ensures.value same) c.change.ensures
+    on_ok c.change.result (λ same.
+    start_changed _ _ _ c.args.starts.now (c.get_mut.follows.lender c.change.new.self) c.args.path.now c.in-Some.block.now c.change.new.self
+    (change_of c.args.change) (λ p q. search rules) (λ q. search rules) (λ q. search rules) (c.get_mut.follows.holds c.change.new.self)
+    c.in-Some.ensures.value same) c.change.ensures
 
 pub returns-in-None : goal.returns-in-None
 returns-in-None c =

@@ -9,5 +9,6 @@ returns c = all_ended c.args.row.now.items c.loop-ended.row.items c.loop-ended.e
 pub loop-ended-preserved : goal.loop-ended-preserved
 loop-ended-preserved c = record {
   same_length = search rules;
-  ended_below = one_more c.args.row.now.items c.loop-ended.row.items c.loop-ended.ended c.index_mut.result.now (record c.index_mut.result.now { standing = Ended }) (search rules) (search rules) refl c.loop-ended.invariant.ended_below;
+  ended_below = one_more c.args.row.now.items c.loop-ended.row.items c.loop-ended.ended c.index_mut.result.now
+      (record c.index_mut.result.now { standing = Ended }) (search rules) (search rules) refl c.loop-ended.invariant.ended_below;
 }

@@ -19,7 +19,9 @@ loop-offset-preserved c =
     let shape = shape_of c.args.ty.now in
     let offset = c.loop-offset.offset in
     record {
-      found = rw c.in_ok-found.ensures at c.in_ok-push_if.ensures ∙ (ap (λ xs. xs ++ if_here offset (is_some (leaf_of model table shape offset))) c.loop-offset.invariant.found ∙ sym (offsets_before-more model table shape offset));
+      found = rw c.in_ok-found.ensures at c.in_ok-push_if.ensures
+          ∙ (ap (λ xs. xs ++ if_here offset (is_some (leaf_of model table shape offset))) c.loop-offset.invariant.found
+          ∙ sym (offsets_before-more model table shape offset));
       within = omega arith;
     }
 
@@ -29,4 +31,5 @@ returns c =
     let table = c.args.program.now.table.list in
     let shape = shape_of c.args.ty.now in
     let end : c.loop-offset.offset ≡ c.in_ok-bytes.bytes = omega arith in
-    c.loop-offset.invariant.found ∙ (ap (offsets_before model table shape) end ∙ offsets_before-all model table shape c.in_ok-bytes.bytes (sym c.in_ok-bytes.ensures))
+    c.loop-offset.invariant.found
+    ∙ (ap (offsets_before model table shape) end ∙ offsets_before-all model table shape c.in_ok-bytes.bytes (sym c.in_ok-bytes.ensures))

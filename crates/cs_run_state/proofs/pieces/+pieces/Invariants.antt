@@ -8,4 +8,5 @@ use Rattle.cs_run_state.proofs.pieces.+pieces.Given as goal
 
 abbrev pub invariant-push_parts-loop-number : goal.invariant-push_parts-loop-number
 invariant-push_parts-loop-number l =
-    map piece_of l.made.items ++ pieces_from (typed_program l.program) (type_of l.ty) l.from l.number (initial_list (drop l.number l.parts)) ≡ map piece_of l.initial.made.items ++ pieces_from (typed_program l.program) (type_of l.ty) l.from 0 (initial_list l.parts)
+    map piece_of l.made.items ++ pieces_from (typed_program l.program) (type_of l.ty) l.from l.number (initial_list (drop l.number l.parts))
+    ≡ map piece_of l.initial.made.items ++ pieces_from (typed_program l.program) (type_of l.ty) l.from 0 (initial_list l.parts)

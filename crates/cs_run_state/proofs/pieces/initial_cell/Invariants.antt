@@ -7,4 +7,5 @@ use Rattle.cs_run_state.proofs.pieces.initial_cell.Given as goal
 
 abbrev pub invariant-loop-piece : goal.invariant-loop-piece
 invariant-loop-piece l =
-    initial_cell (typed_program l.program) (type_of l.scalar) (map piece_of l.pieces) l.offset ≡ initial_cell (typed_program l.program) (type_of l.scalar) (map piece_of (drop l.piece-index l.pieces)) l.offset
+    initial_cell (typed_program l.program) (type_of l.scalar) (map piece_of l.pieces) l.offset
+    ≡ initial_cell (typed_program l.program) (type_of l.scalar) (map piece_of (drop l.piece-index l.pieces)) l.offset

@@ -13,4 +13,5 @@ decreases-begins_in_members l = 2 * l.depth + 1
 
 abbrev pub invariant-begins_in_members-loop-member : goal.invariant-begins_in_members-loop-member
 invariant-begins_in_members-loop-member l =
-    some_member (in_member (typed_program l.program) l.wanted l.depth l.offset) l.members ≡ some_member (in_member (typed_program l.program) l.wanted l.depth l.offset) (drop l.member-index l.members)
+    some_member (in_member (typed_program l.program) l.wanted l.depth l.offset) l.members
+    ≡ some_member (in_member (typed_program l.program) l.wanted l.depth l.offset) (drop l.member-index l.members)

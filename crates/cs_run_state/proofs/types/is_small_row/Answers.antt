@@ -5,7 +5,9 @@ use Rattle.cs_run_state.proofs.types.is_small_row.Goals as goal
 
 pub returns-in-Some : goal.returns-in-Some
 returns-in-Some c =
-    λ small. array_is_small c.args.model c.args.table.now.list (shape_of c.args.element.now) c.args.count (Some c.in-Some.bytes) c.in-Some.ensures (c.is_small_product.ensures small)
+    λ small.
+    array_is_small c.args.model c.args.table.now.list (shape_of c.args.element.now) c.args.count (Some c.in-Some.bytes) c.in-Some.ensures
+    (c.is_small_product.ensures small)
 
 pub returns-in-None : goal.returns-in-None
 returns-in-None c =

@@ -12,4 +12,5 @@ abbrev pub decreases-struct_scalars : goal.decreases-struct_scalars
 decreases-struct_scalars l = 3 * l.depth
 
 abbrev pub invariant-struct_scalars-loop-member : goal.invariant-struct_scalars-loop-member
-invariant-struct_scalars-loop-member l = scalars_after (scalars_with (struct_scalars l.table.list (l.depth - 1))) l.all (drop l.member-index l.member-items) ≡ scalars_after (scalars_with (struct_scalars l.table.list (l.depth - 1))) 0 l.member-items
+invariant-struct_scalars-loop-member l = scalars_after (scalars_with (struct_scalars l.table.list (l.depth - 1))) l.all (drop l.member-index l.member-items)
+    ≡ scalars_after (scalars_with (struct_scalars l.table.list (l.depth - 1))) 0 l.member-items

@@ -6,4 +6,5 @@ use Rattle.cs_small_analysis.proofs.analysis.follow_statement.Goals as goal
 pub report_return-requires-clause-reached : goal.report_return-requires-clause-reached
 report_return-requires-clause-reached c =
     let place = c.args.first.now.place in
-    statement_returns (definition c.args.function.now) c.args.path.now.ranges.items c.args.path.now.events.items (statement c.args.first.now) place (expression c.in-Return.value) (ap (statement_at place) c.in-Return.is) c.requires.reached
+    statement_returns (definition c.args.function.now) c.args.path.now.ranges.items c.args.path.now.events.items (statement c.args.first.now) place
+    (expression c.in-Return.value) (ap (statement_at place) c.in-Return.is) c.requires.reached

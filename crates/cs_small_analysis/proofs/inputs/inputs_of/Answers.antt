@@ -16,8 +16,10 @@ use Rattle.cs_small_analysis.proofs.inputs.inputs_of.Goals as goal
 named : (function : SmallFunction) (k : ℕ) → k < length function.locals.items → k < length (definition function).locals
 named function k there = omega (arith, length-map function.locals.items (λ (x : SmallLocal). x.name))
 
-name_at : (function : SmallFunction) (k : ℕ) (local : SmallLocal) → k < length function.locals.items → local ≡ get_or function.locals.items k local → local.name ≡ get_or (definition function).locals k []
-name_at function k local there is = ap (λ (x : SmallLocal). x.name) is ∙ sym (get_or-map (λ (x : SmallLocal). x.name) function.locals.items k local [] there)
+name_at : (function : SmallFunction) (k : ℕ) (local : SmallLocal) → k < length function.locals.items → local ≡ get_or function.locals.items k local
+    → local.name ≡ get_or (definition function).locals k []
+name_at function k local there is = ap (λ (x : SmallLocal). x.name) is
+    ∙ sym (get_or-map (λ (x : SmallLocal). x.name) function.locals.items k local [] there)
 
 pub least_number-number-requires : goal.least_number-number-requires
 least_number-number-requires c =
@@ -36,8 +38,11 @@ loop-index-preserved c =
     let there : index < length c.args.function.now.locals.items = omega arith in
     let there' = named c.args.function.now index there in
     let read = range_read function ranges index c.index-ranges-index.result c.requires there' c.index-ranges-index.is in
-    let name : input.parameter ≡ get_or function.locals index [] = c.in_ok-parameter.ensures ∙ name_at c.args.function.now index c.local-item.result there (subst (λ xs. c.local-item.result ≡ get_or xs index c.local-item.result) c.deref-local-items.ensures.value c.local-item.is) in
+    let name : input.parameter ≡ get_or function.locals index [] = c.in_ok-parameter.ensures
+    ∙ name_at c.args.function.now index c.local-item.result there
+    (subst (λ xs. c.local-item.result ≡ get_or xs index c.local-item.result) c.deref-local-items.ensures.value c.local-item.is) in
     let least : IsLeastAbs (range_of ranges index) input.number = subst (λ range. IsLeastAbs range input.number) read c.least_number-number.ensures in
     let fits : FitsSigned w128 c.least_number-number.result = search rules in
     let pushed = simp to_z-of_z at c.in_ok-push.ensures.items in
-    subst (GiveFirst function ranges (index + 1)) (sym pushed) (give_more function ranges index c.loop-index.inputs.items input there' name least c.loop-index.invariant)
+    subst (GiveFirst function ranges (index + 1)) (sym pushed)
+    (give_more function ranges index c.loop-index.inputs.items input there' name least c.loop-index.invariant)

@@ -7,4 +7,5 @@ use Rattle.cs_small_form.proofs.form.block.Goals as goal
 pub returns-in-Block : goal.returns-in-Block
 returns-in-Block c =
     let place = c.args.s.now.place in
-    ap (λ all. Some (place, statement_list all)) c.as_slice.ensures.value ∙ sym (ap (λ kind. block (statement_at place kind)) (sym c.deref.ensures ∙ c.in-Block.is) ∙ typed_block_is place c.in-Block.items)
+    ap (λ all. Some (place, statement_list all)) c.as_slice.ensures.value
+    ∙ sym (ap (λ kind. block (statement_at place kind)) (sym c.deref.ensures ∙ c.in-Block.is) ∙ typed_block_is place c.in-Block.items)

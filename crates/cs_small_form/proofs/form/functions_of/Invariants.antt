@@ -9,4 +9,5 @@ use Rattle.cs_small_form.proofs.form.functions_of.Given as goal
 
 abbrev pub invariant-loop-f : goal.invariant-loop-f
 invariant-loop-f l =
-    option_map (map tree) (functions (map routine l.program.functions.items)) ≡ trees_after (map definition l.functions.items) (functions (map routine (drop l.f-index l.f-items)))
+    option_map (map tree) (functions (map routine l.program.functions.items))
+    ≡ trees_after (map definition l.functions.items) (functions (map routine (drop l.f-index l.f-items)))

@@ -5,4 +5,5 @@ use Rattle.cs_small_form.proofs.form.parameters.Given as goal
 
 abbrev pub invariant-loop-v : goal.invariant-loop-v
 invariant-loop-v l =
-    (length l.locals.items ≡ l.v-index) × (parameters [] (map variable l.variables) ≡ parameters (names_of l.locals.items) (map variable (drop l.v-index l.variables)))
+    (length l.locals.items ≡ l.v-index)
+    × (parameters [] (map variable l.variables) ≡ parameters (names_of l.locals.items) (map variable (drop l.v-index l.variables)))

@@ -28,7 +28,9 @@ unsigned_abs_fits (pos n) f = omega (arith, f.sfits)
 unsigned_abs_fits (negsuc n) f = omega (arith, f.sfits)
 
 -- the steps of the code give the definition, without the casts that change nothing
-by_steps : (x y exact out : ℤ) → FitsSigned w128 x → FitsSigned w128 y → FitsSigned w128 exact → FitsSigned w128 out → exact ≡ int_wrapping_div w128 (cast_signed w128 (cast_unsigned w128 x)) (cast_signed w128 (cast_unsigned w128 y)) → out ≡ int_wrap w32 (cast_signed w128 (cast_unsigned w128 exact)) → cast_signed w128 (cast_unsigned w128 out) ≡ int_quotient x y
+by_steps : (x y exact out : ℤ) → FitsSigned w128 x → FitsSigned w128 y → FitsSigned w128 exact → FitsSigned w128 out
+    → exact ≡ int_wrapping_div w128 (cast_signed w128 (cast_unsigned w128 x)) (cast_signed w128 (cast_unsigned w128 y))
+    → out ≡ int_wrap w32 (cast_signed w128 (cast_unsigned w128 exact)) → cast_signed w128 (cast_unsigned w128 out) ≡ int_quotient x y
 by_steps x y exact out f g h k a b =
     let near : unsigned_abs (int_div x y) ≤ 2 ^ 127 = omega (arith, unsigned_abs_div x y, unsigned_abs_fits x f) in
     rw (to_z-of_z w128 out k, b, to_z-of_z w128 exact h, a, to_z-of_z w128 x f, to_z-of_z w128 y g) (cut_twice (int_div x y) near)

@@ -10,5 +10,7 @@ returns c =
     let inputs = listed c.args.inputs.now in
     elim c.match-execute.branch [
       | in-Ok w ↦ run_falls_through function inputs c.in_ok-parameter_cells.ensures c.new.ensures.items c.execute.ensures w.in-Ok.is w.outcome-is
-      | in-Err-Outcome w ↦ rw w.outcome-is (run_stops function inputs c.in_ok-parameter_cells.ensures c.new.ensures.items c.execute.ensures (w.in-Err-Outcome.is ∙ ap Err w.in-Err-Outcome.field-0-is))
+      | in-Err-Outcome w ↦
+          rw w.outcome-is (run_stops function inputs c.in_ok-parameter_cells.ensures c.new.ensures.items c.execute.ensures (w.in-Err-Outcome.is
+          ∙ ap Err w.in-Err-Outcome.field-0-is))
     ]

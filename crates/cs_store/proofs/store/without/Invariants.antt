@@ -6,4 +6,5 @@ use Rattle.cs_store.proofs.store.without.Given as goal
 
 abbrev pub invariant-loop-base : goal.invariant-loop-base
 invariant-loop-base l =
-    (b : ℕ) → cond (list_any (λ x. nat_eq b x) (drop l.base-index l.bases)) None (get l.others (b, 0)) ≡ cond (list_any (λ x. nat_eq b x) l.bases) None (get l.regions (b, 0))
+    (b : ℕ) → cond (list_any (λ x. nat_eq b x) (drop l.base-index l.bases)) None (get l.others (b, 0))
+    ≡ cond (list_any (λ x. nat_eq b x) l.bases) None (get l.regions (b, 0))

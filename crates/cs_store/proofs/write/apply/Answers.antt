@@ -9,4 +9,5 @@ both (Err x) both_give p q = tt
 pub returns-in-Drop : goal.returns-in-Drop
 returns-in-Drop c =
     rw (c.in-Drop.is, ← c.deref-in-Drop.ensures.value)
-    (both c.drop_frame.result (λ dropped others b o. dropped_or_kept c.deref-in-Drop.result.now b _ _ (dropped b o) (others b o)) c.drop_frame.ensures.dropped c.drop_frame.ensures.others)
+    (both c.drop_frame.result (λ dropped others b o. dropped_or_kept c.deref-in-Drop.result.now b _ _ (dropped b o) (others b o)) c.drop_frame.ensures.dropped
+    c.drop_frame.ensures.others)

@@ -51,7 +51,10 @@ returns-clause-value c =
     let right : to_z w128 (of_z w128 c.affine_value-right_there.result) ≡ affine r.slope r.at r.value l.at = search rules in
     let sum : IsInside (l.value +ℤ affine r.slope r.at r.value l.at) = sum_there l r s c.requires.left c.requires.right c.requires.room in
     let fits : FitsSigned w128 (l.value +ℤ affine r.slope r.at r.value l.at) = omega (arith, ints, sum) in
-    λ v. rw (c.requires.left, c.requires.right) (rw (slope, slope', to_z-of_z w128 _ slopes, at, value, right, to_z-of_z w128 _ fits) at (c.affine.ensures.value v) ∙ affine-add l.slope r.slope l.at l.value r.at r.value (v s.0))
+    λ v.
+    rw (c.requires.left, c.requires.right)
+    (rw (slope, slope', to_z-of_z w128 _ slopes, at, value, right, to_z-of_z w128 _ fits) at (c.affine.ensures.value v)
+    ∙ affine-add l.slope r.slope l.at l.value r.at r.value (v s.0))
 
 pub returns-clause-symbol : goal.returns-clause-symbol
 returns-clause-symbol c = λ s e. c.requires.left ∙ c.affine.ensures.symbol s e

@@ -4,14 +4,16 @@ use Rattle.std.proofs.lemmas.Int.{ints, to_z-of_z}
 use Rattle.cs_terms.proofs.Values.{value_with-scale}
 use Rattle.cs_terms.proofs.arithmetic.scale.Goals as goal
 
-scaled_slope : (c : goal.After-affine) → to_z w128 (of_z w128 (to_z w128 (of_z w128 c.args.term.slope) *ℤ to_z w128 (of_z w128 c.args.factor))) ≡ c.args.term.slope *ℤ c.args.factor
+scaled_slope : (c : goal.After-affine) → to_z w128 (of_z w128 (to_z w128 (of_z w128 c.args.term.slope) *ℤ to_z w128 (of_z w128 c.args.factor)))
+    ≡ c.args.term.slope *ℤ c.args.factor
 scaled_slope c =
     let slope : to_z w128 (of_z w128 c.args.term.slope) ≡ c.args.term.slope = search rules in
     let factor : to_z w128 (of_z w128 c.args.factor) ≡ c.args.factor = search rules in
     let fits : FitsSigned w128 (c.args.term.slope *ℤ c.args.factor) = omega (arith, ints, c.requires.room.scaled_slope) in
     rw (slope, factor) (to_z-of_z w128 _ fits)
 
-scaled_value : (c : goal.After-affine) → to_z w128 (of_z w128 (to_z w128 (of_z w128 c.args.term.value) *ℤ to_z w128 (of_z w128 c.args.factor))) ≡ c.args.term.value *ℤ c.args.factor
+scaled_value : (c : goal.After-affine) → to_z w128 (of_z w128 (to_z w128 (of_z w128 c.args.term.value) *ℤ to_z w128 (of_z w128 c.args.factor)))
+    ≡ c.args.term.value *ℤ c.args.factor
 scaled_value c =
     let value : to_z w128 (of_z w128 c.args.term.value) ≡ c.args.term.value = search rules in
     let factor : to_z w128 (of_z w128 c.args.factor) ≡ c.args.factor = search rules in

@@ -21,5 +21,7 @@ returns-then-factor-lt0-clause-numbers c =
     let same : to_z w128 (of_z w128 c.args.factor) ≡ c.args.factor = search rules in
     let fits : FitsSigned w128 (pos 0 -ℤ c.args.factor) = omega (arith, ints, c.requires.factor.from_least, c.requires.factor.to_greatest) in
     let turned : pos 0 -ℤ c.args.factor ≡ neg_ℤ c.args.factor = omega (arith, ints) in
-    let factor : to_z w128 (of_z w128 (pos 0 -ℤ to_z w128 (of_z w128 c.args.factor))) ≡ neg_ℤ c.args.factor = rw same (to_z-of_z w128 _ fits ∙ turned) in
-    λ x h. (rw (narrow_neg high c.requires.narrow.1, narrow_neg low c.requires.narrow.0, factor) at (c.positive_cofactors.ensures.numbers x)) ∙ negative_factor low high x c.args.factor
+    let factor : to_z w128 (of_z w128 (pos 0 -ℤ to_z w128 (of_z w128 c.args.factor))) ≡ neg_ℤ c.args.factor =
+    rw same (to_z-of_z w128 _ fits ∙ turned) in
+    λ x h. (rw (narrow_neg high c.requires.narrow.1, narrow_neg low c.requires.narrow.0, factor) at (c.positive_cofactors.ensures.numbers x))
+    ∙ negative_factor low high x c.args.factor

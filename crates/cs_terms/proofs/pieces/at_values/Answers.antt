@@ -29,9 +29,13 @@ returns c =
     let value : to_z w128 (of_z w128 term.value) ≡ term.value = search rules in
     let low : FitsSigned w128 c.args.values.low = omega (arith, ints, c.requires.ends.0) in
     let high : FitsSigned w128 c.args.values.high = omega (arith, ints, c.requires.ends.1) in
-    let given : (x : ℤ) → contains values x ≡ in_interval c.args.values x = λ x. rw (to_z-of_z w128 _ low, to_z-of_z w128 _ high) at (c.in_ok-values.ensures x) in
+    let given : (x : ℤ) → contains values x ≡ in_interval c.args.values x = λ x.
+    rw (to_z-of_z w128 _ low, to_z-of_z w128 _ high) at (c.in_ok-values.ensures x) in
     let made = rw (slope, at, value) at c.affine_preimage.ensures in
-    let IsPreimage : List Interval → Type 0 = λ p. (s : ℤ) → contains p s ≡ (contains range s && contains values (affine term.slope term.at term.value s)) in
+    let IsPreimage : List Interval → Type 0 = λ p.
+    (s : ℤ) → contains p s ≡ (contains range s && contains values (affine term.slope term.at term.value s)) in
     IfOk-weaker _ IsPreimage (IsAtValues term range c.args.values)
-    (λ p h x. h x ∙ ap (λ b. contains range x && b) (given (affine term.slope term.at term.value x) ∙ ap (in_interval c.args.values) (sym (value_at-affine term x c.requires.term))))
+    (λ p h x.
+    h x ∙ ap (λ b. contains range x && b) (given (affine term.slope term.at term.value x)
+    ∙ ap (in_interval c.args.values) (sym (value_at-affine term x c.requires.term))))
     made

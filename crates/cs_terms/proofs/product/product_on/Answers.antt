@@ -16,7 +16,8 @@ affine_value-value-requires c =
     let place : to_z w128 (of_z w128 term.at) ≡ term.at = search rules in
     let value : to_z w128 (of_z w128 term.value) ≡ term.value = search rules in
     let integer = c.requires.values at c.in_ok-at.ensures.least.member in
-    rw (slope, place, value, inside_same at c.in_ok-at.ensures.inside) (affine-inside term at c.requires.term (IsInside-from_integer (value_at term at) integer))
+    rw (slope, place, value, inside_same at c.in_ok-at.ensures.inside)
+    (affine-inside term at c.requires.term (IsInside-from_integer (value_at term at) integer))
 
 pub slope_on-slope-requires-clause-one_quotient : goal.slope_on-slope-requires-clause-one_quotient
 slope_on-slope-requires-clause-one_quotient c =
@@ -31,7 +32,8 @@ multiply-requires-clause-left c =
     let place : to_z w128 (of_z w128 term.at) ≡ term.at = search rules in
     let value : to_z w128 (of_z w128 term.value) ≡ term.value = search rules in
     let integer = c.requires.values at c.in_ok-at.ensures.least.member in
-    let given = (rw (slope, place, value, inside_same at c.in_ok-at.ensures.inside) at c.affine_value-value.ensures) ∙ sym (value_at-affine term at c.requires.term) in
+    let given = (rw (slope, place, value, inside_same at c.in_ok-at.ensures.inside) at c.affine_value-value.ensures)
+    ∙ sym (value_at-affine term at c.requires.term) in
     rw (given, inside_same (value_at term at) (IsInside-from_integer (value_at term at) integer)) integer
 
 pub affine-product-requires : goal.affine-product-requires
@@ -48,11 +50,14 @@ returns c =
     let value : to_z w128 (of_z w128 term.value) ≡ term.value = search rules in
     let member = c.in_ok-at.ensures.least.member in
     let integer = c.requires.values at member in
-    let given = (rw (slope, place, value, inside_same at c.in_ok-at.ensures.inside) at c.affine_value-value.ensures) ∙ sym (value_at-affine term at c.requires.term) in
+    let given = (rw (slope, place, value, inside_same at c.in_ok-at.ensures.inside) at c.affine_value-value.ensures)
+    ∙ sym (value_at-affine term at c.requires.term) in
     let factor : to_z w128 (of_z w128 c.args.factor) ≡ c.args.factor = search rules in
-    let number : c.multiply.result.number ≡ wrapped c.args.model c.args.ty (value_at term at *ℤ c.args.factor) = rw (given, inside_same (value_at term at) (IsInside-from_integer (value_at term at) integer), factor) at c.multiply.ensures.number in
+    let number : c.multiply.result.number ≡ wrapped c.args.model c.args.ty (value_at term at *ℤ c.args.factor) =
+    rw (given, inside_same (value_at term at) (IsInside-from_integer (value_at term at) integer), factor) at c.multiply.ensures.number in
     let number_same : to_z w128 (of_z w128 c.multiply.result.number) ≡ c.multiply.result.number = search rules in
-    let flat : IsNone term.sym → c.slope_on-slope.result ≡ pos 0 = λ none. c.slope_on-slope.ensures.constant (none-slope term.sym term.slope c.requires.term none) in
+    let flat : IsNone term.sym → c.slope_on-slope.result ≡ pos 0 = λ none.
+    c.slope_on-slope.ensures.constant (none-slope term.sym term.slope c.requires.term none) in
     let slope_same : to_z w128 (of_z w128 c.slope_on-slope.result) ≡ c.slope_on-slope.result = search rules in
     let rises = rw factor at c.slope_on-slope.ensures.slope in
     let made = rw (slope_same, inside_same at c.in_ok-at.ensures.inside, number_same) at c.affine-product.ensures.value in (
@@ -62,7 +67,8 @@ returns c =
         value = λ x t.
             made (λ s. x)
             ∙ value_with-affine term.sym c.slope_on-slope.result at c.multiply.result.number x flat
-            ∙ product-value c.args.model c.args.ty term c.args.factor c.slope_on-slope.result c.multiply.result.number at x c.requires.term number (c.requires.one_quotient x at t member) (rises x at t member);
+            ∙ product-value c.args.model c.args.ty term c.args.factor c.slope_on-slope.result c.multiply.result.number at x c.requires.term number
+            (c.requires.one_quotient x at t member) (rises x at t member);
         is_term = c.affine-product.ensures.term;
         symbol = c.affine-product.ensures.symbol;
       },

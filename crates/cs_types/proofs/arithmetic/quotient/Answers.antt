@@ -9,4 +9,5 @@ use Rattle.cs_types.proofs.arithmetic.quotient.Goals as goal
 pub returns-clause-comes_into_range : goal.returns-clause-comes_into_range
 returns-clause-comes_into_range c =
     let value : to_z w128 (of_z w128 c.turns.result) ≡ wrap_quotient c.args.model c.args.ty c.args.number = search rules in
-    subst (λ (q : ℤ). InRange c.args.model c.args.ty (c.args.number -ℤ q *ℤ pos (modulus_of c.args.model c.args.ty))) (sym value) (wrapped-InRange c.args.model c.args.ty c.args.number)
+    subst (λ (q : ℤ). InRange c.args.model c.args.ty (c.args.number -ℤ q *ℤ pos (modulus_of c.args.model c.args.ty))) (sym value)
+    (wrapped-InRange c.args.model c.args.ty c.args.number)

@@ -23,7 +23,10 @@ returns-then-size-eq0 t c = λ depth layout d h.
     let own = subst (λ (s : Shape). layout_within c.args.model table depth s ≡ Some layout) (ap shape_of c.in-Array.is) h in
     let size : Some c.in_ok-size-in-Array.size ≡ option_map (λ (l : Layout). l.size) (layout_of c.args.model table element) = search rules in
     past_elements c.args.model table depth element c.in-Array.count layout c.in_ok-size-in-Array.size c.args.offset d own size
-    (elim c.then-size-eq0.branch [ then-size-eq0-via-then-size-eq0 w ↦ inl w.if-size-eq0.true | then-size-eq0-via-else-size-eq0+then-offset-size w ↦ inr w.if-offset-size.true ])
+    (elim c.then-size-eq0.branch [
+      | then-size-eq0-via-then-size-eq0 w ↦ inl w.if-size-eq0.true
+      | then-size-eq0-via-else-size-eq0+then-offset-size w ↦ inr w.if-offset-size.true
+    ])
 
 pub returns-else-offset-size : goal.returns-else-offset-size
 returns-else-offset-size t c = λ depth layout d h.
@@ -33,5 +36,6 @@ returns-else-offset-size t c = λ depth layout d h.
     let size : Some c.in_ok-size-in-Array.size ≡ option_map (λ (l : Layout). l.size) (layout_of c.args.model table element) = search rules in
     let parts = array_parts c.args.model table depth element c.in-Array.count layout d own in
     let inner = subst (λ (s : Shape). layout_within c.args.model table depth s ≡ Some parts.inner) (sym (ap shape_of c.deref-in-Array.ensures)) parts.laid in
-    let same = in_element c.args.model table depth element c.in-Array.count layout c.in_ok-size-in-Array.size c.args.offset parts size c.if-size-eq0.false c.if-offset-size.false in
+    let same = in_element c.args.model table depth element c.in-Array.count layout c.in_ok-size-in-Array.size c.args.offset parts size c.if-size-eq0.false
+    c.if-offset-size.false in
     same_base c.args.model table depth layout parts.inner c.args.offset _ c.base_at.result same (c.base_at.ensures depth parts.inner d inner)

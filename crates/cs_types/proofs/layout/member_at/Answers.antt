@@ -12,9 +12,15 @@ returns-in_err-member c = λ depth layout d e.
     let found = c.in_ok-complete_struct.field-0.now in
     let complete : complete_of c.args.table.now.list c.args.number ≡ Some found = search rules in
     let has : found.members ≡ Some c.in_ok-members.members.now = search rules in
-    let at : IsComplete c.args.table.now.list c.args.number found = record { members = c.in_ok-members.members.now; stands = (complete-IsComplete c.args.table.now.list c.args.number found complete).stands; has_members = has } in
+    let at : IsComplete c.args.table.now.list c.args.number found =
+    record {
+      members = c.in_ok-members.members.now;
+      stands = (complete-IsComplete c.args.table.now.list c.args.number found complete).stands;
+      has_members = has;
+    } in
     let none : last_at c.args.offset c.in_ok-members.members.now ≡ None = search rules in
-    rw c.from_residual-in_err-member.ensures (before_members c.args.model c.args.table.now.list c.args.number depth c.args.offset found layout c.requires at d e none)
+    rw c.from_residual-in_err-member.ensures (before_members c.args.model c.args.table.now.list c.args.number depth c.args.offset found layout c.requires at d e
+    none)
 
 pub overflow_sub-result : goal.overflow_sub-result
 overflow_sub-result c =
@@ -26,6 +32,12 @@ returns c = λ depth layout d e.
     let found = c.in_ok-complete_struct.field-0.now in
     let complete : complete_of c.args.table.now.list c.args.number ≡ Some found = search rules in
     let has : found.members ≡ Some c.in_ok-members.members.now = search rules in
-    let at : IsComplete c.args.table.now.list c.args.number found = record { members = c.in_ok-members.members.now; stands = (complete-IsComplete c.args.table.now.list c.args.number found complete).stands; has_members = has } in
+    let at : IsComplete c.args.table.now.list c.args.number found =
+    record {
+      members = c.in_ok-members.members.now;
+      stands = (complete-IsComplete c.args.table.now.list c.args.number found complete).stands;
+      has_members = has;
+    } in
     let last : last_at c.args.offset c.in_ok-members.members.now ≡ Some c.in_ok-member.member.now = search rules in
-    rw c.ty.ensures (rw c.offset.ensures (in_member c.args.model c.args.table.now.list c.args.number depth c.args.offset found layout c.in_ok-member.member.now c.requires at d e last))
+    rw c.ty.ensures (rw c.offset.ensures
+    (in_member c.args.model c.args.table.now.list c.args.number depth c.args.offset found layout c.in_ok-member.member.now c.requires at d e last))

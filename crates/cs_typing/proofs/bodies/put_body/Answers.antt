@@ -12,7 +12,8 @@ returns-in-Some c = λ reported variables row.
     let head = c.args.head.now in
     let body = c.args.body.now in
     let within : c.args.number < length all = search rules in
-    changed_at routine (bodied head body reported) all c.args.number function (with_parts function head body c.args.locals c.in_ok-block.block) within c.in-Some.ensures.value
+    changed_at routine (bodied head body reported) all c.args.number function (with_parts function head body c.args.locals c.in_ok-block.block) within
+    c.in-Some.ensures.value
     (routine-bodied function head body c.args.locals c.args.statements c.in_ok-block.block reported c.in_ok-block.ensures.ok variables row)
 
 pub returns-in_default : goal.returns-in_default

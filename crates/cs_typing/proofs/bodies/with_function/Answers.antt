@@ -16,5 +16,7 @@ returns c =
     let result = shape_of c.in_ok-returns.returns in
     let is : shape_of c.in_ok-returns.returns ≡ starred c.args.head.now.pointers.items (shape_of c.args.base) = first_of (cc, search rules) in
     let some : c.is_some.result ≡ is_some (option_copied c.args.body) = c.is_some.ensures ∙ still_some _ c.args.body in
-    let ok : true ≡ may_be_function (filed_of c.args.filed) c.is_some.result (shape_of c.in_ok-returns.returns) (meaning_here c.args.head.now.name (filed_of c.args.filed).known) = first_of (search rules, cc) in
-    subst (λ v. Answers filed_of v c.resulted.result) (sym (result_taken d (option_copied c.args.body) f (shape_of c.args.base) result c.is_some.result is some ok)) c.resulted.ensures
+    let ok : true ≡ may_be_function (filed_of c.args.filed) c.is_some.result (shape_of c.in_ok-returns.returns)
+    (meaning_here c.args.head.now.name (filed_of c.args.filed).known) = first_of (search rules, cc) in
+    subst (λ v. Answers filed_of v c.resulted.result)
+    (sym (result_taken d (option_copied c.args.body) f (shape_of c.args.base) result c.is_some.result is some ok)) c.resulted.ensures

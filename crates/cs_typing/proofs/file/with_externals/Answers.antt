@@ -18,9 +18,11 @@ returns-in_err-filed c =
     let whole = file_typed c.args.file.now (filed_of c.args.before) in
     let e : c.from_residual.result ≡ Err c.in_err-filed.field-0.0 = search rules in
     subst (Answers filed_of whole) (sym e)
-    (part_stops file_typed part_typed parts_over c.args.file.now c.loop-external.external-index c.external-item.result whole (filed_of c.loop-external.filed) c.in_err-filed.field-0.0 c.loop-external-test.true c.external-item.is c.loop-external.invariant c.in_err-filed.ensures)
+    (part_stops file_typed part_typed parts_over c.args.file.now c.loop-external.external-index c.external-item.result whole (filed_of c.loop-external.filed)
+    c.in_err-filed.field-0.0 c.loop-external-test.true c.external-item.is c.loop-external.invariant c.in_err-filed.ensures)
 
 pub loop-external-preserved : goal.loop-external-preserved
 loop-external-preserved c =
     let whole = file_typed c.args.file.now (filed_of c.args.before) in
-    part_taken file_typed part_typed parts_over c.args.file.now c.loop-external.external-index c.external-item.result whole (filed_of c.loop-external.filed) (filed_of c.in_ok-filed.filed) c.loop-external-test.true c.external-item.is c.loop-external.invariant c.in_ok-filed.ensures
+    part_taken file_typed part_typed parts_over c.args.file.now c.loop-external.external-index c.external-item.result whole (filed_of c.loop-external.filed)
+    (filed_of c.in_ok-filed.filed) c.loop-external-test.true c.external-item.is c.loop-external.invariant c.in_ok-filed.ensures

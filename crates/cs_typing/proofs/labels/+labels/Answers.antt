@@ -12,5 +12,6 @@ add_from-returns-in-Block t c =
 pub add_from-returns-in-Switch : goal.add_from-returns-in-Switch
 add_from-returns-in-Switch t c =
     subst (λ names. OnOk c.add_from_switch.result (c.add_from_switch.new.labels ≡ c.args.labels.now ++ names))
-    (ap labels_of_switch_list c.deref-in-Switch.ensures.value ∙ sym (labels_of-Switch c.in-Switch.field-0 c.in-Switch.items) ∙ ap labels_of (sym c.in-Switch.is ∙ c.deref.ensures))
+    (ap labels_of_switch_list c.deref-in-Switch.ensures.value ∙ sym (labels_of-Switch c.in-Switch.field-0 c.in-Switch.items)
+    ∙ ap labels_of (sym c.in-Switch.is ∙ c.deref.ensures))
     c.add_from_switch.ensures

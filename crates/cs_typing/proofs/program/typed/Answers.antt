@@ -5,7 +5,8 @@ use Rattle.cs_typing.proofs.program.typed.Goals as goal
 
 pub returns-clause-reported : goal.returns-clause-reported
 returns-clause-reported c =
-    made c.args.model c.args.files.now c.in_ok-copied.field-0.items c.args.tokens.now c.args.file.now (filed_of c.in_ok-known.field-0) c.in_ok-constants_of.field-0.items
+    made c.args.model c.args.files.now c.in_ok-copied.field-0.items c.args.tokens.now c.args.file.now (filed_of c.in_ok-known.field-0)
+    c.in_ok-constants_of.field-0.items
     c.in_ok-known.ensures c.in_ok-copied.ensures c.in_ok-constants_of.ensures
 
 pub returns-clause-laid_out : goal.returns-clause-laid_out

@@ -12,11 +12,16 @@ returns-in_err-value_returned-in-Some c =
     let e : c.from_residual.result ≡ Err c.in_err-value_returned-in-Some.field-0.0 = search rules in
     let i = inside_of c.args.inside.now in
     let w = where_of c.args.at in
-    refused_with optional_part (returned w c.args.place i c.args.value.now) c.from_residual.result c.value_returned.new.inside c.in_err-value_returned-in-Some.field-0.0 e
-    (refused_as c.in_err-value_returned-in-Some.field-0.0 (ap (returned w c.args.place i) c.in-Some.is) (lift-refused some_found (value_returned w c.args.place i c.in-Some.tree) c.in_err-value_returned-in-Some.field-0.0 c.in_err-value_returned-in-Some.ensures))
+    refused_with optional_part (returned w c.args.place i c.args.value.now) c.from_residual.result c.value_returned.new.inside
+    c.in_err-value_returned-in-Some.field-0.0 e
+    (refused_as c.in_err-value_returned-in-Some.field-0.0 (ap (returned w c.args.place i) c.in-Some.is)
+    (lift-refused some_found (value_returned w c.args.place i c.in-Some.tree) c.in_err-value_returned-in-Some.field-0.0
+    c.in_err-value_returned-in-Some.ensures))
 
 pub returns-in_ok-value_returned-in-Some : goal.returns-in_ok-value_returned-in-Some
 returns-in_ok-value_returned-in-Some c =
     let i = inside_of c.args.inside.now in
     let w = where_of c.args.at in
-    ap (returned w c.args.place i) c.in-Some.is ∙ lift_is some_found (value_returned w c.args.place i c.in-Some.tree) (typed_part c.in_ok-value_returned-in-Some.field-0 c.value_returned.new.inside) c.in_ok-value_returned-in-Some.ensures
+    ap (returned w c.args.place i) c.in-Some.is
+    ∙ lift_is some_found (value_returned w c.args.place i c.in-Some.tree) (typed_part c.in_ok-value_returned-in-Some.field-0 c.value_returned.new.inside)
+    c.in_ok-value_returned-in-Some.ensures

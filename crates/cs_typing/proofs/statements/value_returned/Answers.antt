@@ -15,9 +15,15 @@ returns c =
     let i = inside_of now in
     let w = where_of c.args.at in
     let tree = c.args.tree.now in
-    let following : HeldInside = record { known = record { context = now.known.context; reading = now.known.reading; outer = now.known.outer; literals = c.assigned_value.new.literals }; locals = now.locals; met = now.met } in
+    let following : HeldInside =
+    record {
+      known = record { context = now.known.context; reading = now.known.reading; outer = now.known.outer; literals = c.assigned_value.new.literals };
+      locals = now.locals;
+      met = now.met;
+    } in
     let value = assigned_value now.known.context now.known.literals.items c.args.place (shape_of c.args.at.returns.now) tree in
     let has_result : is_void (shape_of c.args.at.returns.now) ≡ false = sym c.is_void.ensures ∙ c.if-is_void.false in
     answers_as typed_part (value_returned w c.args.place i tree) (lift (part (past tree i)) value) c.assigned_value.result following
     (ap (λ (b : Bool). cond b (Fault Return c.args.place) (lift (part (past tree i)) value)) has_result)
-    (typed_after i tree value c.assigned_value.result c.assigned_value.new.literals.items following c.assigned_value.ensures.reported c.assigned_value.ensures.texts refl)
+    (typed_after i tree value c.assigned_value.result c.assigned_value.new.literals.items following c.assigned_value.ensures.reported
+    c.assigned_value.ensures.texts refl)

@@ -14,5 +14,6 @@ tokens-preserved c =
       grind (arith, m, before, here),
       λ most longest others.
           c.tokens.invariant.1 most (omega (arith, m, left, longest))
-          (item_within most c.tokens.token-index c.args.tokens.now c.token-item.result (omega (arith, c.tokens-test.true)) c.token-item.is (kind_within c.name_length.result most c.token-item.result.kind (omega (arith, m, right, longest)) c.name_length.ensures.within) others),
+          (item_within most c.tokens.token-index c.args.tokens.now c.token-item.result (omega (arith, c.tokens-test.true)) c.token-item.is
+          (kind_within c.name_length.result most c.token-item.result.kind (omega (arith, m, right, longest)) c.name_length.ensures.within) others),
     )

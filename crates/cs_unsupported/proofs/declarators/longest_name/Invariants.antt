@@ -5,4 +5,5 @@ use Rattle.cs_unsupported.specs.Readings.{kinds}
 use Rattle.cs_unsupported.proofs.declarators.longest_name.Given as goal
 
 abbrev pub invariant-tokens : goal.invariant-tokens
-invariant-tokens l = (l.longest < 2 ^ 63) × ((most : ℕ) → l.longest ≤ most → AreNamesWithin most (kinds (drop l.token-index l.tokens)) → AreNamesWithin most (kinds l.tokens))
+invariant-tokens l = (l.longest < 2 ^ 63) × ((most : ℕ) → l.longest ≤ most → AreNamesWithin most (kinds (drop l.token-index l.tokens))
+    → AreNamesWithin most (kinds l.tokens))

@@ -11,4 +11,5 @@ pub returns-in-Listed : goal.returns-in-Listed
 returns-in-Listed c = asked_star (kinds c.args.before.now) (sym c.last_joint.ensures ∙ c.in-Listed.is)
 
 pub returns-in_ok-name-in-Open : goal.returns-in_ok-name-in-Open
-returns-in_ok-name-in-Open c = asked_new c.in_ok-name-in-Open.name (kinds c.args.before.now) c.in_ok-name-in-Open.ensures (sym c.last_joint.ensures ∙ c.in-Open.is)
+returns-in_ok-name-in-Open c =
+    asked_new c.in_ok-name-in-Open.name (kinds c.args.before.now) c.in_ok-name-in-Open.ensures (sym c.last_joint.ensures ∙ c.in-Open.is)

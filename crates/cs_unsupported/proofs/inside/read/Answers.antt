@@ -7,4 +7,5 @@ use Rattle.cs_unsupported.specs.Readings.{kinds, site_of}
 use Rattle.cs_unsupported.proofs.inside.read.Goals as goal
 
 pub returns : goal.returns
-returns c = ap (λ (rest : List Token). run (kinds rest) (site_of c.tokens.reading)) (sym (drop_of_length-le c.args.before.now c.tokens-test.false)) ∙ c.tokens.invariant
+returns c = ap (λ (rest : List Token). run (kinds rest) (site_of c.tokens.reading)) (sym (drop_of_length-le c.args.before.now c.tokens-test.false))
+    ∙ c.tokens.invariant

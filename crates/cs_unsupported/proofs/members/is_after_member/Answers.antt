@@ -10,6 +10,7 @@ use Rattle.cs_unsupported.proofs.members.is_after_member.Goals as goal
 pub returns : goal.returns
 returns c = λ b.
     let all : spot_of c.tokens.reading ≡ run (kinds c.args.before.now) the_start =
-    ap (λ (rest : List Token). run (kinds rest) (spot_of c.tokens.reading)) (sym (drop_of_length-le c.args.before.now c.tokens-test.false)) ∙ c.tokens.invariant in
+    ap (λ (rest : List Token). run (kinds rest) (spot_of c.tokens.reading)) (sym (drop_of_length-le c.args.before.now c.tokens-test.false))
+    ∙ c.tokens.invariant in
     let reported = c.is_declared.ensures ∙ ap (λ (s : Spot). is_declared s.phase) all in
     (λ is. may_have (kinds c.args.before.now) b (sym reported ∙ is), λ may. reported ∙ has_spot (kinds c.args.before.now) may)

@@ -8,4 +8,5 @@ use Rattle.cs_unsupported.proofs.types.closes_last.Goals as goal
 
 pub returns : goal.returns
 returns c =
-    ap (λ (rest : List Token). run c.args.names.now (kinds rest) (parens_of c.tokens.reading) c.tokens.reading.closes) (sym (drop_of_length-le c.args.part.now c.tokens-test.false)) ∙ c.tokens.invariant
+    ap (λ (rest : List Token). run c.args.names.now (kinds rest) (parens_of c.tokens.reading) c.tokens.reading.closes)
+    (sym (drop_of_length-le c.args.part.now c.tokens-test.false)) ∙ c.tokens.invariant

@@ -9,4 +9,6 @@ split_at-requires c = omega (arith, prefix_len-le-length (λ b. not (b == c.args
 pub returns : goal.returns
 returns c =
     let text = c.args.text.now in
-    splits_at_first c.args.mark text c.split_at.result.0.now c.split_at.result.1.now (c.split_at.ensures.front ∙ ap (λ i. take i text) c.length_before.ensures) (c.split_at.ensures.back ∙ ap (λ i. drop i text) c.length_before.ensures) c.split_at.ensures.by_index.0
+    splits_at_first c.args.mark text c.split_at.result.0.now c.split_at.result.1.now (c.split_at.ensures.front
+    ∙ ap (λ i. take i text) c.length_before.ensures) (c.split_at.ensures.back ∙ ap (λ i. drop i text) c.length_before.ensures)
+    c.split_at.ensures.by_index.0

@@ -9,9 +9,11 @@ use Rattle.cs_words.proofs.words.analyze_words.Goals as goal
 pub returns-then-not-is_empty : goal.returns-then-not-is_empty
 returns-then-not-is_empty c =
     let some : 0 < length c.in_ok-found.found.rest.now = grind (arith, nat_tests) in
-    extra_word verbs.Analyze nothing_analyzed c.args.words.now c.in_ok-found.found.rest.now c.in_ok-found.found.settings c.refused.result c.in_ok-found.ensures some c.refused.ensures
+    extra_word verbs.Analyze nothing_analyzed c.args.words.now c.in_ok-found.found.rest.now c.in_ok-found.found.settings c.refused.result c.in_ok-found.ensures
+    some c.refused.ensures
 
 pub returns : goal.returns
 returns c =
     let none : length c.in_ok-found.found.rest.now ≡ 0 = grind (arith, nat_tests) in
-    analyze_right (words_text c.args.words.now) c.in_ok-found.found.settings (words_text c.in_ok-found.found.rest.now) (record { model = c.data_model.result }) c.in_ok-found.ensures (no_text c.in_ok-found.found.rest.now none) c.data_model.ensures
+    analyze_right (words_text c.args.words.now) c.in_ok-found.found.settings (words_text c.in_ok-found.found.rest.now) (record { model = c.data_model.result })
+    c.in_ok-found.ensures (no_text c.in_ok-found.found.rest.now none) c.data_model.ensures

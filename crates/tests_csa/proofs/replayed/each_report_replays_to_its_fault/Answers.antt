@@ -13,5 +13,7 @@ analyze-requires g c =
     let functions = c.deref-function-items.result.now in
     let item = c.function-item.result in
     let analyzable : All IsAnalyzable (map definition functions) =
-    subst (λ l. All IsAnalyzable (map definition l)) (sym c.deref-function-items.ensures.value) (form_is_analyzable (typed_program c.in-Some.program) (map definition c.in-Ok.functions.items) c.in-Ok.ensures) in
-    subst (λ f. IsCoverable (definition f)) (sym c.function-item.is) (covered_at functions c.loop-function.function-index item (omega arith) analyzable).covered
+    subst (λ l. All IsAnalyzable (map definition l)) (sym c.deref-function-items.ensures.value)
+    (form_is_analyzable (typed_program c.in-Some.program) (map definition c.in-Ok.functions.items) c.in-Ok.ensures) in
+    subst (λ f. IsCoverable (definition f)) (sym c.function-item.is)
+    (covered_at functions c.loop-function.function-index item (omega arith) analyzable).covered

@@ -29,4 +29,5 @@ returns c =
     let IsMade : Option Sets → Type 0 = λ answer. MatchOption answer (IsEmpty kept) (λ after. IsNarrowed sets s.0 kept after × AreInhabited after) in
     let IsAnswer : Option Sets → Type 0 = λ answer. MatchOption answer (RulesOut sets term set) (Keeps sets term set) in
     let numbers : KeptNumbers sets s term set kept = c.in_ok-kept.ensures in
-    IfOk-weaker _ IsMade IsAnswer (λ answer. narrowed_answer sets term set kept s answer c.in-Some.is (c.requires.declared s c.in-Some.is) numbers) c.narrowed.ensures
+    IfOk-weaker _ IsMade IsAnswer (λ answer. narrowed_answer sets term set kept s answer c.in-Some.is (c.requires.declared s c.in-Some.is) numbers)
+    c.narrowed.ensures

@@ -16,17 +16,22 @@ returns-in_err-declare_typedef-clause-reported c =
     let whole = typedefs_added base c.args.declarators.now (environment_of c.args.self.now) in
     let e : c.from_residual.result ≡ Err c.in_err-declare_typedef.field-0.0 = search rules in
     subst (λ r. Leaves whole r (environment_of c.declare_typedef.new.self)) (sym e)
-    (part_stops (typedefs_added base) (typedef_added base) (typedefs_over base) c.args.declarators.now c.loop-declarator.declarator-index c.declarator-item.result whole (environment_of c.loop-declarator.self) c.in_err-declare_typedef.field-0.0 c.loop-declarator-test.true c.declarator-item.is c.loop-declarator.invariant c.in_err-declare_typedef.ensures)
+    (part_stops (typedefs_added base) (typedef_added base) (typedefs_over base) c.args.declarators.now c.loop-declarator.declarator-index
+    c.declarator-item.result whole (environment_of c.loop-declarator.self) c.in_err-declare_typedef.field-0.0 c.loop-declarator-test.true
+    c.declarator-item.is c.loop-declarator.invariant c.in_err-declare_typedef.ensures)
 
 pub loop-declarator-preserved : goal.loop-declarator-preserved
 loop-declarator-preserved c =
     let base = shape_of c.args.base.now in
     let whole = typedefs_added base c.args.declarators.now (environment_of c.args.self.now) in
-    part_taken (typedefs_added base) (typedef_added base) (typedefs_over base) c.args.declarators.now c.loop-declarator.declarator-index c.declarator-item.result whole (environment_of c.loop-declarator.self) (environment_of c.declare_typedef.new.self) c.loop-declarator-test.true c.declarator-item.is c.loop-declarator.invariant c.in_ok-declare_typedef.ensures
+    part_taken (typedefs_added base) (typedef_added base) (typedefs_over base) c.args.declarators.now c.loop-declarator.declarator-index
+    c.declarator-item.result whole (environment_of c.loop-declarator.self) (environment_of c.declare_typedef.new.self) c.loop-declarator-test.true
+    c.declarator-item.is c.loop-declarator.invariant c.in_ok-declare_typedef.ensures
 
 pub returns-clause-laid_out : goal.returns-clause-laid_out
 returns-clause-laid_out c =
     let base = shape_of c.args.base.now in
     let whole = typedefs_added base c.args.declarators.now (environment_of c.args.self.now) in
-    let reported = parts_end (typedefs_added base) (typedef_added base) (typedefs_over base) c.args.declarators.now c.loop-declarator.declarator-index whole (environment_of c.loop-declarator.self) c.loop-declarator-test.false c.loop-declarator.invariant in
+    let reported = parts_end (typedefs_added base) (typedef_added base) (typedefs_over base) c.args.declarators.now c.loop-declarator.declarator-index whole
+    (environment_of c.loop-declarator.self) c.loop-declarator-test.false c.loop-declarator.invariant in
     λ sound. typedefs_laid (environment_of c.args.self.now) (environment_of c.loop-declarator.self) base c.args.declarators.now reported sound

@@ -7,4 +7,5 @@ use Rattle.cs_declarations.proofs.environment.Environment.meaning_here.Goals as 
 pub returns-then-is_declared_here : goal.returns-then-is_declared_here
 returns-then-is_declared_here c =
     c.newest.ensures
-    ∙ newest_inside c.args.name.now c.args.self.now.outer (declarations_of (environment_of c.args.self.now)) (sym c.is_declared_here.ensures ∙ c.if-is_declared_here.true)
+    ∙ newest_inside c.args.name.now c.args.self.now.outer (declarations_of (environment_of c.args.self.now)) (sym c.is_declared_here.ensures
+    ∙ c.if-is_declared_here.true)

@@ -7,4 +7,5 @@ use Rattle.cs_flow.proofs.labels.Labels.+labels.Given as goal
 
 abbrev pub invariant-find_in-loop-s : goal.invariant-find_in-loop-s
 invariant-find_in-loop-s l =
-    (label : ℕ) → at_label (labels_of l.self label) (label_in_list label (statement_list (drop l.s-index l.list))) ≡ at_label (labels_of l.initial.self label) (label_in_list label (statement_list l.list))
+    (label : ℕ) → at_label (labels_of l.self label) (label_in_list label (statement_list (drop l.s-index l.list)))
+    ≡ at_label (labels_of l.initial.self label) (label_in_list label (statement_list l.list))

@@ -16,12 +16,14 @@ expression-returns-in-Call-clause-first t c =
 pub expression-returns-in-Allocate-clause-points :
     goal.expression-returns-in-Allocate-clause-points
 expression-returns-in-Allocate-clause-points t c =
-    rw (ap form (sym c.deref.ensures ∙ c.in-Allocate.is) ∙ form-Allocate _ c.in-Allocate.arguments _) (rw c.deref-in-Allocate.ensures.value at c.expressions-in-Allocate.ensures.points)
+    rw (ap form (sym c.deref.ensures ∙ c.in-Allocate.is) ∙ form-Allocate _ c.in-Allocate.arguments _)
+    (rw c.deref-in-Allocate.ensures.value at c.expressions-in-Allocate.ensures.points)
 
 pub expression-returns-in-Allocate-clause-first :
     goal.expression-returns-in-Allocate-clause-first
 expression-returns-in-Allocate-clause-first t c =
-    rw (ap form (sym c.deref.ensures ∙ c.in-Allocate.is) ∙ form-Allocate _ c.in-Allocate.arguments _) (rw c.deref-in-Allocate.ensures.value at c.expressions-in-Allocate.ensures.first)
+    rw (ap form (sym c.deref.ensures ∙ c.in-Allocate.is) ∙ form-Allocate _ c.in-Allocate.arguments _)
+    (rw c.deref-in-Allocate.ensures.value at c.expressions-in-Allocate.ensures.first)
 
 pub expressions-loop-e-init : goal.expressions-loop-e-init
 expressions-loop-e-init t c =

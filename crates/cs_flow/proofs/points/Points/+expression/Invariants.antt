@@ -21,6 +21,7 @@ decreases-expressions l = 2 * goal.size-expressions l + 1
 
 abbrev pub invariant-expressions-loop-e : goal.invariant-expressions-loop-e
 invariant-expressions-loop-e l = record {
-  points : cfg.points_in (typed_list l.list) (next_of l.fn.following) ++ points_of l.fn.self ≡ cfg.points_in (typed_list (iter_rest l.e-iterator.iter)) (next_of l.next) ++ points_of l.self;
+  points : cfg.points_in (typed_list l.list) (next_of l.fn.following) ++ points_of l.fn.self
+      ≡ cfg.points_in (typed_list (iter_rest l.e-iterator.iter)) (next_of l.next) ++ points_of l.self;
   first : cfg.first_in (typed_list l.list) (next_of l.fn.following) ≡ cfg.first_in (typed_list (iter_rest l.e-iterator.iter)) (next_of l.next);
 }

@@ -24,6 +24,7 @@ parts-loop-part-preserved t c =
     let made = c.in_ok-next.ensures in
     let rest = c.next.new.self.iter.rest.now in
     record {
-      points = before.points ∙ (points_parts-last rest c.in-Some.part.now (next_of c.loop-part.next) (points_of c.loop-part.self) ∙ rw (made.first, made.points) refl);
+      points = before.points ∙ (points_parts-last rest c.in-Some.part.now (next_of c.loop-part.next) (points_of c.loop-part.self)
+          ∙ rw (made.first, made.points) refl);
       first = before.first ∙ (first_parts-last rest c.in-Some.part.now (next_of c.loop-part.next) ∙ rw made.first refl);
     }

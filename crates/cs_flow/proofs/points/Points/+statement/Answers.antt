@@ -11,25 +11,30 @@ use Rattle.cs_flow.proofs.points.Points.+statement.Goals as goal
 
 pub statement-returns-in-Block-clause-points : goal.statement-returns-in-Block-clause-points
 statement-returns-in-Block-clause-points t c =
-    rw (ap (statement_at c.args.s.now.place) (sym c.deref.ensures ∙ c.in-Block.is) ∙ statement_at-Block c.args.s.now.place c.in-Block.list) (rw c.deref-in-Block.ensures.value at c.statements.ensures.points)
+    rw (ap (statement_at c.args.s.now.place) (sym c.deref.ensures ∙ c.in-Block.is) ∙ statement_at-Block c.args.s.now.place c.in-Block.list)
+    (rw c.deref-in-Block.ensures.value at c.statements.ensures.points)
 
 pub statement-returns-in-Block-clause-first : goal.statement-returns-in-Block-clause-first
 statement-returns-in-Block-clause-first t c =
-    rw (ap (statement_at c.args.s.now.place) (sym c.deref.ensures ∙ c.in-Block.is) ∙ statement_at-Block c.args.s.now.place c.in-Block.list) (rw c.deref-in-Block.ensures.value at c.statements.ensures.first)
+    rw (ap (statement_at c.args.s.now.place) (sym c.deref.ensures ∙ c.in-Block.is) ∙ statement_at-Block c.args.s.now.place c.in-Block.list)
+    (rw c.deref-in-Block.ensures.value at c.statements.ensures.first)
 
 pub statement-returns-in-For-clause-points : goal.statement-returns-in-For-clause-points
 statement-returns-in-For-clause-points t c =
-    rw (ap (statement_at c.args.s.now.place) (sym c.deref.ensures ∙ c.in-For.is) ∙ statement_at-For c.args.s.now.place c.in-For.first c.in-For.test c.in-For.last c.in-For.body)
+    rw (ap (statement_at c.args.s.now.place) (sym c.deref.ensures ∙ c.in-For.is)
+    ∙ statement_at-For c.args.s.now.place c.in-For.first c.in-For.test c.in-For.last c.in-For.body)
     (rw c.deref-in-For.ensures.value at c.for_loop.ensures.points)
 
 pub statement-returns-in-For-clause-first : goal.statement-returns-in-For-clause-first
 statement-returns-in-For-clause-first t c =
-    rw (ap (statement_at c.args.s.now.place) (sym c.deref.ensures ∙ c.in-For.is) ∙ statement_at-For c.args.s.now.place c.in-For.first c.in-For.test c.in-For.last c.in-For.body)
+    rw (ap (statement_at c.args.s.now.place) (sym c.deref.ensures ∙ c.in-For.is)
+    ∙ statement_at-For c.args.s.now.place c.in-For.first c.in-For.test c.in-For.last c.in-For.body)
     (rw c.deref-in-For.ensures.value at c.for_loop.ensures.first)
 
 pub statement-returns-in-Switch-clause-points : goal.statement-returns-in-Switch-clause-points
 statement-returns-in-Switch-clause-points t c =
-    rw (ap (statement_at c.args.s.now.place) (sym c.deref.ensures ∙ c.in-Switch.is) ∙ statement_at-Switch c.args.s.now.place c.in-Switch.value c.in-Switch.cases c.in-Switch.list)
+    rw (ap (statement_at c.args.s.now.place) (sym c.deref.ensures ∙ c.in-Switch.is)
+    ∙ statement_at-Switch c.args.s.now.place c.in-Switch.value c.in-Switch.cases c.in-Switch.list)
     (rw (c.deref-in-Switch.ensures.value, c.deref-in-Switch-2.ensures.value) at c.switch.ensures.points)
 
 pub statements-loop-s-preserved : goal.statements-loop-s-preserved
@@ -40,7 +45,8 @@ statements-loop-s-preserved t c =
     let rest = c.next.new.self.iter.rest.now in
     let to = targets_of c.args.to in
     record {
-      points = before.points ∙ (flows_in-last to rest c.in-Some.s.now (next_of c.loop-s.next) (points_of c.loop-s.self) ∙ rw (made.first, made.points) refl);
+      points = before.points ∙ (flows_in-last to rest c.in-Some.s.now (next_of c.loop-s.next) (points_of c.loop-s.self)
+          ∙ rw (made.first, made.points) refl);
       first = before.first ∙ (starts_in-last to rest c.in-Some.s.now (next_of c.loop-s.next) ∙ rw made.first refl);
     }
 
@@ -52,14 +58,26 @@ each_statement-loop-s-preserved t c =
     let rest = c.next.new.self.iter.rest.now in
     let to = targets_of c.args.to in
     record {
-      points = before.points ∙ (flows_in-last to rest c.in-Some.s.now (next_of c.loop-s.next) (points_of c.loop-s.self) ∙ rw (made.first, made.points) refl);
-      starts = before.starts ∙ (all_starts-last to rest c.in-Some.s.now (next_of c.loop-s.next) (map next_of c.loop-s.starts.items) ∙ rw (c.in_ok-push_front.ensures.items, made.first) refl);
+      points = before.points ∙ (flows_in-last to rest c.in-Some.s.now (next_of c.loop-s.next) (points_of c.loop-s.self)
+          ∙ rw (made.first, made.points) refl);
+      starts = before.starts ∙ (all_starts-last to rest c.in-Some.s.now (next_of c.loop-s.next) (map next_of c.loop-s.starts.items)
+          ∙ rw (c.in_ok-push_front.ensures.items, made.first) refl);
     }
 
 pub switch-returns-clause-points : goal.switch-returns-clause-points
 switch-returns-clause-points t c =
     let to = in_switch (targets_of c.args.to) (next_of c.args.following) in
     let list = statement_list c.args.list.now in
-    let begun : map next_of c.in_ok-starts.starts.items ≡ all_starts to list (next_of c.args.following) = rw c.in_switch.ensures at c.in_ok-starts.ensures.starts in
-    let ways : map way_of c.in_ok-ways.ways.items ≡ ways_of_cases (all_starts to list (next_of c.args.following)) (next_of c.args.following) c.args.cases.now 0 = rw begun at c.in_ok-ways.ensures in
-    rw (c.in_ok-put.ensures, ways, ways_of_cases-are to list (next_of c.args.following) c.args.cases.now, c.in_ok-first.ensures.points, c.meets.ensures, c.in_ok-starts.ensures.points, c.in_switch.ensures) (simp append_assoc)
+    let begun : map next_of c.in_ok-starts.starts.items ≡ all_starts to list (next_of c.args.following) =
+    rw c.in_switch.ensures at c.in_ok-starts.ensures.starts in
+    let ways : map way_of c.in_ok-ways.ways.items ≡ ways_of_cases (all_starts to list (next_of c.args.following)) (next_of c.args.following) c.args.cases.now
+    0 = rw begun at c.in_ok-ways.ensures in
+    rw (
+      c.in_ok-put.ensures,
+      ways,
+      ways_of_cases-are to list (next_of c.args.following) c.args.cases.now,
+      c.in_ok-first.ensures.points,
+      c.meets.ensures,
+      c.in_ok-starts.ensures.points,
+      c.in_switch.ensures,
+    ) (simp append_assoc)

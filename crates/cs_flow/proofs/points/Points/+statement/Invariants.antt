@@ -35,12 +35,16 @@ decreases-each_statement l = 3 * goal.size-each_statement l + 1
 
 abbrev pub invariant-statements-loop-s : goal.invariant-statements-loop-s
 invariant-statements-loop-s l = record {
-  points : cfg.flows_in (targets_of l.to) (statement_list l.list) (next_of l.fn.following) ++ points_of l.fn.self ≡ cfg.flows_in (targets_of l.to) (statement_list (iter_rest l.s-iterator.iter)) (next_of l.next) ++ points_of l.self;
-  first : cfg.starts_in (targets_of l.to) (statement_list l.list) (next_of l.fn.following) ≡ cfg.starts_in (targets_of l.to) (statement_list (iter_rest l.s-iterator.iter)) (next_of l.next);
+  points : cfg.flows_in (targets_of l.to) (statement_list l.list) (next_of l.fn.following) ++ points_of l.fn.self
+      ≡ cfg.flows_in (targets_of l.to) (statement_list (iter_rest l.s-iterator.iter)) (next_of l.next) ++ points_of l.self;
+  first : cfg.starts_in (targets_of l.to) (statement_list l.list) (next_of l.fn.following)
+      ≡ cfg.starts_in (targets_of l.to) (statement_list (iter_rest l.s-iterator.iter)) (next_of l.next);
 }
 
 abbrev pub invariant-each_statement-loop-s : goal.invariant-each_statement-loop-s
 invariant-each_statement-loop-s l = record {
-  points : cfg.flows_in (targets_of l.to) (statement_list l.list) (next_of l.fn.following) ++ points_of l.fn.self ≡ cfg.flows_in (targets_of l.to) (statement_list (iter_rest l.s-iterator.iter)) (next_of l.next) ++ points_of l.self;
-  starts : all_starts (targets_of l.to) (statement_list l.list) (next_of l.fn.following) ≡ all_starts (targets_of l.to) (statement_list (iter_rest l.s-iterator.iter)) (next_of l.next) ++ map next_of l.starts.items;
+  points : cfg.flows_in (targets_of l.to) (statement_list l.list) (next_of l.fn.following) ++ points_of l.fn.self
+      ≡ cfg.flows_in (targets_of l.to) (statement_list (iter_rest l.s-iterator.iter)) (next_of l.next) ++ points_of l.self;
+  starts : all_starts (targets_of l.to) (statement_list l.list) (next_of l.fn.following)
+      ≡ all_starts (targets_of l.to) (statement_list (iter_rest l.s-iterator.iter)) (next_of l.next) ++ map next_of l.starts.items;
 }

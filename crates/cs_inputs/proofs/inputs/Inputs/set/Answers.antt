@@ -15,12 +15,15 @@ changed c =
     simp to_z-of_z at c.put.ensures.ok
 
 pub invariant_of-self : goal.invariant_of-self
-invariant_of-self c = in_order_either c.put.result c.self.inside.entries.items c.put.new.entries.items c.args.path c.args.number c.self.invariant (changed c) c.put.ensures.err
+invariant_of-self c = in_order_either c.put.result c.self.inside.entries.items c.put.new.entries.items c.args.path c.args.number c.self.invariant (changed c)
+    c.put.ensures.err
 
 pub returns-clause-here : goal.returns-clause-here
-returns-clause-here c = then_OnOk c.put.result (changed c) (λ e. ap (λ entries. number_at entries c.args.path) e ∙ number_at-here c.self.inside.entries.items c.args.path c.args.number)
+returns-clause-here c = then_OnOk c.put.result (changed c) (λ e.
+    ap (λ entries. number_at entries c.args.path) e ∙ number_at-here c.self.inside.entries.items c.args.path c.args.number)
 
 pub returns-clause-elsewhere : goal.returns-clause-elsewhere
 returns-clause-elsewhere c =
     then_OnOk c.put.result (changed c)
-    (λ e q n. ap (λ entries. number_at entries q) e ∙ number_at-elsewhere c.self.inside.entries.items c.args.path c.args.number q n ∙ ap (λ entries. number_at entries q) c.self.view_is)
+    (λ e q n. ap (λ entries. number_at entries q) e ∙ number_at-elsewhere c.self.inside.entries.items c.args.path c.args.number q n
+    ∙ ap (λ entries. number_at entries q) c.self.view_is)

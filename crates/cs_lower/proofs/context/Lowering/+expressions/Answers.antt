@@ -1,7 +1,8 @@
 use Rattle.std.proofs.Common.{◌≡◌, ℕ, ◌+◌, drop, inl, inr, rules, refl, sym, ap, subst, ◌∙◌, arith}
 use Rattle.cs_types.specs.Shape.{shape_of}
 use Rattle.cs_ast.specs.TypedProgram.{typed_program}
-use Rattle.cs_ast.specs.TypedTree.{Index, Member, Arrow, Convert, Unary, Binary, Compare, Sum, Difference, And, Or, Choice, Comma, Assign, Update, Move, Call, Allocate}
+use Rattle.cs_ast.specs.TypedTree.{Index, Member, Arrow, Convert, Unary, Binary, Compare, Sum, Difference, And, Or, Choice, Comma, Assign, Update, Move, Call}
+use Rattle.cs_ast.specs.TypedTree.{Allocate}
 use Rattle.cs_ast.specs.TypedView.{form, typed, typed_list}
 use Rattle.cs_ast.proofs.TypedRows.{form-Call, form-Allocate}
 use Rattle.cs_lower.specs.Building.{built_of, point_of}
@@ -36,22 +37,34 @@ lower_choice-returns t c =
 pub lower_expression-returns-in-Through : goal.lower_expression-returns-in-Through
 lower_expression-returns-in-Through t c =
     elim c.in-Through.is [
-      | inl is ↦ if_made c.lower_used-in-Through.result (λ made h. forms.part (ap form (sym c.deref.ensures ∙ is)) (λ flow it. it) (λ args. args) (λ following. refl) c.in_ok-next.ensures h) c.lower_used-in-Through.ensures
-      | inr is ↦ if_made c.lower_used-in-Through.result (λ made h. forms.part (ap form (sym c.deref.ensures ∙ is)) (λ flow it. it) (λ args. args) (λ following. refl) c.in_ok-next.ensures h) c.lower_used-in-Through.ensures
+      | inl is ↦ if_made c.lower_used-in-Through.result (λ made h.
+          forms.part (ap form (sym c.deref.ensures ∙ is)) (λ flow it. it) (λ args. args) (λ following. refl) c.in_ok-next.ensures h)
+          c.lower_used-in-Through.ensures
+      | inr is ↦ if_made c.lower_used-in-Through.result (λ made h.
+          forms.part (ap form (sym c.deref.ensures ∙ is)) (λ flow it. it) (λ args. args) (λ following. refl) c.in_ok-next.ensures h)
+          c.lower_used-in-Through.ensures
     ]
 
 pub lower_expression-returns-in-Address : goal.lower_expression-returns-in-Address
 lower_expression-returns-in-Address t c =
     elim c.in-Address.is [
-      | inl is ↦ if_made c.lower_used-in-Address.result (λ made h. forms.part (ap form (sym c.deref.ensures ∙ is)) (λ flow it. it) (λ args. args) (λ following. refl) c.in_ok-next.ensures h) c.lower_used-in-Address.ensures
-      | inr is ↦ if_made c.lower_used-in-Address.result (λ made h. forms.part (ap form (sym c.deref.ensures ∙ is)) (λ flow it. it) (λ args. args) (λ following. refl) c.in_ok-next.ensures h) c.lower_used-in-Address.ensures
+      | inl is ↦ if_made c.lower_used-in-Address.result (λ made h.
+          forms.part (ap form (sym c.deref.ensures ∙ is)) (λ flow it. it) (λ args. args) (λ following. refl) c.in_ok-next.ensures h)
+          c.lower_used-in-Address.ensures
+      | inr is ↦ if_made c.lower_used-in-Address.result (λ made h.
+          forms.part (ap form (sym c.deref.ensures ∙ is)) (λ flow it. it) (λ args. args) (λ following. refl) c.in_ok-next.ensures h)
+          c.lower_used-in-Address.ensures
     ]
 
 pub lower_expression-returns-in-Not : goal.lower_expression-returns-in-Not
 lower_expression-returns-in-Not t c =
     elim c.in-Not.is [
-      | inl is ↦ if_made c.lower_used-in-Not.result (λ made h. forms.part (ap form (sym c.deref.ensures ∙ is)) (λ flow it. it) (λ args. args) (λ following. refl) c.in_ok-next.ensures h) c.lower_used-in-Not.ensures
-      | inr is ↦ if_made c.lower_used-in-Not.result (λ made h. forms.part (ap form (sym c.deref.ensures ∙ is)) (λ flow it. it) (λ args. args) (λ following. refl) c.in_ok-next.ensures h) c.lower_used-in-Not.ensures
+      | inl is ↦ if_made c.lower_used-in-Not.result (λ made h.
+          forms.part (ap form (sym c.deref.ensures ∙ is)) (λ flow it. it) (λ args. args) (λ following. refl) c.in_ok-next.ensures h)
+          c.lower_used-in-Not.ensures
+      | inr is ↦ if_made c.lower_used-in-Not.result (λ made h.
+          forms.part (ap form (sym c.deref.ensures ∙ is)) (λ flow it. it) (λ args. args) (λ following. refl) c.in_ok-next.ensures h)
+          c.lower_used-in-Not.ensures
     ]
 
 pub lower_expression-returns-in-Member : goal.lower_expression-returns-in-Member
@@ -62,32 +75,38 @@ lower_expression-returns-in-Member t c =
 pub lower_expression-returns-in-Arrow : goal.lower_expression-returns-in-Arrow
 lower_expression-returns-in-Arrow t c =
     let is : form c.args.e.now.kind.value ≡ Arrow (typed c.in-Arrow.a) c.in-Arrow.field-1 = search rules in
-    if_made c.lower_used-in-Arrow.result (λ made h. forms.part is (λ flow it. it) (λ args. args) (λ following. refl) c.in_ok-next.ensures h) c.lower_used-in-Arrow.ensures
+    if_made c.lower_used-in-Arrow.result (λ made h. forms.part is (λ flow it. it) (λ args. args) (λ following. refl) c.in_ok-next.ensures h)
+    c.lower_used-in-Arrow.ensures
 
 pub lower_expression-returns-in-Unary : goal.lower_expression-returns-in-Unary
 lower_expression-returns-in-Unary t c =
     let is : form c.args.e.now.kind.value ≡ Unary c.in-Unary.field-0 (typed c.in-Unary.a) = search rules in
-    if_made c.lower_used-in-Unary.result (λ made h. forms.part is (λ flow it. it) (λ args. args) (λ following. refl) c.in_ok-next.ensures h) c.lower_used-in-Unary.ensures
+    if_made c.lower_used-in-Unary.result (λ made h. forms.part is (λ flow it. it) (λ args. args) (λ following. refl) c.in_ok-next.ensures h)
+    c.lower_used-in-Unary.ensures
 
 pub lower_expression-returns-in-Binary : goal.lower_expression-returns-in-Binary
 lower_expression-returns-in-Binary t c =
     let is : form c.args.e.now.kind.value ≡ Binary c.in-Binary.field-0 (typed c.in-Binary.a) (typed c.in-Binary.b) = search rules in
-    if_made c.lower_pair.result (λ made h. forms.pair is (λ flow r one other. (r, one, other)) (λ args. args) (λ following. refl) c.in_ok-next.ensures h) c.lower_pair.ensures
+    if_made c.lower_pair.result (λ made h. forms.pair is (λ flow r one other. (r, one, other)) (λ args. args) (λ following. refl) c.in_ok-next.ensures h)
+    c.lower_pair.ensures
 
 pub lower_expression-returns-in-Compare : goal.lower_expression-returns-in-Compare
 lower_expression-returns-in-Compare t c =
     let is : form c.args.e.now.kind.value ≡ Compare c.in-Compare.field-0 (typed c.in-Compare.a) (typed c.in-Compare.b) = search rules in
-    if_made c.lower_pair-in-Compare.result (λ made h. forms.pair is (λ flow r one other. (r, one, other)) (λ args. args) (λ following. refl) c.in_ok-next.ensures h) c.lower_pair-in-Compare.ensures
+    if_made c.lower_pair-in-Compare.result (λ made h.
+    forms.pair is (λ flow r one other. (r, one, other)) (λ args. args) (λ following. refl) c.in_ok-next.ensures h) c.lower_pair-in-Compare.ensures
 
 pub lower_expression-returns-in-Difference : goal.lower_expression-returns-in-Difference
 lower_expression-returns-in-Difference t c =
     let is : form c.args.e.now.kind.value ≡ Difference (typed c.in-Difference.a) (typed c.in-Difference.b) = search rules in
-    if_made c.lower_pair-in-Difference.result (λ made h. forms.pair is (λ flow r one other. (r, one, other)) (λ args. args) (λ following. refl) c.in_ok-next.ensures h) c.lower_pair-in-Difference.ensures
+    if_made c.lower_pair-in-Difference.result (λ made h.
+    forms.pair is (λ flow r one other. (r, one, other)) (λ args. args) (λ following. refl) c.in_ok-next.ensures h) c.lower_pair-in-Difference.ensures
 
 pub lower_expression-returns-in-Assign : goal.lower_expression-returns-in-Assign
 lower_expression-returns-in-Assign t c =
     let is : form c.args.e.now.kind.value ≡ Assign (typed c.in-Assign.a) (typed c.in-Assign.b) = search rules in
-    if_made c.lower_pair-in-Assign.result (λ made h. forms.pair is (λ flow r one other. (r, one, other)) (λ args. args) (λ following. refl) c.in_ok-next.ensures h) c.lower_pair-in-Assign.ensures
+    if_made c.lower_pair-in-Assign.result (λ made h.
+    forms.pair is (λ flow r one other. (r, one, other)) (λ args. args) (λ following. refl) c.in_ok-next.ensures h) c.lower_pair-in-Assign.ensures
 
 pub lower_expression-returns-in-Index : goal.lower_expression-returns-in-Index
 lower_expression-returns-in-Index t c =
@@ -124,7 +143,8 @@ lower_expression-returns-in-Void t c =
 pub lower_expression-returns-in_default : goal.lower_expression-returns-in_default
 lower_expression-returns-in_default t c =
     let is : form c.args.e.now.kind.value ≡ Convert (typed c.in-Convert.a) = search rules in
-    if_made c.lower_used-in_default.result (λ made h. forms.convert c.args.e.now.ty c.in_default.not-Void is c.in_ok-next.ensures h) c.lower_used-in_default.ensures
+    if_made c.lower_used-in_default.result (λ made h. forms.convert c.args.e.now.ty c.in_default.not-Void is c.in_ok-next.ensures h)
+    c.lower_used-in_default.ensures
 
 pub lower_expression-returns-in-And : goal.lower_expression-returns-in-And
 lower_expression-returns-in-And t c =
@@ -148,7 +168,8 @@ lower_expression-returns-in-Comma t c =
 
 pub lower_expression-returns-in-Update : goal.lower_expression-returns-in-Update
 lower_expression-returns-in-Update t c =
-    let is : form c.args.e.now.kind.value ≡ Update c.in-Update.field-0 (typed c.in-Update.a) (typed c.in-Update.b) c.in-Update.field-3 c.in-Update.field-4 = search rules in
+    let is : form c.args.e.now.kind.value ≡ Update c.in-Update.field-0 (typed c.in-Update.a) (typed c.in-Update.b) c.in-Update.field-3 c.in-Update.field-4 =
+    search rules in
     if_made c.lower_update.result (λ made h. forms.update is c.in_ok-next.ensures h) c.lower_update.ensures
 
 pub lower_expression-returns-in-Move : goal.lower_expression-returns-in-Move
@@ -160,7 +181,8 @@ pub lower_expression-returns-in-Call : goal.lower_expression-returns-in-Call
 lower_expression-returns-in-Call t c =
     let f = c.in-Call.field-0 in
     let is : form c.args.e.now.kind.value ≡ Call f (typed_list c.deref-in-Call.result.now) =
-    ap form (sym c.deref.ensures ∙ c.in-Call.is) ∙ (form-Call f c.in-Call.arguments ∙ ap (λ l. Call f (typed_list l)) (sym c.deref-in-Call.ensures.value)) in
+    ap form (sym c.deref.ensures ∙ c.in-Call.is)
+    ∙ (form-Call f c.in-Call.arguments ∙ ap (λ l. Call f (typed_list l)) (sym c.deref-in-Call.ensures.value)) in
     if_made c.lower_row.result (λ made h. forms.call is c.in_ok-next.ensures h) c.lower_row.ensures
 
 pub lower_expression-returns-in-Allocate : goal.lower_expression-returns-in-Allocate
@@ -168,7 +190,8 @@ lower_expression-returns-in-Allocate t c =
     let a = c.in-Allocate.field-0 in
     let ty = c.in-Allocate.field-2 in
     let is : form c.args.e.now.kind.value ≡ Allocate a (typed_list c.deref-in-Allocate.result.now) (shape_of ty) =
-    ap form (sym c.deref.ensures ∙ c.in-Allocate.is) ∙ (form-Allocate a c.in-Allocate.arguments ty ∙ ap (λ l. Allocate a (typed_list l) (shape_of ty)) (sym c.deref-in-Allocate.ensures.value)) in
+    ap form (sym c.deref.ensures ∙ c.in-Allocate.is)
+    ∙ (form-Allocate a c.in-Allocate.arguments ty ∙ ap (λ l. Allocate a (typed_list l) (shape_of ty)) (sym c.deref-in-Allocate.ensures.value)) in
     if_made c.lower_row-in-Allocate.result (λ made h. forms.allocate is c.in_ok-next.ensures h) c.lower_row-in-Allocate.ensures
 
 pub lower_update-returns : goal.lower_update-returns
@@ -177,19 +200,28 @@ lower_update-returns t c =
     record {
       mid = built_of c.lower_used.new.graph;
       middle = point_of c.in_ok-made.made;
-      last = subst (λ (n : ℕ). Uses (typed_program c.args.self.now.program.now) (typed c.args.right.now) n (built_of c.args.graph.now) (built_of c.lower_used.new.graph) (point_of c.in_ok-made.made) (point_of c.args.following)) c.in_ok-above.ensures c.in_ok-made.ensures;
-      one = subst (λ p. Uses (typed_program c.args.self.now.program.now) (typed c.args.object.now) c.args.number (built_of c.lower_used.new.graph) (built_of c.lower_used-2.new.graph) (point_of c.in_ok-made-2.made) p) fetched c.in_ok-made-2.ensures;
+      last =
+          subst (λ (n : ℕ).
+          Uses (typed_program c.args.self.now.program.now) (typed c.args.right.now) n (built_of c.args.graph.now) (built_of c.lower_used.new.graph)
+          (point_of c.in_ok-made.made) (point_of c.args.following)) c.in_ok-above.ensures c.in_ok-made.ensures;
+      one =
+          subst (λ p.
+          Uses (typed_program c.args.self.now.program.now) (typed c.args.object.now) c.args.number (built_of c.lower_used.new.graph)
+          (built_of c.lower_used-2.new.graph) (point_of c.in_ok-made-2.made) p) fetched c.in_ok-made-2.ensures;
     }
 
 pub lower_row-loop-left-preserved : goal.lower_row-loop-left-preserved
 lower_row-loop-left-preserved t c = record {
   within = omega arith;
-  made = uses_further c.args.row.now c.loop-left.left c.args.number c.index-row-left.result (omega arith) c.loop-left.invariant.within c.index-row-left.is c.in_ok-above.ensures c.loop-left.invariant.made c.in_ok-made.ensures;
+  made = uses_further c.args.row.now c.loop-left.left c.args.number c.index-row-left.result (omega arith) c.loop-left.invariant.within c.index-row-left.is
+      c.in_ok-above.ensures c.loop-left.invariant.made c.in_ok-made.ensures;
 }
 
 pub lower_row-returns : goal.lower_row-returns
 lower_row-returns t c =
     let none : c.loop-left.left ≡ 0 = omega arith in
-    let P : ℕ → ℕ → Type 0 = λ left number. UsesAll (typed_program c.args.self.now.program.now) (typed_list (drop left c.args.row.now)) number (built_of c.args.graph.now) (built_of c.loop-left.graph) (point_of c.loop-left.made) (point_of c.args.following) in
+    let P : ℕ → ℕ → Type 0 = λ left number.
+    UsesAll (typed_program c.args.self.now.program.now) (typed_list (drop left c.args.row.now)) number (built_of c.args.graph.now)
+    (built_of c.loop-left.graph) (point_of c.loop-left.made) (point_of c.args.following) in
     let at : c.loop-left.left + c.args.number ≡ c.args.number = omega arith in
     subst (λ (k : ℕ). P k c.args.number) none (subst (λ (n : ℕ). P c.loop-left.left n) at c.loop-left.invariant.made)

@@ -43,7 +43,8 @@ decreases-lower_comma l = 4 * max (goal.size-lower_comma l) (goal.size-lower_com
 abbrev pub invariant-lower_row-loop-left : goal.invariant-lower_row-loop-left
 invariant-lower_row-loop-left l = record {
   within : l.left ≤ length l.row;
-  made : UsesAll (typed_program l.self.program.now) (typed_list (drop l.left l.row)) (l.left + l.number) (built_of l.initial.graph) (built_of l.graph) (point_of l.made) (point_of l.fn.following);
+  made : UsesAll (typed_program l.self.program.now) (typed_list (drop l.left l.row)) (l.left + l.number) (built_of l.initial.graph) (built_of l.graph)
+      (point_of l.made) (point_of l.fn.following);
 }
 
 abbrev pub decreases-lower_row-loop-left : goal.decreases-lower_row-loop-left

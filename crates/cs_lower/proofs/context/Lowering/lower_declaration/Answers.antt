@@ -16,6 +16,9 @@ returns-in-None c =
     let built = built_of c.args.graph.now in
     let q = point_of c.args.following in
     if_made c.prepend.result
-    (λ made is. subst (λ (o : Option (Bor Initial)). Declares (typed_program c.args.self.now.program.now) (routine c.args.self.now.function.now) c.args.place c.args.declaration (option_map initial (option_copied o)) built built (point_of made) q) (sym c.in-None.is)
+    (λ made is.
+    subst (λ (o : Option (Bor Initial)).
+    Declares (typed_program c.args.self.now.program.now) (routine c.args.self.now.function.now) c.args.place c.args.declaration
+    (option_map initial (option_copied o)) built built (point_of made) q) (sym c.in-None.is)
     (declared_unset (is ∙ ap (λ scalar. does c.args.place 0 (graph.Clear c.args.declaration scalar) q) c.is_scalar_local-scalar.ensures)))
     c.prepend.ensures

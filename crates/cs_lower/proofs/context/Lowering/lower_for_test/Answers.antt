@@ -13,11 +13,16 @@ pub returns-in-None : goal.returns-in-None
 returns-in-None c =
     let built = built_of c.args.graph.now in
     let body = point_of c.args.body in
-    subst (λ (o : Option (Bor Expr)). TestsFor (typed_program c.args.self.now.program.now) c.args.place (option_map typed (option_copied o)) built built body body c.args.end) (sym c.in-None.is) no_test
+    subst (λ (o : Option (Bor Expr)).
+    TestsFor (typed_program c.args.self.now.program.now) c.args.place (option_map typed (option_copied o)) built built body body c.args.end)
+    (sym c.in-None.is) no_test
 
 pub returns-in_ok-one-in-Some : goal.returns-in_ok-one-in-Some
 returns-in_ok-one-in-Some c =
     if_made c.lower_test.result
-    (λ made tests. subst (λ (o : Option (Bor Expr)). TestsFor (typed_program c.args.self.now.program.now) c.args.place (option_map typed (option_copied o)) (built_of c.args.graph.now) (built_of c.lower_test.new.graph) (point_of made) (point_of c.args.body) c.args.end) (sym c.in-Some.is)
+    (λ made tests.
+    subst (λ (o : Option (Bor Expr)).
+    TestsFor (typed_program c.args.self.now.program.now) c.args.place (option_map typed (option_copied o)) (built_of c.args.graph.now)
+    (built_of c.lower_test.new.graph) (point_of made) (point_of c.args.body) c.args.end) (sym c.in-Some.is)
     (tests_for c.in_ok-one-in-Some.ensures tests))
     c.lower_test.ensures

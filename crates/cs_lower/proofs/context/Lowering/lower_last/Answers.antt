@@ -14,11 +14,15 @@ use Rattle.cs_lower.proofs.context.Lowering.lower_last.Goals as goal
 pub returns-in-None : goal.returns-in-None
 returns-in-None c =
     let built = built_of c.args.graph.now in
-    subst (λ (o : Option (Bor Expr)). EndsFor (typed_program c.args.self.now.program.now) (option_map typed (option_copied o)) built built c.args.head c.args.head) (sym c.in-None.is) no_last
+    subst (λ (o : Option (Bor Expr)).
+    EndsFor (typed_program c.args.self.now.program.now) (option_map typed (option_copied o)) built built c.args.head c.args.head) (sym c.in-None.is) no_last
 
 pub returns-in_ok-made-in-Some : goal.returns-in_ok-made-in-Some
 returns-in_ok-made-in-Some c =
     if_made c.seal.result
-    (λ block seals. subst (λ (o : Option (Bor Expr)). EndsFor (typed_program c.args.self.now.program.now) (option_map typed (option_copied o)) (built_of c.args.graph.now) (built_of c.seal.new.self) block c.args.head) (sym c.in-Some.is)
+    (λ block seals.
+    subst (λ (o : Option (Bor Expr)).
+    EndsFor (typed_program c.args.self.now.program.now) (option_map typed (option_copied o)) (built_of c.args.graph.now) (built_of c.seal.new.self) block
+    c.args.head) (sym c.in-Some.is)
     (ends_for (c.in_ok-following-in-Some.ensures ∙ ap (does c.args.place 0 graph.Drop) c.jump.ensures) c.in_ok-made-in-Some.ensures seals))
     c.seal.ensures

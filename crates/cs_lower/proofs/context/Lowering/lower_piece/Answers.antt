@@ -14,6 +14,9 @@ returns-in_ok-bytes-in-Text c =
     let built = built_of c.args.graph.now in
     let q = point_of c.args.following in
     if_made c.prepend.result
-    (λ made is. subst (λ p. StoresPieces (typed_program c.args.self.now.program.now) (routine c.args.self.now.function.now) c.args.place c.args.declaration (piece_of p ∷ []) built built (point_of made) q) (sym c.in-Text.is)
+    (λ made is.
+    subst (λ p.
+    StoresPieces (typed_program c.args.self.now.program.now) (routine c.args.self.now.function.now) c.args.place c.args.declaration (piece_of p ∷ [])
+    built built (point_of made) q) (sym c.in-Text.is)
     (text_stored (is ∙ ap (λ bytes. does c.args.place 0 (graph.Spell c.args.declaration c.in-Text.offset bytes) q) c.in_ok-bytes-in-Text.ensures)))
     c.prepend.ensures

@@ -14,4 +14,5 @@ returns-in_ok-count_of-in-Call c =
     let f = c.in-Call.function in
     let is : form c.args.e.now.kind.value ≡ Call f (typed_list c.deref-in-Call.result.now) =
     ap form (sym c.deref.ensures ∙ c.in-Call.is) ∙ (form-Call f c.in-Call.row ∙ ap (λ l. Call f (typed_list l)) (sym c.deref-in-Call.ensures.value)) in
-    ap (λ (n : ℕ). Some (graph.Call f n)) c.in_ok-count_of-in-Call.ensures ∙ sym (ap (work_of (typed_program c.args.self.now.program.now) (shape_of c.args.e.now.ty)) is)
+    ap (λ (n : ℕ). Some (graph.Call f n)) c.in_ok-count_of-in-Call.ensures
+    ∙ sym (ap (work_of (typed_program c.args.self.now.program.now) (shape_of c.args.e.now.ty)) is)

@@ -7,7 +7,8 @@ pub balanced-requires-clause-sorted : goal.balanced-requires-clause-sorted
 balanced-requires-clause-sorted g t c =
     let is = c.in_Some-branch.ensures in
     let same = c.requires.clones _ _ c.in_ok-clone-in-Less.ensures.cases in
-    sorted_put c.args.key c.args.value is (put_in_left c.args.key c.args.value is c.in-Less.ensures c.in_ok-left-in-Less.ensures.entries same c.in_ok-copy-in-Less.ensures)
+    sorted_put c.args.key c.args.value is
+    (put_in_left c.args.key c.args.value is c.in-Less.ensures c.in_ok-left-in-Less.ensures.entries same c.in_ok-copy-in-Less.ensures)
 
 pub fork-requires-in-Equal-clause-sorted : goal.fork-requires-in-Equal-clause-sorted
 fork-requires-in-Equal-clause-sorted g t c =
@@ -18,7 +19,8 @@ pub balanced-requires-in-Greater-clause-sorted : goal.balanced-requires-in-Great
 balanced-requires-in-Greater-clause-sorted g t c =
     let is = c.in_Some-branch.ensures in
     let same = c.requires.clones _ _ c.in_ok-clone-in-Greater.ensures.cases in
-    sorted_put c.args.key c.args.value is (put_in_right c.args.key c.args.value is c.in-Greater.ensures c.in_ok-copy-in-Greater.ensures same c.in_ok-right-in-Greater.ensures.entries)
+    sorted_put c.args.key c.args.value is
+    (put_in_right c.args.key c.args.value is c.in-Greater.ensures c.in_ok-copy-in-Greater.ensures same c.in_ok-right-in-Greater.ensures.entries)
 
 pub returns-in_ok-copy-in-Less-clause-entries : goal.returns-in_ok-copy-in-Less-clause-entries
 returns-in_ok-copy-in-Less-clause-entries g t c =

@@ -18,7 +18,8 @@ pub balanced-requires-in-Greater-clause-sorted : goal.balanced-requires-in-Great
 balanced-requires-in-Greater-clause-sorted g t c =
     let is = c.in_Some-branch.ensures in
     let same = c.requires.clones _ _ c.in_ok-clone-in-Greater.ensures.cases in
-    sorted_without c.args.key is (removed_in_right c.args.key is c.in-Greater.ensures c.in_ok-copy-in-Greater.ensures same c.in_ok-right-in-Greater.ensures.entries)
+    sorted_without c.args.key is (removed_in_right c.args.key is c.in-Greater.ensures c.in_ok-copy-in-Greater.ensures same
+    c.in_ok-right-in-Greater.ensures.entries)
 
 pub returns-in_ok-copy-in-Less-clause-entries : goal.returns-in_ok-copy-in-Less-clause-entries
 returns-in_ok-copy-in-Less-clause-entries g t c =

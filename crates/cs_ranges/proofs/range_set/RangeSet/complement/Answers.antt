@@ -3,7 +3,8 @@ use Rattle.std.proofs.lemmas.Int.{ints}
 use Rattle.std.proofs.lemmas.List.{drop_more, drop_all}
 use Rattle.cs_ranges.specs.declared.range_set.Interval.{Interval}
 use Rattle.cs_ranges.proofs.Gaps.{Splits-start, Splits-gap, Splits-no_gap, Splits-last_gap, Splits-no_last_gap}
-use Rattle.cs_ranges.proofs.range_set.RangeSet.complement.Goals.{then-next-interval+in_ok-push, else-next-interval, then-next-le-GREATEST+in_ok-push-2, else-next-le-GREATEST}
+use Rattle.cs_ranges.proofs.range_set.RangeSet.complement.Goals.{then-next-interval+in_ok-push, else-next-interval, then-next-le-GREATEST+in_ok-push-2}
+use Rattle.cs_ranges.proofs.range_set.RangeSet.complement.Goals.{else-next-le-GREATEST}
 use Rattle.cs_ranges.proofs.range_set.RangeSet.complement.Goals as goal
 
 pub loop-interval-init : goal.loop-interval-init

@@ -1,4 +1,5 @@
-use Rattle.std.proofs.Common.{◌≡◌, ◌<◌, ◌≤◌, ℕ, Bool, true, false, ℤ, pos, ◌<ℤ◌, ◌≤ℤ◌, int_lt, int_le, to_z, of_z, List, length, get_or, sym, ap, ◌∙◌, subst, arith, rules, FitsSigned}
+use Rattle.std.proofs.Common.{◌≡◌, ◌<◌, ◌≤◌, ℕ, Bool, true, false, ℤ, pos, ◌<ℤ◌, ◌≤ℤ◌, int_lt, int_le, to_z, of_z, List}
+use Rattle.std.proofs.Common.{length, get_or, sym, ap, ◌∙◌, subst, arith, rules, FitsSigned}
 use Rattle.std.specs.Int.{w128}
 use Rattle.std.specs.List.Sorted.{IsPartitionedBy, IsPartitionPoint}
 use Rattle.std.proofs.lemmas.Int.{ints, to_z-of_z}
@@ -14,7 +15,8 @@ use Rattle.cs_ranges.proofs.range_set.RangeSet.contains.Goals as goal
 abbrev ends_below : ℤ → Interval → Bool
 ends_below x i = int_lt (to_z w128 (of_z w128 i.high)) (to_z w128 (of_z w128 x))
 
-ends_below-is : (x : ℤ) (s : List Interval) (k : ℕ) (d : Interval) → FitsSigned w128 x → IsSpread s → k < length s → ends_below x (get_or s k d) ≡ int_lt (get_or s k d).high x
+ends_below-is : (x : ℤ) (s : List Interval) (k : ℕ) (d : Interval) → FitsSigned w128 x → IsSpread s → k < length s
+    → ends_below x (get_or s k d) ≡ int_lt (get_or s k d).high x
 ends_below-is x s k d fits h lt =
     let at = IsSpreadFrom-at _ s k d h lt in
     let high : FitsSigned w128 (get_or s k d).high = omega (arith, ints, at.0, at.1, at.2) in
@@ -35,13 +37,15 @@ partitioned x s fits h = λ i j d le lt t.
     ∙ int_lt-mono _ _ x (IsSpreadFrom-rises _ s i j d h le lt) (sym (ends_below-is x s j d fits h lt) ∙ t)
 
 -- what the search found
-found_at : (x : ℤ) (s : List Interval) (k : ℕ) (d : Interval) → FitsSigned w128 x → IsSpread s → IsPartitionPoint (λ i. ends_below x i ≡ true) (λ i. ends_below x i ≡ false) s k → k < length s → contains s x ≡ int_le (get_or s k d).low x
+found_at : (x : ℤ) (s : List Interval) (k : ℕ) (d : Interval) → FitsSigned w128 x → IsSpread s
+    → IsPartitionPoint (λ i. ends_below x i ≡ true) (λ i. ends_below x i ≡ false) s k → k < length s → contains s x ≡ int_le (get_or s k d).low x
 found_at x s k d fits h point lt =
     contains-at _ s k d x h lt
     (λ j below. int_lt-true _ _ (sym (ends_below-is x s j d fits h (omega arith)) ∙ point.0 j d (omega arith) below))
     (int_lt-false _ _ (sym (ends_below-is x s k d fits h lt) ∙ point.1 k d (omega arith) lt))
 
-found_none : (x : ℤ) (s : List Interval) (k : ℕ) (d : Interval) → FitsSigned w128 x → IsSpread s → IsPartitionPoint (λ i. ends_below x i ≡ true) (λ i. ends_below x i ≡ false) s k → length s ≤ k → contains s x ≡ false
+found_none : (x : ℤ) (s : List Interval) (k : ℕ) (d : Interval) → FitsSigned w128 x → IsSpread s
+    → IsPartitionPoint (λ i. ends_below x i ≡ true) (λ i. ends_below x i ≡ false) s k → length s ≤ k → contains s x ≡ false
 found_none x s k d fits h point le =
     contains-past s d x (λ j below. int_lt-true _ _ (sym (ends_below-is x s j d fits h below) ∙ point.0 j d (omega arith) (omega arith)))
 
@@ -50,7 +54,8 @@ returns-then-at-len c =
     let s = c.deref.result.now in
     let x = c.args.number in
     let h : IsSpread s = subst IsSpread (sym c.deref.ensures.value) c.self.invariant in
-    let point = IsPartitionPoint-from_clause (ends_below x) s _ c.partition_point-at.ensures.partitioned (partitioned x s c.ranges.number h) (λ a r q k. search rules) in
+    let point = IsPartitionPoint-from_clause (ends_below x) s _ c.partition_point-at.ensures.partitioned (partitioned x s c.ranges.number h)
+    (λ a r q k. search rules) in
     let k = c.partition_point-at.result in
     let i = c.index.result.now in
     let lt : k < length s = omega (arith, c.deref.ensures.len) in
@@ -66,6 +71,8 @@ returns-else-at-len c =
     let s = c.deref.result.now in
     let x = c.args.number in
     let h : IsSpread s = subst IsSpread (sym c.deref.ensures.value) c.self.invariant in
-    let point = IsPartitionPoint-from_clause (ends_below x) s _ c.partition_point-at.ensures.partitioned (partitioned x s c.ranges.number h) (λ a r q k. search rules) in
+    let point = IsPartitionPoint-from_clause (ends_below x) s _ c.partition_point-at.ensures.partitioned (partitioned x s c.ranges.number h)
+    (λ a r q k. search rules) in
     le-ltb _ _ c.if-at-len.false
-    ∙ sym (ap (λ l. contains l x) (sym (c.deref.ensures.value ∙ c.self.view_is)) ∙ found_none x s _ (record { low = pos 0; high = pos 0 }) c.ranges.number h point (omega (arith, c.deref.ensures.len)))
+    ∙ sym (ap (λ l. contains l x) (sym (c.deref.ensures.value ∙ c.self.view_is))
+    ∙ found_none x s _ (record { low = pos 0; high = pos 0 }) c.ranges.number h point (omega (arith, c.deref.ensures.len)))

@@ -1,4 +1,5 @@
-use Rattle.std.proofs.Common.{◌≡◌, ◌≢◌, ◌⊎◌, true, inl, inr, pos, List, [], ◌∷◌, length, get_or, sym, ap, ◌∙◌, subst, arith, FitsSigned, of_z}
+use Rattle.std.proofs.Common.{◌≡◌, ◌≢◌, ◌⊎◌, true, inl, inr, pos, List, [], ◌∷◌, length, get_or, sym, ap, ◌∙◌, subst, arith}
+use Rattle.std.proofs.Common.{FitsSigned, of_z}
 use Rattle.std.specs.Int.{w128}
 use Rattle.std.proofs.lemmas.Bool.{or_left, or_right}
 use Rattle.std.proofs.lemmas.Int.{ints, to_z-of_z}
@@ -10,7 +11,8 @@ use Rattle.cs_ranges.proofs.Spread.{IsSpreadFrom-at}
 use Rattle.cs_ranges.proofs.range_set.RangeSet.is_single.Goals as goal
 
 -- one interval with equal ends has one number
-IsOnly-single : (s : List Interval) (d : Interval) → length s ≡ 1 → (get_or s 0 d).low ≡ (get_or s 0 d).high → IsSpread s → IsOnly s (get_or s 0 d).low
+IsOnly-single : (s : List Interval) (d : Interval) → length s ≡ 1 → (get_or s 0 d).low ≡ (get_or s 0 d).high → IsSpread s
+    → IsOnly s (get_or s 0 d).low
 IsOnly-single [] d len e h = absurd (omega arith)
 IsOnly-single (i ∷ j ∷ s) d len e h = absurd (omega arith)
 IsOnly-single (i ∷ []) d len e h = record {
@@ -56,7 +58,8 @@ returns-in_default c =
 pub returns-in_default-2 : goal.returns-in_default-2
 returns-in_default-2 c =
     rw (← c.self.view_is, ← c.as_slice.ensures.value)
-    (HasTwo-other _ (record { low = pos 0; high = pos 0 }) (λ len e. c.if-only.false (ap (of_z w128) e)) (subst IsSpread (sym c.as_slice.ensures.value) c.self.invariant))
+    (HasTwo-other _ (record { low = pos 0; high = pos 0 }) (λ len e. c.if-only.false (ap (of_z w128) e))
+    (subst IsSpread (sym c.as_slice.ensures.value) c.self.invariant))
 
 pub returns-in_default-3 : goal.returns-in_default-3
 returns-in_default-3 c =

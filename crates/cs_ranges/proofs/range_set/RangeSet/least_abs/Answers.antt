@@ -1,4 +1,5 @@
-use Rattle.std.proofs.Common.{◌≡◌, ◌≤◌, ℕ, ℤ, pos, Option, None, Some, MatchOption, List, [], length, take, sym, ap, ◌∙◌, subst, arith, rules, take_all, FitsSigned}
+use Rattle.std.proofs.Common.{◌≡◌, ◌≤◌, ℕ, ℤ, pos, Option, None, Some, MatchOption, List, [], length, take, sym, ap, ◌∙◌, subst, arith}
+use Rattle.std.proofs.Common.{rules, take_all, FitsSigned}
 use Rattle.std.proofs.lemmas.Int.{to_z-of_z}
 use Rattle.std.specs.Int.{w128}
 use Rattle.std.proofs.lemmas.List.{take_more, nil_from_length}
@@ -11,7 +12,8 @@ use Rattle.cs_ranges.proofs.range_set.RangeSet.least_abs.Goals.{in-None, in-Some
 use Rattle.cs_ranges.proofs.range_set.RangeSet.least_abs.Goals as goal
 
 -- what the loop found after all intervals
-found_all : (s t : List Interval) (k : ℕ) (found : Option ℤ) → length s ≤ k → k ≤ length s → s ≡ t → MatchOption found (k ≡ 0) (IsLeastAbs (take k s)) → MatchOption found (IsEmpty t) (IsLeastAbs t)
+found_all : (s t : List Interval) (k : ℕ) (found : Option ℤ) → length s ≤ k → k ≤ length s → s ≡ t
+    → MatchOption found (k ≡ 0) (IsLeastAbs (take k s)) → MatchOption found (IsEmpty t) (IsLeastAbs t)
 found_all s t k None le ge e h = λ x. ap (λ l. contains l x) (sym e ∙ nil_from_length s (omega arith)) ∙ contains-nil x
 found_all s t k (Some x) le ge e h = subst (λ l. IsLeastAbs l x) (take_all k s le ∙ e) h
 
@@ -44,4 +46,5 @@ loop-interval-preserved c =
 
 pub returns : goal.returns
 returns c =
-    found_all _ _ _ _ c.loop-interval-test.false c.loop-interval.auto.interval-index-end (c.deref-interval-items.ensures.value ∙ c.self.view_is) c.loop-interval.invariant
+    found_all _ _ _ _ c.loop-interval-test.false c.loop-interval.auto.interval-index-end (c.deref-interval-items.ensures.value ∙ c.self.view_is)
+    c.loop-interval.invariant

@@ -1,4 +1,5 @@
-use Rattle.std.proofs.Common.{◌≡◌, Bool, true, false, ◌||◌, cond, ℤ, ◌≤ℤ◌, ◌+ℤ◌, pos, List, [], ◌∷◌, ◌++◌, refl, sym, ap, ◌∙◌, subst, arith}
+use Rattle.std.proofs.Common.{◌≡◌, Bool, true, false, ◌||◌, cond, ℤ, ◌≤ℤ◌, ◌+ℤ◌, pos, List, [], ◌∷◌, ◌++◌, refl, sym, ap}
+use Rattle.std.proofs.Common.{◌∙◌, subst, arith}
 use Rattle.std.specs.Int.{int_max}
 use Rattle.std.proofs.lemmas.Int.{ints, clamps}
 use Rattle.std.proofs.lemmas.List.{nil_from_length}
@@ -12,13 +13,15 @@ use Rattle.cs_ranges.proofs.range_set.RangeSet.push.Goals.{then-len-gt0+else-int
 use Rattle.cs_ranges.proofs.range_set.RangeSet.push.Goals as goal
 
 -- two intervals that overlap or touch have what their hull has
-hull : (b : Bool) (last i j : Interval) (x : ℤ) → last.low ≤ℤ i.low → last.low ≤ℤ last.high → i.low ≤ℤ (last.high +ℤ pos 1) → j.low ≡ last.low → j.high ≡ int_max last.high i.high → (b || in_interval j x) ≡ ((b || in_interval last x) || in_interval i x)
+hull : (b : Bool) (last i j : Interval) (x : ℤ) → last.low ≤ℤ i.low → last.low ≤ℤ last.high → i.low ≤ℤ (last.high +ℤ pos 1)
+    → j.low ≡ last.low → j.high ≡ int_max last.high i.high → (b || in_interval j x) ≡ ((b || in_interval last x) || in_interval i x)
 hull true last i j x p q r e f = refl
 hull false last i j x p q r e f =
     grind (arith, ints, clamps, in_interval_yields last x, in_interval_yields i x, in_interval_yields j x)
 
 -- a push that may fail leaves the intervals spread
-pushed : (b : Bool) (new old : List Interval) (i : Interval) → new ≡ cond b (old ++ i ∷ []) old → IsSpread old → IsSpread (old ++ i ∷ []) → IsSpread new
+pushed : (b : Bool) (new old : List Interval) (i : Interval) → new ≡ cond b (old ++ i ∷ []) old → IsSpread old → IsSpread (old ++ i ∷ [])
+    → IsSpread new
 pushed true new old i e h p = rw e p
 pushed false new old i e h p = rw e h
 

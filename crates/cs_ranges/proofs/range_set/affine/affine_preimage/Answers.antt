@@ -10,7 +10,8 @@ use Rattle.cs_ranges.specs.Line.{is_over}
 use Rattle.cs_ranges.specs.RangeSet.{contains, IsLeast, IsGreatest}
 use Rattle.cs_ranges.proofs.Drawing.{is_over-within}
 use Rattle.cs_ranges.proofs.Members.{contains-nil}
-use Rattle.cs_ranges.proofs.range_set.affine.affine_preimage.Goals.{in_default-via-in-Some+in_default, in_default-via-in_default, then-slope-lt0+in_ok-negated+in_ok-found, else-slope-lt0+in_ok-found-2}
+use Rattle.cs_ranges.proofs.range_set.affine.affine_preimage.Goals.{in_default-via-in-Some+in_default, in_default-via-in_default}
+use Rattle.cs_ranges.proofs.range_set.affine.affine_preimage.Goals.{then-slope-lt0+in_ok-negated+in_ok-found, else-slope-lt0+in_ok-found-2}
 use Rattle.cs_ranges.proofs.range_set.affine.affine_preimage.Goals as goal
 
 -- what the line answers, cut down to the numbers asked for, over each of which it is
@@ -22,7 +23,8 @@ cut false over false value e h = refl
 cut found false true value e h = absurd (false≢true (h refl))
 
 -- the line is over each number asked for
-is_over-asked : (line : Line) (asked : List Interval) (first last s : ℤ) → (line.first ≡ first) × (line.last ≡ last) → IsLeast asked first → IsGreatest asked last → contains asked s ≡ true → is_over line s ≡ true
+is_over-asked : (line : Line) (asked : List Interval) (first last s : ℤ) → (line.first ≡ first) × (line.last ≡ last) → IsLeast asked first
+    → IsGreatest asked last → contains asked s ≡ true → is_over line s ≡ true
 is_over-asked line asked first last s e least greatest t =
     let from : line.first ≤ℤ s = omega (arith, ints, least.least s t) in
     let upto : s ≤ℤ line.last = omega (arith, ints, greatest.greatest s t) in
@@ -51,7 +53,8 @@ returns c =
     let ends = rw (to_z-of_z w128 _ first, to_z-of_z w128 _ last) at c.rising-line.ensures.ends in
     let rises = rw (to_z-of_z w128 _ c.ranges.slope, to_z-of_z w128 _ c.ranges.at, to_z-of_z w128 _ c.ranges.value) at c.rising-line.ensures.values in
     let falls = rw (to_z-of_z w128 _ c.ranges.slope, to_z-of_z w128 _ c.ranges.at, to_z-of_z w128 _ c.ranges.value) at c.rising-line.ensures.negatives in
-    let over : (s : ℤ) → contains within s ≡ true → is_over line s ≡ true = λ s. is_over-asked line within _ _ s ends c.in-Some-Some.ensures.least c.in-Some-Some.ensures'.greatest in
+    let over : (s : ℤ) → contains within s ≡ true → is_over line s ≡ true = λ s.
+    is_over-asked line within _ _ s ends c.in-Some-Some.ensures.least c.in-Some-Some.ensures'.greatest in
     let answered : (s : ℤ) → contains c.if-slope-lt0.found s ≡ (is_over line s && contains set (value s)) = λ s. elim c.if-slope-lt0.branch [
       | then-slope-lt0+in_ok-negated+in_ok-found w ↦
           rw w.found-is (w.in_ok-found.ensures s

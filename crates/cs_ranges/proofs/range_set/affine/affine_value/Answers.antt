@@ -1,18 +1,21 @@
-use Rattle.std.proofs.Common.{◌≡◌, ◌+◌, ◌*◌, ◌%◌, ◌^◌, ◌<◌, ℕ, ℤ, ◌+ℤ◌, ◌*ℤ◌, ap, ◌∙◌, arith, FitsSigned, to_z, of_z}
+use Rattle.std.proofs.Common.{◌≡◌, ◌+◌, ◌*◌, ◌%◌, ◌^◌, ◌<◌, ℕ, ℤ, ◌+ℤ◌, ◌*ℤ◌, ap, ◌∙◌, arith, FitsSigned, to_z}
+use Rattle.std.proofs.Common.{of_z}
 use Rattle.std.specs.Int.{w128, int_wrap}
 use Rattle.std.proofs.lemmas.Int.{ints, to_z-of_z, int_wrap_fits, wrapping_add-bits, wrapping_mul-bits, wrapping_sub_is, int_wrap-add_right, int_wrap-mul_right}
 use Rattle.cs_ranges.specs.Affine.{affine}
 use Rattle.cs_ranges.proofs.range_set.affine.affine_value.Goals as goal
 
 -- the bits of the product of a number and of bits that stand for a wrapped one
-wrapped_product : (a b : ℤ) (n : ℕ) → FitsSigned w128 a → n < 2 ^ 128 → to_z w128 n ≡ int_wrap w128 b → to_z w128 ((of_z w128 a * n) % 2 ^ 128) ≡ int_wrap w128 (a *ℤ b)
+wrapped_product : (a b : ℤ) (n : ℕ) → FitsSigned w128 a → n < 2 ^ 128 → to_z w128 n ≡ int_wrap w128 b
+    → to_z w128 ((of_z w128 a * n) % 2 ^ 128) ≡ int_wrap w128 (a *ℤ b)
 wrapped_product a b n fits lt e =
     wrapping_mul-bits w128 (of_z w128 a) n (omega (arith, ints)) lt
     ∙ ap (λ x. int_wrap w128 (x *ℤ to_z w128 n)) (to_z-of_z w128 a fits)
     ∙ ap (λ y. int_wrap w128 (a *ℤ y)) e
     ∙ int_wrap-mul_right w128 a b
 
-wrapped_sum : (a b : ℤ) (n : ℕ) → FitsSigned w128 a → n < 2 ^ 128 → to_z w128 n ≡ int_wrap w128 b → to_z w128 ((of_z w128 a + n) % 2 ^ 128) ≡ int_wrap w128 (a +ℤ b)
+wrapped_sum : (a b : ℤ) (n : ℕ) → FitsSigned w128 a → n < 2 ^ 128 → to_z w128 n ≡ int_wrap w128 b
+    → to_z w128 ((of_z w128 a + n) % 2 ^ 128) ≡ int_wrap w128 (a +ℤ b)
 wrapped_sum a b n fits lt e =
     wrapping_add-bits w128 (of_z w128 a) n (omega (arith, ints)) lt
     ∙ ap (λ x. int_wrap w128 (x +ℤ to_z w128 n)) (to_z-of_z w128 a fits)

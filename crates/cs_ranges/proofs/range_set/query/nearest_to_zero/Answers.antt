@@ -10,7 +10,8 @@ use Rattle.cs_ranges.proofs.range_set.query.nearest_to_zero.Goals as goal
 in_interval-clamp : (i : Interval) (x : ℤ) → i.low ≤ℤ i.high → x ≡ int_max i.low (int_min (pos 0) i.high) → in_interval i x ≡ true
 in_interval-clamp i x h e = grind (arith, ints, clamps, in_interval_yields i x)
 
-IsNearest-clamp : (i : Interval) (x y : ℤ) → i.low ≤ℤ i.high → x ≡ int_max i.low (int_min (pos 0) i.high) → in_interval i y ≡ true → IsNearest x y
+IsNearest-clamp : (i : Interval) (x y : ℤ) → i.low ≤ℤ i.high → x ≡ int_max i.low (int_min (pos 0) i.high) → in_interval i y ≡ true
+    → IsNearest x y
 IsNearest-clamp i x y h e t = grind (arith, ints, clamps, in_interval_yields i y)
 
 pub returns-clause-member : goal.returns-clause-member

@@ -19,10 +19,15 @@ returns-in-None-body c =
     let given = map operand_of c.in_ok-arguments.arguments.items in
     let left = state_of c.pop_newest.new.state in
     let r = routine c.in-Some.callee.now in
-    let there : slice_get program.functions.items c.args.function ≡ Some c.in-Some.callee.now = ap (λ (l : List Function). slice_get l c.args.function) (sym c.deref.ensures.value) ∙ (sym (lent c.deref.result.now c.args.function c.get.result c.get.ensures.lookup) ∙ ap option_copied c.in-Some.is) in
+    let there : slice_get program.functions.items c.args.function ≡ Some c.in-Some.callee.now =
+    ap (λ (l : List Function). slice_get l c.args.function) (sym c.deref.ensures.value)
+    ∙ (sym (lent c.deref.result.now c.args.function c.get.result c.get.ensures.lookup) ∙ ap option_copied c.in-Some.is) in
     let without : r.body ≡ None = ap (option_map statement) c.in-None-body.is in
-    let same = call_is (typed_program program) c.args.self.now.setting.now.budgets c.args.place c.args.function c.args.count r m c.deref-in-None-body.result.now given left (routine_is program c.args.function c.in-Some.callee.now there) without c.deref-in-None-body.ensures.value c.in_ok-arguments.ensures.operands c.in_ok-arguments.ensures.state in
-    subst (λ (act : Act State). Performs c.args.self.now c.call_outside.new.self c.call_outside.result act) (sym same) (record { ok = c.call_outside.ensures.ok; err = c.call_outside.ensures.err; kept = c.call_outside.ensures.kept })
+    let same = call_is (typed_program program) c.args.self.now.setting.now.budgets c.args.place c.args.function c.args.count r m c.deref-in-None-body.result.now
+    given left (routine_is program c.args.function c.in-Some.callee.now there) without c.deref-in-None-body.ensures.value c.in_ok-arguments.ensures.operands
+    c.in_ok-arguments.ensures.state in
+    subst (λ (act : Act State). Performs c.args.self.now c.call_outside.new.self c.call_outside.result act) (sym same)
+    (record { ok = c.call_outside.ensures.ok; err = c.call_outside.ensures.err; kept = c.call_outside.ensures.kept })
 
 pub returns-in-None : goal.returns-in-None
 returns-in-None c =
@@ -31,6 +36,9 @@ returns-in-None c =
     let given = map operand_of c.in_ok-arguments.arguments.items in
     let left = state_of c.pop_newest.new.state in
     let r = no_routine NOWHERE in
-    let none : slice_get program.functions.items c.args.function ≡ None = ap (λ (l : List Function). slice_get l c.args.function) (sym c.deref.ensures.value) ∙ (sym (lent c.deref.result.now c.args.function c.get.result c.get.ensures.lookup) ∙ ap option_copied c.in-None.is) in
-    let same = call_is (typed_program program) c.args.self.now.setting.now.budgets c.args.place c.args.function c.args.count r m [] given left (routine_none program c.args.function none) refl refl c.in_ok-arguments.ensures.operands c.in_ok-arguments.ensures.state in
-    subst (λ (act : Act State). Performs c.args.self.now c.call_outside-in-None.new.self c.call_outside-in-None.result act) (sym same) (record { ok = c.call_outside-in-None.ensures.ok; err = c.call_outside-in-None.ensures.err; kept = c.call_outside-in-None.ensures.kept })
+    let none : slice_get program.functions.items c.args.function ≡ None = ap (λ (l : List Function). slice_get l c.args.function) (sym c.deref.ensures.value)
+    ∙ (sym (lent c.deref.result.now c.args.function c.get.result c.get.ensures.lookup) ∙ ap option_copied c.in-None.is) in
+    let same = call_is (typed_program program) c.args.self.now.setting.now.budgets c.args.place c.args.function c.args.count r m [] given left
+    (routine_none program c.args.function none) refl refl c.in_ok-arguments.ensures.operands c.in_ok-arguments.ensures.state in
+    subst (λ (act : Act State). Performs c.args.self.now c.call_outside-in-None.new.self c.call_outside-in-None.result act) (sym same)
+    (record { ok = c.call_outside-in-None.ensures.ok; err = c.call_outside-in-None.ensures.err; kept = c.call_outside-in-None.ensures.kept })

@@ -21,7 +21,8 @@ returns-in_err-show c =
     let wanted : Chosen = chosen_case c.args.cases.now statements (case_of c.args.cases.now (number_in (cell_at m 0)) 0) in
     let last : Act State = Goes (to_do (executes_from wanted.item statements c.args.counted_point (pop m).frame.todo) (pop m)) in
     let there : c.from_residual-in_err-show.result ≡ Err c.in_err-show.field-0.0 = search rules in
-    let number : c.number-number.result ≡ number_in (cell_at m 0) = c.number-number.ensures ∙ ap (λ (cell : Cell). number_in cell) c.pop_cell.ensures.cell in
+    let number : c.number-number.result ≡ number_in (cell_at m 0) = c.number-number.ensures
+    ∙ ap (λ (cell : Cell). number_in cell) c.pop_cell.ensures.cell in
     let fits : FitsSigned w128 c.number-number.result = search rules in
     let plain = to_z-of_z w128 c.number-number.result fits in
     let is : chosen_of c.in_ok-chosen.chosen ≡ wanted = rw (plain, number) at c.in_ok-chosen.ensures in

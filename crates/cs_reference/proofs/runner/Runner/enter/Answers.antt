@@ -23,8 +23,14 @@ returns c =
     let less : length m.callers + 1 < run.setting.now.budgets.depth = search rules in
     let room : nat_lt (length m.callers + 1) run.setting.now.budgets.depth ≡ true = grind (arith, nat_tests) in
     let next = inside program (new_frame c.args.function m.frames r) r arguments m in
-    let frame : frame_of c.in_ok-frame.frame ≡ new_frame c.args.function m.frames r = c.in_ok-frame.ensures ∙ ap (λ (n : ℕ). new_frame c.args.function n r) c.frames_of-number.ensures in
+    let frame : frame_of c.in_ok-frame.frame ≡ new_frame c.args.function m.frames r = c.in_ok-frame.ensures
+    ∙ ap (λ (n : ℕ). new_frame c.args.function n r) c.frames_of-number.ensures in
     let locals = block_at c.in_ok-locals.locals.items in
     let are = rw (c.deref.ensures.value, c.deref-2.ensures.value) at c.in_ok-locals.ensures in
-    let state : state_of c.go_inside.new.state ≡ next = c.in_ok-go_inside.ensures ∙ (ap (λ (f : Frame). inside_with f locals m) frame ∙ inside_is program (new_frame c.args.function m.frames r) r arguments locals m are) in
-    rw room (record { ok = c.in_ok-show.ensures.ok (Goes next) ∙ (perform-Goes _ _ _ ∙ ap (λ (n : State). Continues n (log_of c.show.new.self)) (sym state)); err = tt; kept = refl })
+    let state : state_of c.go_inside.new.state ≡ next = c.in_ok-go_inside.ensures
+    ∙ (ap (λ (f : Frame). inside_with f locals m) frame ∙ inside_is program (new_frame c.args.function m.frames r) r arguments locals m are) in
+    rw room (record {
+      ok = c.in_ok-show.ensures.ok (Goes next) ∙ (perform-Goes _ _ _ ∙ ap (λ (n : State). Continues n (log_of c.show.new.self)) (sym state));
+      err = tt;
+      kept = refl;
+    })

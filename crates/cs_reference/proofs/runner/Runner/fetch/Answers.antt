@@ -8,5 +8,6 @@ use Rattle.cs_reference.proofs.runner.Runner.fetch.Goals as goal
 pub returns-in-Update : goal.returns-in-Update
 returns-in-Update c =
     let run = c.args.self.now in
-    let same = fetch_number_is (program_of run) (budgets_of run) c.args.e.now (state_in run) c.in-Update.field-0 c.in-Update.object c.in-Update.field-2 c.in-Update.works_in c.in-Update.field-4 (sym c.deref.ensures ∙ c.in-Update.is) in
+    let same = fetch_number_is (program_of run) (budgets_of run) c.args.e.now (state_in run) c.in-Update.field-0 c.in-Update.object c.in-Update.field-2
+    c.in-Update.works_in c.in-Update.field-4 (sym c.deref.ensures ∙ c.in-Update.is) in
     subst (λ (a : Act State). Performs run c.fetch_number.new.self c.fetch_number.result a) (sym same) c.fetch_number.ensures

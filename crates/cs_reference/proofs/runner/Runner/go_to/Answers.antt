@@ -20,9 +20,19 @@ returns-in-None-body c =
     let log = log_of c.args.self.now.log in
     let m = state_of c.args.self.now.machine in
     let there = c.in-Some.ensures.lookup.3 in
-    let found : slice_get c.deref.result.now c.function_of-number.result ≡ Some c.in-Some.function.now = slice_get-get_or _ _ c.in-Some.function.now there.0 ∙ ap Some (sym (there.1 c.in-Some.function.now)) in
-    let is = bodiless setting.program.now m.frame.function c.in-Some.function.now (rw (c.deref.ensures.value, c.function_of-number.ensures) at found) c.in-None-body.is in
-    record { ok = ap (λ (body : Statement). perform (setting_of setting) log (lands setting.budgets (landing c.args.label body 0 (at_end (routine_of (typed_program setting.program.now) m.frame.function))) m)) is ∙ perform-Goes _ _ _; err = tt; kept = refl }
+    let found : slice_get c.deref.result.now c.function_of-number.result ≡ Some c.in-Some.function.now = slice_get-get_or _ _ c.in-Some.function.now there.0
+    ∙ ap Some (sym (there.1 c.in-Some.function.now)) in
+    let is = bodiless setting.program.now m.frame.function c.in-Some.function.now (rw (c.deref.ensures.value, c.function_of-number.ensures) at found)
+    c.in-None-body.is in
+    record {
+      ok =
+          ap (λ (body : Statement).
+          perform (setting_of setting) log
+          (lands setting.budgets (landing c.args.label body 0 (at_end (routine_of (typed_program setting.program.now) m.frame.function))) m)) is
+          ∙ perform-Goes _ _ _;
+      err = tt;
+      kept = refl;
+    }
 
 pub returns-in-None : goal.returns-in-None
 returns-in-None c =
@@ -31,4 +41,12 @@ returns-in-None c =
     let m = state_of c.args.self.now.machine in
     let none : slice_get c.deref.result.now c.function_of-number.result ≡ None = slice_get_past _ _ c.in-None.ensures.lookup.3 in
     let is = missing setting.program.now m.frame.function (rw (c.deref.ensures.value, c.function_of-number.ensures) at none) in
-    record { ok = ap (λ (body : Statement). perform (setting_of setting) log (lands setting.budgets (landing c.args.label body 0 (at_end (routine_of (typed_program setting.program.now) m.frame.function))) m)) is ∙ perform-Goes _ _ _; err = tt; kept = refl }
+    record {
+      ok =
+          ap (λ (body : Statement).
+          perform (setting_of setting) log
+          (lands setting.budgets (landing c.args.label body 0 (at_end (routine_of (typed_program setting.program.now) m.frame.function))) m)) is
+          ∙ perform-Goes _ _ _;
+      err = tt;
+      kept = refl;
+    }

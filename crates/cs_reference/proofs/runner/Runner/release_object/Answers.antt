@@ -14,4 +14,8 @@ returns-in-Some c =
     let fits : FitsSigned w128 c.args.offset = c.ranges.offset in
     let offset = to_z-of_z w128 c.args.offset fits in
     let refused = rw offset at (c.in-Some.ensures c.args.place) in
-    rw c.fault.ensures (record { ok = tt; err = ap (λ (act : Act State). perform (setting_of c.args.self.now.setting.now) (log_of c.args.self.now.log) act) refused ∙ perform-Stops _ _ _; kept = tt })
+    rw c.fault.ensures (record {
+      ok = tt;
+      err = ap (λ (act : Act State). perform (setting_of c.args.self.now.setting.now) (log_of c.args.self.now.log) act) refused ∙ perform-Stops _ _ _;
+      kept = tt;
+    })

@@ -16,6 +16,12 @@ pub returns : goal.returns
 returns c =
     let m = state_of c.args.self.now.machine in
     let setting = c.args.self.now.setting.now in
-    let last : Act State = Goes (with_memory (changed (write_operand (typed_program setting.program.now) (shape_of c.args.ty.now) c.args.offset (operand_at m 0)) (LocalObject m.frame.number c.args.declaration) m.memory) (pop m)) in
+    let last : Act State =
+    Goes (with_memory (changed (write_operand (typed_program setting.program.now) (shape_of c.args.ty.now) c.args.offset (operand_at m 0))
+    (LocalObject m.frame.number c.args.declaration) m.memory) (pop m)) in
     let touched = rw (c.number_of-frame.ensures, c.scalar_local-local.ensures) at c.in_ok-touch_store.ensures in
-    record { ok = touched setting last ∙ (perform-Goes _ _ _ ∙ ap (λ (n : State). Continues n (log_of c.touch_store.new.log)) (sym c.in_ok-store_newest.ensures)); err = tt; kept = refl }
+    record {
+      ok = touched setting last ∙ (perform-Goes _ _ _ ∙ ap (λ (n : State). Continues n (log_of c.touch_store.new.log)) (sym c.in_ok-store_newest.ensures));
+      err = tt;
+      kept = refl;
+    }

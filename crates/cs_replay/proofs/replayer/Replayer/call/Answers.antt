@@ -25,7 +25,9 @@ returns-in_ok-arguments-in-Some c =
     let given = map operand_of c.in_ok-arguments-in-Some.arguments.items in
     let left = code_state points callers (state_of c.pop_newest.new.state) in
     let is : left ≡ pop_many c.args.count (state_in run) = ap (λ (m : State). code_state points callers m) c.in_ok-arguments-in-Some.ensures.state in
-    let same = enters_is (program_of run) (budgets_of run) c.args.place c.args.function c.args.count (routine_of (program_of run) c.args.function) (flow_of (code_of run) c.args.function) (state_in run) left given (view.flow c.in-Some.flow.now) c.in-Some.ensures c.in_ok-arguments-in-Some.ensures.operands is in
+    let same = enters_is (program_of run) (budgets_of run) c.args.place c.args.function c.args.count (routine_of (program_of run) c.args.function)
+    (flow_of (code_of run) c.args.function) (state_in run) left given (view.flow c.in-Some.flow.now) c.in-Some.ensures
+    c.in_ok-arguments-in-Some.ensures.operands is in
     performs_as refl refl refl (sym same) c.enter.ensures
 
 pub returns-in_err-call-in-None : goal.returns-in_err-call-in-None
@@ -37,10 +39,15 @@ returns-in_err-call-in-None c = record {
       let callers = callers_of run.code.now run.callers.items in
       let m = state_of run.runner.machine in
       let stop = c.in_err-call-in-None.field-0.0 in
-      let body = no_body (flow_of (code_of run) c.args.function) (routine_of (program_of run) c.args.function).body (c.requires.graphs c.args.function) c.in-None.ensures in
-      let reported = call_reported points callers (code_of run) (program_of run) (budgets_of run) c.args.place c.args.function c.args.count m c.in-None.ensures body in
+      let body = no_body (flow_of (code_of run) c.args.function) (routine_of (program_of run) c.args.function).body (c.requires.graphs c.args.function)
+      c.in-None.ensures in
+      let reported = call_reported points callers (code_of run) (program_of run) (budgets_of run) c.args.place c.args.function c.args.count m c.in-None.ensures
+      body in
       let there : c.from_residual-in_err-call-in-None.result ≡ Err stop = search rules in
-      rw there (ends_so (setting_of run.runner.setting.now) (log_of run.runner.log) (log_of c.call.new.self.log) (code_state points callers) (calls.call (program_of run) (budgets_of run) c.args.place c.args.function c.args.count m) (do_work (code_of run) (program_of run) (budgets_of run) c.args.place (graph.Call c.args.function c.args.count) (state_in run)) stop reported c.in_err-call-in-None.ensures.err);
+      rw there (ends_so (setting_of run.runner.setting.now) (log_of run.runner.log) (log_of c.call.new.self.log) (code_state points callers)
+      (calls.call (program_of run) (budgets_of run) c.args.place c.args.function c.args.count m)
+      (do_work (code_of run) (program_of run) (budgets_of run) c.args.place (graph.Call c.args.function c.args.count) (state_in run)) stop reported
+      c.in_err-call-in-None.ensures.err);
   kept = search rules;
 }
 
@@ -51,9 +58,14 @@ returns-in_ok-call-in-None c = record {
       let points = point_of run.code.now run.position in
       let callers = callers_of run.code.now run.callers.items in
       let m = state_of run.runner.machine in
-      let body = no_body (flow_of (code_of run) c.args.function) (routine_of (program_of run) c.args.function).body (c.requires.graphs c.args.function) c.in-None.ensures in
-      let reported = call_reported points callers (code_of run) (program_of run) (budgets_of run) c.args.place c.args.function c.args.count m c.in-None.ensures body in
-      leads_so (code_state points callers) (setting_of run.runner.setting.now) (log_of run.runner.log) (log_of c.call.new.self.log) (calls.call (program_of run) (budgets_of run) c.args.place c.args.function c.args.count m) (do_work (code_of run) (program_of run) (budgets_of run) c.args.place (graph.Call c.args.function c.args.count) (state_in run)) (state_of c.call.new.self.machine) reported c.in_ok-call-in-None.ensures.ok;
+      let body = no_body (flow_of (code_of run) c.args.function) (routine_of (program_of run) c.args.function).body (c.requires.graphs c.args.function)
+      c.in-None.ensures in
+      let reported = call_reported points callers (code_of run) (program_of run) (budgets_of run) c.args.place c.args.function c.args.count m c.in-None.ensures
+      body in
+      leads_so (code_state points callers) (setting_of run.runner.setting.now) (log_of run.runner.log) (log_of c.call.new.self.log)
+      (calls.call (program_of run) (budgets_of run) c.args.place c.args.function c.args.count m)
+      (do_work (code_of run) (program_of run) (budgets_of run) c.args.place (graph.Call c.args.function c.args.count) (state_in run))
+      (state_of c.call.new.self.machine) reported c.in_ok-call-in-None.ensures.ok;
   err = search rules;
   kept = search rules;
 }

@@ -16,4 +16,5 @@ returns-clause-state c =
     let run = c.args.self.now in
     let machine = run.runner.machine in
     ap (λ (m : State). code_state (point_of run.code.now c.args.caller.position) (callers_of run.code.now run.callers.items) m)
-    (c.in_ok-push.ensures ∙ state_in_frame machine c.args.caller.frame c.end_frame.new.self (operand_of c.args.value) (without_locals machine.frame.number (memory_of machine.memory)) c.end_frame.ensures.memory c.end_frame.ensures.counts)
+    (c.in_ok-push.ensures ∙ state_in_frame machine c.args.caller.frame c.end_frame.new.self (operand_of c.args.value)
+    (without_locals machine.frame.number (memory_of machine.memory)) c.end_frame.ensures.memory c.end_frame.ensures.counts)

@@ -13,7 +13,8 @@ returns-in-Jump c = record {
       let setting = setting_of run.runner.setting.now in
       let log = log_of run.runner.log in
       let target = enters (code_of run) c.in-Jump.block (state_in run) in
-      rw c.in-Jump.is (arrives setting log (Goes target) target (state_in c.enter_block.new.self) log (log_of c.enter_block.new.self.runner.log) (goes_so setting log target) c.enter_block.ensures.state (ap log_of c.enter_block.ensures.log));
+      rw c.in-Jump.is (arrives setting log (Goes target) target (state_in c.enter_block.new.self) log (log_of c.enter_block.new.self.runner.log)
+      (goes_so setting log target) c.enter_block.ensures.state (ap log_of c.enter_block.ensures.log));
   err = search rules;
   kept = search rules;
 }

@@ -25,7 +25,8 @@ returns-then-len-from c = record {
   err =
       let run = c.args.self.now in
       let depth = run.runner.setting.now.budgets.depth in
-      let count : length (state_in run).callers ≡ length run.callers.items = length-reverse (map (caller_of run.code.now) run.callers.items) ∙ length-map run.callers.items (caller_of run.code.now) in
+      let count : length (state_in run).callers ≡ length run.callers.items = length-reverse (map (caller_of run.code.now) run.callers.items)
+      ∙ length-map run.callers.items (caller_of run.code.now) in
       let full : depth ≤ length run.callers.items + 1 = search rules in
       let room : nat_lt (length (state_in run).callers + 1) depth ≡ false = grind (arith, nat_tests) in
       rw room (stops_so (setting_of run.runner.setting.now) (log_of run.runner.log) (Over Depth c.args.place));
@@ -39,12 +40,15 @@ returns-in_err-show c = record {
       let run = c.args.self.now in
       let depth = run.runner.setting.now.budgets.depth in
       let m = state_of run.runner.machine in
-      let count : length (state_in run).callers ≡ length run.callers.items = length-reverse (map (caller_of run.code.now) run.callers.items) ∙ length-map run.callers.items (caller_of run.code.now) in
+      let count : length (state_in run).callers ≡ length run.callers.items = length-reverse (map (caller_of run.code.now) run.callers.items)
+      ∙ length-map run.callers.items (caller_of run.code.now) in
       let less : length run.callers.items + 1 < depth = search rules in
       let room : nat_lt (length (state_in run).callers + 1) depth ≡ true = grind (arith, nat_tests) in
       let there : c.from_residual.result ≡ Err c.in_err-show.field-0.0 = search rules in
-      let next : CodeState = inside (program_of run) (code_frame c.args.function (view.flow c.args.flow.now) (state_in run).frames) (routine_of (program_of run) c.args.function) (map operand_of c.args.arguments.items) (state_in run) in
-      rw (there, room) (no_show (setting_of run.runner.setting.now) (log_of run.runner.log) (log_of c.show.new.self) c.args.place (label.Callee c.args.function) m next c.in_err-show.field-0.0 (c.in_err-show.ensures.err (Goes m)));
+      let next : CodeState = inside (program_of run) (code_frame c.args.function (view.flow c.args.flow.now) (state_in run).frames)
+      (routine_of (program_of run) c.args.function) (map operand_of c.args.arguments.items) (state_in run) in
+      rw (there, room) (no_show (setting_of run.runner.setting.now) (log_of run.runner.log) (log_of c.show.new.self) c.args.place (label.Callee c.args.function)
+      m next c.in_err-show.field-0.0 (c.in_err-show.ensures.err (Goes m)));
   kept = search rules;
 }
 
@@ -59,15 +63,20 @@ returns c = record {
       let routine = routine_of (program_of run) c.args.function in
       let setting = setting_of run.runner.setting.now in
       let log = log_of run.runner.log in
-      let count : length (state_in run).callers ≡ length run.callers.items = length-reverse (map (caller_of run.code.now) run.callers.items) ∙ length-map run.callers.items (caller_of run.code.now) in
+      let count : length (state_in run).callers ≡ length run.callers.items = length-reverse (map (caller_of run.code.now) run.callers.items)
+      ∙ length-map run.callers.items (caller_of run.code.now) in
       let less : length run.callers.items + 1 < depth = search rules in
       let room : nat_lt (length (state_in run).callers + 1) depth ≡ true = grind (arith, nat_tests) in
       let next : CodeState = inside (program_of run) (code_frame c.args.function flow (state_in run).frames) routine given (state_in run) in
-      let is : frame_of c.in_ok-frame.frame ≡ begun c.args.function (state_in run).frames flow.counted_points = c.in_ok-frame.ensures ∙ ap (λ (number : ℕ). begun c.args.function number flow.counted_points) c.frames_of-number.ensures in
+      let is : frame_of c.in_ok-frame.frame ≡ begun c.args.function (state_in run).frames flow.counted_points = c.in_ok-frame.ensures
+      ∙ ap (λ (number : ℕ). begun c.args.function number flow.counted_points) c.frames_of-number.ensures in
       let are = rw (c.deref.ensures.value, c.locals_of-variables.ensures) at c.in_ok-locals.ensures in
-      let state : state_in c.go_inside.new.self ≡ next = c.in_ok-go_inside.ensures.state ∙ entered_is (code_of run) (program_of run) c.args.function flow routine given (frame_of c.in_ok-frame.frame) (block_at c.in_ok-locals.locals.items) (state_in run) is c.requires.graph are in
+      let state : state_in c.go_inside.new.self ≡ next = c.in_ok-go_inside.ensures.state
+      ∙ entered_is (code_of run) (program_of run) c.args.function flow routine given (frame_of c.in_ok-frame.frame) (block_at c.in_ok-locals.locals.items)
+      (state_in run) is c.requires.graph are in
       let leads = shows_so setting log (log_of c.show.new.self) c.args.place (label.Callee c.args.function) m next (c.in_ok-show.ensures.ok (Goes m)) in
-      rw room (arrives setting log (shows_then c.args.place (label.Callee c.args.function) (Goes next)) next (state_in c.go_inside.new.self) (log_of c.show.new.self) (log_of c.go_inside.new.self.runner.log) leads state (ap log_of c.in_ok-go_inside.ensures.log));
+      rw room (arrives setting log (shows_then c.args.place (label.Callee c.args.function) (Goes next)) next (state_in c.go_inside.new.self)
+      (log_of c.show.new.self) (log_of c.go_inside.new.self.runner.log) leads state (ap log_of c.in_ok-go_inside.ensures.log));
   err = search rules;
   kept = search rules;
 }

@@ -19,9 +19,11 @@ returns c =
     let points = point_of run.code.now run.position in
     let callers = callers_of run.code.now run.callers.items in
     let cut = rw c.from.ensures at c.cut.ensures in
-    let given : operand_of c.pop-value.result ≡ operand_at (working.cut (c.args.temporary + 1) (state_in run)) 0 = c.pop-value.ensures.operand ∙ ap (λ (m : State). operand_at m 0) cut in
+    let given : operand_of c.pop-value.result ≡ operand_at (working.cut (c.args.temporary + 1) (state_in run)) 0 = c.pop-value.ensures.operand
+    ∙ ap (λ (m : State). operand_at m 0) cut in
     let popped : state_of c.pop-value.new.self ≡ pop (cut_to (c.args.temporary + 1) machine) = c.pop-value.ensures.state ∙ ap (λ (m : State). pop m) cut in
-    let same : leave (operand_of c.pop-value.result) (code_state points callers (state_of c.pop-value.new.self)) ≡ leave (operand_at (working.cut (c.args.temporary + 1) (state_in run)) 0) (state_in run) =
+    let same : leave (operand_of c.pop-value.result) (code_state points callers (state_of c.pop-value.new.self))
+    ≡ leave (operand_at (working.cut (c.args.temporary + 1) (state_in run)) 0) (state_in run) =
     ap (λ (m : State). leave (operand_of c.pop-value.result) (code_state points callers m)) popped
     ∙ (leaves_alike (operand_of c.pop-value.result) (pop (cut_to (c.args.temporary + 1) machine)).frame.stack points callers machine
     ∙ ap (λ (value : Operand). leave value (state_in run)) given) in

@@ -17,6 +17,9 @@ returns-clause-state c =
     let machine = run.runner.machine in
     let waiting : Frame → Caller = λ frame. record { frame = frame; position = run.position } in
     let start : Position = record { block = c.args.block; done = 0 } in
-    let called : c.push.new.self.items ≡ run.callers.items ++ waiting machine.frame ∷ [] = c.in_ok-push.ensures.items ∙ ap (λ (frame : Frame). run.callers.items ++ waiting frame ∷ []) c.replace.ensures.value in
-    let callers : callers_of code c.push.new.self.items ≡ caller_of code (waiting machine.frame) ∷ callers_of code run.callers.items = ap (λ (l : List Caller). reverse (map (caller_of code) l)) called ∙ reverse-map-push (caller_of code) run.callers.items (waiting machine.frame) in
-    rw c.replace.ensures.after (inside_state code run.position start machine c.args.frame c.push.new.self.items run.callers.items c.add_frame.new.self (block_at c.args.locals.items) callers c.in_ok-add_frame.ensures.memory c.in_ok-add_frame.ensures.frames c.in_ok-add_frame.ensures.allocations)
+    let called : c.push.new.self.items ≡ run.callers.items ++ waiting machine.frame ∷ [] = c.in_ok-push.ensures.items
+    ∙ ap (λ (frame : Frame). run.callers.items ++ waiting frame ∷ []) c.replace.ensures.value in
+    let callers : callers_of code c.push.new.self.items ≡ caller_of code (waiting machine.frame) ∷ callers_of code run.callers.items =
+    ap (λ (l : List Caller). reverse (map (caller_of code) l)) called ∙ reverse-map-push (caller_of code) run.callers.items (waiting machine.frame) in
+    rw c.replace.ensures.after (inside_state code run.position start machine c.args.frame c.push.new.self.items run.callers.items c.add_frame.new.self
+    (block_at c.args.locals.items) callers c.in_ok-add_frame.ensures.memory c.in_ok-add_frame.ensures.frames c.in_ok-add_frame.ensures.allocations)

@@ -24,11 +24,15 @@ returns-in_ok-come_back-in-Some c = record {
       let log = log_of run.runner.log in
       let following = state_in c.pop_caller.new.self in
       let caller = caller_of run.code.now c.in-Some.caller in
-      let leads = ap (λ (t : CodeState). perform setting log (leave value t)) c.in-Some.ensures.some ∙ goes_so setting log (back_in caller value following) in
+      let leads = ap (λ (t : CodeState). perform setting log (leave value t)) c.in-Some.ensures.some
+      ∙ goes_so setting log (back_in caller value following) in
       let state : state_in c.come_back.new.self ≡ back_in caller value following =
-      c.in_ok-come_back-in-Some.ensures.state ∙ ap (λ (code : Bor Code). back_in (caller_of code.now c.in-Some.caller) value following) c.in-Some.ensures.kept.code in
-      let same_log : log_of c.come_back.new.self.runner.log ≡ log = ap log_of c.in_ok-come_back-in-Some.ensures.log ∙ ap (λ (w : Runner). log_of w.log) c.in-Some.ensures.log in
-      arrives setting log (leave value (state_in run)) (back_in caller value following) (state_in c.come_back.new.self) log (log_of c.come_back.new.self.runner.log) leads state same_log;
+      c.in_ok-come_back-in-Some.ensures.state
+      ∙ ap (λ (code : Bor Code). back_in (caller_of code.now c.in-Some.caller) value following) c.in-Some.ensures.kept.code in
+      let same_log : log_of c.come_back.new.self.runner.log ≡ log = ap log_of c.in_ok-come_back-in-Some.ensures.log
+      ∙ ap (λ (w : Runner). log_of w.log) c.in-Some.ensures.log in
+      arrives setting log (leave value (state_in run)) (back_in caller value following) (state_in c.come_back.new.self) log
+      (log_of c.come_back.new.self.runner.log) leads state same_log;
   err = search rules;
   kept = search rules;
 }

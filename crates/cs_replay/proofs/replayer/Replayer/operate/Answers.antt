@@ -14,6 +14,10 @@ pub returns : goal.returns
 returns c =
     let run = c.args.self.now in
     let operation = c.args.operation.now in
-    let cut : state_of c.cut.new.state ≡ cut_to (operation.temporary + takes (view.work operation.work)) (state_of run.runner.machine) = rw (c.from.ensures, c.from-2.ensures, c.takes.ensures) at c.cut.ensures in
-    let same = ap (λ (m : State). do_work (code_of run) (program_of run) (budgets_of run) operation.place (view.work operation.work) (code_state (point_of run.code.now run.position) (callers_of run.code.now run.callers.items) m)) cut in
+    let cut : state_of c.cut.new.state ≡ cut_to (operation.temporary + takes (view.work operation.work)) (state_of run.runner.machine) =
+    rw (c.from.ensures, c.from-2.ensures, c.takes.ensures) at c.cut.ensures in
+    let same =
+    ap (λ (m : State).
+    do_work (code_of run) (program_of run) (budgets_of run) operation.place (view.work operation.work)
+    (code_state (point_of run.code.now run.position) (callers_of run.code.now run.callers.items) m)) cut in
     performs_as refl refl refl same c.work.ensures

@@ -23,7 +23,11 @@ returns-in_err-reach_counted_point c = record {
       let callers = callers_of run.code.now run.callers.items in
       let there : c.from_residual.result ≡ Err c.in_err-reach_counted_point.field-0.0 = search rules in
       let ends = rw (c.cut.ensures, c.from.ensures) at c.in_err-reach_counted_point.ensures.err in
-      rw there (ends_so (setting_of run.runner.setting.now) (log_of run.runner.log) (log_of c.reach_counted_point.new.self.log) (code_state points callers) (reach_counted_point (budgets_of run) counted_point.place counted_point.kind counted_point.number m) (reach_counted_point (budgets_of run) counted_point.place counted_point.kind counted_point.number (working.cut 0 (state_in run))) c.in_err-reach_counted_point.field-0.0 (counted_point_reported points callers (code_of run) (program_of run) (budgets_of run) counted_point.place counted_point.kind counted_point.number m) ends);
+      rw there (ends_so (setting_of run.runner.setting.now) (log_of run.runner.log) (log_of c.reach_counted_point.new.self.log) (code_state points callers)
+      (reach_counted_point (budgets_of run) counted_point.place counted_point.kind counted_point.number m)
+      (reach_counted_point (budgets_of run) counted_point.place counted_point.kind counted_point.number (working.cut 0 (state_in run)))
+      c.in_err-reach_counted_point.field-0.0 (counted_point_reported points callers (code_of run) (program_of run) (budgets_of run) counted_point.place
+      counted_point.kind counted_point.number m) ends);
   kept = search rules;
 }
 
@@ -36,7 +40,12 @@ returns c = record {
       let points = point_of run.code.now run.position in
       let callers = callers_of run.code.now run.callers.items in
       let leads = rw (c.cut.ensures, c.from.ensures) at c.in_ok-reach_counted_point.ensures.ok in
-      leads_so (code_state points callers) (setting_of run.runner.setting.now) (log_of run.runner.log) (log_of c.reach_counted_point.new.self.log) (reach_counted_point (budgets_of run) counted_point.place counted_point.kind counted_point.number m) (reach_counted_point (budgets_of run) counted_point.place counted_point.kind counted_point.number (working.cut 0 (state_in run))) (state_of c.reach_counted_point.new.self.machine) (counted_point_reported points callers (code_of run) (program_of run) (budgets_of run) counted_point.place counted_point.kind counted_point.number m) leads;
+      leads_so (code_state points callers) (setting_of run.runner.setting.now) (log_of run.runner.log) (log_of c.reach_counted_point.new.self.log)
+      (reach_counted_point (budgets_of run) counted_point.place counted_point.kind counted_point.number m)
+      (reach_counted_point (budgets_of run) counted_point.place counted_point.kind counted_point.number (working.cut 0 (state_in run)))
+      (state_of c.reach_counted_point.new.self.machine)
+      (counted_point_reported points callers (code_of run) (program_of run) (budgets_of run) counted_point.place counted_point.kind counted_point.number m)
+      leads;
   err = search rules;
   kept = search rules;
 }

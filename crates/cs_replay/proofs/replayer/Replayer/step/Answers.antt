@@ -11,19 +11,33 @@ use Rattle.cs_replay.proofs.replayer.Replayer.step.Goals as goal
 
 pub returns-in_ok-advance-in-CountedPoint : goal.returns-in_ok-advance-in-CountedPoint
 returns-in_ok-advance-in-CountedPoint c = record {
-  ok = on_ok c.reach.result (leads_after c.args.self.now c.advance.new.self c.reach.new.self (reaching c.in-CountedPoint.counted_point.now) c.in_ok-advance-in-CountedPoint.ensures c.in-CountedPoint.ensures) c.reach.ensures.ok;
-  err = IfErr-weaker c.reach.result _ _ (ends_after c.args.self.now c.advance.new.self c.reach.new.self (reaching c.in-CountedPoint.counted_point.now) c.in_ok-advance-in-CountedPoint.ensures c.in-CountedPoint.ensures) c.reach.ensures.err;
-  kept = on_ok c.reach.result (kept_after c.args.self.now c.advance.new.self c.reach.new.self (reaching c.in-CountedPoint.counted_point.now) c.in_ok-advance-in-CountedPoint.ensures c.in-CountedPoint.ensures) c.reach.ensures.kept;
+  ok =
+      on_ok c.reach.result (leads_after c.args.self.now c.advance.new.self c.reach.new.self (reaching c.in-CountedPoint.counted_point.now)
+      c.in_ok-advance-in-CountedPoint.ensures c.in-CountedPoint.ensures) c.reach.ensures.ok;
+  err =
+      IfErr-weaker c.reach.result _ _
+      (ends_after c.args.self.now c.advance.new.self c.reach.new.self (reaching c.in-CountedPoint.counted_point.now) c.in_ok-advance-in-CountedPoint.ensures
+      c.in-CountedPoint.ensures) c.reach.ensures.err;
+  kept =
+      on_ok c.reach.result (kept_after c.args.self.now c.advance.new.self c.reach.new.self (reaching c.in-CountedPoint.counted_point.now)
+      c.in_ok-advance-in-CountedPoint.ensures c.in-CountedPoint.ensures) c.reach.ensures.kept;
 }
 
 pub operate-requires : goal.operate-requires
-operate-requires c = ready_after c.args.self.now c.advance-in-Operation.new.self c.advance-in-Operation.new.self (view.operation c.in-Operation.operation.now) c.in_ok-advance-in-Operation.ensures c.in-Operation.ensures c.requires
+operate-requires c = ready_after c.args.self.now c.advance-in-Operation.new.self c.advance-in-Operation.new.self (view.operation c.in-Operation.operation.now)
+    c.in_ok-advance-in-Operation.ensures c.in-Operation.ensures c.requires
 
 pub returns-in_ok-advance-in-Operation : goal.returns-in_ok-advance-in-Operation
 returns-in_ok-advance-in-Operation c = record {
-  ok = on_ok c.operate.result (leads_after c.args.self.now c.advance-in-Operation.new.self c.operate.new.self (view.operation c.in-Operation.operation.now) c.in_ok-advance-in-Operation.ensures c.in-Operation.ensures) c.operate.ensures.ok;
-  err = IfErr-weaker c.operate.result _ _ (ends_after c.args.self.now c.advance-in-Operation.new.self c.operate.new.self (view.operation c.in-Operation.operation.now) c.in_ok-advance-in-Operation.ensures c.in-Operation.ensures) c.operate.ensures.err;
-  kept = on_ok c.operate.result (kept_after c.args.self.now c.advance-in-Operation.new.self c.operate.new.self (view.operation c.in-Operation.operation.now) c.in_ok-advance-in-Operation.ensures c.in-Operation.ensures) c.operate.ensures.kept;
+  ok =
+      on_ok c.operate.result (leads_after c.args.self.now c.advance-in-Operation.new.self c.operate.new.self (view.operation c.in-Operation.operation.now)
+      c.in_ok-advance-in-Operation.ensures c.in-Operation.ensures) c.operate.ensures.ok;
+  err = IfErr-weaker c.operate.result _ _
+      (ends_after c.args.self.now c.advance-in-Operation.new.self c.operate.new.self (view.operation c.in-Operation.operation.now)
+      c.in_ok-advance-in-Operation.ensures c.in-Operation.ensures) c.operate.ensures.err;
+  kept =
+      on_ok c.operate.result (kept_after c.args.self.now c.advance-in-Operation.new.self c.operate.new.self (view.operation c.in-Operation.operation.now)
+      c.in_ok-advance-in-Operation.ensures c.in-Operation.ensures) c.operate.ensures.kept;
 }
 
 pub returns-in-End : goal.returns-in-End

@@ -33,7 +33,8 @@ returns-in_err-show c = record {
       let wanted : Way = way_of (map view.switch_case c.args.cases.now) c.args.otherwise (number_in (cell_at m 0)) 0 in
       let there : c.from_residual-in_err-show.result ≡ Err c.in_err-show.field-0.0 = search rules in
       let cut = rw c.from.ensures at c.cut.ensures in
-      let number : c.number-number.result ≡ number_in (cell_at m 0) = c.number-number.ensures ∙ ap (λ (cell : Cell). number_in cell) (c.pop_cell.ensures.cell ∙ ap (λ (n : State). cell_at n 0) cut) in
+      let number : c.number-number.result ≡ number_in (cell_at m 0) = c.number-number.ensures
+      ∙ ap (λ (cell : Cell). number_in cell) (c.pop_cell.ensures.cell ∙ ap (λ (n : State). cell_at n 0) cut) in
       let fits : FitsSigned w128 c.number-number.result = search rules in
       let plain = to_z-of_z w128 c.number-number.result fits in
       let is : way_seen c.in_ok-way.way ≡ wanted = rw (plain, number) at c.in_ok-way.ensures in
@@ -41,7 +42,9 @@ returns-in_err-show c = record {
       let last : Act State = Goes m in
       let one = c.in_ok-touch.ensures run.runner.setting.now (shows_then c.args.place (Case wanted.number) last) in
       let two = rw shown at c.in_err-show.ensures.err in
-      rw there (no_meeting (setting_of run.runner.setting.now) (log_of run.runner.log) (log_of c.show.new.self) (Meets AtSwitch c.args.place) c.args.place (Case wanted.number) m (enters (code_of run) wanted.block (pop (working.cut (c.args.temporary + 1) (state_in run)))) c.in_err-show.field-0.0 (ends_following _ _ one (two last)));
+      rw there (no_meeting (setting_of run.runner.setting.now) (log_of run.runner.log) (log_of c.show.new.self) (Meets AtSwitch c.args.place) c.args.place
+      (Case wanted.number) m (enters (code_of run) wanted.block (pop (working.cut (c.args.temporary + 1) (state_in run)))) c.in_err-show.field-0.0
+      (ends_following _ _ one (two last)));
   kept = search rules;
 }
 
@@ -54,7 +57,8 @@ returns c = record {
       let callers = callers_of run.code.now run.callers.items in
       let wanted : Way = way_of (map view.switch_case c.args.cases.now) c.args.otherwise (number_in (cell_at m 0)) 0 in
       let cut = rw c.from.ensures at c.cut.ensures in
-      let number : c.number-number.result ≡ number_in (cell_at m 0) = c.number-number.ensures ∙ ap (λ (cell : Cell). number_in cell) (c.pop_cell.ensures.cell ∙ ap (λ (n : State). cell_at n 0) cut) in
+      let number : c.number-number.result ≡ number_in (cell_at m 0) = c.number-number.ensures
+      ∙ ap (λ (cell : Cell). number_in cell) (c.pop_cell.ensures.cell ∙ ap (λ (n : State). cell_at n 0) cut) in
       let fits : FitsSigned w128 c.number-number.result = search rules in
       let plain = to_z-of_z w128 c.number-number.result fits in
       let is : way_seen c.in_ok-way.way ≡ wanted = rw (plain, number) at c.in_ok-way.ensures in
@@ -64,13 +68,16 @@ returns c = record {
       let target : CodeState = enters (code_of run) wanted.block (pop (working.cut (c.args.temporary + 1) (state_in run))) in
       let one = c.in_ok-touch.ensures run.runner.setting.now (shows_then c.args.place (Case wanted.number) last) in
       let two = rw shown at c.in_ok-show.ensures.ok in
-      let leads = meets_so (setting_of run.runner.setting.now) (log_of run.runner.log) (log_of c.show.new.self) (Meets AtSwitch c.args.place) c.args.place (Case wanted.number) m target (one ∙ two last) in
+      let leads = meets_so (setting_of run.runner.setting.now) (log_of run.runner.log) (log_of c.show.new.self) (Meets AtSwitch c.args.place) c.args.place
+      (Case wanted.number) m target (one ∙ two last) in
       let popped : state_of c.pop_cell.new.self ≡ pop m = c.pop_cell.ensures.state ∙ ap (λ (n : State). pop n) cut in
       let state : state_in c.enter_block.new.self ≡ target =
       c.enter_block.ensures.state
       ∙ (ap (λ (n : State). enters (code_of run) c.in_ok-way.way.block (code_state points callers n)) popped
       ∙ ap (λ (block : ℕ). enters (code_of run) block (code_state points callers (pop m))) led) in
-      arrives (setting_of run.runner.setting.now) (log_of run.runner.log) (goes_way (code_of run) c.args.place wanted (pop (working.cut (c.args.temporary + 1) (state_in run)))) target (state_in c.enter_block.new.self) (log_of c.show.new.self) (log_of c.enter_block.new.self.runner.log) leads state (ap log_of c.enter_block.ensures.log);
+      arrives (setting_of run.runner.setting.now) (log_of run.runner.log)
+      (goes_way (code_of run) c.args.place wanted (pop (working.cut (c.args.temporary + 1) (state_in run)))) target (state_in c.enter_block.new.self)
+      (log_of c.show.new.self) (log_of c.enter_block.new.self.runner.log) leads state (ap log_of c.enter_block.ensures.log);
   err = search rules;
   kept = search rules;
 }

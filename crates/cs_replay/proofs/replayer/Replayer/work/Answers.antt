@@ -23,8 +23,12 @@ returns-in_err-work-in_default c = record {
       let one = c.args.one.now in
       let stop = c.in_err-work-in_default.field-0.0 in
       let there : c.from_residual.result ≡ Err stop = search rules in
-      let reported = work_reported points callers (code_of run) (program_of run) (budgets_of run) c.args.place one m (λ callee count is. c.in_default.not-Call callee count is) in
-      rw there (ends_so (setting_of run.runner.setting.now) (log_of run.runner.log) (log_of c.work.new.run.log) (code_state points callers) (works (program_of run) (budgets_of run) c.args.place (view.work one) m) (do_work (code_of run) (program_of run) (budgets_of run) c.args.place (view.work one) (state_in run)) stop reported c.in_err-work-in_default.ensures.err);
+      let reported = work_reported points callers (code_of run) (program_of run) (budgets_of run) c.args.place one m
+      (λ callee count is. c.in_default.not-Call callee count is) in
+      rw there (ends_so (setting_of run.runner.setting.now) (log_of run.runner.log) (log_of c.work.new.run.log) (code_state points callers)
+      (works (program_of run) (budgets_of run) c.args.place (view.work one) m)
+      (do_work (code_of run) (program_of run) (budgets_of run) c.args.place (view.work one) (state_in run)) stop reported
+      c.in_err-work-in_default.ensures.err);
   kept = search rules;
 }
 
@@ -36,8 +40,12 @@ returns-in_ok-work-in_default c = record {
       let callers = callers_of run.code.now run.callers.items in
       let m = state_of run.runner.machine in
       let one = c.args.one.now in
-      let reported = work_reported points callers (code_of run) (program_of run) (budgets_of run) c.args.place one m (λ callee count is. c.in_default.not-Call callee count is) in
-      leads_so (code_state points callers) (setting_of run.runner.setting.now) (log_of run.runner.log) (log_of c.work.new.run.log) (works (program_of run) (budgets_of run) c.args.place (view.work one) m) (do_work (code_of run) (program_of run) (budgets_of run) c.args.place (view.work one) (state_in run)) (state_of c.work.new.run.machine) reported c.in_ok-work-in_default.ensures.ok;
+      let reported = work_reported points callers (code_of run) (program_of run) (budgets_of run) c.args.place one m
+      (λ callee count is. c.in_default.not-Call callee count is) in
+      leads_so (code_state points callers) (setting_of run.runner.setting.now) (log_of run.runner.log) (log_of c.work.new.run.log)
+      (works (program_of run) (budgets_of run) c.args.place (view.work one) m)
+      (do_work (code_of run) (program_of run) (budgets_of run) c.args.place (view.work one) (state_in run)) (state_of c.work.new.run.machine) reported
+      c.in_ok-work-in_default.ensures.ok;
   err = search rules;
   kept = search rules;
 }

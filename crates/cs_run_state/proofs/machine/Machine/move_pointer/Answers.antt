@@ -15,7 +15,8 @@ use Rattle.cs_run_state.proofs.machine.Machine.move_pointer.Goals as goal
 pub returns-in-Err : goal.returns-in-Err
 returns-in-Err c =
     let m = state_of c.args.self.now in
-    let last : Memory → Cell → Act State = λ memory moved. Goes (push (given c.args.gives (operand_at m 1) (Scalar moved)) (with_memory memory (pop_many 3 m))) in
+    let last : Memory → Cell → Act State = λ memory moved.
+    Goes (push (given c.args.gives (operand_at m 1) (Scalar moved)) (with_memory memory (pop_many 3 m))) in
     let popped = c.pop_moved-target.ensures in
     let fits : FitsSigned w128 c.pop_moved-target.result.2 = search rules in
     let plain = to_z-of_z w128 c.pop_moved-target.result.2 fits in
@@ -25,7 +26,8 @@ returns-in-Err c =
 pub returns-in_ok-push-in-Ok : goal.returns-in_ok-push-in-Ok
 returns-in_ok-push-in-Ok c =
     let m = state_of c.args.self.now in
-    let last : Memory → Cell → Act State = λ memory moved. Goes (push (given c.args.gives (operand_at m 1) (Scalar moved)) (with_memory memory (pop_many 3 m))) in
+    let last : Memory → Cell → Act State = λ memory moved.
+    Goes (push (given c.args.gives (operand_at m 1) (Scalar moved)) (with_memory memory (pop_many 3 m))) in
     let popped = c.pop_moved-target.ensures in
     let fits : FitsSigned w128 c.pop_moved-target.result.2 = search rules in
     let plain = to_z-of_z w128 c.pop_moved-target.result.2 fits in

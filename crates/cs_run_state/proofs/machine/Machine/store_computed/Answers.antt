@@ -22,5 +22,6 @@ returns-in_err-store-clause-err c =
     let fits : FitsSigned w128 number = search rules in
     let ends = rw (to_z-of_z w128 number fits) at c.in_err-store.ensures.err in
     let stores : (Memory → ℤ → Act State) → ℤ → Act State = λ onward stored.
-    store_object program m.memory m.frame.number c.args.place (access_of c.args.access) (cell_of c.args.target.now) (Scalar (NumberCell stored)) (λ after. onward after stored) in
+    store_object program m.memory m.frame.number c.args.place (access_of c.args.access) (cell_of c.args.target.now) (Scalar (NumberCell stored))
+    (λ after. onward after stored) in
     rw there (λ onward. ends_following _ _ (c.in_ok-number.ensures.ok (stores onward)) (ends (λ after. onward after number)))

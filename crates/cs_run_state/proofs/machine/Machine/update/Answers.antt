@@ -15,7 +15,8 @@ use Rattle.cs_run_state.proofs.machine.Machine.update.Goals as goal
 pub returns-in-Err : goal.returns-in-Err
 returns-in-Err c =
     let m = state_of c.args.self.now in
-    let last : Memory → ℤ → Act State = λ memory stored. Goes (push (given c.args.gives (operand_at m 2) (Scalar (NumberCell stored))) (with_memory memory (pop_many 4 m))) in
+    let last : Memory → ℤ → Act State = λ memory stored.
+    Goes (push (given c.args.gives (operand_at m 2) (Scalar (NumberCell stored))) (with_memory memory (pop_many 4 m))) in
     let popped = c.pop_updated-target.ensures in
     let left_fits : FitsSigned w128 c.pop_updated-target.result.2 = search rules in
     let right_fits : FitsSigned w128 c.pop_updated-target.result.3 = search rules in
@@ -28,7 +29,8 @@ pub returns-in_ok-push-in-Ok : goal.returns-in_ok-push-in-Ok
 returns-in_ok-push-in-Ok c =
     let m = state_of c.args.self.now in
     let number = c.in-Ok.number in
-    let last : Memory → ℤ → Act State = λ memory stored. Goes (push (given c.args.gives (operand_at m 2) (Scalar (NumberCell stored))) (with_memory memory (pop_many 4 m))) in
+    let last : Memory → ℤ → Act State = λ memory stored.
+    Goes (push (given c.args.gives (operand_at m 2) (Scalar (NumberCell stored))) (with_memory memory (pop_many 4 m))) in
     let popped = c.pop_updated-target.ensures in
     let left_fits : FitsSigned w128 c.pop_updated-target.result.2 = search rules in
     let right_fits : FitsSigned w128 c.pop_updated-target.result.3 = search rules in

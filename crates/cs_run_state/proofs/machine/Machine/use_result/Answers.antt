@@ -21,7 +21,8 @@ returns-in-Some-clause-err c =
     let m = state_of c.args.self.now in
     let s = setting_of c.args.setting.now in
     let log = log_of c.args.log.now in
-    rw c.fault.ensures (ap (λ (act : Act State). perform s log act) (use-act c.args.place (operand_at m 0) m ∙ c.in-Some.ensures c.args.place (Goes m)) ∙ perform-Stops s log _)
+    rw c.fault.ensures (ap (λ (act : Act State). perform s log act) (use-act c.args.place (operand_at m 0) m ∙ c.in-Some.ensures c.args.place (Goes m))
+    ∙ perform-Stops s log _)
 
 pub returns-in-None-clause-ok : goal.returns-in-None-clause-ok
 returns-in-None-clause-ok c =

@@ -13,6 +13,11 @@ use Rattle.cs_run_state.proofs.memory.Memory.read_all.Given as goal
 
 abbrev pub invariant-loop-offset : goal.invariant-loop-offset
 invariant-loop-offset l = record {
-  reads : (onward : Memory → List Cell → Act State) → perform (setting_of l.setting) (log_of l.initial.log) (read_all (typed_program l.setting.program.now) (memory_of l.initial.self) (object_of l.object) l.from l.offsets onward) ≡ perform (setting_of l.setting) (log_of l.log) (read_all (typed_program l.setting.program.now) (memory_of l.self) (object_of l.object) l.from (drop l.offset-index l.offsets) (λ after rest. onward after (map cell_of l.cells.items ++ rest)));
+  reads : (onward : Memory → List Cell → Act State)
+      → perform (setting_of l.setting) (log_of l.initial.log)
+      (read_all (typed_program l.setting.program.now) (memory_of l.initial.self) (object_of l.object) l.from l.offsets onward)
+      ≡ perform (setting_of l.setting) (log_of l.log)
+      (read_all (typed_program l.setting.program.now) (memory_of l.self) (object_of l.object) l.from (drop l.offset-index l.offsets)
+      (λ after rest. onward after (map cell_of l.cells.items ++ rest)));
   counts : KeepsCounts l.initial.self l.self;
 }

@@ -9,7 +9,8 @@ use Rattle.cs_run_state.proofs.memory.Memory.spell.Given as goal
 
 abbrev pub invariant-loop-index : goal.invariant-loop-index
 invariant-loop-index l = record {
-  writes : changed (spells (typed_program l.program) (type_of l.ty) (l.from + l.index) (drop l.index l.bytes)) (object_of l.object) (memory_of l.self) ≡ changed (spells (typed_program l.program) (type_of l.ty) l.from l.bytes) (object_of l.object) (memory_of l.fn.self);
+  writes : changed (spells (typed_program l.program) (type_of l.ty) (l.from + l.index) (drop l.index l.bytes)) (object_of l.object) (memory_of l.self)
+      ≡ changed (spells (typed_program l.program) (type_of l.ty) l.from l.bytes) (object_of l.object) (memory_of l.fn.self);
   counts : KeepsCounts l.fn.self l.self;
 }
 

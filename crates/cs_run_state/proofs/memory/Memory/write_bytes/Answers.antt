@@ -14,7 +14,8 @@ returns-in-Some-clause-memory c =
     let memory = memory_of c.args.self.now in
     let block = block_of c.in-Some.block.now in
     let known : memory object ≡ Some block = sym c.in-Some.ensures in
-    let same = changed-as (write_bytes program c.args.from c.args.bytes.now) (spells program block.shape c.args.from c.args.bytes.now) object memory (rw known (ap Some (write_bytes-spells program c.args.from c.args.bytes.now block))) in
+    let same = changed-as (write_bytes program c.args.from c.args.bytes.now) (spells program block.shape c.args.from c.args.bytes.now) object memory
+    (rw known (ap Some (write_bytes-spells program c.args.from c.args.bytes.now block))) in
     rw same c.spell.ensures.memory
 
 pub returns-in-None-clause-memory : goal.returns-in-None-clause-memory

@@ -8,7 +8,8 @@ use Rattle.cs_run_state.proofs.memory.Memory.write_cells.Given as goal
 
 abbrev pub invariant-loop-index : goal.invariant-loop-index
 invariant-loop-index l = record {
-  writes : changed (write_cells l.from (drop l.index l.offsets) (map cell_of (drop l.index l.cells))) (object_of l.object) (memory_of l.self) ≡ changed (write_cells l.from l.offsets (map cell_of l.cells)) (object_of l.object) (memory_of l.fn.self);
+  writes : changed (write_cells l.from (drop l.index l.offsets) (map cell_of (drop l.index l.cells))) (object_of l.object) (memory_of l.self)
+      ≡ changed (write_cells l.from l.offsets (map cell_of l.cells)) (object_of l.object) (memory_of l.fn.self);
   counts : KeepsCounts l.fn.self l.self;
 }
 

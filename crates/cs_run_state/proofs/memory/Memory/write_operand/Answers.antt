@@ -8,7 +8,10 @@ use Rattle.cs_run_state.proofs.memory.Memory.write_operand.Goals as goal
 pub returns-in_ok-cell-in-Scalar-clause-memory : goal.returns-in_ok-cell-in-Scalar-clause-memory
 returns-in_ok-cell-in-Scalar-clause-memory c =
     rw c.in-Scalar.is
-    (subst (λ (cell : objects.Cell). OnOk c.change.result (memory_of c.change.new.self ≡ changed (write_cell c.args.offset cell) (object_of c.args.object.now) (memory_of c.args.self.now))) c.in_ok-cell-in-Scalar.ensures c.change.ensures.memory)
+    (subst (λ (cell : objects.Cell).
+    OnOk c.change.result (memory_of c.change.new.self
+    ≡ changed (write_cell c.args.offset cell) (object_of c.args.object.now) (memory_of c.args.self.now))) c.in_ok-cell-in-Scalar.ensures
+    c.change.ensures.memory)
 
 pub returns-in_ok-offsets-in-Whole-clause-memory : goal.returns-in_ok-offsets-in-Whole-clause-memory
 returns-in_ok-offsets-in-Whole-clause-memory c =

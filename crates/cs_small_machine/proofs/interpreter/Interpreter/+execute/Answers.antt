@@ -19,18 +19,22 @@ pub execute-returns-in_err-evaluate-in-If : goal.execute-returns-in_err-evaluate
 execute-returns-in_err-evaluate-in-If t c =
     let is = ap (statement_at c.args.stmt.now.place) c.in-If.is in
     let there : c.from_residual.result ≡ Err c.in_err-evaluate-in-If.field-0.0 = search rules in
-    by_stop c.evaluate.ensures c.in_err-evaluate-in-If.was there (λ todo. Decide (statement c.args.stmt.now) ∷ todo) (λ stack. stack) (to_test c.args.self.now is)
+    by_stop c.evaluate.ensures c.in_err-evaluate-in-If.was there (λ todo. Decide (statement c.args.stmt.now) ∷ todo) (λ stack. stack)
+    (to_test c.args.self.now is)
 
 pub execute-returns-in_err-pass-in-If : goal.execute-returns-in_err-pass-in-If
 execute-returns-in_err-pass-in-If t c =
     let is = ap (statement_at c.args.stmt.now.place) c.in-If.is in
     let there : c.from_residual-in_err-pass-in-If.result ≡ Err c.in_err-pass-in-If.field-0.0 = search rules in
-    by_stop c.pass.ensures c.in_err-pass-in-If.was there (chosen c.holds-holds.result (statement c.in-If.body.value)) (λ stack. stack) (to_way is c.evaluate.ensures c.in_ok-evaluate-in-If.was c.holds-holds.result c.holds-holds.ensures)
+    by_stop c.pass.ensures c.in_err-pass-in-If.was there (chosen c.holds-holds.result (statement c.in-If.body.value)) (λ stack. stack)
+    (to_way is c.evaluate.ensures c.in_ok-evaluate-in-If.was c.holds-holds.result c.holds-holds.ensures)
 
 pub execute-returns-then-holds : goal.execute-returns-then-holds
 execute-returns-then-holds t c =
     let is = ap (statement_at c.args.stmt.now.place) c.in-If.is in
-    by_last (rw c.deref-then-holds.ensures at c.execute.ensures) (to_body is c.evaluate.ensures c.in_ok-evaluate-in-If.was c.holds-holds.result c.holds-holds.ensures c.pass.ensures c.in_ok-pass-in-If.was c.if-holds.true)
+    by_last (rw c.deref-then-holds.ensures at c.execute.ensures)
+    (to_body is c.evaluate.ensures c.in_ok-evaluate-in-If.was c.holds-holds.result c.holds-holds.ensures c.pass.ensures c.in_ok-pass-in-If.was
+    c.if-holds.true)
 
 pub execute-returns-else-holds : goal.execute-returns-else-holds
 execute-returns-else-holds t c =
@@ -59,7 +63,8 @@ execute_all-returns-in_err-execute t c =
     let rest = statements_in (drop (c.loop-stmt.stmt-index + 1) c.args.statements.now) in
     let split = statements_in-drop c.args.statements.now c.loop-stmt.stmt-index c.stmt-item.result (omega arith) c.stmt-item.is in
     let there : c.from_residual.result ≡ Err c.in_err-execute.field-0.0 = search rules in
-    by_stop c.execute.ensures c.in_err-execute.was there (executes rest) (λ stack. stack) (λ todo stack events outcome k. c.loop-stmt.invariant todo stack events outcome (rw split k))
+    by_stop c.execute.ensures c.in_err-execute.was there (executes rest) (λ stack. stack)
+    (λ todo stack events outcome k. c.loop-stmt.invariant todo stack events outcome (rw split k))
 
 pub execute_all-returns : goal.execute_all-returns
 execute_all-returns t c =

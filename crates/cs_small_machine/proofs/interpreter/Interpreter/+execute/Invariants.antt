@@ -10,4 +10,6 @@ use Rattle.cs_small_machine.proofs.interpreter.Interpreter.+execute.Given as goa
 
 abbrev pub invariant-execute_all-loop-stmt : goal.invariant-execute_all-loop-stmt
 invariant-execute_all-loop-stmt l =
-    (todo : List Item) (stack : List Operand) (events : List Event) (outcome : Outcome) → EndsFrom l.self (executes (statements_in (drop l.stmt-index l.statements)) todo) stack events outcome → EndsFrom l.initial.self (executes (statements_in l.statements) todo) stack events outcome
+    (todo : List Item) (stack : List Operand) (events : List Event) (outcome : Outcome)
+    → EndsFrom l.self (executes (statements_in (drop l.stmt-index l.statements)) todo) stack events outcome
+    → EndsFrom l.initial.self (executes (statements_in l.statements) todo) stack events outcome

@@ -8,4 +8,5 @@ use Rattle.cs_store.proofs.store.Store.bindings.Goals as goal
 pub returns : goal.returns
 returns c =
     let all = listing c.args.self.now c.args.base (rw c.region.ensures at c.bindings.ensures.offsets) in
-    IfOk-weaker c.bindings.result _ (IsListing c.args.self.now c.args.base) (λ bindings same. subst (IsListing c.args.self.now c.args.base) (sym (same ∙ ap listed c.region.ensures)) all) c.bindings.ensures.listed
+    IfOk-weaker c.bindings.result _ (IsListing c.args.self.now c.args.base)
+    (λ bindings same. subst (IsListing c.args.self.now c.args.base) (sym (same ∙ ap listed c.region.ensures)) all) c.bindings.ensures.listed

@@ -10,4 +10,5 @@ returns-clause-dropped c = λ b o there.
 
 pub returns-clause-others : goal.returns-clause-others
 returns-clause-others c = λ b o absent.
-    rw (← c.self.view_is) (same_lookup _ _ b o (c.in_ok-self-inside.ensures b ∙ ap (λ t. cond t None (get c.self.inside.regions (b, 0))) (absent_from c.args.bases.now b absent)))
+    rw (← c.self.view_is) (same_lookup _ _ b o (c.in_ok-self-inside.ensures b
+    ∙ ap (λ t. cond t None (get c.self.inside.regions (b, 0))) (absent_from c.args.bases.now b absent)))

@@ -17,11 +17,15 @@ returns-in_err-declare_object c =
     let whole = objects_added specs base c.args.objects.now (filed_of c.args.self.now) in
     let e : c.from_residual.result ≡ Err c.in_err-declare_object.field-0.0 = search rules in
     subst (λ r. Leaves whole r (filed_of c.declare_object.new.self)) (sym e)
-    (part_stops (objects_added specs base) (object_added specs base) (objects_over specs base) c.args.objects.now c.loop-declared.declared-index c.declared-item.result whole (filed_of c.loop-declared.self) c.in_err-declare_object.field-0.0 c.loop-declared-test.true c.declared-item.is c.loop-declared.invariant c.in_err-declare_object.ensures)
+    (part_stops (objects_added specs base) (object_added specs base) (objects_over specs base) c.args.objects.now c.loop-declared.declared-index
+    c.declared-item.result whole (filed_of c.loop-declared.self) c.in_err-declare_object.field-0.0 c.loop-declared-test.true c.declared-item.is
+    c.loop-declared.invariant c.in_err-declare_object.ensures)
 
 pub loop-declared-preserved : goal.loop-declared-preserved
 loop-declared-preserved c =
     let specs = c.args.specs.now in
     let base = shape_of c.args.base.now in
     let whole = objects_added specs base c.args.objects.now (filed_of c.args.self.now) in
-    part_taken (objects_added specs base) (object_added specs base) (objects_over specs base) c.args.objects.now c.loop-declared.declared-index c.declared-item.result whole (filed_of c.loop-declared.self) (filed_of c.declare_object.new.self) c.loop-declared-test.true c.declared-item.is c.loop-declared.invariant c.in_ok-declare_object.ensures
+    part_taken (objects_added specs base) (object_added specs base) (objects_over specs base) c.args.objects.now c.loop-declared.declared-index
+    c.declared-item.result whole (filed_of c.loop-declared.self) (filed_of c.declare_object.new.self) c.loop-declared-test.true c.declared-item.is
+    c.loop-declared.invariant c.in_ok-declare_object.ensures

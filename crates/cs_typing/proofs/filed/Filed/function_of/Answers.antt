@@ -15,9 +15,12 @@ returns-then-same_types c =
     let d = c.args.head.now in
     let before = signature_of c.in-Some-Function.before in
     let parameters = map variable c.args.parameters.now.parameters.items in
-    let is : Some (Function (signature_of c.in-Some-Function.before)) ≡ meaning_here c.args.head.now.name (environment_of c.args.self.now.known) = first_of (search rules, cc) in
-    let types : true ≡ same_types (signature_of c.in-Some-Function.before).parameters (types_of (map variable c.args.parameters.now.parameters.items)) = first_of (cc, search rules) in
-    declared_again f d (shape_of c.args.returns.now) parameters c.args.parameters.now.written.items (meaning_here d.name (environment_of c.args.self.now.known)) before true is types
+    let is : Some (Function (signature_of c.in-Some-Function.before)) ≡ meaning_here c.args.head.now.name (environment_of c.args.self.now.known) =
+    first_of (search rules, cc) in
+    let types : true ≡ same_types (signature_of c.in-Some-Function.before).parameters (types_of (map variable c.args.parameters.now.parameters.items)) =
+    first_of (cc, search rules) in
+    declared_again f d (shape_of c.args.returns.now) parameters c.args.parameters.now.written.items (meaning_here d.name (environment_of c.args.self.now.known))
+    before true is types
 
 pub returns-else-same_types : goal.returns-else-same_types
 returns-else-same_types c =
@@ -25,6 +28,9 @@ returns-else-same_types c =
     let d = c.args.head.now in
     let before = signature_of c.in-Some-Function.before in
     let parameters = map variable c.args.parameters.now.parameters.items in
-    let is : Some (Function (signature_of c.in-Some-Function.before)) ≡ meaning_here c.args.head.now.name (environment_of c.args.self.now.known) = first_of (search rules, cc) in
-    let types : false ≡ same_types (signature_of c.in-Some-Function.before).parameters (types_of (map variable c.args.parameters.now.parameters.items)) = first_of (cc, search rules) in
-    declared_again f d (shape_of c.args.returns.now) parameters c.args.parameters.now.written.items (meaning_here d.name (environment_of c.args.self.now.known)) before false is types
+    let is : Some (Function (signature_of c.in-Some-Function.before)) ≡ meaning_here c.args.head.now.name (environment_of c.args.self.now.known) =
+    first_of (search rules, cc) in
+    let types : false ≡ same_types (signature_of c.in-Some-Function.before).parameters (types_of (map variable c.args.parameters.now.parameters.items)) =
+    first_of (cc, search rules) in
+    declared_again f d (shape_of c.args.returns.now) parameters c.args.parameters.now.written.items (meaning_here d.name (environment_of c.args.self.now.known))
+    before false is types

@@ -12,10 +12,12 @@ returns-in-Some c =
     let global = c.in-Some.global.now in
     let within : c.args.number < length all = search rules in
     ap (λ (gs : List FileObject). with_globals gs (filed_of c.args.self.now))
-    (changed_at file_object (holding (initial c.args.found)) all c.args.number global (record global { initial = Some c.args.found }) within c.in-Some.ensures.value refl)
+    (changed_at file_object (holding (initial c.args.found)) all c.args.number global (record global { initial = Some c.args.found }) within
+    c.in-Some.ensures.value refl)
 
 pub returns-in_default : goal.returns-in_default
 returns-in_default c =
     let all = c.args.self.now.globals.items in
     let past : length all ≤ c.args.number = search rules in
-    ap (λ (gs : List FileObject). with_globals gs (filed_of c.args.self.now)) (changed_past file_object (holding (initial c.args.found)) all c.args.number past)
+    ap (λ (gs : List FileObject). with_globals gs (filed_of c.args.self.now))
+    (changed_past file_object (holding (initial c.args.found)) all c.args.number past)

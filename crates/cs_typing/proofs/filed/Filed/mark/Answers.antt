@@ -12,9 +12,11 @@ returns-after-global c =
     let all = c.args.self.now.globals.items in
     let global = c.in-Some.global.now in
     let within : c.args.number < length all = search rules in
-    let either : c.if-global.global ≡ (global.constant || c.args.constant) = elim c.if-global.branch [ then-global w ↦ search rules | else-global w ↦ search rules ] in
+    let either : c.if-global.global ≡ (global.constant || c.args.constant) =
+    elim c.if-global.branch [ then-global w ↦ search rules | else-global w ↦ search rules ] in
     ap (λ (gs : List FileObject). with_globals gs (filed_of c.args.self.now))
-    (changed_at file_object (made_constant c.args.constant) all c.args.number global (record global { constant = c.if-global.global }) within c.in-Some.ensures.value (ap (λ (b : Bool). file_object (record global { constant = b })) either))
+    (changed_at file_object (made_constant c.args.constant) all c.args.number global (record global { constant = c.if-global.global }) within
+    c.in-Some.ensures.value (ap (λ (b : Bool). file_object (record global { constant = b })) either))
 
 pub returns-in_default : goal.returns-in_default
 returns-in_default c =

@@ -22,7 +22,8 @@ returns-in_err-base c =
     let objects = c.args.objects.now in
     let so_far = typed_statements_of c.args.before.items now in
     let following : HeldInside = record { known = c.specs_type.new.known; locals = now.locals; met = now.met } in
-    refused_with (λ list following. typed_statements_of list.items following) (declaration_typed specs objects so_far) c.from_residual.result following c.in_err-base.field-0.0 e
+    refused_with (λ list following. typed_statements_of list.items following) (declaration_typed specs objects so_far) c.from_residual.result following
+    c.in_err-base.field-0.0 e
     (lift-refused (declared_in specs objects so_far) (specs_type known (first_place objects) specs) c.in_err-base.field-0.0
     (subst (λ at. IsRefused (specs_type known at specs) c.in_err-base.field-0.0) c.first_place.ensures c.in_err-base.ensures.reported))
 
@@ -35,7 +36,8 @@ returns c =
     let so_far = typed_statements_of c.args.before.items now in
     let base = c.in_ok-base.base in
     let following : HeldInside = record { known = c.specs_type.new.known; locals = now.locals; met = now.met } in
-    answers_as (λ list following. typed_statements_of list.items following) (declaration_typed specs objects so_far) (locals_added (shape_of base) objects (typed_statements_of c.args.before.items following)) c.declare_locals.result c.declare_locals.new.self
+    answers_as (λ list following. typed_statements_of list.items following) (declaration_typed specs objects so_far)
+    (locals_added (shape_of base) objects (typed_statements_of c.args.before.items following)) c.declare_locals.result c.declare_locals.new.self
     (lift_is (declared_in specs objects so_far) (specs_type known (first_place objects) specs) (typing base c.specs_type.new.known)
     (subst (λ at. specs_type known at specs ≡ Fine (typing base c.specs_type.new.known)) c.first_place.ensures c.in_ok-base.ensures.reported))
     c.declare_locals.ensures

@@ -16,7 +16,8 @@ returns-in_err-ty c =
     let d = c.args.declared.now in
     let base = shape_of c.args.base.now in
     let new : is_declared_here d.declarator.name i.known ≡ false = sym c.is_declared_here.ensures ∙ c.if-is_declared_here.false in
-    refused_with local_of (local_added base d i) c.from_residual.result now c.in_err-ty.field-0.0 e (local_type_stops base d i new c.in_err-ty.field-0.0 c.in_err-ty.ensures)
+    refused_with local_of (local_added base d i) c.from_residual.result now c.in_err-ty.field-0.0 e
+    (local_type_stops base d i new c.in_err-ty.field-0.0 c.in_err-ty.ensures)
 
 pub returns : goal.returns
 returns c =
@@ -26,7 +27,8 @@ returns c =
     let ty = shape_of c.in_ok-ty.ty in
     let number = c.in_ok-number.number in
     let new : is_declared_here d.declarator.name i.known ≡ false = sym c.is_declared_here.ensures ∙ c.if-is_declared_here.false in
-    answers_as local_of (local_added base d i) (local_initialized number ty d.declarator.place d.initial (inside_of c.add_local.new.self)) c.initialized.result c.initialized.new.self
+    answers_as local_of (local_added base d i) (local_initialized number ty d.declarator.place d.initial (inside_of c.add_local.new.self)) c.initialized.result
+    c.initialized.new.self
     (local_typed base d i new ty c.in_ok-ty.ensures
     ∙ ap (λ n. local_initialized n ty d.declarator.place d.initial (with_local d.declarator.name ty i)) (sym c.in_ok-number.ensures.number)
     ∙ ap (λ x. local_initialized number ty d.declarator.place d.initial x) (sym c.in_ok-number.ensures.added))

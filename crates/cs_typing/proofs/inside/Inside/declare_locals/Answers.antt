@@ -17,9 +17,12 @@ returns-in_err-declare_local c =
     let base = shape_of c.args.base.now in
     let whole = locals_added base c.args.objects.now (typed_statements_of c.args.before.items c.args.self.now) in
     let so_far = typed_statements_of c.loop-declared.statements.items c.loop-declared.self in
-    refused_with (λ list following. typed_statements_of list.items following) whole c.from_residual.result c.declare_local.new.self c.in_err-declare_local.field-0.0 e
-    (part_stops (locals_added base) (local_after base) (locals_over base) c.args.objects.now c.loop-declared.declared-index c.declared-item.result whole so_far c.in_err-declare_local.field-0.0 c.loop-declared-test.true c.declared-item.is c.loop-declared.invariant
-    (lift-refused (after_local so_far.statements) (local_added base c.declared-item.result so_far.inside) c.in_err-declare_local.field-0.0 c.in_err-declare_local.ensures))
+    refused_with (λ list following. typed_statements_of list.items following) whole c.from_residual.result c.declare_local.new.self
+    c.in_err-declare_local.field-0.0 e
+    (part_stops (locals_added base) (local_after base) (locals_over base) c.args.objects.now c.loop-declared.declared-index c.declared-item.result whole so_far
+    c.in_err-declare_local.field-0.0 c.loop-declared-test.true c.declared-item.is c.loop-declared.invariant
+    (lift-refused (after_local so_far.statements) (local_added base c.declared-item.result so_far.inside) c.in_err-declare_local.field-0.0
+    c.in_err-declare_local.ensures))
 
 pub loop-declared-preserved : goal.loop-declared-preserved
 loop-declared-preserved c =
@@ -28,6 +31,7 @@ loop-declared-preserved c =
     let so_far = typed_statements_of c.loop-declared.statements.items c.loop-declared.self in
     let one = c.in_ok-declare_local.field-0 in
     let following = c.declare_local.new.self in
-    part_taken (locals_added base) (local_after base) (locals_over base) c.args.objects.now c.loop-declared.declared-index c.declared-item.result whole so_far (typed_statements_of c.push.new.self.items following) c.loop-declared-test.true c.declared-item.is c.loop-declared.invariant
+    part_taken (locals_added base) (local_after base) (locals_over base) c.args.objects.now c.loop-declared.declared-index c.declared-item.result whole so_far
+    (typed_statements_of c.push.new.self.items following) c.loop-declared-test.true c.declared-item.is c.loop-declared.invariant
     (lift_is (after_local so_far.statements) (local_added base c.declared-item.result so_far.inside) (local_of one following) c.in_ok-declare_local.ensures
     ∙ ap Fine (reported_push c.loop-declared.statements.items c.push.new.self.items one following c.in_ok-push.ensures.items))

@@ -7,4 +7,5 @@ use Rattle.cs_typing.proofs.inside.Inside.dropped.Goals as goal
 pub returns : goal.returns
 returns c =
     let known = c.args.self.now.known in
-    typed_after (inside_of c.args.self.now) c.args.tree.now (discarded_value known.context known.literals.items c.args.tree.now) c.discarded.result c.discarded.new.literals.items _ c.discarded.ensures.reported c.discarded.ensures.texts refl
+    typed_after (inside_of c.args.self.now) c.args.tree.now (discarded_value known.context known.literals.items c.args.tree.now) c.discarded.result
+    c.discarded.new.literals.items _ c.discarded.ensures.reported c.discarded.ensures.texts refl

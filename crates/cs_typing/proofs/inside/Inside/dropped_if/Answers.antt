@@ -12,9 +12,11 @@ returns-in_err-dropped-in-Some c =
     let e : c.from_residual.result ≡ Err c.in_err-dropped-in-Some.field-0.0 = search rules in
     let i = inside_of c.args.self.now in
     refused_with optional_part (dropped_if i c.args.tree.now) c.from_residual.result c.dropped.new.self c.in_err-dropped-in-Some.field-0.0 e
-    (refused_as c.in_err-dropped-in-Some.field-0.0 (ap (dropped_if i) c.in-Some.is) (lift-refused some_found (dropped_in i c.in-Some.tree) c.in_err-dropped-in-Some.field-0.0 c.in_err-dropped-in-Some.ensures))
+    (refused_as c.in_err-dropped-in-Some.field-0.0 (ap (dropped_if i) c.in-Some.is)
+    (lift-refused some_found (dropped_in i c.in-Some.tree) c.in_err-dropped-in-Some.field-0.0 c.in_err-dropped-in-Some.ensures))
 
 pub returns-in_ok-dropped-in-Some : goal.returns-in_ok-dropped-in-Some
 returns-in_ok-dropped-in-Some c =
     let i = inside_of c.args.self.now in
-    ap (dropped_if i) c.in-Some.is ∙ lift_is some_found (dropped_in i c.in-Some.tree) (typed_part c.in_ok-dropped-in-Some.field-0 c.dropped.new.self) c.in_ok-dropped-in-Some.ensures
+    ap (dropped_if i) c.in-Some.is
+    ∙ lift_is some_found (dropped_in i c.in-Some.tree) (typed_part c.in_ok-dropped-in-Some.field-0 c.dropped.new.self) c.in_ok-dropped-in-Some.ensures

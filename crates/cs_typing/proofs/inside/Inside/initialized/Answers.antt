@@ -20,10 +20,17 @@ returns-in_err-found c =
     let ty = shape_of c.args.ty.now in
     let at = c.args.declared.now.declarator.place in
     let first = c.in-Some.first in
-    let following : HeldInside = record { known = record { context = now.known.context; reading = now.known.reading; outer = now.known.outer; literals = c.initial_typed.new.literals }; locals = now.locals; met = now.met } in
-    refused_with local_of (local_initialized c.args.number ty at c.args.declared.now.initial i) c.from_residual-in_err-found.result following c.in_err-found.field-0.0 e
+    let following : HeldInside =
+    record {
+      known = record { context = now.known.context; reading = now.known.reading; outer = now.known.outer; literals = c.initial_typed.new.literals };
+      locals = now.locals;
+      met = now.met;
+    } in
+    refused_with local_of (local_initialized c.args.number ty at c.args.declared.now.initial i) c.from_residual-in_err-found.result following
+    c.in_err-found.field-0.0 e
     (refused_as c.in_err-found.field-0.0 (ap (λ x. local_initialized c.args.number ty at x i) c.in-Some.is)
-    (lift-refused (local_held c.args.number first.place i) (initial_typed now.known.context now.known.literals.items InFunction first.place ty first.initial) c.in_err-found.field-0.0 c.in_err-found.ensures))
+    (lift-refused (local_held c.args.number first.place i) (initial_typed now.known.context now.known.literals.items InFunction first.place ty first.initial)
+    c.in_err-found.field-0.0 c.in_err-found.ensures))
 
 pub returns : goal.returns
 returns c =
@@ -33,5 +40,15 @@ returns c =
     let at = c.args.declared.now.declarator.place in
     let first = c.in-Some.first in
     ap (λ x. local_initialized c.args.number ty at x i) c.in-Some.is
-    ∙ lift_is (local_held c.args.number first.place i) (initial_typed now.known.context now.known.literals.items InFunction first.place ty first.initial) (reading c.in_ok-found.found c.initial_typed.new.literals.items) c.in_ok-found.ensures
-    ∙ ap (λ k. Fine (record { statement = statement_at first.place k; inside = inside_of (record { known = record { context = now.known.context; reading = now.known.reading; outer = now.known.outer; literals = c.initial_typed.new.literals }; locals = now.locals; met = now.met }) })) (sym c.in_ok-new-2.ensures.ok)
+    ∙ lift_is (local_held c.args.number first.place i) (initial_typed now.known.context now.known.literals.items InFunction first.place ty first.initial)
+    (reading c.in_ok-found.found c.initial_typed.new.literals.items) c.in_ok-found.ensures
+    ∙ ap (λ k.
+    Fine (record {
+      statement = statement_at first.place k;
+      inside =
+          inside_of (record {
+            known = record { context = now.known.context; reading = now.known.reading; outer = now.known.outer; literals = c.initial_typed.new.literals };
+            locals = now.locals;
+            met = now.met;
+          });
+    })) (sym c.in_ok-new-2.ensures.ok)

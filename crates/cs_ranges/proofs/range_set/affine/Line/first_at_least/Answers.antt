@@ -23,7 +23,8 @@ pub returns-else-self-low-clause-value : goal.returns-else-self-low-clause-value
 returns-else-self-low-clause-value c =
     let line = c.args.self.now in
     let low = c.args.low in
-    let k_pos : 0 < line.slope = slope_positive line.slope line.first line.last line.start line.end line.reaches_end line.over.2 (omega (arith, ints, line.inside)) in
+    let k_pos : 0 < line.slope = slope_positive line.slope line.first line.last line.start line.end line.reaches_end line.over.2
+    (omega (arith, ints, line.inside)) in
     let rise : low ≡ (line.start +ℤ pos (c.abs_diff.result - 1)) +ℤ pos 1 = omega (arith, ints, line.inside) in
     λ s over.
     let within = over_yields line.first line.last s over in

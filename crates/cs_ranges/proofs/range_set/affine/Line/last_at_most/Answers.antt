@@ -23,7 +23,8 @@ pub returns-else-high-self-clause-value : goal.returns-else-high-self-clause-val
 returns-else-high-self-clause-value c =
     let line = c.args.self.now in
     let high = c.args.high in
-    let k_pos : 0 < line.slope = slope_positive line.slope line.first line.last line.start line.end line.reaches_end line.over.2 (omega (arith, ints, line.inside)) in
+    let k_pos : 0 < line.slope = slope_positive line.slope line.first line.last line.start line.end line.reaches_end line.over.2
+    (omega (arith, ints, line.inside)) in
     let rise : high ≡ line.start +ℤ pos c.abs_diff.result = omega (arith, ints, line.inside) in
     λ s over.
     let within = over_yields line.first line.last s over in

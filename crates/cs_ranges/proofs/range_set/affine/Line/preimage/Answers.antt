@@ -13,7 +13,8 @@ loop-interval-init c =
 
 pub numbers_in-numbers-requires : goal.numbers_in-numbers-requires
 numbers_in-numbers-requires c =
-    let split = drop_more c.intervals-interval-items.result.now c.loop-interval.interval-index (record { low = pos 0; high = pos 0 }) c.loop-interval-test.true in
+    let split = drop_more c.intervals-interval-items.result.now c.loop-interval.interval-index (record { low = pos 0; high = pos 0 })
+    c.loop-interval-test.true in
     IsProper-first _ _ (rw split at c.loop-interval.invariant).spread
 
 pub push-requires-clause-proper : goal.push-requires-clause-proper
@@ -25,7 +26,8 @@ push-requires-clause-proper c =
 
 pub push-requires-clause-following : goal.push-requires-clause-following
 push-requires-clause-following c =
-    let split = drop_more c.intervals-interval-items.result.now c.loop-interval.interval-index (record { low = pos 0; high = pos 0 }) c.loop-interval-test.true in
+    let split = drop_more c.intervals-interval-items.result.now c.loop-interval.interval-index (record { low = pos 0; high = pos 0 })
+    c.loop-interval-test.true in
     let numbers = c.numbers_in-numbers in
     let low : FitsSigned w128 numbers.result.low = search rules in
     let high : FitsSigned w128 numbers.result.high = search rules in
@@ -33,7 +35,8 @@ push-requires-clause-following c =
 
 pub loop-interval-preserved : goal.loop-interval-preserved
 loop-interval-preserved c =
-    let split = drop_more c.intervals-interval-items.result.now c.loop-interval.interval-index (record { low = pos 0; high = pos 0 }) c.loop-interval-test.true in
+    let split = drop_more c.intervals-interval-items.result.now c.loop-interval.interval-index (record { low = pos 0; high = pos 0 })
+    c.loop-interval-test.true in
     let numbers = c.numbers_in-numbers in
     let low : FitsSigned w128 numbers.result.low = search rules in
     let high : FitsSigned w128 numbers.result.high = search rules in
