@@ -1,6 +1,8 @@
 -- What is accepted has no other whole text than that of an answer: for the clause of the top call that says which files are
 -- answered.
-use Rattle.std.proofs.Common.{◌≡◌, ℕ, List, Option, Some, None, inl, inr, sym, ◌∙◌, subst, arith}
+use Rattle.std.proofs.Common.{◌≡◌, ℕ, List, Option, Some, None, inl, inr, sym, ap, ◌∙◌, subst, arith}
+use Rattle.std.specs.Io.KnownBytes.{Appends}
+use Rattle.cs_types.specs.declared.data_model.DataModel.{DataModel}
 use Rattle.std.specs.List.{list_any}
 use Rattle.cs_ast.specs.declared.place.Place.{Place}
 use Rattle.cs_ast.specs.declared.raw.external.RawExternal.{RawExternal}
@@ -12,21 +14,18 @@ use Rattle.cs_scopes.specs.declared.refusal.TypeCode.{TypeCode}
 use Rattle.cs_scopes.specs.Verdicts.{Verdict, Fine, Fault}
 use Rattle.cs_words.specs.declared.command.Command.{Command}
 use Rattle.cs_words.specs.declared.command.Command.TheVariants.{Analyze, Flow, Replay}
-use Rattle.cs_app.specs.Trees.{Parses, typed_tree}
-use Rattle.cs_app.specs.Refusals.{IsLexLine, IsSyntaxLine, IsRefusal, too_long, by_lexing, by_syntax, by_type}
+use Rattle.cs_app.specs.Trees.{Parses, HasProgram, typed_tree}
+use Rattle.cs_app.specs.Refusals.{IsLexLine, IsSyntaxLine, type_line, IsRefusal, too_long, by_lexing, by_syntax, by_type}
 use Rattle.cs_app.specs.declared.status.Status.{Status}
 use Rattle.cs_app.specs.declared.status.Status.TheVariants.{Clean, Found, BadWords, BadFile, ReadFault, WriteFault, Memory, NoEntry}
 use Rattle.cs_app.specs.Entries.{has_report}
 use Rattle.cs_app.specs.Answers.{IsProgramAnswer, Accepts, IsAnswer, IsLeft, IsFileAnswer, IsAnswered, Suits, IsAcceptable, model_of}
+use Rattle.cs_app.specs.Answers.{IsTypeRefused, refused_line, IsRefusedWith}
+use Rattle.cs_app.specs.Laws.{RefusedIsNotAccepted, TreesAreRefusedByTypes}
 use Rattle.cs_decl_parser.proofs.WholeFiles.{file_or_refused}
 use Rattle.cs_app.proofs.ReplayLemmas.{no_outcome}
-use Rattle.cs_app.proofs.TypingLemmas.{parses_again, typed_again}
+use Rattle.cs_app.proofs.TypingLemmas.{one_typing}
 use Rattle.cs_app.proofs.AnswerLemmas.{no_analysis}
-
--- a tree of the file is a program that suits the command
-abbrev AreSuited : Command → List ℕ → Lexed → Type 0
-AreSuited command file lexed = (other : List RawExternal) → Parses file lexed other
-    → (program : TypedProgram) × (typed_tree (model_of command) lexed other ≡ Fine program) × Suits command program
 
 -- what has a program has no fault
 not_both : (verdict : Verdict TypedProgram) (program : TypedProgram) (code : TypeCode) (place : Place) → verdict ≡ Fine program
@@ -35,6 +34,11 @@ not_both verdict program code place fine fault = cc
 
 one_program : (verdict : Verdict TypedProgram) (one other : TypedProgram) → verdict ≡ Fine one → verdict ≡ Fine other → one ≡ other
 one_program verdict one other is also = cc
+
+-- a verdict has one code and one place
+one_fault : (verdict : Verdict TypedProgram) (code code' : TypeCode) (place place' : Place) → verdict ≡ Fault code place
+    → verdict ≡ Fault code' place' → (code' ≡ code) × (place' ≡ place)
+one_fault verdict code code' place place' is also = (cc, cc)
 
 -- a program that suits the command is answered
 program_is_answered : (command : Command) (files : List (List ℕ)) (program : TypedProgram) (status : Status) (text : List ℕ) → Suits command program
@@ -67,41 +71,90 @@ program_is_answered (Replay words) files program ReadFault text suits answer = n
 program_is_answered (Replay words) files program WriteFault text suits answer = no_outcome WriteFault answer.2.outcome (λ e. cc) (λ e. cc) answer.2.yields
 program_is_answered (Replay words) files program Memory text suits answer = no_outcome Memory answer.2.outcome (λ e. cc) (λ e. cc) answer.2.yields
 
--- the file's program is one that suits the command, whichever tree it was made of
-accepted_is_answered : (command : Command) (file : List ℕ) (lexed : Lexed) (tree : List RawExternal) (status : Status) (text : List ℕ)
-    → Parses file lexed tree → AreSuited command file lexed → Accepts command file status text → IsAnswered status
-accepted_is_answered command file lexed tree status text parsed suited a =
-    let suits = suited a.tree (parses_again file lexed a.lexed tree a.tree parsed a.accepted.parsed) in
-    let again = typed_again (model_of command) file lexed a.lexed tree a.tree parsed a.accepted.parsed in
-    let same = one_program (typed_tree (model_of command) a.lexed a.tree) suits.0 a.program (again ∙ suits.1) a.accepted.typed in
-    program_is_answered command a.lexed.files.items a.program status text (subst (Suits command) same suits.2) a.answer
+-- the file's program is the one that suits the command, whichever tree it was made of
+accepted_is_answered : (command : Command) (file : List ℕ) (lexed : Lexed) (tree : List RawExternal) (program : TypedProgram) (status : Status)
+    (text : List ℕ) → HasProgram (model_of command) file lexed tree program → Suits command program → Accepts command file status text
+    → IsAnswered status
+accepted_is_answered command file lexed tree program status text h suits a =
+    let again = one_typing (model_of command) file lexed a.lexed tree a.tree h.parsed a.accepted.parsed in
+    let same = one_program (typed_tree (model_of command) a.lexed a.tree) program a.program (again ∙ h.typed) a.accepted.typed in
+    program_is_answered command a.lexed.files.items a.program status text (subst (Suits command) same suits) a.answer
 
--- a file with trees that are programs is refused by no check
-not_refused : (command : Command) (file : List ℕ) (lexed : Lexed) (tree : List RawExternal) (text : List ℕ) → Parses file lexed tree
-    → AreSuited command file lexed → IsRefusal (model_of command) file text → ⊥
-not_refused command file lexed tree text h suited (too_long long line) = absurd (omega (arith, long, h.short))
-not_refused command file lexed tree text h suited (by_lexing short refusal refused line) =
-    subst (λ r. IsLexLine r text) (lexed_or_refused file lexed refusal h.has_tokens refused) line
-not_refused command file lexed tree text h suited (by_syntax short other has refusal refused line) =
+-- a file whose tokens are a tree is refused by no check but that of types, which tells what typing says of the tree
+pub trees_are_refused_by_types : TreesAreRefusedByTypes
+trees_are_refused_by_types model file lexed tree text h (too_long long line) = absurd (omega (arith, long, h.short))
+trees_are_refused_by_types model file lexed tree text h (by_lexing short refusal refused line) =
+    absurd (subst (λ r. IsLexLine r text) (lexed_or_refused file lexed refusal h.has_tokens refused) line)
+trees_are_refused_by_types model file lexed tree text h (by_syntax short other has refusal refused line) =
     let same = lexed_once file lexed other h.has_tokens has in
     let is_file = subst (λ list. IsTheFile list (parts_of tree)) same.list h.is_the_file in
-    subst (λ r. IsSyntaxLine other.files.items r text) (file_or_refused other.list.items other.end (parts_of tree) refusal is_file refused) line
-not_refused command file lexed tree text h suited (by_type other two i code place fault line) =
-    let fine = suited two (parses_again file lexed other tree two h i) in
-    let again = typed_again (model_of command) file lexed other tree two h i in
-    not_both (typed_tree (model_of command) other two) fine.0 code place (again ∙ fine.1) fault
+    absurd (subst (λ r. IsSyntaxLine other.files.items r text) (file_or_refused other.list.items other.end (parts_of tree) refusal is_file refused) line)
+trees_are_refused_by_types model file lexed tree text h (by_type other two i code place fault line) =
+    let same = lexed_once file other lexed i.has_tokens h.has_tokens in
+    (code, place, sym (one_typing model file lexed other tree two h i) ∙ fault, line ∙ ap (λ files. type_line files code place) same.files)
 
-suited_is_answered : (command : Command) (file : List ℕ) (lexed : Lexed) (tree : List RawExternal) (status : Status) (text : List ℕ)
-    → Parses file lexed tree → AreSuited command file lexed → IsAnswer command file status text → IsAnswered status
-suited_is_answered command file lexed tree BadFile text parsed suited (inl refusal) = not_refused command file lexed tree text parsed suited refusal
-suited_is_answered command file lexed tree BadFile text parsed suited (inr accepts) =
-    accepted_is_answered command file lexed tree BadFile text parsed suited accepts
-suited_is_answered command file lexed tree status text parsed suited accepts = accepted_is_answered command file lexed tree status text parsed suited accepts
+-- a file that is a program is refused by no check
+not_refused : (model : DataModel) (file : List ℕ) (lexed : Lexed) (tree : List RawExternal) (program : TypedProgram) (text : List ℕ)
+    → HasProgram model file lexed tree program → IsRefusal model file text → ⊥
+not_refused model file lexed tree program text h refusal =
+    let by = trees_are_refused_by_types model file lexed tree text h.parsed refusal in
+    not_both (typed_tree model lexed tree) program by.0 by.1 h.typed by.2
+
+pub refused_is_not_accepted : RefusedIsNotAccepted
+refused_is_not_accepted command file status text other refusal a =
+    not_refused (model_of command) file a.lexed a.tree a.program text a.accepted refusal
+
+suited_is_answered : (command : Command) (file : List ℕ) (lexed : Lexed) (tree : List RawExternal) (program : TypedProgram) (status : Status)
+    (text : List ℕ) → HasProgram (model_of command) file lexed tree program → Suits command program → IsAnswer command file status text
+    → IsAnswered status
+suited_is_answered command file lexed tree program BadFile text h suits (inl refusal) =
+    absurd (not_refused (model_of command) file lexed tree program text h refusal)
+suited_is_answered command file lexed tree program BadFile text h suits (inr accepts) =
+    accepted_is_answered command file lexed tree program BadFile text h suits accepts
+suited_is_answered command file lexed tree program status text h suits accepts =
+    accepted_is_answered command file lexed tree program status text h suits accepts
 
 -- what is accepted has no other whole text than that of an answer
 pub acceptable_is_answered : (words : List (List ℕ)) (left : Option (List ℕ)) (status : Status) (text : List ℕ) → (acceptable : IsAcceptable words left)
     → IsFileAnswer acceptable.command left status text → IsAnswered status
 acceptable_is_answered words left status text acceptable answer =
     let same : answer.0 ≡ acceptable.bytes = subst (λ l. IsLeft l answer.0) acceptable.reported answer.1 in
-    suited_is_answered acceptable.command acceptable.bytes acceptable.lexed acceptable.tree status text acceptable.parsed acceptable.suits
-    (subst (λ file. IsAnswer acceptable.command file status text) same answer.2)
+    suited_is_answered acceptable.command acceptable.bytes acceptable.lexed acceptable.tree acceptable.program status text acceptable.accepted
+    acceptable.suits (subst (λ file. IsAnswer acceptable.command file status text) same answer.2)
+
+-- ---- a tree that typing refuses
+
+-- is no program
+not_accepted : (command : Command) (file : List ℕ) (lexed : Lexed) (tree : List RawExternal) (code : TypeCode) (place : Place) (status : Status)
+    (text : List ℕ) → Parses file lexed tree → typed_tree (model_of command) lexed tree ≡ Fault code place → Accepts command file status text → ⊥
+not_accepted command file lexed tree code place status text h fault a =
+    let again = one_typing (model_of command) file lexed a.lexed tree a.tree h a.accepted.parsed in
+    not_both (typed_tree (model_of command) a.lexed a.tree) a.program code place a.accepted.typed (again ∙ fault)
+
+-- has the line of that refusal
+refused_so : (model : DataModel) (file : List ℕ) (lexed : Lexed) (tree : List RawExternal) (code : TypeCode) (place : Place) (text : List ℕ)
+    → Parses file lexed tree → typed_tree model lexed tree ≡ Fault code place → IsRefusal model file text
+    → text ≡ type_line lexed.files.items code place
+refused_so model file lexed tree code place text h fault refusal =
+    let by = trees_are_refused_by_types model file lexed tree text h refusal in
+    let same = one_fault (typed_tree model lexed tree) code by.0 place by.1 fault by.2 in
+    by.3 ∙ (λ i. type_line lexed.files.items (same.0 i) (same.1 i))
+
+refused_with : (command : Command) (file : List ℕ) (lexed : Lexed) (tree : List RawExternal) (code : TypeCode) (place : Place) (status : Status)
+    (text : List ℕ) (before now : Option (List ℕ)) → Parses file lexed tree → typed_tree (model_of command) lexed tree ≡ Fault code place
+    → IsAnswer command file status text → Appends before now text → IsRefusedWith (type_line lexed.files.items code place) status before now
+refused_with command file lexed tree code place BadFile text before now h fault (inl refusal) appended =
+    subst (Appends before now) (refused_so (model_of command) file lexed tree code place text h fault refusal) appended
+refused_with command file lexed tree code place BadFile text before now h fault (inr accepts) appended =
+    absurd (not_accepted command file lexed tree code place BadFile text h fault accepts)
+refused_with command file lexed tree code place status text before now h fault accepts appended =
+    not_accepted command file lexed tree code place status text h fault accepts
+
+-- what typing refuses has no other whole text than the line of that refusal
+pub type_refused_is_told : (words : List (List ℕ)) (left : Option (List ℕ)) (status : Status) (text : List ℕ) (before now : Option (List ℕ))
+    → (refused : IsTypeRefused words left) → IsFileAnswer refused.command left status text → Appends before now text
+    → IsRefusedWith (refused_line refused) status before now
+type_refused_is_told words left status text before now refused answer appended =
+    let same : answer.0 ≡ refused.bytes = subst (λ l. IsLeft l answer.0) refused.reported answer.1 in
+    refused_with refused.command refused.bytes refused.lexed refused.tree refused.code refused.place status text before now refused.parsed refused.refused
+    (subst (λ file. IsAnswer refused.command file status text) same answer.2) appended

@@ -8,6 +8,7 @@ use Rattle.cs_lexer.proofs.OneLexing.{lexed_once}
 use Rattle.cs_decl_parser.specs.Files.{parts_of, IsTheFile}
 use Rattle.cs_decl_parser.specs.FilePlaces.{AreFilePlaced}
 use Rattle.cs_typing.specs.Programs.{typed}
+use Rattle.cs_one_program.proofs.Laws.{files_have_one_program}
 use Rattle.cs_app.specs.Trees.{Parses, typed_tree}
 
 -- a model, files and tokens by other names
@@ -35,3 +36,12 @@ pub typed_again : (model : DataModel) (file : List ℕ) (lexed other : Lexed) (o
 typed_again model file lexed other one two h i =
     let same = lexed_once file other lexed i.has_tokens h.has_tokens in
     ap (λ files. typed model files other.list.items two) same.files ∙ ap (λ tokens. typed model lexed.files.items tokens two) same.list
+
+-- whichever tree of the file is taken, its typing is one
+pub one_typing : (model : DataModel) (file : List ℕ) (lexed other : Lexed) (one two : List RawExternal) → Parses file lexed one → Parses file other two
+    → typed_tree model other two ≡ typed_tree model lexed one
+one_typing model file lexed other one two h i =
+    let also = parses_again file lexed other one two h i in
+    typed_again model file lexed other one two h i
+    ∙ files_have_one_program model lexed.files.items lexed.list.items two one (record { is_the_file = also.is_the_file; placed = also.placed })
+    (record { is_the_file = h.is_the_file; placed = h.placed })

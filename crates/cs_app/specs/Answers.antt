@@ -5,11 +5,13 @@ use Rattle.std.specs.Io.KnownBytes.{Appends}
 use Rattle.cs_io.specs.Count.{Rose}
 use Rattle.cs_io.specs.Reported.{AppendsPart}
 use Rattle.cs_types.specs.declared.data_model.DataModel.{DataModel}
+use Rattle.cs_ast.specs.declared.place.Place.{Place}
 use Rattle.cs_ast.specs.declared.raw.external.RawExternal.{RawExternal}
 use Rattle.cs_small_meaning.specs.Tree.{Definition}
 use Rattle.cs_ast.specs.TypedProgram.{TypedProgram}
 use Rattle.cs_lexer.specs.declared.lexer.Lexed.{Lexed}
-use Rattle.cs_scopes.specs.Verdicts.{Fine}
+use Rattle.cs_scopes.specs.declared.refusal.TypeCode.{TypeCode}
+use Rattle.cs_scopes.specs.Verdicts.{Fine, Fault}
 use Rattle.cs_small_form.specs.Reading.{IsOfForm}
 use Rattle.cs_events.specs.declared.outcome.Outcome.{Outcome}
 use Rattle.cs_events.specs.declared.outcome.Outcome.TheVariants.{Done, Fault, Over}
@@ -22,7 +24,7 @@ use Rattle.cs_words.specs.declared.command.Command.TheVariants.{Analyze, Flow, R
 use Rattle.cs_words.specs.declared.command.ReplayWords.{ReplayWords}
 use Rattle.cs_words.specs.Meaning.{WordsMean, AreRefusedAt}
 use Rattle.cs_app.specs.Trees.{Parses, HasProgram, IsOfNoForm, typed_tree, entry_of}
-use Rattle.cs_app.specs.Refusals.{IsRefusal}
+use Rattle.cs_app.specs.Refusals.{IsRefusal, type_line}
 use Rattle.cs_app.specs.Entries.{IsAnalysisOf}
 use Rattle.cs_app.specs.declared.status.Status.{Status}
 use Rattle.cs_app.specs.declared.status.Status.TheVariants.{Clean, Found, BadWords, BadFile, NoEntry}
@@ -136,7 +138,7 @@ Suits (Analyze words) program = (functions : List Definition) × IsOfForm progra
 Suits (Flow words) program = Unit {0}
 Suits (Replay words) program = (entry : ℕ) × (entry_of words.entry program ≡ Some entry)
 
--- the words mean one command, and the file has a tree that is a program which suits it, whichever tree of the file is taken
+-- the words mean one command, and the file has a tree that is a program which suits it
 pub record IsAcceptable (words : List (List ℕ)) (file : Option (List ℕ)) : Type 0 where
   pub command : Command
   pub meant : WordsMean words command
@@ -144,6 +146,28 @@ pub record IsAcceptable (words : List (List ℕ)) (file : Option (List ℕ)) : T
   pub reported : file ≡ Some bytes
   pub lexed : Lexed
   pub tree : List RawExternal
+  pub program : TypedProgram
+  pub accepted : HasProgram (model_of command) bytes lexed tree program
+  pub suits : Suits command program
+
+-- the words mean one command, and the file has a tree that typing refuses
+pub record IsTypeRefused (words : List (List ℕ)) (file : Option (List ℕ)) : Type 0 where
+  pub command : Command
+  pub meant : WordsMean words command
+  pub bytes : List ℕ
+  pub reported : file ≡ Some bytes
+  pub lexed : Lexed
+  pub tree : List RawExternal
   pub parsed : Parses bytes lexed tree
-  pub suits : (other : List RawExternal) → Parses bytes lexed other
-      → (program : TypedProgram) × (typed_tree (model_of command) lexed other ≡ Fine program) × Suits command program
+  pub code : TypeCode
+  pub place : Place
+  pub refused : typed_tree (model_of command) lexed tree ≡ Fault code place
+
+-- the line of such a refusal
+abbrev pub refused_line : {words : List (List ℕ)} {file : Option (List ℕ)} → IsTypeRefused words file → List ℕ
+refused_line r = type_line r.lexed.files.items r.code r.place
+
+-- the file was refused, and the sink took this whole text
+abbrev pub IsRefusedWith : List ℕ → Status → Option (List ℕ) → Option (List ℕ) → Type 0
+IsRefusedWith text BadFile before now = Appends before now text
+IsRefusedWith text _ before now = ⊥

@@ -3,3 +3,4 @@ pub mod Trees
 pub mod Refusals
 pub mod Entries
 pub mod Answers
+pub mod Laws

@@ -3,7 +3,7 @@ ghost use Rattle.std.specs.Prelude.{◌≡◌, ℕ};
 ghost use Rattle.std.specs.Io.KnownBytes.{IsAtEnd, Keeps};
 ghost use Rattle.cs_io.specs.Count.{Rose};
 ghost use Rattle.cs_words.specs.Meaning.{words_text, AreRefusedAt};
-ghost use Rattle.cs_app.specs.Answers.{IsWritten, IsPartWritten, IsDone, IsRead, IsAnswered, IsAcceptable, SinkRose};
+ghost use Rattle.cs_app.specs.Answers.{IsWritten, IsPartWritten, IsDone, IsRead, IsAnswered, IsAcceptable, IsTypeRefused, refused_line, IsRefusedWith, SinkRose};
 
 use crate::answer::Failure;
 use crate::command::answer_for;
@@ -50,6 +50,14 @@ pub fn csa<S: Source, K: Sink>(
         → (SinkRose (K.faults sink.old) (K.faults sink.new) (K.empty_takes sink.old)
         (K.empty_takes sink.new) → ⊥)
         → (result ≡ Status.Memory → ⊥) → IsAnswered result }
+
+    // Where typing refuses the file's tree, its refusal is the answer, with the same exceptions.
+    ensures refused_by_types { (r : IsTypeRefused (words_text words.now) (S.left source.old))
+        → (Rose (S.faults source.old) (S.faults source.new) → ⊥)
+        → (SinkRose (K.faults sink.old) (K.faults sink.new) (K.empty_takes sink.old)
+        (K.empty_takes sink.new) → ⊥)
+        → (result ≡ Status.Memory → ⊥)
+        → IsRefusedWith (refused_line r) result (K.written sink.old) (K.written sink.new) }
 {
     match answer_for(alloc, words, source) {
         Ok(answer) => match write_all_of(sink, answer.text.as_slice()) {

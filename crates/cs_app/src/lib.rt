@@ -7,10 +7,12 @@ mod command;
 mod entries;
 mod file;
 mod flow;
+mod laws;
 mod refused;
 mod replay;
 mod status;
 
 pub use app::csa;
+pub use laws::{refused_is_not_accepted, trees_are_refused_by_types};
 pub use replay::entry_of;
 pub use status::Status;

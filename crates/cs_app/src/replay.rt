@@ -3,6 +3,9 @@ ghost use Rattle.std.specs.Prelude.{◌≡◌, ◌++◌, Some, codes, IfOk};
 ghost use Rattle.std.specs.List.{position};
 ghost use Rattle.cs_ast.specs.TypedProgram.{routine, typed_program};
 ghost use Rattle.cs_well_formed.specs.Programs.{IsWellFormed};
+ghost use Rattle.cs_cfg.specs.GraphView as view;
+ghost use Rattle.cs_cfg.specs.Lowered.{IsLowered};
+ghost use Rattle.cs_run_state.specs.Prepared.{IsPrepared};
 ghost use Rattle.cs_report.specs.ReplayLines.{replay_line};
 ghost use Rattle.cs_app.specs.Trees.{is_entry, entry_of};
 ghost use Rattle.cs_app.specs.Answers.{outcome_status, IsReplayOf, IsReplayAnswer};
@@ -11,12 +14,14 @@ use crate::answer::Answer;
 use crate::entries::number_of;
 use crate::status::Status;
 use cs_ast::typed::program::{Function, Program};
+use cs_cfg::Code;
 use cs_events::Outcome;
 use cs_lower::lower;
 use cs_names::Name;
 use cs_replay::{ReplayRefusal, replay};
 use cs_report::append_replayed;
 use cs_run_state::Setting;
+use cs_run_state::prepared::Prepared;
 use cs_words::ReplayWords;
 use std::alloc::{AllocError, Global};
 
@@ -87,14 +92,42 @@ fn run_of(
 {
     let number = number_of(entry)?;
     let code = lower(alloc, program)?;
+    match Prepared::new(alloc, program) {
+        Ok(prepared) => {
+            let answer = run_prepared(alloc, files, program, &prepared, words, &code, number)?;
+            Ok(answer)
+        }
+        Err(_) => Err(AllocError),
+    }
+}
+
+/// The same where the program is lowered, and what its runs share is prepared.
+fn run_prepared(
+    alloc: Global,
+    files: &[Name],
+    program: &Program,
+    prepared: &Prepared,
+    words: &ReplayWords,
+    code: &Code,
+    entry: u32,
+) -> Result<Answer, AllocError>
+    requires well_formed { IsWellFormed (typed_program program.now) }
+    requires prepared { IsPrepared prepared.now program.now }
+    requires lowered { IsLowered (view.code code.now) (typed_program program.now) }
+    requires found { entry_of words.now.entry (typed_program program.now) ≡ Some entry }
+    ensures { IfOk result (λ answer.
+        IsReplayOf files.now (typed_program program.now) words.now entry answer.status
+        answer.text.items) }
+{
     let guesses = Vec::new(alloc);
     let setting = Setting {
         program,
+        prepared,
         inputs: &words.inputs,
         guesses: &guesses,
         budgets: words.budgets,
     };
-    match replay(alloc, &setting, &code, number) {
+    match replay(alloc, &setting, code, entry) {
         Ok(replayed) => {
             let answer = outcome_of(alloc, files, replayed.outcome)?;
             Ok(answer)

@@ -1,6 +1,6 @@
 -- What an expression does with its parts, the operation of the code does with its operands.
 use Rattle.std.proofs.Common.{◌≡◌, ℕ, zero, suc, ◌+◌, List, [], ◌∷◌, drop, length, Bool, true, false, Option, Some, None, arith, refl, ap}
-use Rattle.std.proofs.Common.{◌∙◌}
+use Rattle.std.proofs.Common.{◌∙◌, unwrap_or}
 use Rattle.cs_types.specs.Shape.{Shape, integer}
 use Rattle.cs_ast.specs.declared.place.Place.{Place}
 use Rattle.cs_ast.specs.declared.typed.operator.Allocator.{Allocator}
@@ -15,16 +15,16 @@ use Rattle.std.specs.Prelude.{ℤ, pos, ⊤}
 use Rattle.cs_events.specs.declared.outcome.RunBudgets.{RunBudgets}
 use Rattle.cs_events.specs.Operations.{is_true}
 use Rattle.cs_events.specs.Objects.{Object, StartBlock, GlobalObject, LiteralObject, LocalObject, HeapBlock, Cell, NumberCell, NullCell, PointerCell, UnsetCell}
-use Rattle.cs_events.specs.Acts.{Goes}
+use Rattle.cs_events.specs.Acts.{Act, Goes}
 use Rattle.cs_events.specs.Simulation.{Yields, both_go, both_stop, both_ask, both_allocate}
 use Rattle.cs_meaning.specs.Types.{size_of, type_of, target_of, integer_of}
 use Rattle.cs_meaning.specs.Initials.{number_in, directed}
 use Rattle.cs_meaning.specs.Memory.{Block, Fill, UnsetFill, ZeroFill}
 use Rattle.cs_types.specs.DataModel.{size_type_of}
 use Rattle.cs_ast.specs.declared.typed.operator.BinOp.TheVariants.{Mul}
-use Rattle.cs_meaning.specs.Access.{Access, access_of}
-use Rattle.cs_meaning.specs.Machine.{Operand, Scalar, Nothing as NoOperand, CallFrame, State, push, pop, pop_many, with_memory, operand_at, cell_at}
-use Rattle.cs_meaning.specs.Calls.{allocated, allocate, release, release_block, release_known, release_object}
+use Rattle.cs_meaning.specs.Access.{NO_BLOCK, Access, access_of}
+use Rattle.cs_meaning.specs.Machine.{Operand, Scalar, Nothing as NoOperand, CallFrame, State, push, push_cell, pop, pop_many, with_memory, operand_at, cell_at}
+use Rattle.cs_meaning.specs.Calls.{at_beginning, not_freed, known, releasable, allocated, allocate, release, release_block, release_object}
 use Rattle.cs_meaning.specs.Expressions.{pointer_age, amount_age, given, number_at, stores_to, act_form}
 use Rattle.cs_cfg.specs.Graph.{Work, Point, Code}
 use Rattle.cs_cfg.specs.Working.{CodeState, allocator_takes, takes, do_work}
@@ -64,6 +64,28 @@ dropped zero number operands e = omega arith
 dropped (suc count) number [] e = absurd (omega arith)
 dropped (suc count) number (operand ∷ operands) e = dropped count number operands (omega arith)
 
+-- the checks of a release let on alike
+module _ {S T : Type 0} (R : S → T → Type 0) where
+  yields_at_beginning : (at : Place) (offset : ℤ) {a : Act S} {b : Act T} → Yields R a b → Yields R (at_beginning at offset a) (at_beginning at offset b)
+  yields_at_beginning at offset h = yields_if R (int_eq offset (pos 0)) h both_stop
+
+  yields_not_freed : (at : Place) (standing : Standing) {a : Act S} {b : Act T} → Yields R a b
+      → Yields R (not_freed at standing a) (not_freed at standing b)
+  yields_not_freed at Live h = h
+  yields_not_freed at Freed h = both_stop
+  yields_not_freed at Ended h = both_stop
+
+  yields_known : (at : Place) (found : Option Block) {a : Act S} {b : Act T} → Yields R a b → Yields R (known at found a) (known at found b)
+  yields_known at None h = both_stop
+  yields_known at (Some block) h = h
+
+  yields_releasable : (at : Place) (object : Object) {a : Act S} {b : Act T} → Yields R a b → Yields R (releasable at object a) (releasable at object b)
+  yields_releasable at (StartBlock path) h = h
+  yields_releasable at (HeapBlock allocation) h = h
+  yields_releasable at (GlobalObject global) h = both_stop
+  yields_releasable at (LiteralObject literal) h = both_stop
+  yields_releasable at (LocalObject frame declaration) h = both_stop
+
 module _ (R : State → CodeState → Type 0) (code : Code) (program : TypedProgram) (budgets : RunBudgets) where
   -- where a step leads to a state with so many operands, the code's state at a point is related to it
   abbrev pub Leaves : State → Point → List (CallFrame Point) → ℕ → Type 0
@@ -100,22 +122,14 @@ module _ (R : State → CodeState → Type 0) (code : Code) (program : TypedProg
     where
       block_yields : (standing : Standing) (object : Object)
           → Yields R (release_block at standing object offset (pop m)) (release_block at standing object offset (pop (as_code p callers m)))
-      block_yields Live object = yields_if R (int_eq offset (pos 0)) (both_go (put m _ p callers 1 number NoOperand e h refl refl refl refl refl refl))
-          both_stop
-      block_yields Freed object = both_stop
-      block_yields Ended object = both_stop
-
-      known_yields : (block : Option Block) (object : Object)
-          → Yields R (release_known at block object offset (pop m)) (release_known at block object offset (pop (as_code p callers m)))
-      known_yields None object = both_stop
-      known_yields (Some block) object = block_yields block.standing object
+      block_yields standing object =
+          yields_not_freed R at standing
+          (yields_at_beginning R at offset (both_go (put m _ p callers 1 number NoOperand e h refl refl refl refl refl refl)))
 
       object_yields : (object : Object) → Yields R (release_object at object offset (pop m)) (release_object at object offset (pop (as_code p callers m)))
-      object_yields (StartBlock path) = known_yields (m.memory (StartBlock path)) (StartBlock path)
-      object_yields (HeapBlock allocation) = known_yields (m.memory (HeapBlock allocation)) (HeapBlock allocation)
-      object_yields (GlobalObject global) = both_stop
-      object_yields (LiteralObject literal) = both_stop
-      object_yields (LocalObject frame declaration) = both_stop
+      object_yields object =
+          yields_releasable R at object
+          (yields_known R at (m.memory object) (block_yields (unwrap_or (m.memory object) NO_BLOCK).standing object))
   release_yields at (NumberCell n) m p callers number e h = both_go (put m _ p callers 1 number NoOperand e h refl refl refl refl refl refl)
   release_yields at UnsetCell m p callers number e h = both_go (put m _ p callers 1 number NoOperand e h refl refl refl refl refl refl)
 
@@ -157,7 +171,8 @@ module _ (R : State → CodeState → Type 0) (code : Code) (program : TypedProg
   acts_tell at ty (Global global) m p callers number calls = λ e h. both_go (put m _ p callers 0 number _ e h refl refl refl refl refl refl)
   acts_tell at ty (Member a offset) m p callers number calls = λ e h. both_go (put m _ p callers 1 number _ e h refl refl refl refl refl refl)
   acts_tell at ty (Arrow a offset) m p callers number calls = λ e h.
-      yields_arrow R at (cell_at m 0) offset (λ cell. both_go (put m _ p callers 1 number _ e h refl refl refl refl refl refl))
+      yields_arrow R at (cell_at m 0) offset
+      (λ cell. both_go (put m (push_cell cell (pop m)) p callers 1 number (Scalar cell) e h refl refl refl refl refl refl))
   acts_tell at ty (Load a) m p callers number calls = λ e h.
       yields_load R program m.memory m.frame.number (access_of a) (cell_at m 0)
       (λ memory operand. both_go (put m _ p callers 1 number operand e h refl refl refl refl refl refl))

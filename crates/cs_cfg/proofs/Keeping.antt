@@ -41,7 +41,7 @@ rest_past block operation p rest = record {
 }
 
 -- a number that is no block's has the point that leaves the frame
-contains_at : (blocks : List Point) (number : ℕ) → Contains blocks (unwrap_or (slice_get blocks number) no_point)
+pub contains_at : (blocks : List Point) (number : ℕ) → Contains blocks (unwrap_or (slice_get blocks number) no_point)
     ⊎ (unwrap_or (slice_get blocks number) no_point ≡ no_point)
 contains_at [] number = inr refl
 contains_at (first ∷ others) zero = inl (0, omega arith, refl)

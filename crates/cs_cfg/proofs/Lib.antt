@@ -25,6 +25,7 @@ mod OnwardCalls
 mod Returning
 mod Staying
 pub mod Returned
+pub mod Passing
 pub mod Meeting
 pub mod Keeping
 mod Showing
@@ -39,5 +40,14 @@ pub mod AddedPoints
 pub mod Pieces
 mod Unreached
 mod Reported
+mod FirstInstructions
 mod Touched
-mod Spots
+mod PointsAtSpots
+mod LawsOfRuns
+mod Endless
+pub mod SpotStates
+mod PointTouches
+mod FrameSteps
+mod LeavingPoints
+mod FollowingFlow
+mod FollowingToo

@@ -1,5 +1,5 @@
 -- The same of calls, allocations, releases and counted points.
-use Rattle.std.proofs.Common.{ℕ, ◌+◌, nat_lt, ℤ, pos, int_eq, Bool, true, false, List, [], ◌∷◌, length, Option, Some, None}
+use Rattle.std.proofs.Common.{ℕ, ◌+◌, nat_lt, ℤ, pos, int_eq, Bool, true, false, List, [], ◌∷◌, length, Option, Some, None, unwrap_or}
 use Rattle.cs_types.specs.DataModel.{size_type_of}
 use Rattle.cs_types.specs.Shape.{Shape, void, integer, pointer, array, struct}
 use Rattle.cs_inputs.specs.declared.path.Path.{Path}
@@ -16,8 +16,9 @@ use Rattle.cs_events.specs.Objects.{Object, StartBlock, GlobalObject, LiteralObj
 use Rattle.cs_events.specs.Acts.{Act, Goes}
 use Rattle.cs_meaning.specs.Memory.{Block, Memory, Unknown}
 use Rattle.cs_meaning.specs.Machine.{Operand, Scalar, Whole, Nothing, CallFrame, Running, cell_of}
-use Rattle.cs_meaning.specs.Calls.{wrote_path, result_path, write_through, write_arguments, outside_result, call_outside, enter_as, allocate, release_block}
-use Rattle.cs_meaning.specs.Calls.{release_known, release_object, release}
+use Rattle.cs_meaning.specs.Access.{NO_BLOCK}
+use Rattle.cs_meaning.specs.Calls.{wrote_path, result_path, write_through, write_arguments, outside_result, call_outside, within_depth, enter_as, allocate}
+use Rattle.cs_meaning.specs.Calls.{at_beginning, not_freed, known, releasable, release_block, release_object, release}
 use Rattle.cs_meaning.specs.Expressions.{use_result}
 use Rattle.cs_cfg.proofs.Onward.{Inherited, Each, EachOfTwo, keeps_if, keeps_shows, keeps_receive, keeps_set, keeps_operate}
 
@@ -54,24 +55,39 @@ module _ {S : Type 0} {P : Act S → Type 0} (inherited : Inherited P) where
   keeps_result program (struct tag) call memory h =
       keeps_receive inherited program memory (Unknown (result_path call) (struct tag)) (λ after cell. h after (Scalar cell))
 
+  -- a check of a release, and of the budget of depth
+  pub keeps_at_beginning : (at : Place) (offset : ℤ) {a : Act S} → P a → P (at_beginning at offset a)
+  keeps_at_beginning at offset h = keeps_if inherited (int_eq offset (pos 0)) h (inherited.stops tt)
+
+  pub keeps_not_freed : (at : Place) (standing : Standing) {a : Act S} → P a → P (not_freed at standing a)
+  keeps_not_freed at Live h = h
+  keeps_not_freed at Freed h = inherited.stops tt
+  keeps_not_freed at Ended h = inherited.stops tt
+
+  pub keeps_known : (at : Place) (found : Option Block) {a : Act S} → P a → P (known at found a)
+  keeps_known at None h = inherited.stops tt
+  keeps_known at (Some block) h = h
+
+  pub keeps_releasable : (at : Place) (object : Object) {a : Act S} → P a → P (releasable at object a)
+  keeps_releasable at (StartBlock path) h = h
+  keeps_releasable at (HeapBlock allocation) h = h
+  keeps_releasable at (GlobalObject global) h = inherited.stops tt
+  keeps_releasable at (LiteralObject literal) h = inherited.stops tt
+  keeps_releasable at (LocalObject frame declaration) h = inherited.stops tt
+
+  pub keeps_within_depth : (budgets : RunBudgets) (at : Place) (frames : ℕ) {a : Act S} → P a → P (within_depth budgets at frames a)
+  keeps_within_depth budgets at frames h = keeps_if inherited (nat_lt frames budgets.depth) h (inherited.stops tt)
+
 -- what is so of going on, too
 module _ {Rest : Type 0} {P : Act (Running Rest) → Type 0} (inherited : Inherited P) (goes : (m : Running Rest) → P (Goes m)) where
   -- a block is freed
   keeps_block : (at : Place) (standing : Standing) (object : Object) (offset : ℤ) (m : Running Rest) → P (release_block at standing object offset m)
-  keeps_block at Live object offset m = keeps_if inherited (int_eq offset (pos 0)) (goes _) (inherited.stops tt)
-  keeps_block at Freed object offset m = inherited.stops tt
-  keeps_block at Ended object offset m = inherited.stops tt
-
-  keeps_known : (at : Place) (block : Option Block) (object : Object) (offset : ℤ) (m : Running Rest) → P (release_known at block object offset m)
-  keeps_known at None object offset m = inherited.stops tt
-  keeps_known at (Some block) object offset m = keeps_block at block.standing object offset m
+  keeps_block at standing object offset m = keeps_not_freed inherited at standing (keeps_at_beginning inherited at offset (goes _))
 
   keeps_object : (at : Place) (object : Object) (offset : ℤ) (m : Running Rest) → P (release_object at object offset m)
-  keeps_object at (StartBlock path) offset m = keeps_known at (m.memory (StartBlock path)) (StartBlock path) offset m
-  keeps_object at (HeapBlock allocation) offset m = keeps_known at (m.memory (HeapBlock allocation)) (HeapBlock allocation) offset m
-  keeps_object at (GlobalObject global) offset m = inherited.stops tt
-  keeps_object at (LiteralObject literal) offset m = inherited.stops tt
-  keeps_object at (LocalObject frame declaration) offset m = inherited.stops tt
+  keeps_object at object offset m =
+      keeps_releasable inherited at object
+      (keeps_known inherited at (m.memory object) (keeps_block at (unwrap_or (m.memory object) NO_BLOCK).standing object offset m))
 
   pub keeps_release : (at : Place) (cell : Cell) (m : Running Rest) → P (release at cell m)
   keeps_release at NullCell m = keeps_shows inherited at _ (goes _)
@@ -92,7 +108,7 @@ module _ {Rest : Type 0} {P : Act (Running Rest) → Type 0} (inherited : Inheri
       → CallFrame Rest) (at : Place) (function : ℕ) (routine : Routine) (operands : List Operand) (m : Running Rest)
       → P (enter_as program budgets begins at function routine operands m)
   keeps_enter program budgets begins at function routine operands m =
-      keeps_if inherited (nat_lt (length m.callers + 1) budgets.depth) (keeps_shows inherited at _ (goes _)) (inherited.stops tt)
+      keeps_within_depth inherited budgets at (length m.callers + 1) (keeps_shows inherited at _ (goes _))
 
   pub keeps_outside : (program : TypedProgram) (at : Place) (function : ℕ) (routine : Routine) (operands : List Operand) (m : Running Rest)
       → P (call_outside program at function routine operands m)

@@ -7,9 +7,12 @@ use Rattle.cs_events.specs.declared.outcome.Outcome.{Outcome}
 use Rattle.cs_events.specs.declared.outcome.Outcome.TheVariants.{Done}
 use Rattle.cs_events.specs.declared.outcome.Returned.{Returned}
 use Rattle.cs_events.specs.declared.outcome.RunBudgets.{RunBudgets}
-use Rattle.cs_events.specs.Acts.{Act, Goes}
+use Rattle.cs_ast.specs.declared.place.Place.{Place}
+use Rattle.cs_events.specs.declared.point.PointKind.{PointKind}
+use Rattle.cs_events.specs.Touches.{Meets}
+use Rattle.cs_events.specs.Acts.{Act, Goes, Touches}
 use Rattle.cs_events.specs.Runs.{Setting, Log, Continues, Finishes, perform, Leads, stays, goes, EndsFrom}
-use Rattle.cs_meaning.specs.Machine.{Item, Leave, State, to_do, operand_at, routine_of}
+use Rattle.cs_meaning.specs.Machine.{Item, End, Give, Leave, State, to_do, operand_at, routine_of}
 use Rattle.cs_meaning.specs.Steps.{do_item, step_with, step}
 use Rattle.cs_meaning.specs.ProgramRuns.{ProgramRun, setting_of, RunGives}
 use Rattle.cs_cfg.specs.Graph.{Point, Flow, Code, flow_of}
@@ -21,7 +24,7 @@ use Rattle.cs_cfg.specs.Placed.{IsPlaced}
 use Rattle.cs_cfg.proofs.Related.{Aligned, Related, now, soon}
 use Rattle.cs_cfg.proofs.Moving.{uncut, Home, stands, home_of, reported_by}
 use Rattle.cs_cfg.proofs.Returning.{NeverReturns, never_done}
-use Rattle.cs_cfg.proofs.Staying.{IsLeave, stays_or_leaves}
+use Rattle.cs_cfg.proofs.Staying.{IsLast, stays_or_leaves}
 use Rattle.cs_cfg.proofs.Runs.{both_end, code_ends, code_ends_only, code_pends, code_pends_only}
 
 module _ {State : Type 0} (step : State → Act State) (setting : Setting) where
@@ -68,12 +71,18 @@ module _ (code : Code) (program : TypedProgram) (budgets : RunBudgets) (setting 
   arrived t log end outcome (jumps way) e finish =
       absurd (silent_goes t _ log end outcome (ap (λ (p : Point). step_at code program budgets p.operations p.end t) e) finish)
 
+  -- what touches, and goes on, doesn't end the run
+  not_finished : (log : Log) (kind : PointKind) (at : Place) (m : State) (end : Log) (what : Returned)
+      → perform setting log (Touches (Meets kind at) (Goes m)) ≡ Finishes (Done what) end → ⊥
+  unfolding perform
+  not_finished log kind at m end what e = cc
+
   -- what is done first in the machine's last state leaves the frame
-  leaves_last : (item : Item) (items : List Item) (m : State) (log end : Log) (what : Returned) → (IsLeave program item → ⊥)
+  leaves_last : (item : Item) (items : List Item) (m : State) (log end : Log) (what : Returned) → (IsLast program item → ⊥)
       → perform setting log (do_item program budgets item (to_do items m)) ≡ Finishes (Done what) end → ⊥
   leaves_last item items m log end what other finish = decided (stays_or_leaves program budgets item (to_do items m))
     where
-      decided : IsLeave program item ⊎ NeverReturns (do_item program budgets item (to_do items m)) → ⊥
+      decided : IsLast program item ⊎ NeverReturns (do_item program budgets item (to_do items m)) → ⊥
       decided (inl leaves) = other leaves
       decided (inr never) = never_done setting log end what never finish
 
@@ -85,6 +94,8 @@ module _ (code : Code) (program : TypedProgram) (budgets : RunBudgets) (setting 
   returns_same (Leave ∷ items) m t home log end what a it finish =
       let at_end : end_value t.frame.todo.end t ≡ operand_at (cut 1 t) 0 = ap (λ (p : Point). end_value p.end t) it.1 in
       sym (at_end ∙ ap (λ x. operand_at (cut 1 x) 0) (reported_by code program a) ∙ ap (λ x. operand_at x 0) (uncut 1 t.frame.todo t.callers m it.0))
+  returns_same (End at value ∷ items) m t home log end what a it finish = absurd (not_finished log _ _ _ end what finish)
+  returns_same (Give at ∷ items) m t home log end what a it finish = absurd (not_finished log _ _ _ end what finish)
   returns_same (item ∷ items) m t home log end what a it finish = absurd (leaves_last item items m log end what (λ leaves. leaves) finish)
 
   -- in related last states the same is returned, and memory is the same

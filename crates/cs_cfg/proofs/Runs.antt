@@ -5,7 +5,7 @@ use Rattle.cs_ast.specs.TypedProgram.{TypedProgram}
 use Rattle.cs_events.specs.declared.outcome.Outcome.{Outcome}
 use Rattle.cs_events.specs.declared.outcome.RunBudgets.{RunBudgets}
 use Rattle.cs_events.specs.Runs.{Log, empty}
-use Rattle.cs_events.specs.Pending.{Pending}
+use Rattle.cs_events.specs.PendingEvents.{Pending}
 use Rattle.cs_events.specs.Silence.{Ending}
 use Rattle.cs_events.proofs.Simulations.{EndsTogether, ends_too, pends_too, ends_back, pends_back}
 use Rattle.cs_meaning.specs.Machine.{routine_of}
@@ -22,7 +22,7 @@ use Rattle.cs_cfg.proofs.Entered.{frame_begins}
 use Rattle.cs_cfg.proofs.Simulating.{placed_simulates}
 
 -- a graph is there where a body is
-graph_is_there : (flow : Option Flow) (body : Option Statement) → is_there flow ≡ is_there body → (s : Statement) → body ≡ Some s
+pub graph_is_there : (flow : Option Flow) (body : Option Statement) → is_there flow ≡ is_there body → (s : Statement) → body ≡ Some s
     → (graph : Flow) × (flow ≡ Some graph)
 graph_is_there (Some graph) body e s f = (graph, refl)
 graph_is_there None None e s f = cc

@@ -1,5 +1,5 @@
 -- Samples: the text of a flow, and small graphs by hand whose runs end as those of the reference machine.
-use Rattle.std.proofs.Common.{◌≡◌, ℕ, pos, true, false, [], ◌∷◌, map, Some, None, refl}
+use Rattle.std.proofs.Common.{◌≡◌, ℕ, pos, true, false, [], ◌∷◌, map, Some, None, refl, sym, ap, ◌∙◌}
 use Rattle.std.specs.List.{range_with_len}
 use Rattle.cs_types.specs.declared.int_type.IntType.TheVariants.{Int}
 use Rattle.cs_types.specs.Shape.{array}
@@ -19,6 +19,9 @@ use Rattle.cs_events.specs.Runs as runs
 use Rattle.cs_meaning.proofs.Building.{at, int, to_int, literal, local, loaded, value, sequence, named, defined, functions, given, USUAL, plain}
 use Rattle.cs_cfg.specs.Graph.{Code, Flow, Number, Local, Sum, Load, Compare, Store, FetchNumber, Update, Drop, Clear, Reach, Meet, Close, Jump, Branch, Return}
 use Rattle.cs_cfg.specs.declared.touch.Touch.TheVariants as touch
+use Rattle.cs_cfg.specs.declared.code.Spot.{Spot}
+use Rattle.cs_cfg.specs.Spots.{point_of}
+use Rattle.cs_cfg.specs.Instructions.{takes_from, leads_at, jump_at, here, jumps, JumpsForEver, IsSettled}
 use Rattle.cs_cfg.specs.Touching.{touch_at}
 use Rattle.cs_cfg.specs.ControlPoints.{met, Onward, TruthOf, way, control_points}
 use Rattle.cs_cfg.proofs.Building.{does, direct_local, pointed, machine_run, code_run, outcome_of}
@@ -98,6 +101,39 @@ fills_touches : map (λ number. touch_at fills_code (record { function = 0; bloc
     ∷ (None ∷ (Some (touch.Load 2 (at 37))
     ∷ (None ∷ (Some (touch.Load 0 (at 39)) ∷ (None ∷ (Some (touch.Point point.Branch (at 29)) ∷ (None ∷ [])))))))
 fills_touches = refl
+
+-- a spot of its graph, as a function of its block and its number there
+abbrev spot : ℕ → ℕ → Spot
+spot block number = record { function = 0; block = block; operation = number }
+
+-- how many operands what stands at the spots of its first block takes: the operations, the end, and a spot that isn't there
+fills_takes : map (λ number. takes_from (point_of fills_code (spot 0 number))) (range_with_len 0 9)
+    ≡ 0 ∷ (0 ∷ (0 ∷ (0 ∷ (0 ∷ (2 ∷ (1 ∷ (0 ∷ (0 ∷ []))))))))
+fills_takes = refl
+
+-- the last operation of its first block leads to the end, the end to the head of the loop, the test at the end of the loop's head to no
+-- one spot, and a spot that isn't there to none
+fills_leads : map (leads_at fills_code) (spot 0 6 ∷ (spot 0 7 ∷ (spot 1 6 ∷ (spot 0 8 ∷ []))))
+    ≡ Some (spot 0 7) ∷ (Some (spot 1 0) ∷ (None ∷ (None ∷ [])))
+fills_leads = refl
+
+-- so a run that has come to the end of the first block stands at the head, where something else stands than a jump
+fills_settles : IsSettled fills_code (spot 0 7) (Some (spot 1 0))
+fills_settles = (jumps refl here, refl)
+
+-- a block that jumps to itself and does nothing else: jumps lead on for ever
+abbrev round : Code
+round = record { flows = Some (record { blocks = record { operations = []; end = Jump 0 } ∷ []; entry = 0; counted_points = 0 }) ∷ [] }
+
+goes_round : (last : Spot) → spot 0 0 ≡ last → JumpsForEver round last
+goes_round start same last here = (spot 0 0, ap (jump_at round) (sym same))
+goes_round start same last (jumps {next = next} e way) =
+    let jumped : Some next ≡ Some (spot 0 0) = sym e ∙ ap (jump_at round) (sym same) in
+    let back : spot 0 0 ≡ next = cc in
+    goes_round next back last way
+
+round_never_settles : IsSettled round (spot 0 0) None
+round_never_settles = goes_round (spot 0 0) refl
 
 -- three elements are there
 fills_too_many : outcome_of (code_run fills_code fills 0 (plain (given 110 (pos 4) ∷ [])) USUAL 120) ≡ Some (Fault kind.Bounds (at 46))

@@ -15,16 +15,17 @@ use Rattle.cs_events.specs.declared.outcome.Budget.TheVariants.{Events}
 use Rattle.cs_events.specs.declared.outcome.RunBudgets.{RunBudgets}
 use Rattle.cs_events.specs.declared.point.PointKind.{PointKind}
 use Rattle.cs_events.specs.Operations.{is_true}
+use Rattle.cs_events.specs.declared.input.InputKind.{InputKind}
 use Rattle.cs_events.specs.Objects.{Object, Cell, NumberCell}
 use Rattle.cs_events.specs.Touches.{Touch}
 use Rattle.cs_events.specs.Acts.{Act, Goes, Stops, Reads, Asks, Allocates, Reaches, Touches}
-use Rattle.cs_events.specs.Runs.{Setting, Log, Performed, Continues, Finishes, perform, with_event, with_read, with_touch, has_room, operation_event, number_of}
-use Rattle.cs_events.specs.Runs.{allocation_event, access_event}
+use Rattle.cs_events.specs.Runs.{Setting, Log, Performed, Continues, Finishes, perform, with_operation, with_allocation, with_access, with_read, with_touch}
+use Rattle.cs_events.specs.Runs.{has_room, number_of, read_cell}
 use Rattle.cs_meaning.specs.Initials.{number_in, directed}
 use Rattle.cs_meaning.specs.Types.{integer_of}
-use Rattle.cs_meaning.specs.Memory.{Memory, is_constant}
-use Rattle.cs_meaning.specs.Access.{Access, touches_then, load_object, store_object}
-use Rattle.cs_meaning.specs.Machine.{Operand, Scalar, CallFrame, to_do, push, push_cell, pop_many, with_memory, operand_at, cell_of, cell_at, newest}
+use Rattle.cs_meaning.specs.Memory.{Memory, changed}
+use Rattle.cs_meaning.specs.Access.{Access, touches_then, load_object, write_operand, store_object}
+use Rattle.cs_meaning.specs.Machine.{Operand, Scalar, CallFrame, to_do, push, push_cell, pop, pop_many, with_memory, operand_at, cell_of, cell_at, newest}
 use Rattle.cs_meaning.specs.Machine.{routine_of}
 use Rattle.cs_meaning.specs.CountedPoints.{reached_again}
 use Rattle.cs_meaning.specs.Calls.{leave_to}
@@ -37,8 +38,10 @@ use Rattle.cs_cfg.specs.Graph.{Judge, Store, FetchNumber, Update, FetchPointer, 
 use Rattle.cs_cfg.specs.Graph.{Meet, Close, Operation, BlockEnd, Jump, Branch, Switch, Return, Finish, Point, Flow, Code, flow_of}
 use Rattle.cs_cfg.specs.Working.{CodeState, cut, code_frame, call_flow, do_work}
 use Rattle.cs_cfg.specs.CodeSteps.{do_end, step_at, code_step}
-use Rattle.cs_cfg.specs.Touching.{touch_of_load, touch_of_store, touch_of_work, touch_of_end, touch_first, touch_from, point_at, touch_at, in_frame, HasTouched}
-use Rattle.cs_cfg.proofs.Onward.{Inherited, Each, EachOfTwo, keeps_if, keeps_shows, keeps_locate, keeps_value, keeps_truth, keeps_operate, keeps_convert_number}
+use Rattle.cs_cfg.specs.Touching.{touch_of_load, touch_of_store, touch_of_work, touch_of_end, touch_first, touch_from, touch_at, in_frame, HasTouched}
+use Rattle.cs_cfg.specs.Spots.{point_at}
+use Rattle.cs_cfg.proofs.Onward.{Inherited, Each, EachOfTwo, keeps_if, keeps_shows, keeps_writable, keeps_locate, keeps_value, keeps_truth, keeps_operate}
+use Rattle.cs_cfg.proofs.Onward.{keeps_convert_number}
 use Rattle.cs_cfg.proofs.Onward.{keeps_convert, keeps_sum, keeps_compare, keeps_difference, keeps_arrow}
 use Rattle.cs_cfg.proofs.OnwardCalls.{keeps_release, keeps_allocate, keeps_enter, keeps_outside, keeps_use}
 
@@ -47,7 +50,8 @@ module _ {S : Type 0} where
   data TouchesJust : Option Touch → Act S → Type 0 where
     goes : {s : S} → TouchesJust None (Goes s)
     stops : {what : Option Touch} {outcome : Outcome} → TouchesJust what (Stops outcome)
-    reads : {what : Option Touch} {path : Path} {f : ℤ → Act S} → ((number : ℤ) → TouchesJust what (f number)) → TouchesJust what (Reads path f)
+    reads : {what : Option Touch} {path : Path} {kind : InputKind} {f : Cell → Act S} → ((cell : Cell) → TouchesJust what (f cell))
+        → TouchesJust what (Reads path kind f)
     asks : {what : Option Touch} {at : Place} {operation : Asked} {f : ℤ → Act S} → ((number : ℤ) → TouchesJust what (f number))
         → TouchesJust what (Asks at operation f)
     allocates : {what : Option Touch} {at : Place} {path : Path} {f : Bool → Act S} → ((given : Bool) → TouchesJust what (f given))
@@ -80,15 +84,15 @@ module _ {S : Type 0} where
   unfolding perform
   touched setting log goes = sym (append-nil log.touches)
   touched setting log stops = inl refl
-  touched setting log (reads {path = path} h) = touched setting (with_read log path) (h (setting.inputs path))
+  touched setting log (reads {path = path} {kind = kind} h) = touched setting (with_read log path kind) (h (read_cell setting path kind))
   touched setting log (asks {what = what} {at = at} {operation = operation} h) =
       in_room (has_room setting log) at log what _
-      (touched setting (with_event log (operation_event setting log at operation)) (h (number_of setting log operation)))
+      (touched setting (with_operation setting log at operation) (h (number_of setting log operation)))
   touched setting log (allocates {what = what} {at = at} {path = path} h) =
       in_room (has_room setting log) at log what _
-      (touched setting (with_event (with_read log path) (allocation_event setting at path)) (h (is_true (setting.inputs path))))
-  touched setting log (reaches {what = what} {at = at} {offset = offset} h) =
-      in_room (has_room setting log) at log what _ (touched setting (with_event log (access_event at offset)) h)
+      (touched setting (with_allocation setting log at path) (h (is_true (setting.inputs path))))
+  touched setting log (reaches {what = what} {at = at} {object = object} {offset = offset} h) =
+      in_room (has_room setting log) at log what _ (touched setting (with_access log at object offset) h)
   touched setting log (touches {one = one} h) = one_touch log.touches one _ (touched setting (with_touch log one) h)
 
   -- what is told of a local of a frame
@@ -110,7 +114,9 @@ module _ {S : Type 0} where
       TouchesJust (option_map (in_frame frame) (touch_of_store at access)) (store_object program memory frame at access cell operand f)
   touches_store program memory frame at access cell operand h =
       keeps_locate (inherited _) program memory access cell (λ object offset.
-      keeps_if (inherited _) (is_constant program object) stops (touches_local frame (λ declaration. touch.Store declaration at) access.local (h _)))
+      keeps_writable (inherited _) program access.at object
+      (touches_local frame (λ declaration. touch.Store declaration at) access.local
+      (h (changed (write_operand program access.ty offset operand) object memory))))
 
 -- a counted point is reached
 touches_counted_point : (budgets : RunBudgets) (at : Place) (kind : PointKind) (counted_point : ℕ) (count : Option ℕ) (m : CodeState) →
@@ -151,7 +157,7 @@ module _ (code : Code) (program : TypedProgram) (budgets : RunBudgets) where
   work_touches at (Sum bytes direction order) m =
       keeps_sum silent program.model at (cell_at m (pointer_age order)) (directed direction (number_at m (amount_age order))) bytes (λ cell. goes)
   work_touches at (Member offset) m = goes
-  work_touches at (Arrow offset) m = keeps_arrow silent at (cell_at m 0) offset (λ cell. goes)
+  work_touches at (Arrow offset) m = keeps_arrow silent at (cell_at m 0) offset (λ cell. goes {s = push_cell cell (pop m)})
   work_touches at (Load access) m = touches_load program m.memory m.frame.number access (cell_at m 0) (λ memory operand. goes)
   work_touches at (Convert from to) m = keeps_convert silent program.model at from to (operand_at m 0) (λ operand. goes)
   work_touches at (Unary operator ty) m = asks (λ number. goes)
@@ -204,9 +210,14 @@ module _ (code : Code) (program : TypedProgram) (budgets : RunBudgets) where
   first_touches (operation ∷ operations) end m =
       work_touches operation.at operation.work (cut _ (to_do (record { operations = operations; end = end }) m))
 
+  -- a step touches what is told of what stands first at the point from which it comes
+  pub steps_touch : (setting : Setting) (m : CodeState) (log : Log)
+      → HasTouched log.touches (option_map (in_frame m.frame.number) (touch_first m.frame.todo.operations m.frame.todo.end))
+      (perform setting log (code_step code program budgets m))
+  steps_touch setting m log = touched setting log (first_touches m.frame.todo.operations m.frame.todo.end m)
+
   pub steps_as_reported : (spot : Spot) (setting : Setting) (m : CodeState) (log : Log) → point_at code spot ≡ Some m.frame.todo →
       HasTouched log.touches (option_map (in_frame m.frame.number) (touch_at code spot)) (perform setting log (code_step code program budgets m))
   steps_as_reported spot setting m log e =
-      let stepped = touched setting log (first_touches m.frame.todo.operations m.frame.todo.end m) in
       subst (λ what. HasTouched log.touches (option_map (in_frame m.frame.number) what) (perform setting log (code_step code program budgets m)))
-      (sym (ap (option_and_then touch_from) e)) stepped
+      (sym (ap (option_and_then touch_from) e)) (steps_touch setting m log)

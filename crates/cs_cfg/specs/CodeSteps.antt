@@ -1,19 +1,22 @@
 -- The run of the code: what it does at each step, and how it begins.
-use Rattle.std.specs.Prelude.{ℕ, ◌+◌, ℤ, List, [], ◌∷◌, map, unwrap_or, if◌then◌else◌}
+use Rattle.std.specs.Prelude.{ℕ, ◌+◌, ℤ, List, [], ◌∷◌, map, unwrap_or, if◌then◌else◌, Contains}
 use Rattle.std.specs.Ordering.{int_eq}
 use Rattle.cs_inputs.specs.declared.path.Path.{Path}
 use Rattle.cs_inputs.specs.Inputs.{number_at as input_at}
 use Rattle.cs_ast.specs.declared.place.Place.{Place}
 use Rattle.cs_ast.specs.TypedProgram.{TypedProgram, Routine}
+use Rattle.cs_events.specs.declared.event.Event.{Event}
 use Rattle.cs_events.specs.declared.event.Label.TheVariants as label
+use Rattle.cs_events.specs.declared.input.InputKind.{InputKind}
 use Rattle.cs_events.specs.declared.outcome.Outcome.{Outcome}
 use Rattle.cs_events.specs.declared.outcome.RunBudgets.{RunBudgets}
 use Rattle.cs_events.specs.declared.point.PointKind.TheVariants as point
 use Rattle.cs_events.specs.Objects.{UnsetCell}
 use Rattle.cs_events.specs.Touches.{Meets}
 use Rattle.cs_events.specs.Acts.{Act, Goes, Touches}
-use Rattle.cs_events.specs.Runs.{Log, Ends}
-use Rattle.cs_events.specs.Pending.{Pending, IsPending}
+use Rattle.cs_events.specs.Runs.{Log, Ends, Passes, ComesTo}
+use Rattle.cs_events.specs.PendingEvents.{Pending}
+use Rattle.cs_events.specs.Pending.{IsPending}
 use Rattle.cs_meaning.specs.Initials.{number_in}
 use Rattle.cs_meaning.specs.Access.{shows_then}
 use Rattle.cs_meaning.specs.Operators.{branch}
@@ -72,7 +75,7 @@ abbrev pub code_started : Code → TypedProgram → (Path → ℤ) → ℕ → R
 code_started code program inputs entry routine = record {
   frame = code_frame entry (unwrap_or (flow_of code entry) no_flow) 0;
   callers = [];
-  memory = with_locals program 0 routine.variables (map (received program inputs) (parameters_of routine))
+  memory = with_locals program 0 routine.variables (map (λ v. Scalar (received program inputs v)) (parameters_of routine))
       (with_received program inputs (parameters_of routine) (static_memory program));
   frames = 1;
   allocations = 0;
@@ -92,3 +95,18 @@ CodeGives code program entry run budgets outcome log =
 abbrev pub CodeIsPending : Code → TypedProgram → ℕ → ProgramRun → RunBudgets → ℕ → Pending → Type 0
 CodeIsPending code program entry run budgets event pending =
     IsPending (code_step code program budgets) (setting_of program run budgets) (code_start code program entry run) event pending
+
+-- the run of the code passes these events first
+abbrev pub CodePasses : Code → TypedProgram → ℕ → ProgramRun → RunBudgets → List Event → Type 0
+CodePasses code program entry run budgets events =
+    Passes (code_step code program budgets) (setting_of program run budgets) (code_start code program entry run) events
+
+-- the run of the code comes to this log, on its way or at its end
+abbrev pub CodeComesTo : Code → TypedProgram → ℕ → ProgramRun → RunBudgets → Log → Type 0
+CodeComesTo code program entry run budgets log =
+    ComesTo (code_step code program budgets) (setting_of program run budgets) (code_start code program entry run) log
+
+-- the run of the code reads a path
+abbrev pub CodeReads : Code → TypedProgram → ℕ → ProgramRun → RunBudgets → Path → Type 0
+CodeReads code program entry run budgets path =
+    (log : Log) × (kind : InputKind) × CodeComesTo code program entry run budgets log × Contains log.read (record { path = path; kind = kind })

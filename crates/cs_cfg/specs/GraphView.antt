@@ -1,5 +1,6 @@
 -- The code of the program seen as plain data.
 use Rattle.std.specs.Prelude.{List, ◌∷◌, map, Option, Some, None, option_map}
+use Rattle.std.specs.Borrow.{Bor}
 use Rattle.cs_types.specs.Shape.{shape_of}
 use Rattle.cs_cfg.specs.declared.operation.Work as w
 use Rattle.cs_cfg.specs.declared.operation.Work.TheVariants as of
@@ -68,14 +69,14 @@ block_end (ends.Switch at temporary cases otherwise) = Switch at temporary (map 
 block_end (ends.Return temporary) = Return temporary
 block_end ends.Finish = Finish
 
+-- the operation by which a counted point is reached
+abbrev pub reaching : CountedPoint → Operation
+reaching counted_point = record { at = counted_point.place; temporary = 0; work = Reach counted_point.kind counted_point.number }
+
 -- the counted point of a block is the first thing that the block does
 abbrev pub with_counted_point : Option CountedPoint → List Operation → List Operation
 with_counted_point None operations = operations
-with_counted_point (Some counted_point) operations = record {
-  at = counted_point.place;
-  temporary = 0;
-  work = Reach counted_point.kind counted_point.number;
-} ∷ operations
+with_counted_point (Some counted_point) operations = reaching counted_point ∷ operations
 
 abbrev pub block : b.Block → Point
 block one = record { operations = with_counted_point one.counted_point (map operation one.operations.items); end = block_end one.end }
@@ -85,3 +86,10 @@ flow graph = record { blocks = map block graph.blocks.items; entry = graph.entry
 
 abbrev pub code : c.Code → Code
 code graphs = record { flows = map (option_map flow) graphs.flows.items }
+
+-- a block and a graph that are lent, if they are there
+abbrev pub lent_block : Option (Bor b.Block) → Option Point
+lent_block = option_map (λ one. block one.now)
+
+abbrev pub lent_flow : Option (Bor f.Flow) → Option Flow
+lent_flow = option_map (λ one. flow one.now)

@@ -2,6 +2,8 @@ pub mod Graph
 pub mod GraphView
 pub mod Working
 pub mod CodeSteps
+pub mod Spots
+pub mod Instructions
 pub mod Touching
 pub mod ControlPoints
 pub mod FlowText
@@ -12,5 +14,8 @@ pub mod Lowered
 pub mod Placing
 pub mod Executing
 pub mod Standing
+pub mod Passing
 pub mod Placed
+pub mod RunLaws
+pub mod FollowingFlow
 pub mod Laws

@@ -8,7 +8,7 @@ use Rattle.cs_events.specs.declared.outcome.Returned.{Returned}
 use Rattle.cs_events.specs.declared.outcome.RunBudgets.{RunBudgets}
 use Rattle.cs_events.specs.Objects.{UnsetCell}
 use Rattle.cs_events.specs.Runs.{Log}
-use Rattle.cs_events.specs.Pending.{Pending}
+use Rattle.cs_events.specs.PendingEvents.{Pending}
 use Rattle.cs_meaning.specs.Machine.{Operand, Scalar, Item, State, operand_at, routine_of}
 use Rattle.cs_meaning.specs.ProgramRuns.{ProgramRun, RunGives, RunIsPending}
 use Rattle.cs_cfg.specs.Graph.{BlockEnd, Return, Flow, Code, flow_of}

@@ -1,5 +1,5 @@
 -- What the code touches at a spot, whatever the run: a control point, or a load, a store or a clearing of a scalar local.
-use Rattle.std.specs.Prelude.{◌≡◌, ℕ, zero, suc, true, List, [], ◌∷◌, ◌++◌, ◌⊎◌, Option, Some, None, option_map, slice_get}
+use Rattle.std.specs.Prelude.{◌≡◌, ℕ, true, List, [], ◌∷◌, ◌++◌, ◌⊎◌, Option, Some, None, option_map}
 use Rattle.std.specs.Option.{option_and_then, option_to_list}
 use Rattle.cs_ast.specs.declared.place.Place.{Place}
 use Rattle.cs_events.specs.declared.point.PointKind.TheVariants as point
@@ -10,7 +10,8 @@ use Rattle.cs_cfg.specs.declared.code.Spot.{Spot}
 use Rattle.cs_cfg.specs.declared.touch.Touch.{Touch}
 use Rattle.cs_cfg.specs.declared.touch.Touch.TheVariants as touch
 use Rattle.cs_cfg.specs.Graph.{Work, Load, Store, FetchNumber, Update, FetchPointer, Move, Clear, StoreLocal, Reach, Meet, Close, Operation, BlockEnd, Branch}
-use Rattle.cs_cfg.specs.Graph.{Switch, Point, Code, flow_of}
+use Rattle.cs_cfg.specs.Graph.{Switch, Point, Code}
+use Rattle.cs_cfg.specs.Spots.{point_in, point_at}
 
 -- a load of an object, which is a touch where the object is a scalar local. Its place is that of the expression that names the object
 abbrev pub touch_of_load : Access → Option Touch
@@ -43,21 +44,6 @@ abbrev pub touch_of_end : BlockEnd → Option Touch
 touch_of_end (Branch at temporary one other) = Some (touch.Point point.Branch at)
 touch_of_end (Switch at temporary cases otherwise) = Some (touch.Point point.Switch at)
 touch_of_end other = None
-
--- what is left of a list from the element with a number on; after the last one that is nothing
-abbrev pub rest_from : ℕ → List Operation → Option (List Operation)
-rest_from zero operations = Some operations
-rest_from (suc number) [] = None
-rest_from (suc number) (operation ∷ operations) = rest_from number operations
-
--- what is left of a block from a spot on
-abbrev pub point_in : Point → ℕ → Option Point
-point_in block number = option_map (λ operations. record { operations = operations; end = block.end }) (rest_from number block.operations)
-
--- the point of the code that a spot is
-abbrev pub point_at : Code → Spot → Option Point
-point_at code spot = option_and_then (λ flow. option_and_then (λ block. point_in block spot.operation) (slice_get flow.blocks spot.block))
-    (flow_of code spot.function)
 
 -- what stands first at a point touches
 abbrev pub touch_first : List Operation → BlockEnd → Option Touch

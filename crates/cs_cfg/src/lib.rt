@@ -4,10 +4,13 @@
 #![tactic(auto)]
 
 pub mod code;
+pub mod instructions;
 pub mod laws;
 pub mod operation;
+pub mod spots;
 pub mod touch;
 
 pub use code::{Block, BlockEnd, Code, CountedPoint, Flow, Spot, SwitchCase};
+pub use instructions::Instruction;
 pub use operation::{Access, Operation, Work};
 pub use touch::Touch;

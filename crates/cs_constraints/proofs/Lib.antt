@@ -1,2 +1,3 @@
 pub mod Assuming
 pub mod Declared
+pub mod PreparedTerms

@@ -29,6 +29,16 @@ pub record HasOneNumber (sets : Sets) (symbol : Option Sym) (number : ℤ) : Typ
   pub set_is : set_of sets sym.0 ≡ Some set
   pub only : IsOnly set number
 
+-- there is a symbol, it is declared, and these are its numbers
+pub record IsSetOf (sets : Sets) (symbol : Option Sym) (set : List Interval) : Type 0 where
+  pub sym : Sym
+  pub symbol_is : symbol ≡ Some sym
+  pub set_is : set_of sets sym.0 ≡ Some set
+
+-- there is no symbol that is declared
+abbrev pub HasNoSet : Sets → Option Sym → Type 0
+HasNoSet sets symbol = (sym : Sym) → symbol ≡ Some sym → set_of sets sym.0 ≡ None
+
 -- one symbol has another set, and all others have theirs
 pub record IsNarrowed (before : Sets) (sym : ℕ) (set : List Interval) (after : Sets) : Type 0 where
   pub here : set_of after sym ≡ Some set

@@ -1,3 +1,4 @@
 pub mod Codes
 pub mod Constraints
+pub mod Prepared
 pub mod Sets

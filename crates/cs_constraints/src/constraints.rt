@@ -1,13 +1,16 @@
 //! `Constraints`, in the sense of Clang's `ConstraintManager`: `assume` adds a condition to a path or finds that the path
 //! is infeasible. Each condition bounds one symbol, so that the constraints are a range for each symbol.
-ghost use Rattle.std.specs.Prelude.{◌≡◌, ◌≢◌, true, false, ◌&&◌, ℕ, ℤ, Some, None, IsTrue, IfOk, IfSome, OnOk, OnErr, MatchOption, List};
+ghost use Rattle.std.specs.Prelude.{◌≡◌, ◌≢◌, ◌≤◌, ◌^◌, true, false, ◌&&◌, unsigned_abs, ℕ, ℤ, Some, None, IsTrue, IfOk, IfSome, OnOk, OnErr, MatchOption, List};
 ghost use Rattle.std.specs.Option.{option_copied};
 ghost use Rattle.std.specs.FinMap as map;
 ghost use Rattle.cs_ranges.specs.declared.range_set.Interval.{Interval};
 ghost use Rattle.cs_ranges.specs.RangeSet.{contains, IsEmpty, IsInhabited, IsLeastAbs};
+ghost use Rattle.cs_terms.specs.Conditions.{CanAdd, CanScale};
 ghost use Rattle.cs_terms.specs.Term.{Valuation, value_of, value_at, IsTerm};
-ghost use Rattle.cs_constraints.specs.Constraints.{set_of, AreInhabited, Fits, IsDeclared, HasValuesInside, HasOneNumber, IsNarrowed, Keeps, RulesOut};
+ghost use Rattle.cs_constraints.specs.Constraints.{set_of, AreInhabited, Fits, IsDeclared, HasValuesInside, HasOneNumber, HasNoSet, IsSetOf, IsNarrowed, Keeps, RulesOut};
+ghost use Rattle.cs_constraints.specs.Prepared.{HasIntegers, IsPrepared, IsSameFunction, IsSeenFromLeast};
 
+use crate::prepared::prepared_over;
 use cs_pmap::PMap;
 use cs_ranges::{RangeSet, affine_preimage, affine_value};
 use cs_terms::{Lin, Sym};
@@ -113,6 +116,41 @@ impl Constraints {
             },
             None => term,
         }
+    }
+
+    /// The same function in the form that arithmetic on terms asks for: a constant where the symbol can stand for one
+    /// number only, else seen from the least number that it can stand for. It takes no memory.
+    pub fn prepared(&self, term: Lin) -> Lin
+        requires term { IsTerm term }
+        requires values { HasValuesInside self.now term }
+        ensures value { (v : Valuation) → Fits v self.now
+            → value_of v result ≡ value_of v term }
+        ensures constant { (number : ℤ) → HasOneNumber self.now term.sym number
+            → result.sym ≡ None }
+        ensures function { ¬ ((number : ℤ) × HasOneNumber self.now term.sym number)
+            → IsSameFunction result term }
+        ensures place { IsSeenFromLeast self.now result }
+        ensures term { IsTerm result }
+        ensures prepared { HasIntegers self.now term → IsPrepared self.now result }
+
+        // So prepared terms meet what `add`, `merged` and `scale` of cs_terms require.
+        ensures adds { HasIntegers self.now term → (other : Lin)
+            → IsPrepared self.now other → CanAdd result other }
+        ensures scales { HasIntegers self.now term → (factor : ℤ)
+            → unsigned_abs factor ≤ 2 ^ 61 → CanScale result factor }
+    {
+        match self.numbers_of(term.sym) {
+            Some(range) => prepared_over(term, range),
+            None => term,
+        }
+    }
+
+    // The numbers of a symbol that is there and declared.
+    fn numbers_of(&self, sym: Option<Sym>) -> Option<&RangeSet>
+        ensures { MatchOption result (HasNoSet self.now sym) (λ set.
+            IsSetOf self.now sym set.now × IsInhabited set.now) }
+    {
+        self.range_of(sym?)
     }
 
     // The number of a symbol that can stand for one number only.

@@ -2,5 +2,6 @@
 #![tactic(auto)]
 
 mod constraints;
+mod prepared;
 
 pub use constraints::Constraints;

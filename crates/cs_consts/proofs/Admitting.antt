@@ -1,5 +1,5 @@
 -- A call that is admitted has an argument for each parameter: for the call's conversions.
-use Rattle.std.proofs.Common.{◌≡◌, ℕ, Bool, true, false, cond, length, eqb, Option, refl, arith}
+use Rattle.std.proofs.Common.{◌≡◌, ℕ, true, false, cond, length, eqb, Option, refl, arith}
 use Rattle.std.proofs.lemmas.Bool.Decides.{nat_tests}
 use Rattle.cs_types.specs.Shape.{Shape}
 use Rattle.cs_ast.specs.declared.place.Place.{Place}

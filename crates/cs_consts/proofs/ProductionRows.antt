@@ -1,5 +1,5 @@
 -- Arguments and bounds within written trees as lists: for the calls and sizes that the cycle of typing judges.
-use Rattle.std.proofs.Common.{◌≡◌, ℕ, suc, List, [], ◌∷◌, Option, None, length, refl, sym, ap, ◌∙◌, Vec, Global}
+use Rattle.std.proofs.Common.{◌≡◌, suc, List, [], ◌∷◌, Option, None, length, refl, sym, ap, ◌∙◌, Vec, Global}
 use mathlib.Core.Former.{Count}
 use Rattle.cs_types.specs.Shape.{Shape}
 use Rattle.cs_ast.specs.declared.place.Place.{Place}
@@ -8,15 +8,13 @@ use Rattle.cs_ast.specs.declared.raw.expression.RawExpr.{RawExpr}
 use Rattle.cs_ast.specs.declared.raw.expression.RawExprKind.{RawExprKind, Row_of-RawExpr, end_of-RawExpr, more_of-RawExpr, items-the_row-RawExpr}
 use Rattle.cs_ast.specs.declared.raw.expression.RawExprKind.{items_hidden-the_row-RawExpr-0}
 use Rattle.cs_ast.specs.declared.raw.expression.RawExprKind.TheVariants as kind
-use Rattle.cs_ast.specs.TypedTree.{Typed}
 use Rattle.cs_scopes.specs.declared.context.Context.{Context}
 use Rattle.cs_consts.specs.declared.purpose.Purpose.{Purpose}
-use Rattle.cs_consts.specs.declared.purpose.Purpose.TheVariants.{Constant}
-use Rattle.cs_scopes.specs.Verdicts.{Verdict, lift, lift2}
+use Rattle.cs_scopes.specs.Verdicts.{lift, lift2}
 use Rattle.cs_scopes.specs.TypeNames.{complete_at}
 use Rattle.cs_expressions.specs.Calls.{called, parameters_of}
 use Rattle.cs_expressions.specs.Primary.{Literals}
-use Rattle.cs_consts.specs.Typing.{literals_after, literals_after_row, literals_after_list, row_length, formed, done, operand_in, further, arguments_formed}
+use Rattle.cs_consts.specs.Typing.{literals_after, literals_after_row, literals_after_list, row_length, formed, operand_in, further, arguments_formed}
 use Rattle.cs_consts.specs.Typing.{arguments_listed, number_before, numbers_formed, numbers_listed, call_or_not, call_formed, cast_formed, measured_arrays}
 use Rattle.cs_consts.specs.Typing.{base_in}
 

@@ -1,7 +1,6 @@
 -- What the rule of each production comes to where its parts are known, or where one of them is refused: for the cycle of typing.
-use Rattle.std.proofs.Common.{◌≡◌, ℕ, ℤ, zero, suc, List, [], ◌∷◌, Bool, true, false, Option, Some, None, length, refl, sym, ap, subst}
-use Rattle.std.proofs.Common.{◌∙◌, Result, Ok, Err}
-use Rattle.std.specs.Prelude.{if◌then◌else◌}
+use Rattle.std.proofs.Common.{◌≡◌, ℕ, List, true, false, Option, Some, None, length, refl, sym, ap}
+use Rattle.std.proofs.Common.{◌∙◌, Result}
 use Rattle.cs_types.specs.Shape.{Shape}
 use Rattle.cs_ast.specs.declared.place.Place.{Place}
 use Rattle.cs_ast.specs.declared.raw.expression.RawExpr.{RawExpr}
@@ -16,14 +15,18 @@ use Rattle.cs_scopes.specs.declared.refusal.TypeRefusal.{TypeRefusal}
 use Rattle.cs_scopes.specs.declared.refusal.TypeRefusal.TheVariants as refusal
 use Rattle.cs_scopes.specs.declared.refusal.TypeCode.TheVariants as code
 use Rattle.cs_scopes.specs.Meanings.{Signature}
-use Rattle.cs_scopes.specs.Verdicts.{Verdict, Fine, Fault, lift, lift2, lift3, IsRefused, Yields}
+use Rattle.cs_scopes.specs.Verdicts.{Verdict, Fine, lift, lift2, lift3, IsRefused, Yields}
+use Rattle.cs_folding.specs.TypedParts.{type_of}
 use Rattle.cs_expressions.specs.Objects.{valued, operand}
+use Rattle.cs_expressions.specs.Stores.{led}
 use Rattle.cs_consts.specs.Constants.{finished}
 use Rattle.cs_expressions.specs.Operators.{combined, tested}
 use Rattle.cs_expressions.specs.Calls.{called, parameters_of, admitted}
 use Rattle.cs_expressions.specs.Primary.{Literals}
-use Rattle.cs_consts.specs.Typing.{literals_after, formed, done, value_in, operand_in, purpose_after, purpose_if, right_target, type_in, is_plain, left_side}
-use Rattle.cs_consts.specs.Typing.{stored, infix_formed, choice_formed, chosen_values, store_formed, cast_formed, cast_to, cast_type, base_in, given_shape}
+use Rattle.cs_consts.specs.Typing.{literals_after, formed, done, value_in, operand_in, purpose_after, purpose_if, right_target, left_side}
+use Rattle.cs_consts.specs.Typing.{left_fault}
+use Rattle.cs_consts.specs.Typing.{stored, stored_to, infix_formed, choice_formed, chosen_values, store_formed, cast_formed, cast_to, cast_type, base_in}
+use Rattle.cs_consts.specs.Typing.{given_shape}
 use Rattle.cs_consts.specs.Typing.{call_formed, call_or_not, call_with, no_function, arguments_listed}
 use Rattle.cs_scopes.proofs.Lifting.{lift-fine, lift2-fine, lift3-fine, lift-refused, lift2-refused-first, lift2-refused-second, lift3-refused-first}
 use Rattle.cs_scopes.proofs.Lifting.{lift3-refused-second, lift3-refused-third, yields_as, refused_as}
@@ -166,17 +169,9 @@ choice_taken c p ls ms ns at test one other e t o q following last result f g k 
     ∙ lift3-fine (chosen_values c at) t o q) j
 
 -- an operator that stores
-store_is : (c : Context) (p : Purpose) (ls : Literals) (at : Place) (op : AssignOp) (object value : RawExpr) (left : Verdict Typed) (o : Typed)
-    → left ≡ Fine o
-    → lift2 (stored c op at) left (operand_in c p (formed c p (literals_after ls object.kind.value) (right_target op left) value.place value.kind.value))
-    ≡ lift2 (stored c op at) (Fine o)
-    (operand_in c p (formed c p (literals_after ls object.kind.value) (right_target op (Fine o)) value.place value.kind.value))
-store_is c p ls at op object value left o e =
-    ap (λ x. lift2 (stored c op at) x (operand_in c p (formed c p (literals_after ls object.kind.value) (right_target op x) value.place value.kind.value))) e
-
-left_is : (c : Context) (at : Place) (op : AssignOp) (v : Verdict Typed) (e o : Typed) → v ≡ Fine e → left_side c op at e ≡ Fine o
-    → lift (left_side c op at) v ≡ Fine o
-left_is c at op v e o f g = ap (lift (left_side c op at)) f ∙ lift-fine (left_side c op at) e ∙ g
+left_is : (at : Place) (op : AssignOp) (v : Verdict Typed) (e o : Typed) → v ≡ Fine e → left_side op at e ≡ Fine o
+    → lift (left_side op at) v ≡ Fine o
+left_is at op v e o f g = ap (lift (left_side op at)) f ∙ lift-fine (left_side op at) e ∙ g
 
 right_side : (c : Context) (p : Purpose) (value : RawExpr) (ls ms : Literals) (s t : Option Shape) → ls ≡ ms → s ≡ t
     → operand_in c p (formed c p ms t value.place value.kind.value) ≡ operand_in c p (formed c p ls s value.place value.kind.value)
@@ -184,32 +179,45 @@ right_side c p value ls ms s t e f =
     sym (ap (λ z. operand_in c p (formed c p z s value.place value.kind.value)) e
     ∙ ap (λ z. operand_in c p (formed c p ms z value.place value.kind.value)) f)
 
+-- the right side of one, after literals and for a target that are known
+abbrev right_of : (c : Context) (p : Purpose) (value : RawExpr) (ms : Literals) (target : Option Shape) → Verdict Typed
+right_of c p value ms target = operand_in c p (formed c p ms target value.place value.kind.value)
+
+store_is : (c : Context) (p : Purpose) (ls ms : Literals) (at : Place) (op : AssignOp) (object value : RawExpr) (e o : Typed) (target : Option Shape)
+    → done c p (formed c p ls None object.place object.kind.value) ≡ Fine e → left_side op at e ≡ Fine o → ms ≡ literals_after ls object.kind.value
+    → target ≡ right_target op (Fine o) → store_formed c p ls at op object value ≡ stored_to c op at (right_of c p value ms target) o
+store_is c p ls ms at op object value e o target f g k m =
+    let left = left_is at op _ e o f g in
+    ap (λ x. lift (stored_to c op at (right_of c p value (literals_after ls object.kind.value) (right_target op x))) x) left
+    ∙ lift-fine (stored_to c op at (right_of c p value (literals_after ls object.kind.value) (right_target op (Fine o)))) o
+    ∙ ap (λ x. stored_to c op at x o) (right_side c p value ms _ target _ k m)
+
 pub store_object_stops : (c : Context) (p : Purpose) (ls : Literals) (at : Place) (op : AssignOp) (object value : RawExpr) (r : TypeRefusal)
     → IsRefused (done c p (formed c p ls None object.place object.kind.value)) r → IsRefused (store_formed c p ls at op object value) r
-store_object_stops c p ls at op object value r h = lift2-refused-first (stored c op at) _ _ r (lift-refused (left_side c op at) _ r h)
+store_object_stops c p ls at op object value r h = lift-refused _ _ r (lift-refused (left_side op at) _ r h)
 
 pub store_left_stops : (c : Context) (p : Purpose) (ls : Literals) (at : Place) (op : AssignOp) (object value : RawExpr) (e : Typed) (r : TypeRefusal)
-    → done c p (formed c p ls None object.place object.kind.value) ≡ Fine e → IsRefused (left_side c op at e) r
+    → done c p (formed c p ls None object.place object.kind.value) ≡ Fine e → IsRefused (left_side op at e) r
     → IsRefused (store_formed c p ls at op object value) r
 store_left_stops c p ls at op object value e r f h =
-    lift2-refused-first (stored c op at) _ _ r (refused_as r (ap (lift (left_side c op at)) f ∙ lift-fine (left_side c op at) e) h)
+    lift-refused _ _ r (refused_as r (ap (lift (left_side op at)) f ∙ lift-fine (left_side op at) e) h)
 
 pub store_value_stops : (c : Context) (p : Purpose) (ls ms : Literals) (at : Place) (op : AssignOp) (object value : RawExpr) (e o : Typed)
-    (target : Option Shape) (r : TypeRefusal) → done c p (formed c p ls None object.place object.kind.value) ≡ Fine e → left_side c op at e ≡ Fine o
+    (target : Option Shape) (r : TypeRefusal) → done c p (formed c p ls None object.place object.kind.value) ≡ Fine e → left_side op at e ≡ Fine o
     → ms ≡ literals_after ls object.kind.value → target ≡ right_target op (Fine o)
-    → IsRefused (operand_in c p (formed c p ms target value.place value.kind.value)) r → IsRefused (store_formed c p ls at op object value) r
+    → IsRefused (led at (left_fault c op (type_of o)) (operand_in c p (formed c p ms target value.place value.kind.value))) r
+    → IsRefused (store_formed c p ls at op object value) r
 store_value_stops c p ls ms at op object value e o target r f g k m h =
-    refused_as r (store_is c p ls at op object value _ o (left_is c at op _ e o f g))
-    (lift2-refused-second (stored c op at) o _ r (refused_as r (right_side c p value ms _ target _ k m) h))
+    refused_as r (store_is c p ls ms at op object value e o target f g k m) (lift-refused (stored c op at o) _ r h)
 
 pub store_taken : (c : Context) (p : Purpose) (ls ms : Literals) (at : Place) (op : AssignOp) (object value : RawExpr) (e o v : Typed) (target : Option Shape)
-    (result : Result Expr TypeRefusal) → done c p (formed c p ls None object.place object.kind.value) ≡ Fine e → left_side c op at e ≡ Fine o
+    (result : Result Expr TypeRefusal) → done c p (formed c p ls None object.place object.kind.value) ≡ Fine e → left_side op at e ≡ Fine o
     → ms ≡ literals_after ls object.kind.value → target ≡ right_target op (Fine o)
-    → operand_in c p (formed c p ms target value.place value.kind.value) ≡ Fine v → Yields (stored c op at o v) result
-    → Yields (store_formed c p ls at op object value) result
+    → led at (left_fault c op (type_of o)) (operand_in c p (formed c p ms target value.place value.kind.value)) ≡ Fine v
+    → Yields (stored c op at o v) result → Yields (store_formed c p ls at op object value) result
 store_taken c p ls ms at op object value e o v target result f g k m h i =
-    yields_as result (store_is c p ls at op object value _ o (left_is c at op _ e o f g)
-    ∙ ap (lift2 (stored c op at) (Fine o)) (right_side c p value ms _ target _ k m ∙ h) ∙ lift2-fine (stored c op at) o v) i
+    yields_as result (store_is c p ls ms at op object value e o target f g k m
+    ∙ ap (lift (stored c op at o)) h ∙ lift-fine (stored c op at o) v) i
 
 -- a cast
 pub cast_type_stops : (c : Context) (p : Purpose) (ls : Literals) (at : Place) (ty : WrittenType) (bounds : ℕ) (e : RawExpr) (r : TypeRefusal)

@@ -1,5 +1,5 @@
 -- What the rules of productions with one part come to: steps, operators before an operand, members, sizes and sequences.
-use Rattle.std.proofs.Common.{◌≡◌, ℤ, List, refl, sym, ap, subst, ◌∙◌, Result, Ok, Err}
+use Rattle.std.proofs.Common.{◌≡◌, ℤ, List, ap, subst, ◌∙◌, Result, Ok, Err}
 use Rattle.std.specs.Prelude.{OnOk}
 use Rattle.cs_types.specs.Shape.{Shape}
 use Rattle.cs_ast.specs.declared.place.Place.{Place}
@@ -10,7 +10,7 @@ use Rattle.cs_ast.specs.TypedTree.{Typed}
 use Rattle.cs_scopes.specs.declared.context.Context.{Context}
 use Rattle.cs_scopes.specs.declared.refusal.TypeRefusal.{TypeRefusal}
 use Rattle.cs_scopes.specs.Verdicts.{Verdict, Fine, lift, lift2, IsRefused, Yields}
-use Rattle.cs_expressions.specs.Stores.{updatable}
+use Rattle.cs_expressions.specs.Stores.{steppable}
 use Rattle.cs_scopes.specs.TypeNames.{complete_at}
 use Rattle.cs_consts.specs.Typing.{stepped_object, measured_arrays}
 use Rattle.cs_scopes.proofs.Lifting.{lift-fine, lift2-fine, lift-refused, lift2-refused-first, lift2-refused-second, yields_as, refused_as}
@@ -37,22 +37,22 @@ second_stops rule v w a r e h = refused_as r (ap (λ x. lift2 rule x w) e) (lift
 
 -- a step
 pub step_object_stops : (c : Context) (at : Place) (op : BinOp) (gives : Gives) (v : Verdict Typed) (r : TypeRefusal) → IsRefused v r
-    → IsRefused (lift (stepped_object c op gives at) (lift (updatable c.table.list op at) v)) r
-step_object_stops c at op gives v r h = lift-refused (stepped_object c op gives at) _ r (lift-refused (updatable c.table.list op at) v r h)
+    → IsRefused (lift (stepped_object c op gives at) (lift (steppable c.table.list op at) v)) r
+step_object_stops c at op gives v r h = lift-refused (stepped_object c op gives at) _ r (lift-refused (steppable c.table.list op at) v r h)
 
-pub step_updatable_stops : (c : Context) (at : Place) (op by : BinOp) (gives : Gives) (v : Verdict Typed) (e : Typed) (r : TypeRefusal) → by ≡ op
-    → v ≡ Fine e → IsRefused (updatable c.table.list by at e) r
-    → IsRefused (lift (stepped_object c op gives at) (lift (updatable c.table.list op at) v)) r
-step_updatable_stops c at op by gives v e r same f h =
-    subst (λ o. IsRefused (lift (stepped_object c o gives at) (lift (updatable c.table.list o at) v)) r) same
-    (lift-refused (stepped_object c by gives at) _ r (refused_as r (lift_is (updatable c.table.list by at) v e f) h))
+pub step_steppable_stops : (c : Context) (at : Place) (op by : BinOp) (gives : Gives) (v : Verdict Typed) (e : Typed) (r : TypeRefusal) → by ≡ op
+    → v ≡ Fine e → IsRefused (steppable c.table.list by at e) r
+    → IsRefused (lift (stepped_object c op gives at) (lift (steppable c.table.list op at) v)) r
+step_steppable_stops c at op by gives v e r same f h =
+    subst (λ o. IsRefused (lift (stepped_object c o gives at) (lift (steppable c.table.list o at) v)) r) same
+    (lift-refused (stepped_object c by gives at) _ r (refused_as r (lift_is (steppable c.table.list by at) v e f) h))
 
 pub step_taken : (c : Context) (at : Place) (op by : BinOp) (gives : Gives) (v : Verdict Typed) (e o : Typed) (result : Result Expr TypeRefusal) → by ≡ op
-    → v ≡ Fine e → updatable c.table.list by at e ≡ Fine o → Yields (stepped_object c by gives at o) result
-    → Yields (lift (stepped_object c op gives at) (lift (updatable c.table.list op at) v)) result
+    → v ≡ Fine e → steppable c.table.list by at e ≡ Fine o → Yields (stepped_object c by gives at o) result
+    → Yields (lift (stepped_object c op gives at) (lift (steppable c.table.list op at) v)) result
 step_taken c at op by gives v e o result same f g h =
-    subst (λ x. Yields (lift (stepped_object c x gives at) (lift (updatable c.table.list x at) v)) result) same
-    (yields_as result (lift_is (stepped_object c by gives at) _ o (lift_is (updatable c.table.list by at) v e f ∙ g)) h)
+    subst (λ x. Yields (lift (stepped_object c x gives at) (lift (steppable c.table.list x at) v)) result) same
+    (yields_as result (lift_is (stepped_object c by gives at) _ o (lift_is (steppable c.table.list by at) v e f ∙ g)) h)
 
 -- `sizeof` of a type
 pub size_base_stops : (c : Context) (at : Place) (base : Verdict Shape) (numbers : Verdict (List ℤ)) (r : TypeRefusal) → IsRefused base r

@@ -1,10 +1,10 @@
 -- What the typing of declarations and statements asks of expressions.
 use Rattle.std.specs.Prelude.{ℤ, Option, Some, None, []}
 use Rattle.cs_types.specs.declared.int_type.IntType.{IntType}
-use Rattle.cs_types.specs.Shape.{Shape, void, integer, pointer, array, struct}
+use Rattle.cs_types.specs.Shape.{Shape, integer}
 use Rattle.cs_ast.specs.declared.place.Place.{Place}
 use Rattle.cs_ast.specs.declared.raw.expression.RawExpr.{RawExpr}
-use Rattle.cs_ast.specs.TypedTree.{Typed, Of, Form, Number}
+use Rattle.cs_ast.specs.TypedTree.{Typed, Of, Number}
 use Rattle.cs_scopes.specs.declared.context.Context.{Context}
 use Rattle.cs_consts.specs.declared.purpose.Purpose.TheVariants.{Run, Constant}
 use Rattle.cs_scopes.specs.declared.refusal.TypeCode.TheVariants as code

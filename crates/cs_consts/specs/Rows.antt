@@ -1,7 +1,7 @@
 -- What loops over arguments and bounds have made so far, before what is left.
 use Rattle.std.specs.Prelude.{ℤ, List, [], ◌∷◌, ◌++◌}
 use Rattle.cs_ast.specs.declared.typed.expression.Expr.{Expr}
-use Rattle.cs_ast.specs.TypedTree.{Typed, TypedList, NoMore, Further}
+use Rattle.cs_ast.specs.TypedTree.{TypedList, Further}
 use Rattle.cs_ast.specs.TypedView.{typed}
 use Rattle.cs_scopes.specs.Verdicts.{Verdict, Fine}
 

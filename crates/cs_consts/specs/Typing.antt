@@ -1,9 +1,9 @@
 -- The typing of expressions (C11 6.5): one rule for each production, told at the first failing place.
-use Rattle.std.specs.Prelude.{◌≡◌, ℕ, zero, suc, ◌+◌, ℤ, pos, int_le, nat_le, length, Bool, true, false, not, ◌&&◌, if◌then◌else◌, List}
-use Rattle.std.specs.Prelude.{[], ◌∷◌, ◌++◌, Option, Some, None, Result, Ok, Err}
+use Rattle.std.specs.Prelude.{ℕ, zero, suc, ℤ, pos, length, Bool, true, false, if◌then◌else◌, List}
+use Rattle.std.specs.Prelude.{[], ◌∷◌, ◌++◌, Option, Some, None}
 use Rattle.std.specs.Ordering.{int_eq}
 use Rattle.cs_types.specs.declared.int_type.IntType.TheVariants as int_type
-use Rattle.cs_types.specs.Shape.{Shape, void, integer, pointer, array, struct}
+use Rattle.cs_types.specs.Shape.{Shape, integer, array, struct}
 use Rattle.cs_ast.specs.declared.place.Place.{Place}
 use Rattle.cs_ast.specs.declared.raw.expression.RawExpr.{RawExpr}
 use Rattle.cs_ast.specs.declared.raw.expression.RawExprKind.{RawExprKind, Row_of-RawExpr, end_of-RawExpr, more_of-RawExpr}
@@ -24,18 +24,20 @@ use Rattle.cs_ast.specs.TypedTree.{Typed, Of, Form, Number, TypedList, NoMore, F
 use Rattle.cs_scopes.specs.declared.context.Context.{Context}
 use Rattle.cs_consts.specs.declared.purpose.Purpose.{Purpose}
 use Rattle.cs_consts.specs.declared.purpose.Purpose.TheVariants.{Run, Constant, Unneeded}
+use Rattle.cs_scopes.specs.declared.refusal.TypeCode.{TypeCode}
 use Rattle.cs_scopes.specs.declared.refusal.TypeCode.TheVariants as code
-use Rattle.cs_scopes.specs.Meanings.{Signature, Meaning, Declaration}
+use Rattle.cs_scopes.specs.Meanings.{Signature}
 use Rattle.cs_scopes.specs.Verdicts.{Verdict, Fine, Fault, lift, lift2, lift3}
 use Rattle.cs_folding.specs.TypedParts.{type_of, form_of}
 use Rattle.cs_expressions.specs.Integers.{raised, turned}
-use Rattle.cs_types.specs.Kinds.{is_void, is_array}
+use Rattle.cs_types.specs.Kinds.{is_void}
 use Rattle.cs_expressions.specs.Objects.{valued, operand, measured}
 use Rattle.cs_consts.specs.Constants.{finished}
 use Rattle.cs_expressions.specs.Conversions.{converted, recast}
 use Rattle.cs_expressions.specs.Operators.{combined, tested, denied, chosen, followed}
 use Rattle.cs_expressions.specs.Places.{address_of, through, indexed, selected, selected_through}
-use Rattle.cs_expressions.specs.Stores.{assignable, assigned, updatable, updated, step_operator, stepped}
+use Rattle.cs_expressions.specs.Stores.{assignable, assigned_fault, assigned, updatable, updated_fault, updated, weighed, led, step_operator}
+use Rattle.cs_expressions.specs.Stores.{steppable, stepped}
 use Rattle.cs_expressions.specs.Primary.{Literals, constant_type, named, text_at}
 use Rattle.cs_scopes.specs.Scopes.{newest}
 use Rattle.cs_scopes.specs.TypeNames.{type_named, arrayed, complete_at}
@@ -156,15 +158,27 @@ is_plain assign_op.Plain = true
 is_plain other = false
 
 -- the left side of an operator that stores: what the operator asks of it alone
-unfoldable pub left_side : Context → AssignOp → Place → Typed → Verdict Typed
-left_side c op at e = if is_plain op then assignable c.table.list at e else updatable c.table.list (operator_of op) at e
+unfoldable pub left_side : AssignOp → Place → Typed → Verdict Typed
+left_side op at e = if is_plain op then assignable at e else updatable (operator_of op) at e
 
--- an operator that stores, between an object and a value
-unfoldable pub stored : Context → AssignOp → Place → Typed → Typed → Verdict Typed
-stored c op at object value =
+-- what the operator asks of the type of its left side besides: this counts beside what it asks of both sides
+unfoldable pub left_fault : Context → AssignOp → Shape → Option TypeCode
+left_fault c op ty = if is_plain op then assigned_fault c.table.list ty else updated_fault c.table.list ty
+
+-- an operator that stores, between an object and a value, as far as both types go
+unfoldable pub stored_by : Context → AssignOp → Place → Typed → Typed → Verdict Typed
+stored_by c op at object value =
     if is_plain op
     then lift (assigned at object) (converted c.model at value (type_of object) (type_of value))
     else updated c.model (operator_of op) at object value (type_of object) (type_of value)
+
+-- an operator that stores, between an object and a value
+unfoldable pub stored : Context → AssignOp → Place → Typed → Typed → Verdict Typed
+stored c op at object value = weighed at (left_fault c op (type_of object)) (stored_by c op at object value)
+
+-- an operator that stores to an object, whose right side may be refused: the operator comes before it
+abbrev pub stored_to : Context → AssignOp → Place → Verdict Typed → Typed → Verdict Typed
+stored_to c op at right object = lift (stored c op at object) (led at (left_fault c op (type_of object)) right)
 
 -- the type of what an expression gives
 abbrev pub type_in : Verdict Typed → Option Shape
@@ -269,11 +283,11 @@ abbrev mutual
   -- C11 6.5.2.4
   formed c purpose literals target at (kind.StepAfter' step place p object) =
       lift (stepped_object c (step_operator step) Old at)
-      (lift (updatable c.table.list (step_operator step) at) (done c purpose (formed c purpose literals None place object)))
+      (lift (steppable c.table.list (step_operator step) at) (done c purpose (formed c purpose literals None place object)))
   -- C11 6.5.3.1
   formed c purpose literals target at (kind.StepBefore' step place p object) =
       lift (stepped_object c (step_operator step) New at)
-      (lift (updatable c.table.list (step_operator step) at) (done c purpose (formed c purpose literals None place object)))
+      (lift (steppable c.table.list (step_operator step) at) (done c purpose (formed c purpose literals None place object)))
   -- C11 6.5.3.2, 6.5.3.3
   formed c purpose literals target at (kind.Prefix' operator place p e) =
       lift (prefixed c operator at) (done c purpose (formed c purpose literals None place e))
@@ -301,9 +315,9 @@ abbrev mutual
       (value_in c (purpose_if false purpose yields) (formed c (purpose_if false purpose yields) (literals_after following one) None place'' other))
   -- C11 6.5.16
   formed c purpose literals target at (kind.Assign' operator place p object place' q value) =
-      let left = lift (left_side c operator at) (done c purpose (formed c purpose literals None place object)) in
-      lift2 (stored c operator at) left
-      (operand_in c purpose (formed c purpose (literals_after literals object) (right_target operator left) place' value))
+      let left = lift (left_side operator at) (done c purpose (formed c purpose literals None place object)) in
+      let right = operand_in c purpose (formed c purpose (literals_after literals object) (right_target operator left) place' value) in
+      lift (stored_to c operator at right) left
   -- C11 6.5.17
   formed c purpose literals target at (kind.Comma' place p first place' q second) =
       lift2 (followed at)
@@ -346,9 +360,10 @@ choice_formed c purpose literals at test one other =
 
 abbrev pub store_formed : Context → Purpose → Literals → Place → AssignOp → RawExpr → RawExpr → Verdict Typed
 store_formed c purpose literals at operator object value =
-    let left = lift (left_side c operator at) (done c purpose (formed c purpose literals None object.place object.kind.value)) in
-    lift2 (stored c operator at) left
-    (operand_in c purpose (formed c purpose (literals_after literals object.kind.value) (right_target operator left) value.place value.kind.value))
+    let left = lift (left_side operator at) (done c purpose (formed c purpose literals None object.place object.kind.value)) in
+    let right =
+    operand_in c purpose (formed c purpose (literals_after literals object.kind.value) (right_target operator left) value.place value.kind.value) in
+    lift (stored_to c operator at right) left
 
 abbrev pub cast_formed : Context → Purpose → Literals → Place → WrittenType → ℕ → RawExpr → Verdict Typed
 cast_formed c purpose literals at ty bounds e =

@@ -3,11 +3,11 @@ ghost use Rattle.std.specs.Prelude.{◌≡◌, OnOk, IfOk, None, Some, length, v
 ghost use Rattle.cs_types.specs.Shape.{shape_of};
 ghost use Rattle.cs_ast.specs.TypedView.{typed, form, typed_list};
 ghost use Rattle.cs_scopes.specs.Verdicts.{Fine, lift, lift2, lift3, Yields, Answers};
-ghost use Rattle.cs_expressions.specs.Stores.{updatable, step_operator};
+ghost use Rattle.cs_expressions.specs.Stores.{steppable, step_operator};
 ghost use Rattle.cs_scopes.specs.TypeNames.{complete_at};
 ghost use Rattle.cs_scopes.specs.Meanings.{signature_of};
 ghost use Rattle.cs_expressions.specs.Calls.{shape_in};
-ghost use Rattle.cs_consts.specs.Typing.{literals_after, literals_after_list, formed, judged, value_in, operand_in, done, stepped_object, is_address, prefixed, prefixed_value, purpose_after, purpose_if, is_zero_number, is_plain, operator_of, left_side, stored, arguments_listed, numbers_listed, measured_arrays, base_in, number_at, call_with, cast_type, castable, cast_operand, cast_to, infix_formed, choice_formed, store_formed, call_formed, cast_formed};
+ghost use Rattle.cs_consts.specs.Typing.{literals_after, literals_after_list, formed, judged, value_in, operand_in, done, stepped_object, is_address, prefixed, prefixed_value, purpose_after, purpose_if, is_zero_number, is_plain, operator_of, left_side, left_fault, stored_by, stored, arguments_listed, numbers_listed, measured_arrays, base_in, number_at, call_with, cast_type, castable, cast_operand, cast_to, infix_formed, choice_formed, store_formed, call_formed, cast_formed};
 
 use crate::constants::finished;
 use crate::purpose::Purpose;
@@ -18,10 +18,10 @@ use cs_ast::raw::written_type::WrittenType;
 use cs_ast::typed::expression::{Expr, ExprKind};
 use cs_ast::typed::operator::{BinOp, Gives, UnOp};
 use cs_expressions::{
-    address_of, admitted, assignable, assigned, call_of, called, chosen, combined, constant_type,
-    converted, converted_list, denied, followed, indexed, measured, named, number, operand, raised,
-    recast, selected, selected_through, step_operator, stepped, tested, text, through, turned,
-    updatable, updated, valued,
+    address_of, admitted, assignable, assigned, assigned_fault, call_of, called, chosen, combined,
+    constant_type, converted, converted_list, denied, followed, indexed, led, measured, named,
+    number, operand, raised, recast, selected, selected_through, step_operator, steppable, stepped,
+    tested, text, through, turned, updatable, updated, updated_fault, valued, weighed,
 };
 use cs_names::Bytes;
 use cs_scopes::{Context, Function, TypeCode, TypeRefusal, arrayed, complete_at, type_named};
@@ -191,7 +191,7 @@ fn step(
 ) -> Result<Expr, TypeRefusal>
     ensures reported { Yields
         (lift (stepped_object context.now (step_operator step) gives place)
-        (lift (updatable context.now.table.list (step_operator step) place)
+        (lift (steppable context.now.table.list (step_operator step) place)
         (done context.now purpose
         (formed context.now purpose literals.old.items None object.now.place
         object.now.kind.value)))) result }
@@ -200,7 +200,7 @@ fn step(
 {
     let operator = step_operator(step);
     let object = judged(alloc, context, purpose, literals, None, object)?;
-    let object = updatable(&context.table, operator, place, object)?;
+    let object = steppable(&context.table, operator, place, object)?;
     stepped(alloc, context.model, operator, gives, place, object)
 }
 
@@ -366,9 +366,11 @@ fn store(
         value.now.kind.value) }
 {
     let object = judged(alloc, context, purpose, literals, None, object)?;
-    let object = left_side(context, operator, place, object)?;
+    let object = left_side(operator, place, object)?;
+    let fault = left_fault(context, operator, &object.ty);
     let target = right_target(operator, &object.ty);
-    let value = operand_in(alloc, context, purpose, literals, target, value)?;
+    let right = operand_in(alloc, context, purpose, literals, target, value);
+    let value = led(place, fault, right)?;
     stored(alloc, context, operator, place, object, value)
 }
 
@@ -409,23 +411,30 @@ fn operator_of(operator: AssignOp) -> BinOp
 
 // The left side of an operator that stores: what the operator asks of it alone.
 #[tactic(auto, unfolding(crate::specs::Typing::left_side))]
-fn left_side(
-    context: &Context,
-    operator: AssignOp,
-    place: Place,
-    object: Expr,
-) -> Result<Expr, TypeRefusal>
-    ensures { Yields (left_side context.now operator place (typed object)) result }
+fn left_side(operator: AssignOp, place: Place, object: Expr) -> Result<Expr, TypeRefusal>
+    ensures { Yields (left_side operator place (typed object)) result }
 {
     if is_plain(operator) {
-        assignable(&context.table, place, object)
+        assignable(place, object)
     } else {
-        updatable(&context.table, operator_of(operator), place, object)
+        updatable(operator_of(operator), place, object)
     }
 }
 
-// An operator that stores, between an object and a value.
-#[tactic(auto, unfolding(crate::specs::Typing::stored), using(cs_scopes::proofs::Lifting::lifts))]
+// What the operator asks of the type of its left side besides.
+#[tactic(auto, unfolding(crate::specs::Typing::left_fault))]
+fn left_fault(context: &Context, operator: AssignOp, ty: &CType) -> Option<TypeCode>
+    ensures { result ≡ left_fault context.now operator (shape_of ty.now) }
+{
+    if is_plain(operator) {
+        assigned_fault(&context.table, ty)
+    } else {
+        updated_fault(&context.table, ty)
+    }
+}
+
+// An operator that stores, between an object and a value: of what it asks of the object's type and of both, the least code is told.
+#[tactic(auto, unfolding(crate::specs::Typing::stored))]
 fn stored(
     alloc: Global,
     context: &Context,
@@ -435,6 +444,23 @@ fn stored(
     value: Expr,
 ) -> Result<Expr, TypeRefusal>
     ensures { Yields (stored context.now operator place (typed object) (typed value)) result }
+{
+    let fault = left_fault(context, operator, &object.ty);
+    let made = stored_by(alloc, context, operator, place, object, value);
+    weighed(place, fault, made)
+}
+
+// An operator that stores, between an object and a value, as far as both types go.
+#[tactic(auto, unfolding(crate::specs::Typing::stored_by), using(cs_scopes::proofs::Lifting::lifts))]
+fn stored_by(
+    alloc: Global,
+    context: &Context,
+    operator: AssignOp,
+    place: Place,
+    object: Expr,
+    value: Expr,
+) -> Result<Expr, TypeRefusal>
+    ensures { Yields (stored_by context.now operator place (typed object) (typed value)) result }
 {
     if !is_plain(operator) {
         let operator = operator_of(operator);

@@ -35,16 +35,17 @@ use Rattle.cs_grammar.proofs.BlockItems.{default_single, inside_single}
 use Rattle.cs_grammar.proofs.ItemSites.{case_none}
 use Rattle.cs_expr_parser.specs.Positions.{kind_or_end}
 use Rattle.cs_expr_parser.specs.Parts.{Spells}
-use Rattle.cs_decl_parser.specs.declared.source.Scope.TheVariants as scope
+use Rattle.cs_declarator_parser.specs.declared.source.Scope.TheVariants as scope
 use Rattle.cs_expr_parser.specs.declared.stop.Stop.{Stop}
 use Rattle.cs_expr_parser.specs.declared.stop.Stop.TheVariants as stop
-use Rattle.cs_decl_parser.specs.declared.stop.Taken.{Taken}
+use Rattle.cs_declarator_parser.specs.declared.stop.Taken.{Taken}
 use Rattle.cs_decl_parser.specs.Nodes.{IsNode}
-use Rattle.cs_decl_parser.specs.Answers.{Stops, IsExactly, IsTaken}
+use Rattle.cs_declarator_parser.specs.Answers.{Stops, IsExactly, IsTaken}
 use Rattle.cs_decl_parser.specs.Blocks.{items_of, switch_items_of, AreTaken}
 use Rattle.cs_expr_parser.proofs.Standing.{spells_none, spells_more}
-use Rattle.cs_decl_parser.proofs.StatementStops.{Standing, IsPlainStop, near_start, stops_plain, stops_full, pair_first_stops, pair_second_stops, pair_stands}
-use Rattle.cs_decl_parser.proofs.StatementStops.{single_stops, single_stands, no_fits, exactly_stands, closed_missing, closed_stands}
+use Rattle.cs_declarator_parser.proofs.PartStops.{Standing, IsPlainStop, near_start, stops_plain, stops_full, pair_first_stops, pair_second_stops}
+use Rattle.cs_declarator_parser.proofs.PartStops.{pair_stands}
+use Rattle.cs_declarator_parser.proofs.PartStops.{single_stops, single_stands, no_fits, exactly_stands, closed_missing, closed_stands}
 use Rattle.cs_decl_parser.proofs.StatementSites.{word_stands, punctuator_stands, taken_stands, exact_stands, node_taken}
 use Rattle.cs_decl_parser.proofs.Passing.{RowSoFar, row_none, row_stops, row_more, row_exactly, pass_stops, pass_stands, begins_near}
 

@@ -48,22 +48,23 @@ use Rattle.cs_grammar.proofs.DeclarationSites.{definition_took, external_exact}
 use Rattle.cs_grammar.proofs.ExternalSites.{external_refused, external_took, NoFunction, no_function_pointers, no_function_name, objects_refused, objects_took}
 use Rattle.cs_expr_parser.specs.Positions.{kinds, kind_or_end}
 use Rattle.cs_expr_parser.specs.Parts.{Spells, is_deep}
-use Rattle.cs_decl_parser.specs.declared.source.Scope.TheVariants as scope
+use Rattle.cs_declarator_parser.specs.declared.source.Scope.TheVariants as scope
 use Rattle.cs_expr_parser.specs.declared.stop.Stop.{Stop}
 use Rattle.cs_expr_parser.specs.declared.stop.Stop.TheVariants as stop
-use Rattle.cs_decl_parser.specs.declared.stop.Taken.{Taken}
-use Rattle.cs_decl_parser.specs.declared.declarator.Declares.TheVariants as declaring
-use Rattle.cs_decl_parser.specs.declared.declarator.Pointed.{Pointed}
-use Rattle.cs_decl_parser.specs.Answers.{Stops, IsExactly, IsTaken, StopsOrBrace}
+use Rattle.cs_declarator_parser.specs.declared.stop.Taken.{Taken}
+use Rattle.cs_declarator_parser.specs.declared.declarator.Declares.TheVariants as declaring
+use Rattle.cs_declarator_parser.specs.declared.declarator.Pointed.{Pointed}
+use Rattle.cs_declarator_parser.specs.Answers.{Stops, IsExactly, IsTaken, StopsOrBrace}
 use Rattle.cs_decl_parser.specs.Blocks.{items_of, AreTaken}
 use Rattle.cs_decl_parser.specs.FileAnswers.{IsTypeTaken}
-use Rattle.cs_decl_parser.specs.DeclarationAnswers.{DeclaratorsFor, ArePointers, IsPointed, PointedAnswers}
-use Rattle.cs_decl_parser.proofs.RowSites.{row_first_stops}
-use Rattle.cs_decl_parser.proofs.DeclaratorSites.{pointed_stops}
-use Rattle.cs_decl_parser.proofs.ObjectSites.{object_stops}
+use Rattle.cs_declarator_parser.specs.DeclarationAnswers.{DeclaratorsFor, ArePointers, IsPointed, PointedAnswers}
+use Rattle.cs_declarator_parser.proofs.RowSites.{row_first_stops}
+use Rattle.cs_declarator_parser.proofs.DeclaratorSites.{pointed_stops}
+use Rattle.cs_declarator_parser.proofs.ObjectSites.{object_stops}
 use Rattle.cs_expr_parser.proofs.Standing.{kinds_first, spells_none, spells_one, spells_more, spells_as}
 use Rattle.cs_expr_parser.proofs.Stopping.{refused_number}
-use Rattle.cs_decl_parser.proofs.StatementStops.{StandingExactly, IsPlainStop, stops_in, stops_pass, stops_plain, front_of, first_front, single_stops, no_fits}
+use Rattle.cs_declarator_parser.proofs.PartStops.{StandingExactly, IsPlainStop, stops_in, stops_pass, stops_plain, front_of, first_front, single_stops}
+use Rattle.cs_declarator_parser.proofs.PartStops.{no_fits}
 
 type_lift : (names : Names) (tokens : List Token) (from : ℕ) → (kind_or_end tokens from ≡ token.Keyword keyword.Typedef → ⊥)
     → (front : Kinds) (at : ℕ) (deep : Bool) → Spells tokens from at (λ rest. front ++ rest)

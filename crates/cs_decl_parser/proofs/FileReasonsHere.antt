@@ -13,8 +13,8 @@ use Rattle.cs_grammar.specs.Text.{Kinds}
 use Rattle.cs_grammar.specs.FilePhrases.{BeginsFile}
 use Rattle.cs_grammar.specs.FileRefusals.{IsUnsupportedOfFile, IsFileReason}
 use Rattle.cs_expr_parser.specs.Parts.{is_deep}
-use Rattle.cs_decl_parser.specs.declared.source.Scope.TheVariants.{File}
-use Rattle.cs_decl_parser.specs.Aptness.{IsApt}
+use Rattle.cs_declarator_parser.specs.declared.source.Scope.TheVariants.{File}
+use Rattle.cs_declarator_parser.specs.Aptness.{IsApt}
 use Rattle.cs_decl_parser.specs.FileStops.{is_unsupported_after}
 
 -- a token that isn't unsupported by its place, and for which the reason is apt

@@ -4,6 +4,7 @@ use Rattle.std.proofs.Common.{◌≡◌, ℕ, suc, get_or, Option, ◌<◌, ◌�
 use Rattle.std.proofs.Common.{take, refl, sym, ap, ◌∙◌, subst, arith, append_assoc, append-nil, length-append, length-drop, drop_at, Some, None}
 use Rattle.std.proofs.Common.{slice_get}
 use Rattle.std.proofs.lemmas.Bool.{false≢true}
+use Rattle.std.proofs.lemmas.Option.{slice_get_within}
 use Rattle.std.proofs.lemmas.List.{append_cancel_right, take-append-drop, map-append, length-map}
 use Rattle.std.proofs.Math.Seq.{drop-cons}
 use Rattle.std.proofs.Math.ListN.{drop_of_length-le}
@@ -16,13 +17,13 @@ use Rattle.cs_ast.specs.RawDeclarationView.{declarator}
 use Rattle.cs_ast.specs.RawStatements.{External}
 use Rattle.cs_ast.specs.RawStatementView.{external}
 use Rattle.cs_grammar.specs.declared.refusal.Reason.{Reason}
-use Rattle.cs_grammar.specs.declared.refusal.Reason.TheVariants.{Syntax, Unsupported, TooDeep}
 use Rattle.cs_grammar.specs.declared.refusal.SyntaxRefusal.{SyntaxRefusal}
 use Rattle.cs_grammar.specs.declared.refusal.SyntaxRefusal.TheVariants as refusal
 use Rattle.cs_grammar.specs.TypeWords.{Names}
 use Rattle.cs_grammar.specs.Text.{Kinds}
 use Rattle.cs_grammar.specs.FileText.{externals_text, external_text}
-use Rattle.cs_grammar.specs.FilePhrases.{with_name, with_names, names_after, IsFile}
+use Rattle.cs_grammar.specs.FilePhrases.{with_name, with_names, names_after, IsFile, BeginsLowFile}
+use Rattle.cs_grammar.specs.FileRefusals.{IsFileReason}
 use Rattle.cs_grammar.specs.Parsing.{Refused}
 use Rattle.cs_grammar.specs.DeclarationClasses.{Externals}
 use Rattle.cs_grammar.proofs.FileTexts.{external_append, externals_append}
@@ -32,18 +33,19 @@ use Rattle.cs_expr_parser.specs.Parts.{Spells, IsRefused, is_deep}
 use Rattle.cs_expr_parser.specs.Expression.{kind_at, reason_there, IsRefusalFor}
 use Rattle.cs_expr_parser.specs.declared.stop.Stop.{Stop}
 use Rattle.cs_expr_parser.specs.declared.stop.Stop.TheVariants as stop
-use Rattle.cs_decl_parser.specs.declared.stop.Taken.{Taken}
-use Rattle.cs_decl_parser.specs.Answers.{Stops, IsExactly}
-use Rattle.cs_decl_parser.specs.Files.{parts_of, IsTheFile, IsFileRefusedAt, IsRefusalHere, IsFileRefusal}
-use Rattle.cs_decl_parser.specs.FileStops.{IsPartRefusedAt, FileStops}
+use Rattle.cs_declarator_parser.specs.declared.stop.Taken.{Taken}
+use Rattle.cs_declarator_parser.specs.Answers.{Stops, IsExactly}
+use Rattle.cs_decl_parser.specs.Files.{parts_of, IsTheFile, GoesOnLow, IsFileRefusedAt, IsFileRefusal}
+use Rattle.cs_decl_parser.specs.FileStops.{IsTokenRefusedAt, IsPartRefusedAt, FileStops}
 use Rattle.cs_decl_parser.specs.declared.externals.Parts.{Parts}
 use Rattle.cs_decl_parser.specs.ReadParts.{StandsAmidst}
 use Rattle.cs_unsupported.specs.LastParts.{BeginsWith, EndInPart}
 use Rattle.cs_unsupported.proofs.InsideFiles.{split}
-use Rattle.cs_decl_parser.specs.declared.source.Scope.TheVariants as scope
-use Rattle.cs_decl_parser.specs.Aptness.{IsApt, IsStopApt}
+use Rattle.cs_declarator_parser.specs.declared.source.Scope.TheVariants as scope
+use Rattle.cs_declarator_parser.specs.Aptness.{IsApt, IsStopApt}
 use Rattle.cs_decl_parser.proofs.FileReasonsHere.{reason_of_kind}
-use Rattle.cs_expr_parser.proofs.Standing.{past_end, spells_none, spells_more, spells_as}
+use Rattle.cs_grammar.proofs.FileReasons.{end_reason}
+use Rattle.cs_expr_parser.proofs.Standing.{past_end, kind_of_some, spells_none, spells_more, spells_as}
 use Rattle.cs_expr_parser.proofs.Stopping.{refused_number}
 
 -- so many parts of a file were taken, after which these are the typedef names
@@ -173,41 +175,39 @@ file_taken names tokens done next all s =
       only = t.2;
     }
 
--- the answer of the parser of expressions, as that of the file
-for_here : (tokens : List Token) (end : Place) (at : ℕ) (reason : Reason) (r : SyntaxRefusal) → IsRefusalFor tokens end at reason r
-    → IsRefusalHere tokens end at reason r
-for_here tokens end at Syntax (refusal.Syntax place) f = (f, λ within. refl)
-for_here tokens end at Unsupported (refusal.Unsupported place word) f = (f.0, refl, f.1)
-for_here tokens end at TooDeep (refusal.TooDeep place) f = (f, refl)
-for_here tokens end at Syntax refusal.Memory f = tt
-for_here tokens end at Unsupported refusal.Memory f = tt
-for_here tokens end at TooDeep refusal.Memory f = tt
-for_here tokens end at Syntax (refusal.Unsupported place word) f = absurd f
-for_here tokens end at Syntax (refusal.TooDeep place) f = absurd f
-for_here tokens end at Unsupported (refusal.Syntax place) f = absurd f
-for_here tokens end at Unsupported (refusal.TooDeep place) f = absurd f
-for_here tokens end at TooDeep (refusal.Syntax place) f = absurd f
-for_here tokens end at TooDeep (refusal.Unsupported place word) f = absurd f
+-- nothing goes on with the token, or with the end of input, for the right reason; at the end of input that is a fault of syntax
+refused_next : (tokens : List Token) (at : ℕ) (reason : Reason) (found : Option Token) → slice_get tokens at ≡ found
+    → (r : IsTokenRefusedAt tokens at reason)
+    → (GoesOnLow 200 r.stopped.front (option_map (λ (token : Token). token.kind) found) → ⊥)
+    × IsFileReason r.stopped.front (option_map (λ (token : Token). token.kind) found)
+    (reason_there (option_map (λ (token : Token). token.kind) found) reason)
+refused_next tokens at reason (Some t) e r =
+    let less = slice_get_within tokens at t e in
+    let same = kind_of_some tokens at t e in (
+      subst (λ (x : TokenKind). BeginsLowFile 200 (r.stopped.front ++ x ∷ []) → ⊥) same (r.stopped.furthest less),
+      subst (λ (x : TokenKind). IsFileReason r.stopped.front (Some x) reason) same (r.why less),
+    )
+refused_next tokens at reason None e r =
+    let none = r.stopped.unfinished (omega (arith, past_end tokens at e, r.stopped.spelled.within)) in
+    (λ f. none f.0 f.1 f.3, end_reason r.stopped.front none)
 
-with_stop : (tokens : List Token) (end : Place) (at : ℕ) (reason : Reason) (r : SyntaxRefusal) → IsRefusalHere tokens end at reason r
+refused_there : (tokens : List Token) (at : ℕ) (reason : Reason) → IsTokenRefusedAt tokens at reason
+    → IsFileRefusedAt tokens at (reason_there (kind_at tokens at) reason)
+refused_there tokens at reason r =
+    let next = refused_next tokens at reason (slice_get tokens at) refl r in
+    record { front = r.stopped.front; spelled = r.stopped.spelled; begun = r.stopped.begun; furthest = next.0; why = next.1 }
+
+with_stop : (tokens : List Token) (end : Place) (at : ℕ) (reason : Reason) (r : SyntaxRefusal) → IsRefusalFor tokens end at reason r
     → IsFileRefusedAt tokens at reason → IsFileRefusal tokens end r
 with_stop tokens end at reason refusal.Memory h s = tt
 with_stop tokens end at reason (refusal.Syntax place) h s = (at, reason, h, s)
 with_stop tokens end at reason (refusal.Unsupported place word) h s = (at, reason, h, s)
 with_stop tokens end at reason (refusal.TooDeep place) h s = (at, reason, h, s)
 
-there : (tokens : List Token) (end : Place) (at : ℕ) (reason : Reason) (r : SyntaxRefusal) (found : Option Token) → slice_get tokens at ≡ found
-    → IsRefusalFor tokens end at (reason_there (option_map (λ (token : Token). token.kind) found) reason) r → IsRefusalHere tokens end at reason r
-there tokens end at reason r (Some t) e f = for_here tokens end at reason r f
-there tokens end at reason (refusal.Syntax place) None e f = let all = past_end tokens at e in (f, λ within. absurd (omega (arith, all, within)))
-there tokens end at reason refusal.Memory None e f = tt
-there tokens end at reason (refusal.Unsupported place word) None e f = absurd f
-there tokens end at reason (refusal.TooDeep place) None e f = absurd f
-
 -- the refusal of a token, or of the end of input
 pub token_refusal : (tokens : List Token) (end : Place) (at : ℕ) (reason : Reason) (r : SyntaxRefusal)
-    → IsRefusalFor tokens end at (reason_there (kind_at tokens at) reason) r → IsFileRefusedAt tokens at reason → IsFileRefusal tokens end r
-token_refusal tokens end at reason r f s = with_stop tokens end at reason r (there tokens end at reason r (slice_get tokens at) refl f) s
+    → IsRefusalFor tokens end at (reason_there (kind_at tokens at) reason) r → IsTokenRefusedAt tokens at reason → IsFileRefusal tokens end r
+token_refusal tokens end at reason r f s = with_stop tokens end at (reason_there (kind_at tokens at) reason) r f (refused_there tokens at reason s)
 
 -- the names of a typedef, one after another
 pub with_next : (names : Names) (list : List RawDeclarator) (at : ℕ) (d : RawDeclarator) → at < length list

@@ -37,17 +37,17 @@ use Rattle.cs_grammar.proofs.Statements.{open_parenthesis, close_parenthesis, se
 use Rattle.cs_grammar.proofs.StatementParts.{sentences_law, sentences_least, firsts_law, firsts_least}
 use Rattle.cs_expr_parser.specs.Positions.{kind_or_end}
 use Rattle.cs_expr_parser.specs.Parts.{Spells}
-use Rattle.cs_decl_parser.specs.declared.source.Scope.TheVariants as scope
+use Rattle.cs_declarator_parser.specs.declared.source.Scope.TheVariants as scope
 use Rattle.cs_expr_parser.specs.declared.stop.Stop.{Stop}
-use Rattle.cs_decl_parser.specs.declared.stop.Taken.{Taken}
+use Rattle.cs_declarator_parser.specs.declared.stop.Taken.{Taken}
 use Rattle.cs_decl_parser.specs.declared.block.DeclaredObjects.{DeclaredObjects}
 use Rattle.cs_decl_parser.specs.declared.loops.ForParts.{ForParts}
 use Rattle.cs_decl_parser.specs.Nodes.{IsNode}
-use Rattle.cs_decl_parser.specs.Answers.{Stops, IsExactly, IsTaken}
+use Rattle.cs_declarator_parser.specs.Answers.{Stops, IsExactly, IsTaken}
 use Rattle.cs_decl_parser.specs.Blocks.{Locals, local_of, Controls, control_of, first_if_any}
 use Rattle.cs_expr_parser.proofs.Standing.{spells_none, spells_more}
-use Rattle.cs_decl_parser.proofs.StatementStops.{StandingExactly, IsPlainStop, near_start, stops_in, stops_pass, stops_plain, front_of, pair_first_stops}
-use Rattle.cs_decl_parser.proofs.StatementStops.{pair_second_stops, pair_stands}
+use Rattle.cs_declarator_parser.proofs.PartStops.{StandingExactly, IsPlainStop, near_start, stops_in, stops_pass, stops_plain, front_of, pair_first_stops}
+use Rattle.cs_declarator_parser.proofs.PartStops.{pair_second_stops, pair_stands}
 use Rattle.cs_decl_parser.proofs.StatementSites.{word_stands, punctuator_stands, taken_stands, exact_stands, node_taken}
 use Rattle.cs_decl_parser.proofs.Passing.{pass_stops, pass_exactly}
 use Rattle.cs_decl_parser.proofs.LocalSites.{locals_law}

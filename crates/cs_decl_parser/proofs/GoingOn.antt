@@ -13,7 +13,8 @@ use Rattle.cs_grammar.specs.Text.{Kinds}
 use Rattle.cs_grammar.specs.FilePhrases.{BeginsFile, BeginsLowFile}
 use Rattle.cs_expr_parser.specs.Positions.{kinds, first_kind, kind_or_end}
 use Rattle.cs_expr_parser.specs.Parts.{is_deep}
-use Rattle.cs_decl_parser.specs.Files.{IsTheFile, IsStoppedAt}
+use Rattle.cs_decl_parser.specs.Files.{IsTheFile}
+use Rattle.cs_decl_parser.specs.FileStops.{IsStoppedAt}
 
 kinds_after : (before : List Token) (next : Token) → kinds (before ++ next ∷ []) ≡ kinds before ++ next.kind ∷ []
 kinds_after before next = map-append (λ (t : Token). t.kind) before (next ∷ [])

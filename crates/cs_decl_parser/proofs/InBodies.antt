@@ -25,18 +25,18 @@ use Rattle.cs_grammar.proofs.ExternalSites.{specs_first}
 use Rattle.cs_expr_parser.specs.Positions.{kinds, kind_or_end}
 use Rattle.cs_expr_parser.specs.Parts.{IsRefused}
 use Rattle.cs_expr_parser.proofs.Standing.{stands, near, kinds_first}
-use Rattle.cs_decl_parser.specs.declared.source.Scope.TheVariants as scope
+use Rattle.cs_declarator_parser.specs.declared.source.Scope.TheVariants as scope
 use Rattle.cs_expr_parser.specs.declared.stop.Stop.{Stop}
 use Rattle.cs_expr_parser.specs.declared.stop.Stop.TheVariants as stop
-use Rattle.cs_decl_parser.specs.declared.stop.Taken.{Taken}
-use Rattle.cs_decl_parser.specs.declared.declarator.Declares.TheVariants as declaring
-use Rattle.cs_decl_parser.specs.declared.declarator.Pointed.{Pointed}
-use Rattle.cs_decl_parser.specs.Aptness.{IsStopApt}
-use Rattle.cs_decl_parser.specs.Answers.{Stops, StopsOrBrace}
-use Rattle.cs_decl_parser.specs.DeclarationAnswers.{IsPointed, IsNameMissing, PointedAnswers}
+use Rattle.cs_declarator_parser.specs.declared.stop.Taken.{Taken}
+use Rattle.cs_declarator_parser.specs.declared.declarator.Declares.TheVariants as declaring
+use Rattle.cs_declarator_parser.specs.declared.declarator.Pointed.{Pointed}
+use Rattle.cs_declarator_parser.specs.Aptness.{IsStopApt}
+use Rattle.cs_declarator_parser.specs.Answers.{Stops, StopsOrBrace}
+use Rattle.cs_declarator_parser.specs.DeclarationAnswers.{IsPointed, IsNameMissing, PointedAnswers}
 use Rattle.cs_decl_parser.specs.FileAnswers.{IsTypeTaken, BeginsBody, IsStopInBody}
-use Rattle.cs_decl_parser.proofs.AptReasons.{brace_apt}
-use Rattle.cs_decl_parser.proofs.StatementStops.{IsPlainStop}
+use Rattle.cs_declarator_parser.proofs.AptReasons.{brace_apt}
+use Rattle.cs_declarator_parser.proofs.PartStops.{IsPlainStop}
 use Rattle.cs_decl_parser.proofs.ExternalSites.{HeadMade}
 
 name_shuts : (ps : List PointerWord) (n : List ℕ) (x : Kinds) → IsTrue (is_pointer ps) → Follows ends_specs (pointers_text ps (token.Name n ∷ x))

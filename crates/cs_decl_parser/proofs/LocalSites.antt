@@ -44,15 +44,15 @@ use Rattle.cs_expr_parser.specs.Positions.{kind_or_end}
 use Rattle.cs_expr_parser.specs.Parts.{Spells, is_deep}
 use Rattle.cs_expr_parser.specs.declared.stop.Stop.{Stop}
 use Rattle.cs_expr_parser.specs.declared.stop.Stop.TheVariants as stop
-use Rattle.cs_decl_parser.specs.declared.stop.Taken.{Taken}
+use Rattle.cs_declarator_parser.specs.declared.stop.Taken.{Taken}
 use Rattle.cs_decl_parser.specs.declared.block.DeclaredObjects.{DeclaredObjects}
-use Rattle.cs_decl_parser.specs.Answers.{Stops, IsExactly, IsTaken, StopsOrBrace}
+use Rattle.cs_declarator_parser.specs.Answers.{Stops, IsExactly, IsTaken, StopsOrBrace}
 use Rattle.cs_decl_parser.specs.Blocks.{Locals, local_of}
 use Rattle.cs_decl_parser.specs.Forms.{is_colon, is_labelled}
 use Rattle.cs_expr_parser.proofs.Standing.{spells_none, spells_more}
 use Rattle.cs_expr_parser.proofs.Stopping.{refused_here}
 use Rattle.cs_decl_parser.proofs.SecondTokens.{second_front}
-use Rattle.cs_decl_parser.proofs.StatementStops.{Standing, stops_in, stops_pass, stops_full, front_of, first_front, near_start, single_stops, no_fits}
+use Rattle.cs_declarator_parser.proofs.PartStops.{Standing, stops_in, stops_pass, stops_full, front_of, first_front, near_start, single_stops, no_fits}
 use Rattle.cs_decl_parser.proofs.StatementForms.{label_name}
 use Rattle.cs_decl_parser.proofs.Passing.{pass_tail}
 

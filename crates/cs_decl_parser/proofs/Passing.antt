@@ -15,9 +15,9 @@ use Rattle.cs_grammar.proofs.Statements.{close_brace}
 use Rattle.cs_expr_parser.specs.Positions.{kinds, kind_or_end}
 use Rattle.cs_expr_parser.specs.Parts.{Spells}
 use Rattle.cs_expr_parser.specs.declared.stop.Stop.{Stop}
-use Rattle.cs_decl_parser.specs.Answers.{Stops}
+use Rattle.cs_declarator_parser.specs.Answers.{Stops}
 use Rattle.cs_expr_parser.proofs.Standing.{kinds_first, spells_none, spells_more, spells_as}
-use Rattle.cs_decl_parser.proofs.StatementStops.{Standing, StandingExactly, FitsAll, near_start, stops_in, stops_pass}
+use Rattle.cs_declarator_parser.proofs.PartStops.{Standing, StandingExactly, FitsAll, near_start, stops_in, stops_pass}
 
 pub pass_tail : (C D : Class) (build : D.Tree → C.Tree) (Fit : Kinds → Type 0) (limit : ℕ) → Production C D 0 [] build Fit
     → Tail C D limit limit [] build Fit

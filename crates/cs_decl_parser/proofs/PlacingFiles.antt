@@ -16,12 +16,13 @@ use Rattle.cs_grammar.specs.FileText.{specs_text, head_text, items_text, externa
 use Rattle.cs_grammar.specs.Places.{StandsAt}
 use Rattle.cs_grammar.proofs.FileTexts.{specs_append, head_append, items_append, external_append}
 use Rattle.cs_expr_parser.specs.Parts.{Spells}
-use Rattle.cs_decl_parser.specs.declared.declarator.Pointed.{Pointed}
-use Rattle.cs_decl_parser.specs.declared.stop.Taken.{Taken}
-use Rattle.cs_decl_parser.specs.FilePlaces.{past, HasSpecPlaces, AreDeclaratorsPlaced, AreParametersPlaced, IsHeadPlaced, IsBodyPlaced, IsExternalPlaced}
+use Rattle.cs_declarator_parser.specs.declared.declarator.Pointed.{Pointed}
+use Rattle.cs_declarator_parser.specs.declared.stop.Taken.{Taken}
+use Rattle.cs_declarator_parser.specs.DeclarationPlaces.{past, HasSpecPlaces, AreDeclaratorsPlaced, AreParametersPlaced}
+use Rattle.cs_decl_parser.specs.FilePlaces.{IsHeadPlaced, IsBodyPlaced, IsExternalPlaced}
 use Rattle.cs_decl_parser.specs.StatementPlaces.{AreItemsBeside}
 use Rattle.cs_decl_parser.specs.ExternalPlaces.{IsPointedPlaced, IsHeadBuilt}
-use Rattle.cs_decl_parser.proofs.Placing.{one_after, past_text, after_text, past_pointed, SidePlaced, side_begun, side_goes_on}
+use Rattle.cs_declarator_parser.proofs.Placing.{one_after, past_text, after_text, past_pointed, SidePlaced, side_begun, side_goes_on}
 
 -- after `typedef`
 pub typedef_placed : (tokens : List Token) (from next : ℕ) (s : RawSpecs) (names : List RawDeclarator)

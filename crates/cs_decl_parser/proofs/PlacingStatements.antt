@@ -31,8 +31,10 @@ use Rattle.cs_grammar.proofs.FileTexts.{specs_append, optional_append, first_app
 use Rattle.cs_expr_parser.specs.Parts.{Spells}
 use Rattle.cs_decl_parser.specs.declared.loops.ForParts.{ForParts}
 use Rattle.cs_decl_parser.specs.Forms.{IsJump}
-use Rattle.cs_decl_parser.specs.FilePlaces.{past, past_first, past_test, IsSomePlaced, IsFirstPlaced, ArePartsPlaced, IsItemPlaced, AreItemsPlaced}
-use Rattle.cs_decl_parser.specs.FilePlaces.{IsSwitchItemPlaced, AreSwitchItemsPlaced, HasSpecPlaces, AreObjectsPlaced, IsDeclarationPlaced}
+use Rattle.cs_declarator_parser.specs.DeclarationPlaces.{past, IsSomePlaced}
+use Rattle.cs_decl_parser.specs.FilePlaces.{past_first, past_test, IsFirstPlaced, ArePartsPlaced, IsItemPlaced, AreItemsPlaced}
+use Rattle.cs_declarator_parser.specs.DeclarationPlaces.{HasSpecPlaces, AreObjectsPlaced, IsDeclarationPlaced}
+use Rattle.cs_decl_parser.specs.FilePlaces.{IsSwitchItemPlaced, AreSwitchItemsPlaced}
 use Rattle.cs_decl_parser.specs.StatementPlaces.{HasStatementPlaces, AreItemsBeside, AreSwitchItemsBeside, AreForPartsPlaced, IsMadeOf, IsLabelOf, IsTestedOf}
 use Rattle.cs_decl_parser.specs.StatementPlaces.{IsChoiceOf, IsDoneOf, IsLoopOf}
 use Rattle.cs_decl_parser.specs.Blocks.{Controls, control_of}
@@ -40,7 +42,7 @@ use Rattle.cs_ast.proofs.RawStatementRows.{block_of, switch_of}
 use Rattle.cs_expr_parser.proofs.Standing.{spells_as}
 use Rattle.cs_expr_parser.proofs.Stopping.{refused_number}
 use Rattle.cs_decl_parser.proofs.ForSites.{controls_law}
-use Rattle.cs_decl_parser.proofs.Placing.{IsFramed, one_after, past_text, after_text, after_text_and_one, SidePlaced, side_begun, side_goes_on}
+use Rattle.cs_declarator_parser.proofs.Placing.{IsFramed, one_after, past_text, after_text, after_text_and_one, SidePlaced, side_begun, side_goes_on}
 
 -- some tokens on from an index
 pub on : (tokens : List Token) (from many next : ℕ) → next ≡ from + many → drop many (drop from tokens) ≡ drop next tokens

@@ -16,9 +16,8 @@ use Rattle.cs_grammar.specs.FileRefusals.{MayHave, IsInside, IsUnsupportedOfFile
 use Rattle.cs_grammar.specs.Roles.{declared_name, after_member, opens_list}
 use Rattle.cs_expr_parser.specs.Positions.{kinds, kind_or_end}
 use Rattle.cs_expr_parser.specs.Parts.{is_deep}
-use Rattle.cs_decl_parser.specs.DeclarationAnswers.{is_designator}
-use Rattle.cs_decl_parser.specs.Files.{IsStoppedAt, IsFileRefusedAt}
-use Rattle.cs_decl_parser.specs.FileStops.{is_file_word, is_unsupported_after, unsupported_if, IsPartRefusedAt}
+use Rattle.cs_declarator_parser.specs.DeclarationAnswers.{is_designator}
+use Rattle.cs_decl_parser.specs.FileStops.{is_file_word, is_unsupported_after, unsupported_if, IsStoppedAt, IsTokenRefusedAt, IsPartRefusedAt}
 
 abbrev brace : TokenKind
 brace = token.Punctuator punctuator.OpenBrace
@@ -44,7 +43,7 @@ other_after _ other w d o p = w
 pub reported_of_others : (tokens : List Token) (at : ℕ) (reason : Reason) → (kind_or_end tokens at ≡ colon → ⊥)
     → is_file_word (kind_or_end tokens at) ≡ false → (is_designator (kind_or_end tokens at) ≡ true → ⊥)
     → (kind_or_end tokens at ≡ brace → ⊥) → (kind_or_end tokens at ≡ opening → ⊥) → IsPartRefusedAt tokens at reason
-    → IsFileRefusedAt tokens at reason
+    → IsTokenRefusedAt tokens at reason
 reported_of_others tokens at reason other w d o p r =
     record { stopped = r.stopped; why = λ within. r.why within (other_after (kind_or_end tokens at) other w d o p) }
 
@@ -56,7 +55,7 @@ deep_why front next Syntax d b = absurd (false≢true d)
 
 -- a token is refused as too deep
 pub reported_of_deep : (tokens : List Token) (at : ℕ) (reason : Reason) → is_deep reason ≡ true → IsPartRefusedAt tokens at reason
-    → IsFileRefusedAt tokens at reason
+    → IsTokenRefusedAt tokens at reason
 reported_of_deep tokens at reason d r =
     record { stopped = r.stopped; why = λ within. deep_why r.stopped.front (kind_or_end tokens at) reason d (r.stopped.deep within d) }
 
@@ -82,7 +81,7 @@ either_why front next false none is = (none, λ left. false≢true (is.1 left))
 reported_after : (tokens : List Token) (at : ℕ) (reason : Reason) (out : Bool) → is_deep reason ≡ false
     → (BeginsLowFile 200 (kinds (take at tokens)) → (BeginsFile (kinds (take at tokens) ++ kind_or_end tokens at ∷ []) → ⊥)
     → IsTrue out ↔ IsUnsupportedOfFile (kinds (take at tokens)) (kind_or_end tokens at)) → IsPartRefusedAt tokens at reason
-    → IsFileRefusedAt tokens at (unsupported_if out)
+    → IsTokenRefusedAt tokens at (unsupported_if out)
 reported_after tokens at reason out flat is part =
     let r = part.stopped in
     let same = before tokens at reason r in
@@ -106,7 +105,7 @@ reported_after tokens at reason out flat is part =
 -- a colon is unsupported after a member's declarator
 pub reported_colon : (tokens : List Token) (at : ℕ) (reason : Reason) (out : Bool) → is_deep reason ≡ false → kind_or_end tokens at ≡ colon
     → (BeginsFile (kinds (take at tokens)) → IsTrue out ↔ MayHave (kinds (take at tokens)) after_member) → IsPartRefusedAt tokens at reason
-    → IsFileRefusedAt tokens at (unsupported_if out)
+    → IsTokenRefusedAt tokens at (unsupported_if out)
 reported_colon tokens at reason out flat k is r =
     reported_after tokens at reason out flat (λ b none.
     subst (λ (x : TokenKind). IsTrue out ↔ IsUnsupportedOfFile (kinds (take at tokens)) x) (sym k) (is (any_height (kinds (take at tokens)) b))) r
@@ -121,7 +120,7 @@ inside_word front out _ w is = absurd (false≢true w)
 -- `static` and `typedef` are unsupported inside a block or an expression
 pub reported_word : (tokens : List Token) (at : ℕ) (reason : Reason) (out : Bool) → is_deep reason ≡ false
     → is_file_word (kind_or_end tokens at) ≡ true → (BeginsFile (kinds (take at tokens)) → IsTrue out ↔ IsInside (kinds (take at tokens)))
-    → IsPartRefusedAt tokens at reason → IsFileRefusedAt tokens at (unsupported_if out)
+    → IsPartRefusedAt tokens at reason → IsTokenRefusedAt tokens at (unsupported_if out)
 reported_word tokens at reason out flat w is r =
     reported_after tokens at reason out flat (λ b none.
     inside_word (kinds (take at tokens)) out (kind_or_end tokens at) w is (any_height (kinds (take at tokens)) b)) r
@@ -137,7 +136,7 @@ list_punctuator front out _ d is = absurd (false≢true d)
 pub reported_list : (tokens : List Token) (at : ℕ) (reason : Reason) (out : Bool) → is_deep reason ≡ false
     → is_designator (kind_or_end tokens at) ≡ true
     → (BeginsLowFile 200 (kinds (take at tokens)) → IsTrue out ↔ MayHave (kinds (take at tokens)) opens_list) → IsPartRefusedAt tokens at reason
-    → IsFileRefusedAt tokens at (unsupported_if out)
+    → IsTokenRefusedAt tokens at (unsupported_if out)
 reported_list tokens at reason out flat d is r =
     reported_after tokens at reason out flat (λ b none. list_punctuator (kinds (take at tokens)) out (kind_or_end tokens at) d (is b)) r
 
@@ -152,7 +151,7 @@ list_reported front false is out never on = (λ o. absurd (false≢true (sym (ne
 -- a brace is unsupported after a tag inside a block or an expression, and after a type
 pub reported_brace : (tokens : List Token) (at : ℕ) (reason : Reason) (out : Bool) → is_deep reason ≡ false → kind_or_end tokens at ≡ brace
     → (BeginsFile (kinds (take at tokens)) → IsTrue out ↔ IsUnsupportedOfFile (kinds (take at tokens)) brace) → IsPartRefusedAt tokens at reason
-    → IsFileRefusedAt tokens at (unsupported_if out)
+    → IsTokenRefusedAt tokens at (unsupported_if out)
 reported_brace tokens at reason out flat k is r =
     reported_after tokens at reason out flat (λ b none.
     subst (λ (x : TokenKind). IsTrue out ↔ IsUnsupportedOfFile (kinds (take at tokens)) x) (sym k) (is (any_height (kinds (take at tokens)) b))) r
@@ -160,7 +159,7 @@ reported_brace tokens at reason out flat k is r =
 -- a parenthesis is unsupported where a declarator's name may stand
 pub reported_parenthesis : (tokens : List Token) (at : ℕ) (reason : Reason) (out : Bool) → is_deep reason ≡ false → kind_or_end tokens at ≡ opening
     → (BeginsLowFile 200 (kinds (take at tokens)) → (BeginsFile (kinds (take at tokens) ++ opening ∷ []) → ⊥)
-    → IsTrue out ↔ MayHave (kinds (take at tokens)) declared_name) → IsPartRefusedAt tokens at reason → IsFileRefusedAt tokens at (unsupported_if out)
+    → IsTrue out ↔ MayHave (kinds (take at tokens)) declared_name) → IsPartRefusedAt tokens at reason → IsTokenRefusedAt tokens at (unsupported_if out)
 reported_parenthesis tokens at reason out flat k is r =
     reported_after tokens at reason out flat
     (λ b none.

@@ -32,18 +32,18 @@ use Rattle.cs_grammar.proofs.StatementParts.{expression_height, runs_single, con
 use Rattle.cs_grammar.proofs.StatementFirsts.{expression_example, sentence_not, begins_low, sentence_low, no_other}
 use Rattle.cs_expr_parser.specs.Positions.{kind_or_end}
 use Rattle.cs_expr_parser.specs.Parts.{Spells}
-use Rattle.cs_decl_parser.specs.declared.source.Scope.TheVariants as scope
+use Rattle.cs_declarator_parser.specs.declared.source.Scope.TheVariants as scope
 use Rattle.cs_decl_parser.specs.declared.form.Form.TheVariants as form
 use Rattle.cs_expr_parser.specs.declared.stop.Stop.{Stop}
-use Rattle.cs_decl_parser.specs.declared.stop.Taken.{Taken}
+use Rattle.cs_declarator_parser.specs.declared.stop.Taken.{Taken}
 use Rattle.cs_decl_parser.specs.Nodes.{IsNode}
 use Rattle.cs_decl_parser.specs.Forms.{form_of, IsJump}
-use Rattle.cs_decl_parser.specs.Answers.{Stops, IsExactly, IsTaken}
+use Rattle.cs_declarator_parser.specs.Answers.{Stops, IsExactly, IsTaken}
 use Rattle.cs_expr_parser.proofs.Standing.{spells_none}
 use Rattle.cs_expr_parser.proofs.Stopping.{refused_here}
 use Rattle.cs_decl_parser.proofs.SecondTokens.{second_front}
-use Rattle.cs_decl_parser.proofs.StatementStops.{Standing, IsPlainStop, stops_pass, first_front, near_start, single_stops, single_stands, no_fits}
-use Rattle.cs_decl_parser.proofs.StatementStops.{exactly_stands, closed_missing, closed_stands}
+use Rattle.cs_declarator_parser.proofs.PartStops.{Standing, IsPlainStop, stops_pass, first_front, near_start, single_stops, single_stands, no_fits}
+use Rattle.cs_declarator_parser.proofs.PartStops.{exactly_stands, closed_missing, closed_stands}
 use Rattle.cs_decl_parser.proofs.StatementForms.{run_name, no_colon}
 use Rattle.cs_decl_parser.proofs.StatementSites.{word_stands, exact_stands, node_taken, reported_form}
 

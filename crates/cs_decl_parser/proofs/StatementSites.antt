@@ -29,19 +29,19 @@ use Rattle.cs_grammar.proofs.StatementSites.{branch_refused, branch_alone, branc
 use Rattle.cs_grammar.proofs.StatementFirsts.{lone_refused}
 use Rattle.cs_expr_parser.specs.Positions.{kind_or_end}
 use Rattle.cs_expr_parser.specs.Parts.{Spells}
-use Rattle.cs_decl_parser.specs.declared.source.Scope.TheVariants as scope
+use Rattle.cs_declarator_parser.specs.declared.source.Scope.TheVariants as scope
 use Rattle.cs_decl_parser.specs.declared.form.Form.{Form}
 use Rattle.cs_decl_parser.specs.declared.form.Form.TheVariants as form
 use Rattle.cs_expr_parser.specs.declared.stop.Stop.{Stop}
 use Rattle.cs_expr_parser.specs.declared.stop.Stop.TheVariants as stop
-use Rattle.cs_decl_parser.specs.declared.stop.Taken.{Taken}
+use Rattle.cs_declarator_parser.specs.declared.stop.Taken.{Taken}
 use Rattle.cs_decl_parser.specs.Nodes.{IsNode}
 use Rattle.cs_decl_parser.specs.Forms.{least, form_of, is_labelled}
-use Rattle.cs_decl_parser.specs.Answers.{Stops, IsExactly, IsTaken}
+use Rattle.cs_declarator_parser.specs.Answers.{Stops, IsExactly, IsTaken}
 use Rattle.cs_expr_parser.proofs.Standing.{spells_one, spells_none, spells_more, spells_as}
-use Rattle.cs_decl_parser.proofs.StatementStops.{Standing, StandingExactly, IsPlainStop, stops_in, stops_pass, stops_plain, stops_full, pair_first_stops}
-use Rattle.cs_decl_parser.proofs.StatementStops.{pair_second_stops, pair_stands, single_stops, single_stands, no_fits, exactly_stands, closed_stops}
-use Rattle.cs_decl_parser.proofs.StatementStops.{closed_missing, closed_stands}
+use Rattle.cs_declarator_parser.proofs.PartStops.{Standing, StandingExactly, IsPlainStop, stops_in, stops_pass, stops_plain, stops_full, pair_first_stops}
+use Rattle.cs_declarator_parser.proofs.PartStops.{pair_second_stops, pair_stands, single_stops, single_stands, no_fits, exactly_stands, closed_stops}
+use Rattle.cs_declarator_parser.proofs.PartStops.{closed_missing, closed_stands}
 use Rattle.cs_decl_parser.proofs.StatementForms.{Yields, form_yields, form_full, label_name, no_colon}
 
 -- a word stands there

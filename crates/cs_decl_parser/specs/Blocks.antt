@@ -23,10 +23,10 @@ use Rattle.cs_grammar.specs.FileClasses.{Firsts, BlockRows}
 use Rattle.cs_expr_parser.specs.Positions.{kind_or_end}
 use Rattle.cs_expr_parser.specs.Parts.{Spells}
 use Rattle.cs_expr_parser.specs.declared.stop.Stop.{Stop}
-use Rattle.cs_decl_parser.specs.declared.stop.Taken.{Taken}
+use Rattle.cs_declarator_parser.specs.declared.stop.Taken.{Taken}
 use Rattle.cs_decl_parser.specs.declared.block.DeclaredObjects.{DeclaredObjects}
 use Rattle.cs_decl_parser.specs.declared.loops.ForParts.{ForParts}
-use Rattle.cs_decl_parser.specs.Answers.{Stops}
+use Rattle.cs_declarator_parser.specs.Answers.{Stops}
 
 -- declarations of objects in blocks
 abbrev pub Locals : Names → Class

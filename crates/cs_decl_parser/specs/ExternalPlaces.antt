@@ -7,12 +7,13 @@ use Rattle.cs_ast.specs.declared.raw.declaration.RawFunction.{RawFunction}
 use Rattle.cs_grammar.specs.TypeWords.{Names}
 use Rattle.cs_grammar.specs.Text.{pointers_text}
 use Rattle.cs_grammar.specs.Places.{StandsAt}
-use Rattle.cs_decl_parser.specs.declared.declarator.Declares.TheVariants as declaring
-use Rattle.cs_decl_parser.specs.declared.declarator.Pointed.{Pointed}
-use Rattle.cs_decl_parser.specs.declared.stop.Taken.{Taken}
-use Rattle.cs_decl_parser.specs.DeclarationAnswers.{IsPointed}
+use Rattle.cs_declarator_parser.specs.declared.declarator.Declares.TheVariants as declaring
+use Rattle.cs_declarator_parser.specs.declared.declarator.Pointed.{Pointed}
+use Rattle.cs_declarator_parser.specs.declared.stop.Taken.{Taken}
+use Rattle.cs_declarator_parser.specs.DeclarationAnswers.{IsPointed}
 use Rattle.cs_decl_parser.specs.FileAnswers.{IsTypeTaken}
-use Rattle.cs_decl_parser.specs.FilePlaces.{past, HasSpecPlaces, AreParametersPlaced, IsHeadPlaced}
+use Rattle.cs_declarator_parser.specs.DeclarationPlaces.{past, HasSpecPlaces, AreParametersPlaced}
+use Rattle.cs_decl_parser.specs.FilePlaces.{IsHeadPlaced}
 
 -- the type of a part of a file was taken, and has its places
 abbrev pub IsTypePlaced : Names → List Token → ℕ → Taken RawSpecs → Type 0

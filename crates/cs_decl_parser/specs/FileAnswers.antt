@@ -14,13 +14,13 @@ use Rattle.cs_grammar.specs.FilePhrases.{AreSpecs, IsHead}
 use Rattle.cs_grammar.specs.DeclarationClasses.{FileSpecs}
 use Rattle.cs_expr_parser.specs.Positions.{kind_or_end}
 use Rattle.cs_expr_parser.specs.Parts.{Spells}
-use Rattle.cs_decl_parser.specs.declared.source.Scope.TheVariants.{Block}
+use Rattle.cs_declarator_parser.specs.declared.source.Scope.TheVariants.{Block}
 use Rattle.cs_expr_parser.specs.declared.stop.Stop.{Stop}
 use Rattle.cs_expr_parser.specs.declared.stop.Stop.TheVariants as stop
-use Rattle.cs_decl_parser.specs.Aptness.{IsApt}
-use Rattle.cs_decl_parser.specs.declared.declarator.Pointed.{Pointed}
-use Rattle.cs_decl_parser.specs.declared.stop.Taken.{Taken}
-use Rattle.cs_decl_parser.specs.Answers.{IsTaken}
+use Rattle.cs_declarator_parser.specs.Aptness.{IsApt}
+use Rattle.cs_declarator_parser.specs.declared.declarator.Pointed.{Pointed}
+use Rattle.cs_declarator_parser.specs.declared.stop.Taken.{Taken}
+use Rattle.cs_declarator_parser.specs.Answers.{IsTaken}
 
 -- the type of a part of a file was taken, which is no typedef
 pub record IsTypeTaken (names : Names) (tokens : List Token) (from : ℕ) (type : Taken RawSpecs) : Type 0 where

@@ -1,12 +1,5 @@
-pub mod Reasons
-pub mod Aptness
-pub mod Bounds
 pub mod Forms
 pub mod Nodes
-pub mod Answers
-pub mod DeclarationAnswers
-pub mod ParameterAnswers
-pub mod SpecWords
 pub mod Blocks
 pub mod FileAnswers
 pub mod Files
@@ -14,6 +7,4 @@ pub mod FileStops
 pub mod ReadParts
 pub mod FilePlaces
 pub mod StatementPlaces
-pub mod SpecPlaces
 pub mod ExternalPlaces
-pub mod TreePlaces

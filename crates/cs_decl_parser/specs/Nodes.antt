@@ -3,7 +3,7 @@ use Rattle.std.specs.Prelude.{◌≡◌, ℕ}
 use Rattle.cs_ast.specs.declared.raw.statement.RawStmt.{RawStmt}
 use Rattle.cs_ast.specs.RawStatements.{Sentence}
 use Rattle.cs_ast.specs.RawStatementView.{statement_of}
-use Rattle.cs_decl_parser.specs.declared.stop.Taken.{Taken}
+use Rattle.cs_declarator_parser.specs.declared.stop.Taken.{Taken}
 
 -- what was taken is this statement of this height, up to this token
 pub record IsNode (tree : Sentence) (tall next : ℕ) (taken : Taken RawStmt) : Type 0 where

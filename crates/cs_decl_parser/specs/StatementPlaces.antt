@@ -13,7 +13,8 @@ use Rattle.cs_ast.specs.RawStatementView.{statement_of, item, switch_item}
 use Rattle.cs_grammar.specs.FileText.{test_text, sentence_text, item_text, switch_item_text}
 use Rattle.cs_grammar.specs.Places.{HasPlaces, StandsAt}
 use Rattle.cs_decl_parser.specs.declared.loops.ForParts.{ForParts}
-use Rattle.cs_decl_parser.specs.FilePlaces.{past, past_first, past_test, AreSideBySide, IsSomePlaced, IsFirstPlaced, IsStatementPlaced, ArePartsPlaced}
+use Rattle.cs_declarator_parser.specs.DeclarationPlaces.{past, AreSideBySide, IsSomePlaced}
+use Rattle.cs_decl_parser.specs.FilePlaces.{past_first, past_test, IsFirstPlaced, IsStatementPlaced, ArePartsPlaced}
 use Rattle.cs_decl_parser.specs.FilePlaces.{IsItemPlaced, IsSwitchItemPlaced}
 
 -- a statement has its places

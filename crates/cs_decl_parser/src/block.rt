@@ -6,24 +6,27 @@ ghost use Rattle.cs_ast.specs.RawStatementView.{item as item_of};
 ghost use Rattle.cs_grammar.specs.FirstTokens.{begins_type as starts_type};
 ghost use Rattle.cs_grammar.specs.FileClasses.{BlockItems};
 ghost use Rattle.cs_expr_parser.specs.Positions.{kind_or_end};
-ghost use Rattle.cs_decl_parser.specs.TreePlaces.{TreeAt};
-ghost use Rattle.cs_decl_parser.specs.Answers.{Answers, StatementAnswers, ExactAnswers};
+ghost use Rattle.cs_declarator_parser.specs.TreePlaces.{TreeAt};
+ghost use Rattle.cs_declarator_parser.specs.Answers.{Answers, StatementAnswers, ExactAnswers};
 ghost use Rattle.cs_decl_parser.specs.Blocks.{Locals, local_of, ItemsAnswers};
-ghost use Rattle.cs_decl_parser.specs.Bounds.{IsBounded, IsRowBounded};
-ghost use Rattle.cs_decl_parser.specs.FilePlaces.{IsDeclarationPlaced, IsItemPlaced};
+ghost use Rattle.cs_declarator_parser.specs.Bounds.{IsBounded, IsRowBounded};
+ghost use Rattle.cs_declarator_parser.specs.DeclarationPlaces.{IsDeclarationPlaced};
+ghost use Rattle.cs_decl_parser.specs.FilePlaces.{IsItemPlaced};
 ghost use Rattle.cs_decl_parser.specs.StatementPlaces.{HasStatementPlaces, AreItemsBeside};
-ghost use Rattle.cs_decl_parser.specs.Aptness.{IsAnswerApt};
+ghost use Rattle.cs_declarator_parser.specs.Aptness.{IsAnswerApt};
 
-use crate::block_specs::block_specs;
 use crate::form::is_label;
 use crate::nodes::node;
-use crate::objects::objects;
-use crate::source::{Scope, Source, begins_type, is_punctuator, place_at, refuse_deep};
 use crate::statement::statement;
-use crate::stop::{Stop, Taken};
 use cs_ast::Punctuator;
 use cs_ast::raw::declaration::{RawInit, RawSpecs};
 use cs_ast::raw::statement::{RawItem, RawStmt, RawStmtKind};
+use cs_declarator_parser::block_specs::block_specs;
+use cs_declarator_parser::objects::objects;
+use cs_declarator_parser::source::{
+    Scope, Source, begins_type, is_punctuator, place_at, refuse_deep,
+};
+use cs_declarator_parser::stop::{Stop, Taken};
 use std::alloc::Global;
 
 /// The block whose opening brace is at an index.

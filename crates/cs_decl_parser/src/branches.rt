@@ -5,22 +5,24 @@ ghost use Rattle.cs_ast.specs.declared.token.Keyword.TheVariants as keyword;
 ghost use Rattle.cs_ast.specs.RawStatementView.{switch_item as switch_item_of};
 ghost use Rattle.cs_grammar.specs.FileClasses.{SwitchParts, SwitchRows};
 ghost use Rattle.cs_expr_parser.specs.Positions.{kind_or_end};
-ghost use Rattle.cs_decl_parser.specs.TreePlaces.{TreeAt};
-ghost use Rattle.cs_decl_parser.specs.Answers.{Answers, StatementAnswers, ExactAnswers};
+ghost use Rattle.cs_declarator_parser.specs.TreePlaces.{TreeAt};
+ghost use Rattle.cs_declarator_parser.specs.Answers.{Answers, StatementAnswers, ExactAnswers};
 ghost use Rattle.cs_decl_parser.specs.Blocks.{switch_items_of};
-ghost use Rattle.cs_decl_parser.specs.Bounds.{IsBounded};
+ghost use Rattle.cs_declarator_parser.specs.Bounds.{IsBounded};
 ghost use Rattle.cs_decl_parser.specs.FilePlaces.{IsSwitchItemPlaced};
 ghost use Rattle.cs_decl_parser.specs.StatementPlaces.{HasStatementPlaces, AreSwitchItemsBeside};
-ghost use Rattle.cs_decl_parser.specs.Aptness.{IsAnswerApt};
+ghost use Rattle.cs_declarator_parser.specs.Aptness.{IsAnswerApt};
 
 use crate::block::item;
-use crate::expression::{closed, parenthesised};
 use crate::nodes::{if_else_node, if_node, node};
-use crate::source::{Scope, Source, is_keyword, is_punctuator, place_at, refuse, refuse_deep};
 use crate::statement::statement;
-use crate::stop::{Stop, Taken};
 use cs_ast::raw::statement::{RawStmt, RawStmtKind, RawSwitchItem};
 use cs_ast::{Keyword, Punctuator};
+use cs_declarator_parser::expression::{closed, parenthesised};
+use cs_declarator_parser::source::{
+    Scope, Source, is_keyword, is_punctuator, place_at, refuse, refuse_deep,
+};
+use cs_declarator_parser::stop::{Stop, Taken};
 use cs_expr_parser::ExprLevel;
 use std::alloc::Global;
 

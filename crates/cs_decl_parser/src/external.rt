@@ -7,26 +7,26 @@ ghost use Rattle.cs_ast.specs.RawDeclarationView.{head as head_of, parameters as
 ghost use Rattle.cs_ast.specs.RawStatementView.{external as external_view, external_of};
 ghost use Rattle.cs_grammar.specs.DeclarationClasses.{Externals};
 ghost use Rattle.cs_expr_parser.specs.Positions.{kind_or_end};
-ghost use Rattle.cs_decl_parser.specs.TreePlaces.{TreeAt};
-ghost use Rattle.cs_decl_parser.specs.declared.declarator.Declares.TheVariants as declaring;
-ghost use Rattle.cs_decl_parser.specs.Answers.{ExactAnswers};
-ghost use Rattle.cs_decl_parser.specs.Bounds.{IsBounded, IsOf};
-ghost use Rattle.cs_decl_parser.specs.DeclarationAnswers.{IsPointed};
+ghost use Rattle.cs_declarator_parser.specs.TreePlaces.{TreeAt};
+ghost use Rattle.cs_declarator_parser.specs.declared.declarator.Declares.TheVariants as declaring;
+ghost use Rattle.cs_declarator_parser.specs.Answers.{ExactAnswers};
+ghost use Rattle.cs_declarator_parser.specs.Bounds.{IsBounded, IsOf};
+ghost use Rattle.cs_declarator_parser.specs.DeclarationAnswers.{IsPointed};
 ghost use Rattle.cs_decl_parser.specs.FileAnswers.{IsHeadOf, IsTypeTaken, IsBodyApt};
 ghost use Rattle.cs_decl_parser.specs.FilePlaces.{IsExternalInside, IsExternalPlaced};
 ghost use Rattle.cs_decl_parser.specs.ExternalPlaces.{IsTypePlaced, IsPointedPlaced, IsHeadBuilt};
-ghost use Rattle.cs_decl_parser.specs.Aptness.{IsAnswerApt};
+ghost use Rattle.cs_declarator_parser.specs.Aptness.{IsAnswerApt};
 
 use crate::block::items;
-use crate::declarator::{Declares, Pointed, declarators, pointed_name, with_bounds};
-use crate::objects::{with_others, with_value};
-use crate::parameters::{are_named, parameters};
-use crate::source::{Scope, Source, is_keyword, is_punctuator, place_at, refuse};
-use crate::specs::specs;
-use crate::stop::{Stop, Taken};
 use cs_ast::raw::declaration::{RawFunction, RawParameters, RawSpecs};
 use cs_ast::raw::external::{RawBody, RawExternal, RawExternalKind};
 use cs_ast::{Keyword, Punctuator};
+use cs_declarator_parser::declarator::{Declares, Pointed, declarators, pointed_name, with_bounds};
+use cs_declarator_parser::objects::{with_others, with_value};
+use cs_declarator_parser::parameters::{are_named, parameters};
+use cs_declarator_parser::source::{Scope, Source, is_keyword, is_punctuator, place_at, refuse};
+use cs_declarator_parser::specs::specs;
+use cs_declarator_parser::stop::{Stop, Taken};
 use std::alloc::Global;
 
 /// How high a part of a file may be.

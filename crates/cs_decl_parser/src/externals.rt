@@ -10,11 +10,11 @@ ghost use Rattle.cs_decl_parser.specs.ReadParts.{IsFresh, StandsAmidst};
 ghost use Rattle.cs_decl_parser.specs.FilePlaces.{AreFilePlaced};
 
 use crate::external::external;
-use crate::source::Source;
-use crate::stop::Stop;
 use cs_ast::Token;
 use cs_ast::raw::declaration::RawDeclarator;
 use cs_ast::raw::external::{RawExternal, RawExternalKind};
+use cs_declarator_parser::source::Source;
+use cs_declarator_parser::stop::Stop;
 use cs_grammar::TypedefNames;
 use std::alloc::{AllocError, Global};
 

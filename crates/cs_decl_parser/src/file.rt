@@ -8,9 +8,9 @@ ghost use Rattle.cs_decl_parser.specs.FilePlaces.{AreFilePlaced};
 
 use crate::externals::Parts;
 use crate::reason::reason_reported;
-use crate::stop::Stop;
 use cs_ast::raw::external::Tree;
 use cs_ast::{Place, Token};
+use cs_declarator_parser::stop::Stop;
 use cs_expr_parser::refusal;
 use cs_grammar::SyntaxRefusal;
 use std::alloc::Global;

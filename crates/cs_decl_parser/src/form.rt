@@ -3,8 +3,10 @@ ghost use Rattle.std.specs.Prelude.{◌≡◌, ◌<◌, ◌^◌, ◌+◌, length
 ghost use Rattle.cs_expr_parser.specs.Positions.{kind_or_end, keyword_of};
 ghost use Rattle.cs_decl_parser.specs.Forms.{least, form_of, word_form, is_labelled, IsFormAt};
 
-use crate::source::{Source, begins_type, is_punctuator, keyword_at, name_at, punctuator_at};
 use cs_ast::{Keyword, Punctuator};
+use cs_declarator_parser::source::{
+    Source, begins_type, is_punctuator, keyword_at, name_at, punctuator_at,
+};
 
 /// The form of a statement.
 #[derive(Clone, Copy)]

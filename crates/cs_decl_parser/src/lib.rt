@@ -2,27 +2,16 @@
 #![tactic(auto)]
 
 mod block;
-mod block_specs;
 mod branches;
-mod constants;
-mod declarator;
-mod expression;
 mod external;
 mod externals;
 mod file;
 mod form;
-mod initial;
+mod laws;
 mod loops;
-mod members;
-mod names;
 mod nodes;
-mod objects;
-mod parameters;
 mod reason;
-mod source;
-mod specs;
 mod statement;
-mod stop;
-mod words;
 
 pub use file::parse;
+pub use laws::{files_are_not_refused, refusals_are_one};

@@ -8,23 +8,26 @@ ghost use Rattle.cs_ast.specs.RawView.{written};
 ghost use Rattle.cs_ast.specs.RawStatementView.{first_of};
 ghost use Rattle.cs_grammar.specs.FileClasses.{Firsts};
 ghost use Rattle.cs_expr_parser.specs.Positions.{kind_or_end};
-ghost use Rattle.cs_decl_parser.specs.TreePlaces.{TreeAt};
-ghost use Rattle.cs_decl_parser.specs.Answers.{StatementAnswers, ExactAnswers};
+ghost use Rattle.cs_declarator_parser.specs.TreePlaces.{TreeAt};
+ghost use Rattle.cs_declarator_parser.specs.Answers.{StatementAnswers, ExactAnswers};
 ghost use Rattle.cs_decl_parser.specs.Blocks.{Controls, control_of, first_if_any};
-ghost use Rattle.cs_decl_parser.specs.Bounds.{IsBounded};
-ghost use Rattle.cs_decl_parser.specs.FilePlaces.{IsSomePlaced, IsFirstPlaced};
+ghost use Rattle.cs_declarator_parser.specs.Bounds.{IsBounded};
+ghost use Rattle.cs_declarator_parser.specs.DeclarationPlaces.{IsSomePlaced};
+ghost use Rattle.cs_decl_parser.specs.FilePlaces.{IsFirstPlaced};
 ghost use Rattle.cs_decl_parser.specs.StatementPlaces.{HasStatementPlaces, AreForPartsPlaced};
-ghost use Rattle.cs_decl_parser.specs.Aptness.{IsAnswerApt};
+ghost use Rattle.cs_declarator_parser.specs.Aptness.{IsAnswerApt};
 
 use crate::block::declaration;
-use crate::expression::{closed_if_any, parenthesised};
 use crate::nodes::{do_node, for_node, while_node};
-use crate::source::{Scope, Source, begins_type, is_keyword, is_punctuator, place_at, refuse};
 use crate::statement::statement;
-use crate::stop::{Stop, Taken};
 use cs_ast::raw::expression::RawExpr;
 use cs_ast::raw::statement::{RawFirst, RawStmt};
 use cs_ast::{Keyword, Punctuator};
+use cs_declarator_parser::expression::{closed_if_any, parenthesised};
+use cs_declarator_parser::source::{
+    Scope, Source, begins_type, is_keyword, is_punctuator, place_at, refuse,
+};
+use cs_declarator_parser::stop::{Stop, Taken};
 use cs_expr_parser::ExprLevel;
 use std::alloc::Global;
 

@@ -8,11 +8,11 @@ ghost use Rattle.cs_decl_parser.specs.Nodes.{IsNode};
 ghost use Rattle.cs_decl_parser.specs.StatementPlaces.{IsMadeOf, IsLabelOf, IsTestedOf, IsChoiceOf, IsDoneOf, IsLoopOf};
 
 use crate::loops::ForParts;
-use crate::stop::Taken;
 use cs_ast::Place;
 use cs_ast::raw::expression::RawExpr;
 use cs_ast::raw::name::RawName;
 use cs_ast::raw::statement::{RawStmt, RawStmtKind};
+use cs_declarator_parser::stop::Taken;
 use std::alloc::{AllocError, Global};
 
 /// The statement of a kind at its place, of this height, up to this token.

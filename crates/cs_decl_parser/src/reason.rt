@@ -10,13 +10,12 @@ ghost use Rattle.cs_decl_parser.specs.ReadParts.{StandsAmidst};
 ghost use Rattle.cs_grammar.specs.Roles.{declared_name, opens_list};
 ghost use Rattle.cs_expr_parser.specs.Parts.{is_deep};
 ghost use Rattle.cs_expr_parser.specs.Positions.{kinds, kind_or_end};
-ghost use Rattle.cs_decl_parser.specs.DeclarationAnswers.{is_designator};
-ghost use Rattle.cs_decl_parser.specs.Files.{IsFileRefusedAt};
-ghost use Rattle.cs_decl_parser.specs.FileStops.{is_file_word as file_word, unsupported_if as out_if, IsPartRefusedAt};
+ghost use Rattle.cs_declarator_parser.specs.DeclarationAnswers.{is_designator};
+ghost use Rattle.cs_decl_parser.specs.FileStops.{is_file_word as file_word, unsupported_if as out_if, IsPartRefusedAt, IsTokenRefusedAt};
 
 use crate::externals::Parts;
-use crate::stop::Stop;
 use cs_ast::{Keyword, Punctuator, Token, TokenKind};
+use cs_declarator_parser::stop::Stop;
 use cs_expr_parser::{is_punctuator, keyword_at, punctuator_at};
 use cs_grammar::Reason;
 use cs_unsupported::{
@@ -36,7 +35,7 @@ pub fn reason_reported(
     requires few { length tokens.now < 2 ^ 32 }
     requires amidst { StandsAmidst tokens.now parts.now (stop.Refused at reason) }
     ensures { IfOk result (λ reported.
-        IsPartRefusedAt tokens.now at reason → IsFileRefusedAt tokens.now at reported) }
+        IsPartRefusedAt tokens.now at reason → IsTokenRefusedAt tokens.now at reported) }
 {
     if is_too_deep(reason) {
         return Ok(reason);

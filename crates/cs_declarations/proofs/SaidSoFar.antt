@@ -1,15 +1,17 @@
 -- Lists of what is said one by one, of which a part is read: for the sizes that bounds say.
 use Rattle.std.proofs.Common.{◌≡◌, ℕ, ℤ, ◌+◌, ◌<◌, List, [], ◌∷◌, ◌++◌, Option, Some, None, length, drop, get_or, refl, sym, ap}
 use Rattle.std.proofs.Common.{◌∙◌, append_assoc, rules}
+use Rattle.std.specs.Option.{option_or}
 use Rattle.std.proofs.lemmas.List.{at_drop_more}
 use Rattle.cs_ast.specs.declared.place.Place.{Place}
 use Rattle.cs_ast.specs.declared.raw.expression.RawExpr.{RawExpr}
 use Rattle.cs_scopes.specs.declared.context.Context.{Context}
+use Rattle.cs_scopes.specs.declared.refusal.TypeCode.{TypeCode}
 use Rattle.cs_scopes.specs.declared.refusal.TypeCode.TheVariants.{Size}
 use Rattle.cs_scopes.specs.declared.refusal.TypeRefusal.{TypeRefusal}
 use Rattle.cs_scopes.specs.Verdicts.{Verdict, Fine, Fault, lift, lift2, IsRefused}
 use Rattle.cs_scopes.proofs.Lifting.{lift-fault, lift-refused, lift2-refused-first}
-use Rattle.cs_declarations.specs.Sizes.{size_said, sizes_said, all_said}
+use Rattle.cs_declarations.specs.Sizes.{size_said, size_or_one, sizes_said, fault_in, refused_bound, all_said}
 
 -- what is said after others
 abbrev pub following : {A : Type 0} → List A → Verdict (List A) → Verdict (List A)
@@ -39,18 +41,30 @@ following-both before x (Fault code at) = refl
 pub refused_by : {A : Type 0} {v w : Verdict A} (r : TypeRefusal) → v ≡ w → IsRefused w r → IsRefused v r
 refused_by r e h = rw e h
 
+option_or-assoc : {A : Type 0} (a b c : Option A) → option_or (option_or a b) c ≡ option_or a (option_or b c)
+option_or-assoc None b c = refl
+option_or-assoc (Some x) b c = refl
+
+pub option_or-none : {A : Type 0} (a : Option A) → option_or a None ≡ a
+option_or-none None = refl
+option_or-none (Some x) = refl
+
 module _ (c : Context) (bounds : List (Option RawExpr)) (i : ℕ) (before : List (Option ℤ)) (bound : Option RawExpr) (within : i < length bounds)
-    (is : bound ≡ get_or bounds i bound) (so_far : sizes_said c bounds ≡ following before (sizes_said c (drop i bounds))) where
-  next : sizes_said c bounds ≡ following before (lift2 (λ first others. Fine (first ∷ others)) (size_said c bound) (sizes_said c (drop (i + 1) bounds)))
-  next = so_far ∙ ap (following before) (at_drop_more (sizes_said c) bounds i bound within ∙ ap (λ b. sizes_said c (b ∷ drop (i + 1) bounds)) (sym is))
+    (is : bound ≡ get_or bounds i bound) where
+  here : {B : Type 0} (f : List (Option RawExpr) → B) → f (drop i bounds) ≡ f (bound ∷ drop (i + 1) bounds)
+  here f = at_drop_more f bounds i bound within ∙ ap (λ b. f (b ∷ drop (i + 1) bounds)) (sym is)
 
-  pub size_taken : (size : Option ℤ) → size_said c bound ≡ Fine size
-      → sizes_said c bounds ≡ following (before ++ size ∷ []) (sizes_said c (drop (i + 1) bounds))
-  size_taken size e = next ∙ ap (λ v. following before (lift2 (λ first others. Fine (first ∷ others)) v (sizes_said c (drop (i + 1) bounds)))) e
-      ∙ following-both before size (sizes_said c (drop (i + 1) bounds))
+  pub size_taken : (size : Option ℤ) → sizes_said c bounds ≡ before ++ sizes_said c (drop i bounds) → size_or_one (size_said c bound) ≡ size
+      → sizes_said c bounds ≡ (before ++ size ∷ []) ++ sizes_said c (drop (i + 1) bounds)
+  size_taken size so_far e =
+      so_far ∙ ap (λ sizes. before ++ sizes) (here (sizes_said c)) ∙ ap (λ s. before ++ s ∷ sizes_said c (drop (i + 1) bounds)) e
+      ∙ sym (append_assoc before (size ∷ []) (sizes_said c (drop (i + 1) bounds)))
 
-  pub size_stops : (r : TypeRefusal) → IsRefused (size_said c bound) r → IsRefused (sizes_said c bounds) r
-  size_stops r h = refused_by r next (lift-refused _ _ r (lift2-refused-first _ _ _ r h))
+  pub refused_taken : (refused : Option (TypeCode × Place)) → refused_bound c bounds ≡ option_or refused (refused_bound c (drop i bounds))
+      → refused_bound c bounds ≡ option_or (option_or refused (fault_in (size_said c bound))) (refused_bound c (drop (i + 1) bounds))
+  refused_taken refused so_far =
+      so_far ∙ ap (option_or refused) (here (refused_bound c))
+      ∙ sym (option_or-assoc refused (fault_in (size_said c bound)) (refused_bound c (drop (i + 1) bounds)))
 
 module _ (at : Place) (sizes : List (Option ℤ)) (i : ℕ) (before : List ℤ) (within : i < length sizes)
     (so_far : all_said at sizes ≡ following before (all_said at (drop i sizes))) where

@@ -1,7 +1,8 @@
 -- Typedefs and parameters leave the structs laid out: for the contracts of `declare_typedefs` and `parameters_typed`.
 use Rattle.std.proofs.Common.{◌≡◌, ℕ, List, [], ◌∷◌, length}
-use Rattle.std.specs.Prelude.{Option, Some, None, if◌then◌else◌}
+use Rattle.std.specs.Prelude.{Option, Some, None}
 use Rattle.cs_types.specs.Shape.{Shape}
+use Rattle.cs_ast.specs.declared.place.Place.{Place}
 use Rattle.cs_ast.specs.declared.raw.name.RawName.{RawName}
 use Rattle.cs_ast.specs.declared.raw.declaration.RawDeclarator.{RawDeclarator}
 use Rattle.cs_ast.specs.declared.raw.declaration.RawParameter.{RawParameter}
@@ -13,8 +14,8 @@ use Rattle.cs_scopes.specs.Meanings.{Typedef}
 use Rattle.cs_scopes.specs.TypeNames.{starred}
 use Rattle.cs_declarations.specs.Environment.{Environment, declaring, is_declared_here}
 use Rattle.cs_declarations.specs.Bodies.{Typing, specs_type, declarator_type, typedef_added, typedefs_added}
-use Rattle.cs_declarations.specs.Parameters.{place_of, Passed, Head, naming, is_free_name, with_parameter, parameter_passed, parameter_typed, parameters_after}
-use Rattle.cs_declarations.specs.Parameters.{parameters_typed}
+use Rattle.cs_declarations.specs.Parameters.{Passed, Head, naming, with_parameter, parameter_passed, parameter_typed, parameters_after}
+use Rattle.cs_declarations.specs.Parameters.{parameters_typed, no_parameter, after_twice, twice_after}
 use Rattle.cs_declarations.specs.LaidOut.{IsSound}
 use Rattle.cs_declarations.proofs.FineVerdicts.{IfFine, IfFine-lift, IfFine-lift_any, IfFine-cond, IfFine-at}
 use Rattle.cs_declarations.proofs.SoundStructs.{GoesOn, GoesOn-same, GoesOn-trans}
@@ -48,6 +49,11 @@ naming-GoesOn : (k between : Environment) (name : Option RawName) (number : ℕ)
 naming-GoesOn k between None number ty g = g
 naming-GoesOn k between (Some name) number ty g = g
 
+IfFine-after_twice : {A : Type 0} (twice : Option Place) (v : Verdict A) (P : A → Type 0) → IfFine v P → IfFine (after_twice twice v) P
+IfFine-after_twice twice (Fine value) P h = h
+IfFine-after_twice None (Fault code place) P h = tt
+IfFine-after_twice (Some at) (Fault code place) P h = tt
+
 module _ (k : Environment) (p : RawParameter) (before : Head) where
   with_parameter-GoesOn : (between : Environment) (found : Passed) → GoesOn k between → IfFine (with_parameter p before between found) (HeadGoesOn k)
   with_parameter-GoesOn between found g = naming-GoesOn k between p.name (length before.variables) found.ty g
@@ -55,21 +61,19 @@ module _ (k : Environment) (p : RawParameter) (before : Head) where
   -- a parameter after whose words stands a type
   abbrev at_type : Typing → Verdict Head
   at_type found =
-      if is_free_name p.name found.1
-      then lift (with_parameter p before found.1) (parameter_passed found.1.context p (starred p.pointers.items found.0))
-      else Fault DeclaredTwice (place_of p.place p.name)
+      lift (with_parameter p before found.1)
+      (after_twice (twice_after p before.twice found.1) (parameter_passed found.1.context p (starred p.pointers.items found.0)))
 
   at_type-GoesOn : (found : Typing) → GoesOn k found.1 → IfFine (at_type found) (HeadGoesOn k)
   at_type-GoesOn found g =
-      let passed = parameter_passed found.1.context p (starred p.pointers.items found.0) in
-      IfFine-cond (is_free_name p.name found.1) (lift (with_parameter p before found.1) passed) (Fault DeclaredTwice (place_of p.place p.name)) (HeadGoesOn k)
-      (λ free. IfFine-lift_any (with_parameter p before found.1) passed (HeadGoesOn k) (λ way. with_parameter-GoesOn found.1 way g))
-      (λ twice. tt)
+      let passed = after_twice (twice_after p before.twice found.1) (parameter_passed found.1.context p (starred p.pointers.items found.0)) in
+      IfFine-lift_any (with_parameter p before found.1) passed (HeadGoesOn k) (λ way. with_parameter-GoesOn found.1 way g)
 
   parameter_typed-GoesOn : HeadGoesOn k before → IfFine (parameter_typed p before) (HeadGoesOn k)
   parameter_typed-GoesOn g =
-      IfFine-lift at_type (specs_type before.known p.place p.specs) (TypeGoesOn before.known) (HeadGoesOn k)
-      (specs_type-GoesOn before.known p.place p.specs g.sound)
+      IfFine-lift at_type (after_twice before.twice (specs_type before.known p.place p.specs)) (TypeGoesOn before.known) (HeadGoesOn k)
+      (IfFine-after_twice before.twice (specs_type before.known p.place p.specs) (TypeGoesOn before.known)
+      (specs_type-GoesOn before.known p.place p.specs g.sound))
       (λ found h. at_type-GoesOn found (GoesOn-trans k before.known found.1 g h))
 
 parameters_after-GoesOn : (k : Environment) (ps : List RawParameter) (before : Head) → HeadGoesOn k before
@@ -83,7 +87,7 @@ pub parameters_typed-GoesOn : (k : Environment) (parameters : RawParameters) →
 parameters_typed-GoesOn k parameter_lists.Empty sound = GoesOn-same k sound
 parameters_typed-GoesOn k parameter_lists.Void sound = GoesOn-same k sound
 parameters_typed-GoesOn k (parameter_lists.List list) sound =
-    parameters_after-GoesOn k list.items (record { variables = []; written = []; known = k }) (GoesOn-same k sound)
+    parameters_after-GoesOn k list.items (no_parameter k) (GoesOn-same k sound)
 
 -- ---- what they leave, where all is fine
 

@@ -21,10 +21,10 @@ count-row n first_value.end_of-RawInitial = refl
 count-row n (first_value.more_of-RawInitial first others) = ap suc (count-row _ others)
 
 pub elements_given-List : (v : RawInitial) (list : Vec RawInitial Global) (comma : Bool) → v ≡ first_value.TheVariants.List list comma
-    → elements_given v ≡ Some (length list.items)
+    → elements_given v ≡ length list.items
 elements_given-List v list comma is =
     let row = items_of (first_value.TheVariants.List list comma) in
-    ap elements_given is ∙ ap Some (sym (count-row row.0 row.1) ∙ ap length (first_value.items_hidden-the_row-RawInitial-0 list))
+    ap elements_given is ∙ sym (count-row row.0 row.1) ∙ ap length (first_value.items_hidden-the_row-RawInitial-0 list)
 
 forms-row : (table : List StructType) (storage : Storage) (types : List Shape) (n : _) (row : first_value.Row_of-RawInitial n)
     → list_has_forms table storage types (first_value.items-the_row-RawInitial n row) ≡ have_forms table storage (Some types) row

@@ -32,7 +32,7 @@ use Rattle.cs_consts.specs.Roles.{value_of}
 use Rattle.cs_scopes.specs.Sizes.{bytes_in}
 use Rattle.cs_scopes.specs.TypeNames.{is_word, integer_type, whole_word, typedef_at, enum_at, tag_place, starred, complete_at}
 use Rattle.cs_declarations.specs.Environment.{Environment, model_of, table_of, declarations_of, with_table, with_reading, with_tag, declaring, is_declared_here}
-use Rattle.cs_declarations.specs.Sizes.{sizes_said, bounded, extent_of, filled}
+use Rattle.cs_declarations.specs.Sizes.{sizes_said, refused_bound, unless_refused, bounded, extent_of, filled}
 
 -- a type, with what is known after it
 abbrev pub Typing : Type 0
@@ -115,10 +115,13 @@ abbrev pub member_added : Context → Place → List ℕ → Laying → Shape �
 member_added c at name before ty =
     lift (λ whole. placed_if c at name whole (bytes_in c.model c.table.list whole) before) (complete_at c.table.list at ty)
 
--- the type that a declarator gives its name, after whose words stands a type; so many elements are given where its size isn't said
+-- the type that a declarator gives its name, after whose words stands a type; so many elements are given where its size isn't said.
+-- The name comes before the bounds, so that what its place finds wrong comes first
 abbrev pub declarator_type : Context → Shape → Option ℕ → RawDeclarator → Verdict Shape
 declarator_type c base count d =
-    lift (λ whole. lift (λ sizes. lift (filled c d.place count) (extent_of c d.place whole sizes)) (sizes_said c d.bounds.items))
+    lift (λ whole.
+    lift (unless_refused (refused_bound c d.bounds.items))
+    (lift (filled c d.place count) (extent_of c d.place whole (sizes_said c d.bounds.items))))
     (bounded c d.place (starred d.pointers.items base) d.bounds.items)
 
 -- what a member's declarator adds: its name is new in the struct

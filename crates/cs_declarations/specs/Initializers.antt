@@ -1,5 +1,5 @@
 -- What objects hold at first (C11 6.7.9): the items of a list go to the elements or members in order, each as its own braces say.
-use Rattle.std.specs.Prelude.{ℕ, zero, suc, ◌+◌, nat_le, nat_lt, nat_eq, Bool, true, false, not, ◌&&◌, ◌||◌, if◌then◌else◌, List, []}
+use Rattle.std.specs.Prelude.{ℕ, zero, suc, ◌+◌, nat_le, nat_lt, Bool, true, false, ◌&&◌, ◌||◌, if◌then◌else◌, List, []}
 use Rattle.std.specs.Prelude.{◌∷◌, length, map, Option, Some, None, is_some}
 use Rattle.cs_types.specs.declared.int_type.IntType.TheVariants.{Char, SChar, UChar}
 use Rattle.cs_types.specs.Shape.{Shape, integer, array, struct}
@@ -65,23 +65,31 @@ abbrev pub is_number : DataModel → Typed → Bool
 is_number model e = is_some (number_in model true e)
 
 abbrev mutual
-  -- the value is an address constant (C11 6.6, paragraph 9): null, or the address of a file-scope object or a text, or of a part of
-  -- one at constant places, plus or minus constants
-  pub is_address : DataModel → Typed → Bool
-  is_address model (Of at ty Null) = true
-  is_address model (Of at ty (Address object)) = is_fixed model object
-  is_address model (Of at ty (Decay object)) = is_fixed model object
-  is_address model (Of at ty (Sum address amount direction order)) = is_address model address && is_number model amount
-  is_address model (Of at ty (Convert e)) = is_address model e
-  is_address model (Of at ty other) = false
+  -- the value points to a file-scope object or a string literal, or to a part of one at constant subscripts, plus or minus constants
+  pub is_static_address : DataModel → Typed → Bool
+  is_static_address model (Of at ty (Address object)) = is_static_part model object
+  is_static_address model (Of at ty (Decay object)) = is_static_part model object
+  is_static_address model (Of at ty (Sum address amount direction order)) = is_static_address model address && is_number model amount
+  is_static_address model (Of at ty (Convert e)) = is_static_address model e
+  is_static_address model (Of at ty other) = false
 
-  -- the object is a file-scope object, a text, or a part of one at constant places
-  pub is_fixed : DataModel → Typed → Bool
-  is_fixed model (Of at ty (GlobalObject number)) = true
-  is_fixed model (Of at ty (Text number)) = true
-  is_fixed model (Of at ty (MemberOf object offset)) = is_fixed model object
-  is_fixed model (Of at ty (Index elements number order)) = is_address model elements && is_number model number
-  is_fixed model (Of at ty other) = false
+  -- the object is a file-scope object, a string literal, or a part of one at constant subscripts
+  pub is_static_part : DataModel → Typed → Bool
+  is_static_part model (Of at ty (GlobalObject number)) = true
+  is_static_part model (Of at ty (Text number)) = true
+  is_static_part model (Of at ty (MemberOf object offset)) = is_static_part model object
+  is_static_part model (Of at ty (Index elements number order)) = is_static_address model elements && is_number model number
+  is_static_part model (Of at ty other) = false
+
+-- the value is the null pointer, converted or not
+abbrev pub is_null_address : Typed → Bool
+is_null_address (Of at ty Null) = true
+is_null_address (Of at ty (Convert e)) = is_null_address e
+is_null_address (Of at ty other) = false
+
+-- the value is an address constant (C11 6.6, paragraph 9); the null pointer has no elements, so that nothing is added to it
+abbrev pub is_address : DataModel → Typed → Bool
+is_address model e = is_null_address e || is_static_address model e
 
 -- the value may be the initializer of an object that stands there (paragraph 4)
 abbrev pub is_admitted : DataModel → Storage → Typed → Bool
@@ -160,9 +168,9 @@ list_read c literals [] (first ∷ others) = Fine (NoPart, literals)
 list_read c literals (ty ∷ types) (first ∷ others) =
     lift (λ (r : Reading). lift (one_more r.0) (list_read c r.1 types others)) (initial_read c literals ty first)
 
--- a value for an item of a list: a struct's is of its type, for it has no braces of its own
+-- a value for an item of a list stands for the first member of a struct whose own braces are left out: it is no struct itself
 abbrev pub is_braceless : Shape → Shape → Bool
-is_braceless (struct n) (struct m) = not (nat_eq n m)
+is_braceless (struct n) (struct m) = false
 is_braceless (struct n) other = true
 is_braceless ty other = false
 
@@ -240,15 +248,16 @@ initial_typed c literals storage at ty written =
     (initial_read c literals ty written)
     else Fault Initializer at
 
--- how many elements a written initializer gives an array whose size isn't said: those of its list, or its text with the zero byte
+-- how many elements a written initializer gives an array whose size isn't said: those of its list, or its text with the zero byte;
+-- one where it is another expression, which has the wrong form for every array, so that its size doesn't matter
 abbrev pub row_count : {n : _} → first_value.Row_of-RawInitial n → ℕ
 row_count first_value.end_of-RawInitial = 0
 row_count (first_value.more_of-RawInitial first others) = suc (row_count others)
 
-abbrev pub text_count : RawExprKind → Option ℕ
-text_count (kind.Text bytes) = Some (length bytes + 1)
-text_count other = None
+abbrev pub text_count : RawExprKind → ℕ
+text_count (kind.Text bytes) = length bytes + 1
+text_count other = 1
 
-abbrev pub elements_given : RawInitial → Option ℕ
+abbrev pub elements_given : RawInitial → ℕ
 elements_given (first_value.TheVariants.Value e) = text_count e.kind.value
-elements_given (first_value.TheVariants.List' shape row comma) = Some (row_count row)
+elements_given (first_value.TheVariants.List' shape row comma) = row_count row

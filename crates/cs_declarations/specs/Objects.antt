@@ -1,6 +1,6 @@
 -- The types of declared objects, and whether they may be stored to (C11 6.7, 6.9.2).
 use Rattle.std.specs.Prelude.{ℕ, Bool, List, [], ◌∷◌, Option}
-use Rattle.std.specs.Option.{option_and_then}
+use Rattle.std.specs.Option.{option_map}
 use Rattle.cs_types.specs.Shape.{Shape}
 use Rattle.cs_ast.specs.declared.raw.declaration.RawSpecs.{RawSpecs}
 use Rattle.cs_ast.specs.declared.raw.declaration.RawFirstValue.{RawFirstValue}
@@ -15,7 +15,7 @@ use Rattle.cs_declarations.specs.Initializers.{elements_given}
 
 -- how many elements stand after an `=`
 abbrev pub count_given : Option RawFirstValue → Option ℕ
-count_given first = option_and_then (λ (value : RawFirstValue). elements_given value.initial) first
+count_given first = option_map (λ (value : RawFirstValue). elements_given value.initial) first
 
 -- the type of an object, which is complete (C11 6.7, paragraph 7)
 abbrev pub object_type : Context → Shape → RawInit → Verdict Shape

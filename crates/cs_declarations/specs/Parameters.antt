@@ -14,11 +14,13 @@ use Rattle.cs_ast.specs.declared.raw.declaration.RawParameters.TheVariants as pa
 use Rattle.cs_ast.specs.TypedProgram.{Variable}
 use Rattle.cs_scopes.specs.declared.context.Context.{Context}
 use Rattle.cs_scopes.specs.declared.refusal.TypeCode.TheVariants.{DeclaredTwice, IncompleteType}
+use Rattle.cs_scopes.specs.declared.refusal.TypeRefusal.{TypeRefusal}
+use Rattle.cs_scopes.specs.declared.refusal.TypeRefusal.TheVariants as refusals
 use Rattle.cs_scopes.specs.Verdicts.{Verdict, Fine, Fault, lift}
 use Rattle.cs_scopes.specs.Meanings.{Local}
 use Rattle.cs_scopes.specs.TypeNames.{array_of, starred}
 use Rattle.cs_declarations.specs.Environment.{Environment, declaring, is_declared_here}
-use Rattle.cs_declarations.specs.Sizes.{sizes_said, bounded, element_of}
+use Rattle.cs_declarations.specs.Sizes.{sizes_said, refused_bound, unless_refused, bounded, element_of}
 use Rattle.cs_declarations.specs.Bodies.{Typing, specs_type, has_const}
 
 -- the place of a parameter: its name, or its first token where it has none
@@ -98,10 +100,12 @@ is_pointer other = false
 abbrev pub may_write : RawParameter → Shape → Bool
 may_write p ty = is_pointer ty && not (points_to_const p.specs p.pointers.items p.bounds.items)
 
--- parameters so far: each with its name, and whether it may be written through; what is known after them
+-- parameters so far: each with its name, and whether it may be written through; the first name that is declared a second time among
+-- them (C11 6.7, paragraph 3), which doesn't keep the parameter from having a type; what is known after them
 pub record Head : Type 0 where
   pub variables : List Variable
   pub written : List Bool
+  pub twice : Option Place
   pub known : Environment
 
 -- after the name of a parameter, if it has one
@@ -113,33 +117,55 @@ abbrev pub is_free_name : Option RawName → Environment → Bool
 is_free_name None k = true
 is_free_name (Some name) k = not (is_declared_here name.name k)
 
+-- after a parameter whose type is fine, or before one
+abbrev pub twice_after : RawParameter → Option Place → Environment → Option Place
+twice_after p (Some at) k = Some at
+twice_after p None k = if is_free_name p.name k then None else Some (place_of p.place p.name)
+
+-- a verdict on what comes after such a name, if there is one: of two that fail the name counts
+abbrev pub after_twice : {A : Type 0} → Option Place → Verdict A → Verdict A
+after_twice twice (Fine value) = Fine value
+after_twice None (Fault code place) = Fault code place
+after_twice (Some at) (Fault code place) = Fault DeclaredTwice at
+
+-- the same of a refusal
+abbrev pub refused_after : Option Place → TypeRefusal → TypeRefusal
+refused_after None refusal = refusal
+refused_after (Some at) (refusals.Code code place) = refusals.Code DeclaredTwice at
+refused_after (Some at) refusals.Memory = refusals.Memory
+
 abbrev pub with_parameter : RawParameter → Head → Environment → Passed → Verdict Head
 with_parameter p before k found = Fine (record {
   variables = before.variables ++ record { name = name_in p.name; ty = found.ty; block = found.block } ∷ [];
   written = before.written ++ may_write p found.ty ∷ [];
+  twice = twice_after p before.twice k;
   known = naming p.name (length before.variables) found.ty k;
 })
 
 -- how a parameter is passed whose pointers make this type
 abbrev pub parameter_passed : Context → RawParameter → Shape → Verdict Passed
 parameter_passed c p base =
-    lift (λ whole. lift (passed c (place_of p.place p.name) whole) (sizes_said c p.bounds.items)) (bounded c (place_of p.place p.name) base p.bounds.items)
+    lift (λ whole.
+    lift (unless_refused (refused_bound c p.bounds.items)) (passed c (place_of p.place p.name) whole (sizes_said c p.bounds.items)))
+    (bounded c (place_of p.place p.name) base p.bounds.items)
 
 -- a parameter after others
 abbrev pub parameter_typed : RawParameter → Head → Verdict Head
 parameter_typed p before =
     lift (λ (found : Typing).
-    if is_free_name p.name found.1
-    then lift (with_parameter p before found.1) (parameter_passed found.1.context p (starred p.pointers.items found.0))
-    else Fault DeclaredTwice (place_of p.place p.name))
-    (specs_type before.known p.place p.specs)
+    lift (with_parameter p before found.1)
+    (after_twice (twice_after p before.twice found.1) (parameter_passed found.1.context p (starred p.pointers.items found.0))))
+    (after_twice before.twice (specs_type before.known p.place p.specs))
 
 abbrev pub parameters_after : List RawParameter → Head → Verdict Head
 parameters_after [] before = Fine before
 parameters_after (p ∷ ps) before = lift (parameters_after ps) (parameter_typed p before)
 
+abbrev pub no_parameter : Environment → Head
+no_parameter k = record { variables = []; written = []; twice = None; known = k }
+
 -- what stands between the parentheses of a function's head
 abbrev pub parameters_typed : Environment → RawParameters → Verdict Head
-parameters_typed k parameter_lists.Empty = Fine (record { variables = []; written = []; known = k })
-parameters_typed k parameter_lists.Void = Fine (record { variables = []; written = []; known = k })
-parameters_typed k (parameter_lists.List list) = parameters_after list.items (record { variables = []; written = []; known = k })
+parameters_typed k parameter_lists.Empty = Fine (no_parameter k)
+parameters_typed k parameter_lists.Void = Fine (no_parameter k)
+parameters_typed k (parameter_lists.List list) = parameters_after list.items (no_parameter k)

@@ -1,11 +1,13 @@
 -- The bounds of declarators and the arrays that they make (C11 6.7.6.2).
-use Rattle.std.specs.Prelude.{ℕ, ℤ, pos, List, [], ◌∷◌, Option, Some, None}
+use Rattle.std.specs.Prelude.{ℕ, ℤ, pos, List, [], ◌∷◌, map, Option, Some, None}
+use Rattle.std.specs.Option.{option_or}
 use Rattle.cs_types.specs.Shape.{Shape}
 use Rattle.cs_ast.specs.declared.place.Place.{Place}
 use Rattle.cs_ast.specs.declared.raw.expression.RawExpr.{RawExpr}
 use Rattle.cs_scopes.specs.declared.context.Context.{Context}
+use Rattle.cs_scopes.specs.declared.refusal.TypeCode.{TypeCode}
 use Rattle.cs_scopes.specs.declared.refusal.TypeCode.TheVariants.{Size}
-use Rattle.cs_scopes.specs.Verdicts.{Verdict, Fine, Fault, lift, lift2}
+use Rattle.cs_scopes.specs.Verdicts.{Verdict, Fine, Fault, lift}
 use Rattle.cs_consts.specs.Roles.{value_of}
 use Rattle.cs_scopes.specs.TypeNames.{array_of, arrayed, complete_at}
 
@@ -14,10 +16,33 @@ abbrev pub size_said : Context → Option RawExpr → Verdict (Option ℤ)
 size_said c None = Fine None
 size_said c (Some e) = lift (λ v. Fine (Some v.1)) (value_of c e)
 
--- the sizes that bounds say, the outermost first
-abbrev pub sizes_said : Context → List (Option RawExpr) → Verdict (List (Option ℤ))
-sizes_said c [] = Fine []
-sizes_said c (bound ∷ bounds) = lift2 (λ first others. Fine (first ∷ others)) (size_said c bound) (sizes_said c bounds)
+-- the size with which a bound counts: one that is refused counts with 1, so that its array is as small as can be
+abbrev pub size_or_one : Verdict (Option ℤ) → Option ℤ
+size_or_one (Fine size) = size
+size_or_one (Fault code place) = Some (pos 1)
+
+-- the sizes with which bounds count, the outermost first
+abbrev pub sizes_said : Context → List (Option RawExpr) → List (Option ℤ)
+sizes_said c bounds = map (λ bound. size_or_one (size_said c bound)) bounds
+
+-- what is refused at which place
+abbrev pub fault_in : {A : Type 0} → Verdict A → Option (TypeCode × Place)
+fault_in (Fine value) = None
+fault_in (Fault code place) = Some (code, place)
+
+-- the first bound that is refused
+abbrev pub refused_bound : Context → List (Option RawExpr) → Option (TypeCode × Place)
+refused_bound c [] = None
+refused_bound c (bound ∷ bounds) = option_or (fault_in (size_said c bound)) (refused_bound c bounds)
+
+-- no bound is refused
+abbrev pub bounds_taken : Option (TypeCode × Place) → Verdict (Unit {0})
+bounds_taken None = Fine tt
+bounds_taken (Some fault) = Fault fault.0 fault.1
+
+-- what is declared at a name, where no bound after it is refused
+abbrev pub unless_refused : {A : Type 0} → Option (TypeCode × Place) → A → Verdict A
+unless_refused refused found = lift (λ _. Fine found) (bounds_taken refused)
 
 -- sizes of which each has to be said
 abbrev pub all_said : Place → List (Option ℤ) → Verdict (List ℤ)

@@ -59,7 +59,7 @@ abbrev pub body : HeldLaying → Held → Body
 body l k = record { laying = laying l; known = environment_of k }
 
 abbrev pub head : HeldHead → Held → Head
-head h k = record { variables = map variable h.parameters.items; written = h.written.items; known = environment_of k }
+head h k = record { variables = map variable h.parameters.items; written = h.written.items; twice = h.twice; known = environment_of k }
 
 -- the last star of some words, and the one before it
 pub record AreLastStars (pointers : List PointerWord) (stars : Stars) : Type 0 where

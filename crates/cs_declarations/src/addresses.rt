@@ -1,7 +1,7 @@
 //! Constants that file-scope objects may hold (C11 6.6).
 ghost use Rattle.std.specs.Prelude.{◌≡◌};
 ghost use Rattle.cs_ast.specs.TypedView.{typed};
-ghost use Rattle.cs_declarations.specs.Initializers.{is_number, is_address, is_fixed, is_admitted};
+ghost use Rattle.cs_declarations.specs.Initializers.{is_number, is_null_address, is_static_address, is_static_part, is_address, is_admitted};
 ghost use Rattle.cs_declarations.specs.View as view;
 
 use crate::storage::Storage;
@@ -16,35 +16,53 @@ fn is_number(model: DataModel, value: &Expr) -> bool
     number_in(model, true, value).is_some()
 }
 
-// Whether the value is an address constant (C11 6.6, paragraph 9).
+// Whether the value points to a file-scope object or a string literal, or to a part of one at constant subscripts, plus or minus
+// constants.
 #[cycle(addresses)]
-fn is_address(model: DataModel, value: &Expr) -> bool
-    ensures { result ≡ is_address model (typed value.now) }
+fn is_static_address(model: DataModel, value: &Expr) -> bool
+    ensures { result ≡ is_static_address model (typed value.now) }
 {
     match &*value.kind {
-        ExprKind::Null => true,
-        ExprKind::Address(object) | ExprKind::Decay(object) => is_fixed(model, object),
+        ExprKind::Address(object) | ExprKind::Decay(object) => is_static_part(model, object),
         ExprKind::Sum(address, amount, _, _) => {
-            is_address(model, address) && is_number(model, amount)
+            is_static_address(model, address) && is_number(model, amount)
         }
-        ExprKind::Convert(value) => is_address(model, value),
+        ExprKind::Convert(value) => is_static_address(model, value),
         _ => false,
     }
 }
 
-// Whether the object is a file-scope object, a text, or a part of one at constant places.
+// Whether the object is a file-scope object, a string literal, or a part of one at constant subscripts.
 #[cycle(addresses)]
-fn is_fixed(model: DataModel, object: &Expr) -> bool
-    ensures { result ≡ is_fixed model (typed object.now) }
+fn is_static_part(model: DataModel, object: &Expr) -> bool
+    ensures { result ≡ is_static_part model (typed object.now) }
 {
     match &*object.kind {
         ExprKind::Global(_) | ExprKind::Text(_) => true,
-        ExprKind::Member(object, _) => is_fixed(model, object),
+        ExprKind::Member(object, _) => is_static_part(model, object),
         ExprKind::Index(elements, number, _) => {
-            is_address(model, elements) && is_number(model, number)
+            is_static_address(model, elements) && is_number(model, number)
         }
         _ => false,
     }
+}
+
+// Whether the value is the null pointer, converted or not.
+fn is_null_address(value: &Expr) -> bool
+    ensures { result ≡ is_null_address (typed value.now) }
+{
+    match &*value.kind {
+        ExprKind::Null => true,
+        ExprKind::Convert(value) => is_null_address(value),
+        _ => false,
+    }
+}
+
+// Whether the value is an address constant (C11 6.6, paragraph 9). The null pointer has no elements, so nothing is added to it.
+fn is_address(model: DataModel, value: &Expr) -> bool
+    ensures { result ≡ is_address model (typed value.now) }
+{
+    is_null_address(value) || is_static_address(model, value)
 }
 
 /// Whether an object that stands there may hold the value at first (C11 6.7.9, paragraph 4).

@@ -102,14 +102,16 @@ fn have_forms(table: &StructTable, storage: Storage, parts: Parts, items: &[RawI
 }
 
 /// How many elements a written initializer gives an array whose size isn't said: those of its list, or its text with the zero byte.
-pub fn elements_given(written: &RawInitial) -> Option<usize>
+///
+/// Another expression has the wrong form for every array, so its answer is any size that is taken: 1.
+pub fn elements_given(written: &RawInitial) -> usize
     ensures { result ≡ elements_given written.now }
 {
     match written {
         RawInitial::Value(tree) => match &*tree.kind {
-            RawExprKind::Text(bytes) => Some(bytes.as_bytes().len() + 1),
-            _ => None,
+            RawExprKind::Text(bytes) => bytes.as_bytes().len() + 1,
+            _ => 1,
         },
-        RawInitial::List(items, _) => Some(items.len()),
+        RawInitial::List(items, _) => items.len(),
     }
 }

@@ -39,12 +39,13 @@ fn value_judged(
     }
 }
 
-// Whether a value for an item of a list stands for a struct's own list: it is of another type, and has no braces.
+// Whether a value for an item of a list stands for the first member of a struct whose own braces are left out: it is no struct
+// itself.
 fn is_braceless(ty: &CType, value: &CType) -> bool
     ensures { result ≡ is_braceless (shape_of ty.now) (shape_of value.now) }
 {
     match (ty, value) {
-        (CType::Struct(wanted), CType::Struct(number)) => wanted != number,
+        (CType::Struct(_), CType::Struct(_)) => false,
         (CType::Struct(_), _) => true,
         _ => false,
     }

@@ -16,7 +16,7 @@ fn count_given(first: &Option<RawFirstValue>) -> Option<usize>
     ensures { result ≡ count_given first.now }
 {
     match first {
-        Some(first) => elements_given(&first.initial),
+        Some(first) => Some(elements_given(&first.initial)),
         None => None,
     }
 }

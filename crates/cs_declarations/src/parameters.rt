@@ -4,13 +4,14 @@ ghost use Rattle.cs_types.specs.Shape.{shape_of};
 ghost use Rattle.cs_scopes.specs.Verdicts.{Answers, Fine};
 ghost use Rattle.cs_declarations.specs.Answered.{AnswersWith, Leaves};
 ghost use Rattle.cs_declarations.specs.LaidOut.{IsSound};
-ghost use Rattle.cs_declarations.specs.Parameters.{place_of, plainly_passed, array_passed, passed, parameter_passed, may_write, is_free_name, with_parameter, parameter_typed, parameters_typed};
-ghost use Rattle.cs_declarations.specs.View.{environment_of, passed_of, head};
+ghost use Rattle.cs_declarations.specs.Bodies.{specs_type};
+ghost use Rattle.cs_declarations.specs.Parameters.{place_of, plainly_passed, array_passed, passed, parameter_passed, refused_after, twice_after, after_twice, may_write, is_free_name, with_parameter, parameter_typed, parameters_typed};
+ghost use Rattle.cs_declarations.specs.View.{environment_of, passed_of, head, typing};
 
 use crate::bodies::specs_type;
 use crate::constness::points_to_const;
 use crate::environment::Environment;
-use crate::sizes::{bounded, element_of, sizes_said};
+use crate::sizes::{bounded, bounds_taken, element_of, sizes_said};
 use cs_ast::Place;
 use cs_ast::raw::declaration::{RawParameter, RawParameters};
 use cs_ast::typed::program::Local;
@@ -26,11 +27,13 @@ pub struct Passed {
     pub block: Option<u64>,
 }
 
-/// Parameters so far, and for each whether a function without a body may write through it.
+/// Parameters so far, and for each whether a function without a body may write through it. The place of the first name that is
+/// declared a second time among them is kept, since the parameter has a type all the same.
 #[derive(Drop)]
 pub struct Head {
     pub parameters: Vec<Local>,
     pub written: Vec<bool>,
+    pub twice: Option<Place>,
 }
 
 // The place of a parameter: its name, or its first token where it has none.
@@ -113,7 +116,9 @@ fn parameter_passed(
     let place = place_of(parameter);
     let whole = bounded(context, place, base, &parameter.bounds)?;
     let sizes = sizes_said(alloc, context, &parameter.bounds)?;
-    passed_as(alloc, context, place, whole, &sizes)
+    let found = passed_as(alloc, context, place, whole, &sizes.list)?;
+    bounds_taken(sizes.refused)?;
+    Ok(found)
 }
 
 // Whether a function without a body may write through the parameter.
@@ -125,6 +130,64 @@ fn may_write(parameter: &RawParameter, ty: &CType) -> bool
         _ => false,
     };
     is_pointer && !points_to_const(&parameter.specs, &parameter.pointers, &parameter.bounds)
+}
+
+// What is told of a refusal after such a name: the name counts.
+fn refused_after(twice: Option<Place>, refusal: TypeRefusal) -> TypeRefusal
+    ensures { result ≡ refused_after twice refusal }
+{
+    match twice {
+        None => refusal,
+        Some(place) => match refusal {
+            TypeRefusal::Code(_, _) => TypeRefusal::Code(TypeCode::DeclaredTwice, place),
+            TypeRefusal::Memory => TypeRefusal::Memory,
+        },
+    }
+}
+
+// How a parameter is passed after such a name.
+fn passed_after(
+    alloc: Global,
+    context: &Context,
+    twice: Option<Place>,
+    parameter: &RawParameter,
+    base: CType,
+) -> Result<Passed, TypeRefusal>
+    ensures { Answers passed_of
+        (after_twice twice (parameter_passed context.now parameter.now (shape_of base))) result }
+{
+    match parameter_passed(alloc, context, parameter, base) {
+        Ok(found) => Ok(found),
+        Err(refusal) => Err(refused_after(twice, refusal)),
+    }
+}
+
+// The type of the words of a parameter after such a name.
+fn words_after(
+    alloc: Global,
+    known: &mut Environment,
+    twice: Option<Place>,
+    parameter: &RawParameter,
+) -> Result<CType, TypeRefusal>
+    ensures { AnswersWith typing
+        (after_twice twice (specs_type (environment_of known.old) parameter.now.place
+        parameter.now.specs)) result known.new }
+{
+    match specs_type(alloc, known, parameter.place, &parameter.specs) {
+        Ok(base) => Ok(base),
+        Err(refusal) => Err(refused_after(twice, refusal)),
+    }
+}
+
+// The place of the first name that is declared a second time, once one more parameter has a name.
+fn twice_after(known: &Environment, parameter: &RawParameter, twice: Option<Place>) -> Option<Place>
+    ensures { result ≡ twice_after parameter.now twice (environment_of known.now) }
+{
+    match twice {
+        Some(place) => Some(place),
+        None if is_declared(known, parameter) => Some(place_of(parameter)),
+        None => None,
+    }
 }
 
 // Whether the parameter has a name that is declared in its scope already.
@@ -149,12 +212,10 @@ impl Head {
         ensures { Leaves (parameter_typed parameter.now (head self.old known.old)) result
             (head self.new known.new) }
     {
-        let base = specs_type(alloc, known, parameter.place, &parameter.specs)?;
-        if is_declared(known, parameter) {
-            return Err(TypeRefusal::Code(TypeCode::DeclaredTwice, place_of(parameter)));
-        }
+        let base = words_after(alloc, known, self.twice, parameter)?;
+        let twice = twice_after(known, parameter, self.twice);
         let pointed = starred(alloc, &parameter.pointers, base)?;
-        let found = parameter_passed(alloc, &known.context, parameter, pointed)?;
+        let found = passed_after(alloc, &known.context, twice, parameter, pointed)?;
         self.put(alloc, known, parameter, found)?;
         Ok(())
     }
@@ -172,6 +233,7 @@ impl Head {
             (passed_of found) ≡ Fine (head self.new known.new)) }
     {
         self.written.push(may_write(parameter, &found.ty))?;
+        self.twice = twice_after(known, parameter, self.twice);
         let name = match &parameter.name {
             Some(name) => {
                 let number = u32::try_from(self.parameters.len()).map_err(|_| AllocError)?;
@@ -204,6 +266,7 @@ pub fn parameters_typed(
     let mut head = Head {
         parameters: Vec::new(alloc),
         written: Vec::new(alloc),
+        twice: None,
     };
     if let RawParameters::List(list) = parameters {
         for parameter in list {

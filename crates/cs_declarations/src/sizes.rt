@@ -1,9 +1,9 @@
 //! The bounds of declarators, and the arrays that they make (C11 6.7.6.2).
-ghost use Rattle.std.specs.Prelude.{◌≡◌, List};
-ghost use Rattle.std.specs.Option.{option_map};
+ghost use Rattle.std.specs.Prelude.{◌≡◌, List, Some, IfOk};
+ghost use Rattle.std.specs.Option.{option_map, option_or};
 ghost use Rattle.cs_types.specs.Shape.{shape_of};
 ghost use Rattle.cs_scopes.specs.Verdicts.{Answers};
-ghost use Rattle.cs_declarations.specs.Sizes.{size_said, sizes_said, all_said, bounded, element_of, outermost, extent_of, filled};
+ghost use Rattle.cs_declarations.specs.Sizes.{size_said, size_or_one, sizes_said, fault_in, refused_bound, bounds_taken, all_said, bounded, element_of, outermost, extent_of, filled};
 ghost use Rattle.cs_declarations.specs.Bodies.{declarator_type};
 ghost use Rattle.cs_declarations.specs.View.{extent};
 
@@ -13,7 +13,7 @@ use cs_ast::raw::expression::RawExpr;
 use cs_consts::value;
 use cs_scopes::{Context, TypeCode, TypeRefusal, array_of, arrayed, complete_at, starred};
 use cs_types::CType;
-use std::alloc::Global;
+use std::alloc::{AllocError, Global};
 
 /// What is declared: something of a type, or an array of these elements whose size isn't said.
 #[derive(Drop)]
@@ -40,19 +40,56 @@ fn size_said(
     }
 }
 
-/// The sizes that bounds say, the outermost first.
+/// The sizes with which bounds count, the outermost first, and what is wrong with the first bound that is refused, which counts with 1.
+#[derive(Drop)]
+pub struct Sizes {
+    pub list: Vec<Option<i128>>,
+    pub refused: Option<(TypeCode, Place)>,
+}
+
+/// The sizes with which bounds count.
 pub fn sizes_said(
     alloc: Global,
     context: &Context,
     bounds: &[Option<RawExpr>],
-) -> Result<Vec<Option<i128>>, TypeRefusal>
-    ensures { Answers (λ sizes. sizes.items) (sizes_said context.now bounds.now) result }
+) -> Result<Sizes, AllocError>
+    ensures list { IfOk result (λ sizes. sizes.list.items ≡ sizes_said context.now bounds.now) }
+    ensures refused { IfOk result (λ sizes.
+        sizes.refused ≡ refused_bound context.now bounds.now) }
 {
-    let mut sizes = Vec::new(alloc);
+    let mut list = Vec::new(alloc);
+    let mut refused = None;
     for bound in bounds {
-        sizes.push(size_said(alloc, context, bound)?)?;
+        match size_said(alloc, context, bound) {
+            Ok(size) => list.push(size)?,
+            Err(TypeRefusal::Code(code, place)) => {
+                list.push(Some(1))?;
+                refused = first_of(refused, (code, place));
+            }
+            Err(TypeRefusal::Memory) => return Err(AllocError),
+        }
     }
-    Ok(sizes)
+    Ok(Sizes { list, refused })
+}
+
+// The first of what is wrong.
+fn first_of(before: Option<(TypeCode, Place)>, next: (TypeCode, Place)) -> Option<(TypeCode, Place)>
+    ensures { result ≡ option_or before (Some next) }
+{
+    match before {
+        Some(first) => Some(first),
+        None => Some(next),
+    }
+}
+
+/// Refuses what is declared at a name, if a bound after it is refused.
+pub fn bounds_taken(refused: Option<(TypeCode, Place)>) -> Result<(), TypeRefusal>
+    ensures { Answers (λ _. tt) (bounds_taken refused) result }
+{
+    match refused {
+        Some((code, place)) => Err(TypeRefusal::Code(code, place)),
+        None => Ok(()),
+    }
 }
 
 // Sizes of which each has to be said.
@@ -178,6 +215,8 @@ pub fn declarator_type(
     let pointed = starred(alloc, &declarator.pointers, base.copy(alloc)?)?;
     let whole = bounded(context, place, pointed, &declarator.bounds)?;
     let sizes = sizes_said(alloc, context, &declarator.bounds)?;
-    let declared = extent_of(alloc, context, place, whole, &sizes)?;
-    filled(alloc, context, place, count, declared)
+    let declared = extent_of(alloc, context, place, whole, &sizes.list)?;
+    let ty = filled(alloc, context, place, count, declared)?;
+    bounds_taken(sizes.refused)?;
+    Ok(ty)
 }

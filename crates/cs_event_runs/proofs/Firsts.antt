@@ -6,13 +6,16 @@ use Rattle.cs_events.specs.declared.event.Event.{Event}
 use Rattle.cs_events.specs.declared.outcome.Outcome.{Outcome}
 use Rattle.cs_events.specs.Operations.{is_true}
 use Rattle.cs_events.specs.Acts.{Act, Goes, Stops, Reads, Asks, Allocates, Reaches, Touches}
-use Rattle.cs_events.specs.Runs.{Setting, Log, perform, with_event, with_read, with_touch, has_room, operation_event, number_of, allocation_event, access_event}
-use Rattle.cs_events.specs.Pending.{Pending, is_next, pending_in}
+use Rattle.cs_events.specs.declared.input.InputKind.TheVariants.{Allocation}
+use Rattle.cs_events.specs.Runs.{Setting, Log, perform, with_event, with_operation, with_allocation, with_access, with_read, with_touch, has_room, number_of}
+use Rattle.cs_events.specs.Runs.{read_cell}
+use Rattle.cs_events.specs.PendingEvents.{Pending}
+use Rattle.cs_events.specs.Pending.{is_next, pending_in}
 use Rattle.cs_event_runs.specs.First.{Step, First, Silent, Shown, Ended, operated, tried, accessed, first_of, performed}
 
 -- the number of an event that is shown
-one_more : (log : Log) (shown : Event) → suc (length log.events) ≡ length (with_event log shown).events
-one_more log shown = let a = length-append log.events (shown ∷ []) in omega arith
+one_more : (log : Log) (here : Pending) (shown : Event) → suc (length log.events) ≡ length (with_event log here shown).events
+one_more log here shown = let a = length-append log.events (shown ∷ []) in omega arith
 
 module _ {State : Type 0} (setting : Setting) where
   -- a function of what stands first goes into both ways of a test
@@ -26,16 +29,16 @@ module _ {State : Type 0} (setting : Setting) where
   unfolding perform first_of
   performs_first log (Goes next) = refl
   performs_first log (Stops outcome) = refl
-  performs_first log (Reads path onward) = performs_first (with_read log path) (onward (setting.inputs path))
+  performs_first log (Reads path kind onward) = performs_first (with_read log path kind) (onward (read_cell setting path kind))
   performs_first log (Touches touch act) = performs_first (with_touch log touch) act
   performs_first log (Asks at operation onward) =
       into_both (performed setting) (has_room setting log)
-      (Shown (operated setting log at operation) (onward (number_of setting log operation)) (with_event log (operation_event setting log at operation))) _
+      (Shown (operated setting log at operation) (onward (number_of setting log operation)) (with_operation setting log at operation)) _
   performs_first log (Allocates at path onward) =
       into_both (performed setting) (has_room setting log)
-      (Shown (tried setting at path) (onward (is_true (setting.inputs path))) (with_event (with_read log path) (allocation_event setting at path))) _
+      (Shown (tried setting at path) (onward (is_true (setting.inputs path))) (with_allocation setting log at path)) _
   performs_first log (Reaches at object offset act) =
-      into_both (performed setting) (has_room setting log) (Shown (accessed at object offset) act (with_event log (access_event at offset))) _
+      into_both (performed setting) (has_room setting log) (Shown (accessed at object offset) act (with_access log at object offset)) _
 
   -- the events of an act end: what stands first is followed by so many events before a state or an end
   pub data Within : First State → Type 0 where
@@ -51,16 +54,16 @@ module _ {State : Type 0} (setting : Setting) where
   unfolding first_of
   within log (Goes next) = then_silent
   within log (Stops outcome) = then_ended
-  within log (Reads path onward) = within (with_read log path) (onward (setting.inputs path))
+  within log (Reads path kind onward) = within (with_read log path kind) (onward (read_cell setting path kind))
   within log (Touches touch act) = within (with_touch log touch) act
   within log (Asks at operation onward) =
       within_both (has_room setting log) _ _
-      (then_shown (within (with_event log (operation_event setting log at operation)) (onward (number_of setting log operation)))) then_ended
+      (then_shown (within (with_operation setting log at operation) (onward (number_of setting log operation)))) then_ended
   within log (Allocates at path onward) =
       within_both (has_room setting log) _ _
-      (then_shown (within (with_event (with_read log path) (allocation_event setting at path)) (onward (is_true (setting.inputs path))))) then_ended
+      (then_shown (within (with_allocation setting log at path) (onward (is_true (setting.inputs path))))) then_ended
   within log (Reaches at object offset act) =
-      within_both (has_room setting log) _ _ (then_shown (within (with_event log (access_event at offset)) act)) then_ended
+      within_both (has_room setting log) _ _ (then_shown (within (with_access log at object offset) act)) then_ended
 
   -- the events with which what stands first has left off, from those of the log
   abbrev pub HasEvents : List Event → First State → Type 0
@@ -77,7 +80,7 @@ module _ {State : Type 0} (setting : Setting) where
   unfolding first_of
   adds_first log (Goes next) = refl
   adds_first log (Stops outcome) = refl
-  adds_first log (Reads path onward) = adds_first (with_read log path) (onward (setting.inputs path))
+  adds_first log (Reads path kind onward) = adds_first (with_read log path kind) (onward (read_cell setting path kind))
   adds_first log (Touches touch act) = adds_first (with_touch log touch) act
   adds_first log (Asks at operation onward) = has_both log.events (has_room setting log) _ _ refl refl
   adds_first log (Allocates at path onward) = has_both log.events (has_room setting log) _ _ refl refl
@@ -91,22 +94,23 @@ module _ {State : Type 0} (setting : Setting) where
   first_pending event (Ended outcome log) = None
 
   asked : (event : ℕ) (room : Bool) (log before : Log) (shown : Step) (left : Act State) (outcome : Outcome) → before.events ≡ log.events →
-      (if room then (if is_next log event then Some shown.pending else pending_in setting (with_event before shown.event) event left) else None)
-      ≡ first_pending event (if room then Shown shown left (with_event before shown.event) else Ended outcome log)
+      (if room then (if is_next log event then Some shown.pending else pending_in setting (with_event before shown.pending shown.event) event left) else None)
+      ≡ first_pending event (if room then Shown shown left (with_event before shown.pending shown.event) else Ended outcome log)
   asked event true log before shown left outcome same =
-      ap (λ n. if n == event then Some shown.pending else pending_in setting (with_event before shown.event) event left) (ap (λ l. suc (length l)) (sym same)
-      ∙ one_more before shown.event)
+      ap (λ n. if n == event then Some shown.pending else pending_in setting (with_event before shown.pending shown.event) event left)
+      (ap (λ l. suc (length l)) (sym same)
+      ∙ one_more before shown.pending shown.event)
   asked event false log before shown left outcome same = refl
 
   pub pends_first : (event : ℕ) (log : Log) (act : Act State) → pending_in setting log event act ≡ first_pending event (first_of setting log act)
   unfolding pending_in first_of
   pends_first event log (Goes next) = refl
   pends_first event log (Stops outcome) = refl
-  pends_first event log (Reads path onward) = pends_first event (with_read log path) (onward (setting.inputs path))
+  pends_first event log (Reads path kind onward) = pends_first event (with_read log path kind) (onward (read_cell setting path kind))
   pends_first event log (Touches touch act) = pends_first event (with_touch log touch) act
   pends_first event log (Asks at operation onward) =
       asked event (has_room setting log) log log (operated setting log at operation) (onward (number_of setting log operation)) _ refl
   pends_first event log (Allocates at path onward) =
-      asked event (has_room setting log) log (with_read log path) (tried setting at path) (onward (is_true (setting.inputs path))) _ refl
+      asked event (has_room setting log) log (with_read log path Allocation) (tried setting at path) (onward (is_true (setting.inputs path))) _ refl
   pends_first event log (Reaches at object offset act) =
       asked event (has_room setting log) log log (accessed at object offset) act _ refl

@@ -10,8 +10,9 @@ use Rattle.cs_events.specs.declared.operation.Operation.{Operation}
 use Rattle.cs_events.specs.declared.guess.Guess.{Guess}
 use Rattle.cs_events.specs.Operations.{guess_range, result_with, shows}
 use Rattle.cs_events.specs.Acts.{Act, Goes, Stops, Reads, Asks, Allocates, Reaches, Touches}
-use Rattle.cs_events.specs.Runs.{Setting, Log, empty, with_event, with_read, with_touch, has_room, used, operation_event, number_of}
-use Rattle.cs_events.specs.Pending.{Pending, Operates, IsPending}
+use Rattle.cs_events.specs.Runs.{Setting, Log, empty, with_event, with_operation, with_read, with_touch, has_room, used, number_of, read_cell}
+use Rattle.cs_events.specs.PendingEvents.{Pending, Operates}
+use Rattle.cs_events.specs.Pending.{IsPending}
 use Rattle.cs_event_runs.specs.First.{Step, First, Silent, Shown, Ended, operated, first_of}
 use Rattle.cs_event_runs.specs.ByEvents.{ShowsAfter, now, later, unseen}
 use Rattle.cs_event_runs.specs.Settings.{with_guesses, AlikeBefore}
@@ -64,11 +65,12 @@ module _ (setting : Setting) (guesses : List Guess) (budgets : RunBudgets) (even
     with_guess log at operation onward guess =
         let number = result_with setting.model operation (used (guess_range setting.model operation) guess) in
         let shown : Event = record { place = at; label = shows setting.model operation (used (guess_range setting.model operation) guess) } in
-        Shown (record { pending = Operates at operation; event = shown; answer = number }) (onward number) (with_event log shown)
+        Shown (record { pending = Operates at operation; event = shown; answer = number }) (onward number)
+        (with_event log (Operates at operation) shown)
 
     asked_alike : (log : Log) (at : Place) (operation : Operation) (onward : ℤ → Act State) → suc (length log.events) < event
-        → Shown (operated Other log at operation) (onward (number_of Other log operation)) (with_event log (operation_event Other log at operation))
-        ≡ Shown (operated setting log at operation) (onward (number_of setting log operation)) (with_event log (operation_event setting log at operation))
+        → Shown (operated Other log at operation) (onward (number_of Other log operation)) (with_operation Other log at operation)
+        ≡ Shown (operated setting log at operation) (onward (number_of setting log operation)) (with_operation setting log at operation)
     unfolding with_guess
     asked_alike log at operation onward before = ap (with_guess log at operation onward) (alike.same (suc (length log.events)) before)
 
@@ -76,7 +78,7 @@ module _ (setting : Setting) (guesses : List Guess) (budgets : RunBudgets) (even
     unfolding first_of
     kept log (Goes next) before = refl
     kept log (Stops outcome) before = tt
-    kept log (Reads path onward) before = kept (with_read log path) (onward (setting.inputs path)) before
+    kept log (Reads path kind onward) before = kept (with_read log path kind) (onward (read_cell setting path kind)) before
     kept log (Touches touch act) before = kept (with_touch log touch) act before
     kept log (Asks at operation onward) before =
         kept_if (has_room setting log) (has_room Other log) _ _ _ log _ _ _ (has_yet log (omega arith)) (asked_alike log at operation onward before)
@@ -87,7 +89,7 @@ module _ (setting : Setting) (guesses : List Guess) (budgets : RunBudgets) (even
     unfolding first_of
     near log (Goes next) before = refl
     near log (Stops outcome) before = tt
-    near log (Reads path onward) before = near (with_read log path) (onward (setting.inputs path)) before
+    near log (Reads path kind onward) before = near (with_read log path kind) (onward (read_cell setting path kind)) before
     near log (Touches touch act) before = near (with_touch log touch) act before
     near log (Asks at operation onward) before = near_if (has_room setting log) (has_room Other log) _ _ _ _ _ _ log _ _ (has_yet log before) refl
     near log (Allocates at path onward) before = near_if (has_room setting log) (has_room Other log) _ _ _ _ _ _ log _ _ (has_yet log before) refl
@@ -100,7 +102,7 @@ module _ (setting : Setting) (guesses : List Guess) (budgets : RunBudgets) (even
         pub shows : ShowsAfter step Other first steps one
         pub pends : one.pending ≡ pending
 
-      shows_too : {first : First State} {steps : List Step} {one : Step} → ShowsAfter step setting first steps one
+      pub shows_too : {first : First State} {steps : List Step} {one : Step} → ShowsAfter step setting first steps one
           → (log : Log) (act : Act State) → first_of setting log act ≡ first → event ≡ suc (length log.events + length steps)
           → ShowsToo (first_of Other log act) steps one.pending
       shows_too (now {one = one} {left = left} {log = after} e) log act is number =

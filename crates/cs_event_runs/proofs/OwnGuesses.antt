@@ -12,7 +12,11 @@ use Rattle.cs_events.specs.declared.guess.Guess.{Guess}
 use Rattle.cs_events.specs.Operations.{guess_range, result_with}
 use Rattle.cs_events.specs.Touches.{Touch}
 use Rattle.cs_events.specs.Acts.{Act, Goes, Stops, Reads, Asks, Allocates, Reaches, Touches}
-use Rattle.cs_events.specs.Runs.{Setting, Log, with_event, with_read, with_touch, has_room, used, guess_at, operation_event, number_of, allocation_event}
+use Rattle.cs_events.specs.PendingEvents.{Pending, Operates, Tries, Accesses}
+use Rattle.cs_events.specs.declared.input.InputKind.{InputKind}
+use Rattle.cs_events.specs.declared.input.InputKind.TheVariants.{Allocation}
+use Rattle.cs_events.specs.Runs.{Setting, Log, with_event, with_operation, read_cell, with_read, with_touch, has_room, used, guess_at, operation_event}
+use Rattle.cs_events.specs.Runs.{number_of, allocation_event}
 use Rattle.cs_events.specs.Runs.{access_event}
 use Rattle.cs_event_runs.specs.First.{Step, First, Silent, Shown, Ended, operated, first_of}
 use Rattle.cs_event_runs.specs.ByEvents.{RunsTo, ends, shows, silently}
@@ -21,18 +25,24 @@ use Rattle.cs_event_runs.proofs.Firsts.{HasEvents, adds_first}
 use Rattle.cs_event_runs.proofs.Pendings.{next_is}
 
 -- logs stay alike
-one_event_more : {log other : Log} (event event' : Event) → LogsAlike log other → LogsAlike (with_event log event) (with_event other event')
-one_event_more {log = log} {other = other} event event' alike =
+one_event_more : {log other : Log} (here : Pending) (event event' : Event) → LogsAlike log other
+    → LogsAlike (with_event log here event) (with_event other here event')
+one_event_more {log = log} {other = other} here event event' alike =
     let a = length-append log.events (event ∷ []) in
     let b = length-append other.events (event' ∷ []) in
     let c = alike.passed in
-    record { passed = omega arith; read = alike.read; touches = alike.touches }
+    record { passed = omega arith; pending = ap (λ l. l ++ here ∷ []) alike.pending; read = alike.read; touches = alike.touches }
 
-one_read_more : {log other : Log} (path : Path) → LogsAlike log other → LogsAlike (with_read log path) (with_read other path)
-one_read_more path alike = record { passed = alike.passed; read = ap (λ l. l ++ path ∷ []) alike.read; touches = alike.touches }
+one_read_more : {log other : Log} (path : Path) (kind : InputKind) → LogsAlike log other → LogsAlike (with_read log path kind) (with_read other path kind)
+one_read_more path kind alike = record {
+  passed = alike.passed;
+  pending = alike.pending;
+  read = ap (λ l. l ++ record { path = path; kind = kind } ∷ []) alike.read;
+  touches = alike.touches;
+}
 
 one_touch_more : {log other : Log} (touch : Touch) → LogsAlike log other → LogsAlike (with_touch log touch) (with_touch other touch)
-one_touch_more touch alike = record { passed = alike.passed; read = alike.read; touches = ap (λ l. l ++ touch ∷ []) alike.touches }
+one_touch_more touch alike = record { passed = alike.passed; pending = alike.pending; read = alike.read; touches = ap (λ l. l ++ touch ∷ []) alike.touches }
 
 module _ (setting : Setting) (guesses : List Guess) where
   abbrev Other : Setting
@@ -64,26 +74,26 @@ module _ (setting : Setting) (guesses : List Guess) where
     both_if false false one shown end end' e alike over leads = over
 
     asks_alike : (log other : Log) → LogsAlike log other → (at : Place) (operation : Operation) (onward : ℤ → Act State) →
-        LeadsAlike setting guesses (length (with_event log (operation_event setting log at operation)).events) (operated setting log at operation) →
+        LeadsAlike setting guesses (length (with_operation setting log at operation).events) (operated setting log at operation) →
         FirstsAlike (Shown (operated setting log at operation) (onward (number_of setting log operation))
-        (with_event log (operation_event setting log at operation)))
-        (Shown (operated Other other at operation) (onward (number_of Other other operation)) (with_event other (operation_event Other other at operation)))
+        (with_operation setting log at operation))
+        (Shown (operated Other other at operation) (onward (number_of Other other operation)) (with_operation Other other at operation))
     asks_alike log other alike at operation onward leads =
         let a = length-append log.events (operation_event setting log at operation ∷ []) in
         let c = alike.passed in
-        let number : suc (length other.events) ≡ length (with_event log (operation_event setting log at operation)).events = omega arith in
+        let number : suc (length other.events) ≡ length (with_operation setting log at operation).events = omega arith in
         let same : number_of Other other operation ≡ number_of setting log operation =
         ap (λ n. result_with setting.model operation (used (guess_range setting.model operation) (guess_at guesses n))) number ∙ leads in
         shown_alike (record { pends = refl; answers = same; places = refl }) (ap onward same)
-        (one_event_more (operation_event setting log at operation) (operation_event Other other at operation) alike)
+        (one_event_more (Operates at operation) (operation_event setting log at operation) (operation_event Other other at operation) alike)
 
     firsts_alike : (log other : Log) → LogsAlike log other → (act : Act State) → FirstLeads (first_of setting log act)
         → FirstsAlike (first_of setting log act) (first_of Other other act)
     unfolding first_of
     firsts_alike log other alike (Goes next) leads = silent_alike alike
     firsts_alike log other alike (Stops outcome) leads = ended_alike alike
-    firsts_alike log other alike (Reads path onward) leads =
-        firsts_alike (with_read log path) (with_read other path) (one_read_more path alike) (onward (setting.inputs path)) leads
+    firsts_alike log other alike (Reads path kind onward) leads =
+        firsts_alike (with_read log path kind) (with_read other path kind) (one_read_more path kind alike) (onward (read_cell setting path kind)) leads
     firsts_alike log other alike (Touches touch act) leads = firsts_alike (with_touch log touch) (with_touch other touch) (one_touch_more touch alike) act leads
     firsts_alike log other alike (Asks at operation onward) leads =
         both_if (has_room setting log) (has_room Other other) _ _ _ _ (same_room log other alike) (λ room h. asks_alike log other alike at operation onward h)
@@ -92,12 +102,14 @@ module _ (setting : Setting) (guesses : List Guess) where
         both_if (has_room setting log) (has_room Other other) _ _ _ _ (same_room log other alike)
         (λ room h.
         shown_alike (record { pends = refl; answers = refl; places = refl }) refl
-        (one_event_more (allocation_event setting at path) (allocation_event setting at path) (one_read_more path alike)))
+        (one_event_more (Tries at path) (allocation_event setting at path) (allocation_event setting at path)
+        (one_read_more path Allocation alike)))
         (ended_alike alike) leads
     firsts_alike log other alike (Reaches at object offset act) leads =
         both_if (has_room setting log) (has_room Other other) _ _ _ _ (same_room log other alike)
         (λ room h.
-        shown_alike (record { pends = refl; answers = refl; places = refl }) refl (one_event_more (access_event at offset) (access_event at offset) alike))
+        shown_alike (record { pends = refl; answers = refl; places = refl }) refl
+        (one_event_more (Accesses at object offset) (access_event at offset) (access_event at offset) alike))
         (ended_alike alike) leads
 
     -- what is alike to a state, an event or an end
@@ -184,4 +196,4 @@ module _ (setting : Setting) (guesses : List Guess) where
       pub labels_alone : (m : State) (log : Log) {steps : List Step} {outcome : Outcome} {end : Log}
           → RunsTo step setting (first_of setting log (step m)) steps outcome end → LeadAlike setting guesses (suc (length log.events)) steps
           → EndsAlike (first_of Other log (step m)) steps outcome end
-      labels_alone m log runs leads = runs_alike runs log log (record { passed = refl; read = refl; touches = refl }) (step m) refl leads
+      labels_alone m log runs leads = runs_alike runs log log (record { passed = refl; pending = refl; read = refl; touches = refl }) (step m) refl leads

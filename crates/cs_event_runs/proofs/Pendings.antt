@@ -7,7 +7,8 @@ use Rattle.cs_events.specs.declared.event.Event.{Event}
 use Rattle.cs_events.specs.declared.outcome.Outcome.{Outcome}
 use Rattle.cs_events.specs.Acts.{Act}
 use Rattle.cs_events.specs.Runs.{Setting, Log, empty, Continues, perform, Leads, stays, goes}
-use Rattle.cs_events.specs.Pending.{Pending, pending_in, IsPending}
+use Rattle.cs_events.specs.PendingEvents.{Pending}
+use Rattle.cs_events.specs.Pending.{pending_in, IsPending}
 use Rattle.cs_event_runs.specs.First.{Step, First, Silent, Shown, first_of, performed}
 use Rattle.cs_event_runs.specs.ByEvents.{RunsTo, ends, shows, silently, ShowsAfter, now, later, unseen, PendingFrom, ShownPending}
 use Rattle.cs_event_runs.proofs.Firsts.{performs_first, Within, then_silent, then_ended, then_shown, within, HasEvents, adds_first, first_pending, pends_first}

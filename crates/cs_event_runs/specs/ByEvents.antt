@@ -3,7 +3,8 @@ use Rattle.std.specs.Prelude.{◌≡◌, ℕ, suc, ◌+◌, List, [], ◌∷◌,
 use Rattle.cs_events.specs.declared.outcome.Outcome.{Outcome}
 use Rattle.cs_events.specs.Acts.{Act}
 use Rattle.cs_events.specs.Runs.{Setting, Log, Leads}
-use Rattle.cs_events.specs.Pending.{Pending, pending_in}
+use Rattle.cs_events.specs.PendingEvents.{Pending}
+use Rattle.cs_events.specs.Pending.{pending_in}
 use Rattle.cs_event_runs.specs.First.{Step, First, Silent, Shown, Ended, first_of}
 
 module _ {State : Type 0} (step : State → Act State) (setting : Setting) where

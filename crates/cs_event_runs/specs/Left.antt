@@ -1,20 +1,23 @@
 -- What is left of an act once its first events have been answered: an exploration stands between any two events of a step.
 use Rattle.std.specs.Prelude.{ℤ, List, [], ◌∷◌}
 use Rattle.cs_inputs.specs.declared.path.Path.{Path}
+use Rattle.cs_events.specs.declared.input.InputKind.{InputKind}
 use Rattle.cs_events.specs.Operations.{is_true}
+use Rattle.cs_events.specs.Objects.{Cell}
 use Rattle.cs_events.specs.Acts.{Act, Goes, Stops, Reads, Asks, Allocates, Reaches, Touches}
 
 module _ {State : Type 0} where
   -- the rest of an act after some answers. An answer is the number that an operation leads on with; of an allocation whether it isn't 0,
-  -- of an offset nothing is read. Reads and touches are gone through, so that the rest begins with an event, a state or an end
-  unfoldable pub left_of : (Path → ℤ) → List ℤ → Act State → Act State
-  left_of inputs answers (Goes next) = Goes next
-  left_of inputs answers (Stops outcome) = Stops outcome
-  left_of inputs answers (Reads path onward) = left_of inputs answers (onward (inputs path))
-  left_of inputs answers (Touches touch act) = left_of inputs answers act
-  left_of inputs [] (Asks at operation onward) = Asks at operation onward
-  left_of inputs [] (Allocates at path onward) = Allocates at path onward
-  left_of inputs [] (Reaches at object offset act) = Reaches at object offset act
-  left_of inputs (answer ∷ answers) (Asks at operation onward) = left_of inputs answers (onward answer)
-  left_of inputs (answer ∷ answers) (Allocates at path onward) = left_of inputs answers (onward (is_true answer))
-  left_of inputs (answer ∷ answers) (Reaches at object offset act) = left_of inputs answers act
+  -- of an offset nothing is read. The cells that inputs give are known: reads and touches are gone through, so that the rest begins with
+  -- an event, a state or an end
+  unfoldable pub left_of : (Path → InputKind → Cell) → List ℤ → Act State → Act State
+  left_of cells answers (Goes next) = Goes next
+  left_of cells answers (Stops outcome) = Stops outcome
+  left_of cells answers (Reads path kind onward) = left_of cells answers (onward (cells path kind))
+  left_of cells answers (Touches touch act) = left_of cells answers act
+  left_of cells [] (Asks at operation onward) = Asks at operation onward
+  left_of cells [] (Allocates at path onward) = Allocates at path onward
+  left_of cells [] (Reaches at object offset act) = Reaches at object offset act
+  left_of cells (answer ∷ answers) (Asks at operation onward) = left_of cells answers (onward answer)
+  left_of cells (answer ∷ answers) (Allocates at path onward) = left_of cells answers (onward (is_true answer))
+  left_of cells (answer ∷ answers) (Reaches at object offset act) = left_of cells answers act

@@ -1,11 +1,15 @@
 -- Settings that a run can't tell apart.
 use Rattle.std.specs.Prelude.{◌≡◌, ℕ, suc, ◌<◌, ◌≤◌, ℤ, List, [], ◌∷◌, length}
+use Rattle.cs_types.specs.declared.data_model.DataModel.{DataModel}
 use Rattle.cs_inputs.specs.declared.path.Path.{Path}
 use Rattle.cs_events.specs.declared.outcome.RunBudgets.{RunBudgets}
 use Rattle.cs_events.specs.declared.guess.Guess.{Guess}
-use Rattle.cs_events.specs.Operations.{result_with, guess_range}
+use Rattle.cs_events.specs.declared.input.InputKind.TheVariants.{Integer, Pointer, Allocation, Nothing}
+use Rattle.cs_events.specs.declared.input.Lookup.{Lookup}
+use Rattle.cs_events.specs.InputCells.{input_cell}
+use Rattle.cs_events.specs.Operations.{result_with, guess_range, is_true}
 use Rattle.cs_events.specs.Runs.{Setting, Log, guess_at, used}
-use Rattle.cs_events.specs.Pending.{Operates, Tries, Accesses}
+use Rattle.cs_events.specs.PendingEvents.{Operates, Tries, Accesses}
 use Rattle.cs_event_runs.specs.First.{Step, First, Silent, Shown, Ended}
 
 -- the log with which what stands first leaves off
@@ -14,10 +18,19 @@ log_in (Silent next log) = log
 log_in (Shown shown left log) = log
 log_in (Ended outcome log) = log
 
--- inputs give the same numbers at these paths
-abbrev pub Agree : (Path → ℤ) → (Path → ℤ) → List Path → Type 0
-Agree one other [] = Unit {0}
-Agree one other (path ∷ paths) = (one path ≡ other path) × Agree one other paths
+-- inputs give the same where this was looked up: the same cell, or both a block or none
+abbrev pub GiveAlike : DataModel → (Path → ℤ) → (Path → ℤ) → Lookup → Type 0
+GiveAlike model one other lookup = elim lookup.kind [
+  | Integer ty ↦ input_cell model lookup.path (Integer ty) (one lookup.path) ≡ input_cell model lookup.path (Integer ty) (other lookup.path)
+  | Pointer ↦ input_cell model lookup.path Pointer (one lookup.path) ≡ input_cell model lookup.path Pointer (other lookup.path)
+  | Allocation ↦ is_true (one lookup.path) ≡ is_true (other lookup.path)
+  | Nothing ↦ Unit {0}
+]
+
+-- inputs give the same at all of these
+abbrev pub Agree : DataModel → (Path → ℤ) → (Path → ℤ) → List Lookup → Type 0
+Agree model one other [] = Unit {0}
+Agree model one other (lookup ∷ lookups) = GiveAlike model one other lookup × Agree model one other lookups
 
 -- the setting with other inputs
 abbrev pub with_inputs : (Path → ℤ) → Setting → Setting
@@ -60,5 +73,6 @@ AllLabelsDiffer (one ∷ steps) (other ∷ others) = LabelsDiffer one other × A
 -- logs with as many events that have read and touched the same
 pub record LogsAlike (log other : Log) : Type 0 where
   pub passed : length other.events ≡ length log.events
+  pub pending : other.pending ≡ log.pending
   pub read : other.read ≡ log.read
   pub touches : other.touches ≡ log.touches

@@ -8,8 +8,11 @@ use Rattle.cs_events.specs.declared.event.Event.{Event}
 use Rattle.cs_events.specs.declared.outcome.Outcome.{Outcome}
 use Rattle.cs_events.specs.Operations.{is_true}
 use Rattle.cs_events.specs.Acts.{Act}
-use Rattle.cs_events.specs.Runs.{Setting, Log, Performed, Continues, Finishes, perform, with_event, with_read, with_touch, has_room, operation_event, number_of}
+use Rattle.cs_events.specs.Runs.{Setting, Log, Performed, Continues, Finishes, perform, with_event, with_operation, with_allocation, with_access, with_read}
+use Rattle.cs_events.specs.Runs.{with_touch, has_room, operation_event, number_of, read_cell}
 use Rattle.cs_events.specs.Runs.{allocation_event, access_event, stays, goes}
+use Rattle.cs_events.specs.PendingEvents.{Pending, Operates, Tries, Accesses}
+use Rattle.cs_events.specs.declared.input.InputKind.TheVariants.{Allocation}
 use Rattle.cs_events.specs.Growth.{GoesOn, log_of}
 use Rattle.cs_events.specs.Silence.{Owes, owes_next, stops, reads, asks, allocates, reaches, touches, IsBelow, Lessens, Ending}
 use Rattle.cs_events.proofs.LogGrowth.{act_adds}
@@ -23,8 +26,8 @@ abbrev IsLouder : Setting → Log → Log → Type 0
 IsLouder setting log later = (passed log < setting.budgets.events) × (passed log < passed later)
 
 -- a log that goes on from one with one more event has more
-more_events : (log later : Log) (event : Event) → GoesOn (with_event log event) later → passed log < passed later
-more_events log later event more =
+more_events : (log later : Log) (here : Pending) (event : Event) → GoesOn (with_event log here event) later → passed log < passed later
+more_events log later here event more =
     let a : length later.events ≡ length ((log.events ++ event ∷ []) ++ more.events.0) = ap length more.events.1 in
     let b = length-append (log.events ++ event ∷ []) more.events.0 in
     let c = length-append log.events (event ∷ []) in
@@ -38,16 +41,19 @@ module _ {State : Type 0} where
   Went setting Next log (Finishes outcome later) = Unit {0}
 
   -- after an event for which there was room
-  louder : (setting : Setting) (Next : State → Type 0) (log : Log) (event : Event) (done : Performed State) → passed log < setting.budgets.events
-      → GoesOn (with_event log event) (log_of done) → Went setting Next log done
-  louder setting Next log event (Continues next later) room more = inl (room, more_events log later event more)
-  louder setting Next log event (Finishes outcome later) room more = tt
+  louder : (setting : Setting) (Next : State → Type 0) (log : Log) (here : Pending) (event : Event) (done : Performed State)
+      → passed log < setting.budgets.events
+      → GoesOn (with_event log here event) (log_of done) → Went setting Next log done
+  louder setting Next log here event (Continues next later) room more = inl (room, more_events log later here event more)
+  louder setting Next log here event (Finishes outcome later) room more = tt
 
   -- after an event, or at the end of the run where there was no room
-  after_event : (setting : Setting) (Next : State → Type 0) (log : Log) (event : Event) (outcome : Outcome) (end : Log) (done : Performed State) (room : Bool)
-      → has_room setting log ≡ room → GoesOn (with_event log event) (log_of done) → Went setting Next log (if room then done else Finishes outcome end)
-  after_event setting Next log event outcome end done true h more = louder setting Next log event done (grind (arith, nat_tests)) more
-  after_event setting Next log event outcome end done false h more = tt
+  after_event : (setting : Setting) (Next : State → Type 0) (log : Log) (here : Pending) (event : Event) (outcome : Outcome) (end : Log)
+      (done : Performed State) (room : Bool)
+      → has_room setting log ≡ room → GoesOn (with_event log here event) (log_of done)
+      → Went setting Next log (if room then done else Finishes outcome end)
+  after_event setting Next log here event outcome end done true h more = louder setting Next log here event done (grind (arith, nat_tests)) more
+  after_event setting Next log here event outcome end done false h more = tt
 
   -- the same seen from a log with as many events
   from_as_many : (setting : Setting) (Next : State → Type 0) (log before : Log) (done : Performed State) → passed before ≡ passed log
@@ -64,18 +70,18 @@ module _ {State : Type 0} where
   unfolding perform
   went setting Next log (owes_next next) = inr (next, refl)
   went setting Next log stops = tt
-  went setting Next log (reads {path = path} onward) =
-      from_as_many setting Next log (with_read log path) _ refl (went setting Next (with_read log path) (onward (setting.inputs path)))
+  went setting Next log (reads {path = path} {kind = kind} onward) =
+      from_as_many setting Next log (with_read log path kind) _ refl (went setting Next (with_read log path kind) (onward (read_cell setting path kind)))
   went setting Next log (asks {at = at} {operation = operation} {onward = onward}) =
-      after_event setting Next log (operation_event setting log at operation) _ log _ (has_room setting log) refl
-      (act_adds setting (with_event log (operation_event setting log at operation)) (onward (number_of setting log operation)))
+      after_event setting Next log (Operates at operation) (operation_event setting log at operation) _ log _ (has_room setting log) refl
+      (act_adds setting (with_operation setting log at operation) (onward (number_of setting log operation)))
   went setting Next log (allocates {at = at} {path = path} {onward = onward}) =
-      from_as_many setting Next log (with_read log path) _ refl
-      (after_event setting Next (with_read log path) (allocation_event setting at path) _ log _ (has_room setting log) refl
-      (act_adds setting (with_event (with_read log path) (allocation_event setting at path)) (onward (is_true (setting.inputs path)))))
-  went setting Next log (reaches {at = at} {offset = offset} {act = act}) =
-      after_event setting Next log (access_event at offset) _ log _ (has_room setting log) refl
-      (act_adds setting (with_event log (access_event at offset)) act)
+      from_as_many setting Next log (with_read log path Allocation) _ refl
+      (after_event setting Next (with_read log path Allocation) (Tries at path) (allocation_event setting at path) _ log _ (has_room setting log) refl
+      (act_adds setting (with_allocation setting log at path) (onward (is_true (setting.inputs path)))))
+  went setting Next log (reaches {at = at} {object = object} {offset = offset} {act = act}) =
+      after_event setting Next log (Accesses at object offset) (access_event at offset) _ log _ (has_room setting log) refl
+      (act_adds setting (with_access log at object offset) act)
   went setting Next log (touches {touch = touch} owed) =
       from_as_many setting Next log (with_touch log touch) _ refl (went setting Next (with_touch log touch) owed)
 

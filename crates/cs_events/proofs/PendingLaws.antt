@@ -7,9 +7,12 @@ use Rattle.cs_events.specs.declared.event.Event.{Event}
 use Rattle.cs_events.specs.declared.outcome.Outcome.{Outcome}
 use Rattle.cs_events.specs.Operations.{is_true}
 use Rattle.cs_events.specs.Acts.{Act, Goes, Stops, Reads, Asks, Allocates, Reaches, Touches}
-use Rattle.cs_events.specs.Runs.{Setting, Log, Performed, Continues, Finishes, perform, with_event, with_read, with_touch, has_room, operation_event, number_of}
+use Rattle.cs_events.specs.Runs.{Setting, Log, Performed, Continues, Finishes, perform, with_event, with_operation, with_allocation, with_access, with_read}
+use Rattle.cs_events.specs.Runs.{with_touch, has_room, operation_event, number_of, read_cell}
 use Rattle.cs_events.specs.Runs.{allocation_event, access_event, Leads, stays, goes, EndsFrom}
-use Rattle.cs_events.specs.Pending.{Pending, Operates, Tries, Accesses, is_next, pending_in, IsPending}
+use Rattle.cs_events.specs.PendingEvents.{Pending, Operates, Tries, Accesses}
+use Rattle.cs_events.specs.declared.input.InputKind.TheVariants.{Allocation}
+use Rattle.cs_events.specs.Pending.{is_next, pending_in, IsPending}
 use Rattle.cs_events.specs.Growth.{GoesOn, log_of}
 use Rattle.cs_events.proofs.RunLaws.{moved}
 use Rattle.cs_events.proofs.LogGrowth.{act_adds, way_adds, end_adds}
@@ -26,17 +29,17 @@ as_many log later more =
     omega arith
 
 -- with one more event there is one more
-one_more : (log : Log) (event : Event) → passed (with_event log event) ≡ passed log + 1
-one_more log event = length-append log.events (event ∷ [])
+one_more : (log : Log) (here : Pending) (event : Event) → passed (with_event log here event) ≡ passed log + 1
+one_more log here event = length-append log.events (event ∷ [])
 
 -- an event that is pending after another one, or is that one, wasn't passed before
 before_event : (event : ℕ) (log : Log) (shown : Event) (here pending : Pending) (rest : Option Pending) (room next : Bool) → is_next log event ≡ next
-    → (rest ≡ Some pending → passed (with_event log shown) < event) → (if room then (if next then Some here else rest) else None) ≡ Some pending
+    → (rest ≡ Some pending → passed (with_event log here shown) < event) → (if room then (if next then Some here else rest) else None) ≡ Some pending
     → passed log < event
 before_event event log shown here pending rest true true n following h = grind (arith, nat_tests)
 before_event event log shown here pending rest true false n following h =
     let a = following h in
-    let b = one_more log shown in
+    let b = one_more log here shown in
     omega arith
 before_event event log shown here pending rest false next n following h = cc
 
@@ -46,21 +49,21 @@ module _ {State : Type 0} (setting : Setting) (event : ℕ) where
   unfolding pending_in
   not_passed log (Goes next) pending h = cc
   not_passed log (Stops outcome) pending h = cc
-  not_passed log (Reads path onward) pending h = not_passed (with_read log path) (onward (setting.inputs path)) pending h
+  not_passed log (Reads path kind onward) pending h = not_passed (with_read log path kind) (onward (read_cell setting path kind)) pending h
   not_passed log (Asks at operation onward) pending h =
       before_event event log (operation_event setting log at operation) (Operates at operation) pending
-      (pending_in setting (with_event log (operation_event setting log at operation)) event (onward (number_of setting log operation)))
+      (pending_in setting (with_operation setting log at operation) event (onward (number_of setting log operation)))
       (has_room setting log) (is_next log event) refl
-      (λ g. not_passed (with_event log (operation_event setting log at operation)) (onward (number_of setting log operation)) pending g) h
+      (λ g. not_passed (with_operation setting log at operation) (onward (number_of setting log operation)) pending g) h
   not_passed log (Allocates at path onward) pending h =
       before_event event log (allocation_event setting at path) (Tries at path) pending
-      (pending_in setting (with_event (with_read log path) (allocation_event setting at path)) event (onward (is_true (setting.inputs path))))
+      (pending_in setting (with_allocation setting log at path) event (onward (is_true (setting.inputs path))))
       (has_room setting log) (is_next log event) refl
-      (λ g. not_passed (with_event (with_read log path) (allocation_event setting at path)) (onward (is_true (setting.inputs path))) pending g) h
+      (λ g. not_passed (with_allocation setting log at path) (onward (is_true (setting.inputs path))) pending g) h
   not_passed log (Reaches at object offset act) pending h =
       before_event event log (access_event at offset) (Accesses at object offset) pending
-      (pending_in setting (with_event log (access_event at offset)) event act) (has_room setting log) (is_next log event) refl
-      (λ g. not_passed (with_event log (access_event at offset)) act pending g) h
+      (pending_in setting (with_access log at object offset) event act) (has_room setting log) (is_next log event) refl
+      (λ g. not_passed (with_access log at object offset) act pending g) h
   not_passed log (Touches touch act) pending h = not_passed (with_touch log touch) act pending h
 
   -- an event that was pending and lies after another one, or is that one, is passed
@@ -75,11 +78,12 @@ module _ {State : Type 0} (setting : Setting) (event : ℕ) where
   following_event log shown here pending rest outcome done false now n more following h = cc
 
   -- the event of an act is passed at its end
-  one_more_passed : (log log' : Log) (shown : Event) (act : Act State) → passed log' ≡ passed log
-      → passed log + 1 ≤ passed (log_of (perform setting (with_event log' shown) act))
-  one_more_passed log log' shown act same =
-      let a = as_many (with_event log' shown) (log_of (perform setting (with_event log' shown) act)) (act_adds setting (with_event log' shown) act) in
-      let b = one_more log' shown in
+  one_more_passed : (log log' : Log) (here : Pending) (shown : Event) (act : Act State) → passed log' ≡ passed log
+      → passed log + 1 ≤ passed (log_of (perform setting (with_event log' here shown) act))
+  one_more_passed log log' here shown act same =
+      let a = as_many (with_event log' here shown) (log_of (perform setting (with_event log' here shown) act))
+      (act_adds setting (with_event log' here shown) act) in
+      let b = one_more log' here shown in
       omega arith
 
   -- what is pending is passed in the act
@@ -88,37 +92,37 @@ module _ {State : Type 0} (setting : Setting) (event : ℕ) where
   unfolding pending_in perform
   is_passed log (Goes n) pending h = cc
   is_passed log (Stops outcome) pending h = cc
-  is_passed log (Reads path onward) pending h = is_passed (with_read log path) (onward (setting.inputs path)) pending h
+  is_passed log (Reads path kind onward) pending h = is_passed (with_read log path kind) (onward (read_cell setting path kind)) pending h
   is_passed log (Asks at operation onward) pending h =
       following_event log (operation_event setting log at operation) (Operates at operation) pending
-      (pending_in setting (with_event log (operation_event setting log at operation)) event (onward (number_of setting log operation))) _
-      (perform setting (with_event log (operation_event setting log at operation)) (onward (number_of setting log operation))) (has_room setting log)
+      (pending_in setting (with_operation setting log at operation) event (onward (number_of setting log operation))) _
+      (perform setting (with_operation setting log at operation) (onward (number_of setting log operation))) (has_room setting log)
       (is_next log event) refl
-      (one_more_passed log log (operation_event setting log at operation) (onward (number_of setting log operation)) refl)
-      (λ g. is_passed (with_event log (operation_event setting log at operation)) (onward (number_of setting log operation)) pending g) h
+      (one_more_passed log log (Operates at operation) (operation_event setting log at operation) (onward (number_of setting log operation)) refl)
+      (λ g. is_passed (with_operation setting log at operation) (onward (number_of setting log operation)) pending g) h
   is_passed log (Allocates at path onward) pending h =
       following_event log (allocation_event setting at path) (Tries at path) pending
-      (pending_in setting (with_event (with_read log path) (allocation_event setting at path)) event (onward (is_true (setting.inputs path)))) _
-      (perform setting (with_event (with_read log path) (allocation_event setting at path)) (onward (is_true (setting.inputs path)))) (has_room setting log)
+      (pending_in setting (with_allocation setting log at path) event (onward (is_true (setting.inputs path)))) _
+      (perform setting (with_allocation setting log at path) (onward (is_true (setting.inputs path)))) (has_room setting log)
       (is_next log event) refl
-      (one_more_passed log (with_read log path) (allocation_event setting at path) (onward (is_true (setting.inputs path))) refl)
-      (λ g. is_passed (with_event (with_read log path) (allocation_event setting at path)) (onward (is_true (setting.inputs path))) pending g) h
+      (one_more_passed log (with_read log path Allocation) (Tries at path) (allocation_event setting at path) (onward (is_true (setting.inputs path))) refl)
+      (λ g. is_passed (with_allocation setting log at path) (onward (is_true (setting.inputs path))) pending g) h
   is_passed log (Reaches at object offset act) pending h =
-      following_event log (access_event at offset) (Accesses at object offset) pending (pending_in setting (with_event log (access_event at offset)) event act)
+      following_event log (access_event at offset) (Accesses at object offset) pending (pending_in setting (with_access log at object offset) event act)
       _
-      (perform setting (with_event log (access_event at offset)) act) (has_room setting log) (is_next log event) refl
-      (one_more_passed log log (access_event at offset) act refl)
-      (λ g. is_passed (with_event log (access_event at offset)) act pending g) h
+      (perform setting (with_access log at object offset) act) (has_room setting log) (is_next log event) refl
+      (one_more_passed log log (Accesses at object offset) (access_event at offset) act refl)
+      (λ g. is_passed (with_access log at object offset) act pending g) h
   is_passed log (Touches touch act) pending h = is_passed (with_touch log touch) act pending h
 
   -- an event that is passed after another one, or is that one, was pending
   pending_after : (log : Log) (shown : Event) (here : Pending) (rest : Option Pending) (outcome : Outcome) (done : Performed State) (room now : Bool)
       → is_next log event ≡ now → passed log < event → event ≤ passed (log_of (if room then done else Finishes outcome log))
-      → (passed (with_event log shown) < event → event ≤ passed (log_of done) → (pending : Pending) × (rest ≡ Some pending))
+      → (passed (with_event log here shown) < event → event ≤ passed (log_of done) → (pending : Pending) × (rest ≡ Some pending))
       → (pending : Pending) × ((if room then (if now then Some here else rest) else None) ≡ Some pending)
   pending_after log shown here rest outcome done true true n before after following = (here, refl)
   pending_after log shown here rest outcome done true false n before after following =
-      let a = one_more log shown in
+      let a = one_more log here shown in
       let b : suc (passed log) ≢ event = grind (arith, nat_tests) in
       following (omega arith) after
   pending_after log shown here rest outcome done false now n before after following = absurd (omega arith)
@@ -129,23 +133,23 @@ module _ {State : Type 0} (setting : Setting) (event : ℕ) where
   unfolding pending_in perform
   was_pending log (Goes n) before after = absurd (omega arith)
   was_pending log (Stops outcome) before after = absurd (omega arith)
-  was_pending log (Reads path onward) before after = was_pending (with_read log path) (onward (setting.inputs path)) before after
+  was_pending log (Reads path kind onward) before after = was_pending (with_read log path kind) (onward (read_cell setting path kind)) before after
   was_pending log (Asks at operation onward) before after =
       pending_after log (operation_event setting log at operation) (Operates at operation)
-      (pending_in setting (with_event log (operation_event setting log at operation)) event (onward (number_of setting log operation))) _
-      (perform setting (with_event log (operation_event setting log at operation)) (onward (number_of setting log operation))) (has_room setting log)
+      (pending_in setting (with_operation setting log at operation) event (onward (number_of setting log operation))) _
+      (perform setting (with_operation setting log at operation) (onward (number_of setting log operation))) (has_room setting log)
       (is_next log event) refl before after
-      (λ b a. was_pending (with_event log (operation_event setting log at operation)) (onward (number_of setting log operation)) b a)
+      (λ b a. was_pending (with_operation setting log at operation) (onward (number_of setting log operation)) b a)
   was_pending log (Allocates at path onward) before after =
       pending_after log (allocation_event setting at path) (Tries at path)
-      (pending_in setting (with_event (with_read log path) (allocation_event setting at path)) event (onward (is_true (setting.inputs path)))) _
-      (perform setting (with_event (with_read log path) (allocation_event setting at path)) (onward (is_true (setting.inputs path)))) (has_room setting log)
+      (pending_in setting (with_allocation setting log at path) event (onward (is_true (setting.inputs path)))) _
+      (perform setting (with_allocation setting log at path) (onward (is_true (setting.inputs path)))) (has_room setting log)
       (is_next log event) refl before after
-      (λ b a. was_pending (with_event (with_read log path) (allocation_event setting at path)) (onward (is_true (setting.inputs path))) b a)
+      (λ b a. was_pending (with_allocation setting log at path) (onward (is_true (setting.inputs path))) b a)
   was_pending log (Reaches at object offset act) before after =
-      pending_after log (access_event at offset) (Accesses at object offset) (pending_in setting (with_event log (access_event at offset)) event act) _
-      (perform setting (with_event log (access_event at offset)) act) (has_room setting log) (is_next log event) refl before after
-      (λ b a. was_pending (with_event log (access_event at offset)) act b a)
+      pending_after log (access_event at offset) (Accesses at object offset) (pending_in setting (with_access log at object offset) event act) _
+      (perform setting (with_access log at object offset) act) (has_room setting log) (is_next log event) refl before after
+      (λ b a. was_pending (with_access log at object offset) act b a)
   was_pending log (Touches touch act) before after = was_pending (with_touch log touch) act before after
 
   module _ (step : State → Act State) where

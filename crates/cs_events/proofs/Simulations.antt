@@ -4,9 +4,11 @@ use Rattle.std.proofs.Common.{◌≡◌, ℕ, Bool, true, false, Some, None, if�
 use Rattle.cs_events.specs.declared.outcome.Outcome.{Outcome}
 use Rattle.cs_events.specs.Operations.{is_true}
 use Rattle.cs_events.specs.Acts.{Act, Goes}
-use Rattle.cs_events.specs.Runs.{Setting, Log, empty, Performed, Continues, Finishes, perform, with_event, with_read, with_touch, has_room, operation_event}
-use Rattle.cs_events.specs.Runs.{number_of, allocation_event, access_event, Leads, stays, goes, EndsFrom}
-use Rattle.cs_events.specs.Pending.{Pending, Operates, Tries, Accesses, is_next, pending_in, IsPending}
+use Rattle.cs_events.specs.Runs.{Setting, Log, empty, Performed, Continues, Finishes, perform, with_operation, with_allocation, with_access, with_read}
+use Rattle.cs_events.specs.Runs.{with_touch, has_room, read_cell}
+use Rattle.cs_events.specs.Runs.{number_of, Leads, stays, goes, EndsFrom}
+use Rattle.cs_events.specs.PendingEvents.{Pending, Operates, Tries, Accesses}
+use Rattle.cs_events.specs.Pending.{is_next, pending_in, IsPending}
 use Rattle.cs_events.specs.Silence.{Ending}
 use Rattle.cs_events.specs.Simulation.{Yields, both_go, both_stop, both_read, both_ask, both_allocate, both_reach, both_touch, Answers, alone, together, first}
 use Rattle.cs_events.specs.Simulation.{Simulates}
@@ -28,15 +30,15 @@ module _ {S T : Type 0} (R : S → T → Type 0) (setting : Setting) where
   unfolding perform
   performs_alike log (both_go related) = both_continue related
   performs_alike log both_stop = both_finish
-  performs_alike log (both_read {path = path} same) = performs_alike (with_read log path) (same (setting.inputs path))
+  performs_alike log (both_read {path = path} {kind = kind} same) = performs_alike (with_read log path kind) (same (read_cell setting path kind))
   performs_alike log (both_ask {at = at} {operation = operation} same) =
       alike_if (has_room setting log) _ log
-      (performs_alike (with_event log (operation_event setting log at operation)) (same (number_of setting log operation)))
+      (performs_alike (with_operation setting log at operation) (same (number_of setting log operation)))
   performs_alike log (both_allocate {at = at} {path = path} same) =
       alike_if (has_room setting log) _ log
-      (performs_alike (with_event (with_read log path) (allocation_event setting at path)) (same (is_true (setting.inputs path))))
-  performs_alike log (both_reach {at = at} {offset = offset} same) =
-      alike_if (has_room setting log) _ log (performs_alike (with_event log (access_event at offset)) same)
+      (performs_alike (with_allocation setting log at path) (same (is_true (setting.inputs path))))
+  performs_alike log (both_reach {at = at} {object = object} {offset = offset} same) =
+      alike_if (has_room setting log) _ log (performs_alike (with_access log at object offset) same)
   performs_alike log (both_touch {touch = touch} same) = performs_alike (with_touch log touch) same
 
   -- acts that do the same have the same pending
@@ -44,16 +46,16 @@ module _ {S T : Type 0} (R : S → T → Type 0) (setting : Setting) where
   unfolding pending_in
   pends_alike event log (both_go related) = refl
   pends_alike event log both_stop = refl
-  pends_alike event log (both_read {path = path} same) = pends_alike event (with_read log path) (same (setting.inputs path))
+  pends_alike event log (both_read {path = path} {kind = kind} same) = pends_alike event (with_read log path kind) (same (read_cell setting path kind))
   pends_alike event log (both_ask {at = at} {operation = operation} same) =
       ap (λ rest. if has_room setting log then (if is_next log event then Some (Operates at operation) else rest) else None)
-      (pends_alike event (with_event log (operation_event setting log at operation)) (same (number_of setting log operation)))
+      (pends_alike event (with_operation setting log at operation) (same (number_of setting log operation)))
   pends_alike event log (both_allocate {at = at} {path = path} same) =
       ap (λ rest. if has_room setting log then (if is_next log event then Some (Tries at path) else rest) else None)
-      (pends_alike event (with_event (with_read log path) (allocation_event setting at path)) (same (is_true (setting.inputs path))))
+      (pends_alike event (with_allocation setting log at path) (same (is_true (setting.inputs path))))
   pends_alike event log (both_reach {at = at} {object = object} {offset = offset} same) =
       ap (λ rest. if has_room setting log then (if is_next log event then Some (Accesses at object offset) else rest) else None)
-      (pends_alike event (with_event log (access_event at offset)) same)
+      (pends_alike event (with_access log at object offset) same)
   pends_alike event log (both_touch {touch = touch} same) = pends_alike event (with_touch log touch) same
 
   -- where one act continues or finishes, so does one that does the same

@@ -3,9 +3,10 @@
 use Rattle.std.specs.Prelude.{ℤ, Bool}
 use Rattle.cs_ast.specs.declared.place.Place.{Place}
 use Rattle.cs_inputs.specs.declared.path.Path.{Path}
+use Rattle.cs_events.specs.declared.input.InputKind.{InputKind}
 use Rattle.cs_events.specs.declared.outcome.Outcome.{Outcome}
 use Rattle.cs_events.specs.declared.operation.Operation.{Operation}
-use Rattle.cs_events.specs.Objects.{Object}
+use Rattle.cs_events.specs.Objects.{Object, Cell}
 use Rattle.cs_events.specs.Touches.{Touch}
 
 module _ (State : Type 0) where
@@ -14,8 +15,8 @@ module _ (State : Type 0) where
     Goes : (next : State) → Act
     -- the run ends
     Stops : (outcome : Outcome) → Act
-    -- the number of an input is looked up, and the run has read its path
-    Reads : (path : Path) (onward : ℤ → Act) → Act
+    -- an input is looked up, and the cell that it gives leads on
+    Reads : (path : Path) (kind : InputKind) (onward : Cell → Act) → Act
     -- an operation shows as an event at a place, and its result, or the number that is guessed in its place, leads on
     Asks : (at : Place) (operation : Operation) (onward : ℤ → Act) → Act
     -- an allocation shows as an event at a place: the path's number says whether it gives a block, and is read with the event

@@ -1,6 +1,7 @@
 -- What a run has shown, read and touched stays: logs only grow.
 use Rattle.std.specs.Prelude.{◌≡◌, List, ◌++◌}
-use Rattle.cs_inputs.specs.declared.path.Path.{Path}
+use Rattle.cs_events.specs.declared.input.Lookup.{Lookup}
+use Rattle.cs_events.specs.PendingEvents.{Pending}
 use Rattle.cs_events.specs.declared.event.Event.{Event}
 use Rattle.cs_events.specs.Touches.{Touch}
 use Rattle.cs_events.specs.Runs.{Log, Performed, Continues, Finishes}
@@ -8,7 +9,8 @@ use Rattle.cs_events.specs.Runs.{Log, Performed, Continues, Finishes}
 -- a log goes on from another
 pub record GoesOn (log later : Log) : Type 0 where
   pub events : (more : List Event) × (later.events ≡ log.events ++ more)
-  pub read : (more : List Path) × (later.read ≡ log.read ++ more)
+  pub pending : (more : List Pending) × (later.pending ≡ log.pending ++ more)
+  pub read : (more : List Lookup) × (later.read ≡ log.read ++ more)
   pub touches : (more : List Touch) × (later.touches ≡ log.touches ++ more)
 
 -- the log with which an act leaves off

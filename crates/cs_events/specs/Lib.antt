@@ -2,6 +2,8 @@ pub mod Budgets
 pub mod Objects
 pub mod Operations
 pub mod Touches
+pub mod InputCells
+pub mod PendingEvents
 pub mod Acts
 pub mod Runs
 pub mod Pending

@@ -1,19 +1,10 @@
 -- The event that a run is about to pass.
-use Rattle.std.specs.Prelude.{◌≡◌, ℕ, suc, ◌==◌, Bool, ℤ, Option, Some, None, length, if◌then◌else◌}
-use Rattle.cs_ast.specs.declared.place.Place.{Place}
-use Rattle.cs_inputs.specs.declared.path.Path.{Path}
-use Rattle.cs_events.specs.declared.operation.Operation.{Operation}
+use Rattle.std.specs.Prelude.{◌≡◌, ℕ, suc, ◌==◌, Bool, Option, Some, None, length, if◌then◌else◌}
 use Rattle.cs_events.specs.Operations.{is_true}
-use Rattle.cs_events.specs.Objects.{Object}
+use Rattle.cs_events.specs.PendingEvents.{Pending, Operates, Tries, Accesses}
 use Rattle.cs_events.specs.Acts.{Act, Goes, Stops, Reads, Asks, Allocates, Reaches, Touches}
-use Rattle.cs_events.specs.Runs.{Setting, Log, empty, with_event, with_read, with_touch, has_room, operation_event, number_of, allocation_event, access_event}
+use Rattle.cs_events.specs.Runs.{Setting, Log, empty, with_operation, with_allocation, with_access, with_read, with_touch, has_room, number_of, read_cell}
 use Rattle.cs_events.specs.Runs.{Leads}
-
--- what is about to show at a place. What an operation's own result and quotient are doesn't depend on what is guessed there
-pub data Pending : Type 0 where
-  Operates : (at : Place) (operation : Operation) → Pending
-  Tries : (at : Place) (path : Path) → Pending
-  Accesses : (at : Place) (object : Object) (offset : ℤ) → Pending
 
 -- whether the event with this number is the next one of a run with this log
 abbrev pub is_next : Log → ℕ → Bool
@@ -24,20 +15,20 @@ module _ {State : Type 0} where
   unfoldable pub pending_in : Setting → Log → ℕ → Act State → Option Pending
   pending_in setting log event (Goes next) = None
   pending_in setting log event (Stops outcome) = None
-  pending_in setting log event (Reads path onward) = pending_in setting (with_read log path) event (onward (setting.inputs path))
+  pending_in setting log event (Reads path kind onward) = pending_in setting (with_read log path kind) event (onward (read_cell setting path kind))
   pending_in setting log event (Asks at operation onward) =
       if has_room setting log
       then (if is_next log event then Some (Operates at operation)
-      else pending_in setting (with_event log (operation_event setting log at operation)) event (onward (number_of setting log operation)))
+      else pending_in setting (with_operation setting log at operation) event (onward (number_of setting log operation)))
       else None
   pending_in setting log event (Allocates at path onward) =
       if has_room setting log
       then (if is_next log event then Some (Tries at path)
-      else pending_in setting (with_event (with_read log path) (allocation_event setting at path)) event (onward (is_true (setting.inputs path))))
+      else pending_in setting (with_allocation setting log at path) event (onward (is_true (setting.inputs path))))
       else None
   pending_in setting log event (Reaches at object offset act) =
       if has_room setting log
-      then (if is_next log event then Some (Accesses at object offset) else pending_in setting (with_event log (access_event at offset)) event act)
+      then (if is_next log event then Some (Accesses at object offset) else pending_in setting (with_access log at object offset) event act)
       else None
   pending_in setting log event (Touches touch act) = pending_in setting (with_touch log touch) event act
 

@@ -1,5 +1,5 @@
 -- Runs of any machine whose steps are acts.
-use Rattle.std.specs.Prelude.{◌≡◌, ℕ, suc, ◌==◌, Bool, ◌&&◌, nat_lt, int_le, ℤ, List, [], ◌∷◌, ◌++◌, Option, Some, None, length}
+use Rattle.std.specs.Prelude.{◌≡◌, ℕ, suc, ◌==◌, Bool, nat_lt, ℤ, List, [], ◌∷◌, ◌++◌, Option, Some, None, length}
 use Rattle.std.specs.Prelude.{◌⊎◌, if◌then◌else◌}
 use Rattle.cs_ast.specs.declared.place.Place.{Place}
 use Rattle.cs_inputs.specs.declared.path.Path.{Path}
@@ -14,6 +14,12 @@ use Rattle.cs_events.specs.declared.event.Label.TheVariants.{Alloc, Offset}
 use Rattle.cs_events.specs.Operations.{result_with, guess_range, shows, is_true, offset_shown}
 use Rattle.cs_events.specs.declared.operation.Operation.{Operation}
 use Rattle.cs_events.specs.Touches.{Touch}
+use Rattle.cs_events.specs.Objects.{Object, Cell}
+use Rattle.cs_events.specs.declared.input.InputKind.{InputKind}
+use Rattle.cs_events.specs.declared.input.InputKind.TheVariants.{Allocation}
+use Rattle.cs_events.specs.declared.input.Lookup.{Lookup}
+use Rattle.cs_events.specs.InputCells.{input_cell, lies_in}
+use Rattle.cs_events.specs.PendingEvents.{Pending, Operates, Tries, Accesses}
 use Rattle.cs_events.specs.Acts.{Act, Goes, Stops, Reads, Asks, Allocates, Reaches, Touches}
 
 -- what a run goes by
@@ -23,24 +29,21 @@ pub record Setting : Type 0 where
   pub guesses : List Guess
   pub budgets : RunBudgets
 
--- what a run has shown, read and touched so far, each in order
+-- what a run has shown, read and touched so far, each in order; what was pending at each event stands beside it
 pub record Log : Type 0 where
   pub events : List Event
-  pub read : List Path
+  pub pending : List Pending
+  pub read : List Lookup
   pub touches : List Touch
 
 -- nothing
 abbrev pub empty : Log
-empty = record { events = []; read = []; touches = [] }
+empty = record { events = []; pending = []; read = []; touches = [] }
 
 -- the number of the first guess that is listed for an event
 abbrev pub guess_at : List Guess → ℕ → Option ℤ
 guess_at [] event = None
 guess_at (guess ∷ guesses) event = if guess.event == event then Some guess.number else guess_at guesses event
-
--- the number lies in the range
-abbrev pub lies_in : ℤ × ℤ → ℤ → Bool
-lies_in range number = int_le range.0 number && int_le number range.1
 
 -- a guess that is used: one where the operation has a range, and that lies in it
 abbrev pub used : Option (ℤ × ℤ) → Option ℤ → Option ℤ
@@ -53,11 +56,11 @@ abbrev pub used_guess : Setting → Log → Operation → Option ℤ
 used_guess setting log operation = used (guess_range setting.model operation) (guess_at setting.guesses (suc (length log.events)))
 
 -- the log with one more of each
-abbrev pub with_event : Log → Event → Log
-with_event log event = record log { events = log.events ++ event ∷ [] }
+abbrev pub with_event : Log → Pending → Event → Log
+with_event log pending event = record log { events = log.events ++ event ∷ []; pending = log.pending ++ pending ∷ [] }
 
-abbrev pub with_read : Log → Path → Log
-with_read log path = record log { read = log.read ++ path ∷ [] }
+abbrev pub with_read : Log → Path → InputKind → Log
+with_read log path kind = record log { read = log.read ++ record { path = path; kind = kind } ∷ [] }
 
 abbrev pub with_touch : Log → Touch → Log
 with_touch log touch = record log { touches = log.touches ++ touch ∷ [] }
@@ -82,6 +85,20 @@ allocation_event setting at path = record { place = at; label = Alloc (is_true (
 abbrev pub access_event : Place → ℤ → Event
 access_event at offset = record { place = at; label = Offset (offset_shown offset) }
 
+-- the log after an operation, an allocation and an access
+abbrev pub with_operation : Setting → Log → Place → Operation → Log
+with_operation setting log at operation = with_event log (Operates at operation) (operation_event setting log at operation)
+
+abbrev pub with_allocation : Setting → Log → Place → Path → Log
+with_allocation setting log at path = with_event (with_read log path Allocation) (Tries at path) (allocation_event setting at path)
+
+abbrev pub with_access : Log → Place → Object → ℤ → Log
+with_access log at object offset = with_event log (Accesses at object offset) (access_event at offset)
+
+-- the cell that an input gives
+abbrev pub read_cell : Setting → Path → InputKind → Cell
+read_cell setting path kind = input_cell setting.model path kind (setting.inputs path)
+
 -- what is left of an act once it was performed: a state to go on in, or the end; with the log
 pub data Performed (State : Type 0) : Type 0 where
   Continues : (next : State) (log : Log) → Performed State
@@ -92,18 +109,18 @@ module _ {State : Type 0} where
   unfoldable pub perform : Setting → Log → Act State → Performed State
   perform setting log (Goes next) = Continues next log
   perform setting log (Stops outcome) = Finishes outcome log
-  perform setting log (Reads path onward) = perform setting (with_read log path) (onward (setting.inputs path))
+  perform setting log (Reads path kind onward) = perform setting (with_read log path kind) (onward (read_cell setting path kind))
   perform setting log (Asks at operation onward) =
       if has_room setting log
-      then perform setting (with_event log (operation_event setting log at operation)) (onward (number_of setting log operation))
+      then perform setting (with_operation setting log at operation) (onward (number_of setting log operation))
       else Finishes (Over Events at) log
   perform setting log (Allocates at path onward) =
       if has_room setting log
-      then perform setting (with_event (with_read log path) (allocation_event setting at path)) (onward (is_true (setting.inputs path)))
+      then perform setting (with_allocation setting log at path) (onward (is_true (setting.inputs path)))
       else Finishes (Over Events at) log
   perform setting log (Reaches at object offset act) =
       if has_room setting log
-      then perform setting (with_event log (access_event at offset)) act
+      then perform setting (with_access log at object offset) act
       else Finishes (Over Events at) log
   perform setting log (Touches touch act) = perform setting (with_touch log touch) act
 

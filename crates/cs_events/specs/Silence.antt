@@ -3,7 +3,8 @@ use Rattle.std.specs.Prelude.{ℕ, ℤ, Bool, ◌<◌, ◌≤◌, ◌⊎◌}
 use Rattle.cs_ast.specs.declared.place.Place.{Place}
 use Rattle.cs_inputs.specs.declared.path.Path.{Path}
 use Rattle.cs_events.specs.declared.operation.Operation.{Operation}
-use Rattle.cs_events.specs.Objects.{Object}
+use Rattle.cs_events.specs.declared.input.InputKind.{InputKind}
+use Rattle.cs_events.specs.Objects.{Object, Cell}
 use Rattle.cs_events.specs.Touches.{Touch}
 use Rattle.cs_events.specs.declared.outcome.Outcome.{Outcome}
 use Rattle.cs_events.specs.Acts.{Act, Goes, Stops, Reads, Asks, Allocates, Reaches, Touches}
@@ -14,7 +15,8 @@ module _ {State : Type 0} where
   pub data Owes (Next : State → Type 0) : Act State → Type 0 where
     owes_next : {next : State} → Next next → Owes Next (Goes next)
     stops : {outcome : Outcome} → Owes Next (Stops outcome)
-    reads : {path : Path} {onward : ℤ → Act State} → ((number : ℤ) → Owes Next (onward number)) → Owes Next (Reads path onward)
+    reads : {path : Path} {kind : InputKind} {onward : Cell → Act State} → ((cell : Cell) → Owes Next (onward cell))
+        → Owes Next (Reads path kind onward)
     asks : {at : Place} {operation : Operation} {onward : ℤ → Act State} → Owes Next (Asks at operation onward)
     allocates : {at : Place} {path : Path} {onward : Bool → Act State} → Owes Next (Allocates at path onward)
     reaches : {at : Place} {object : Object} {offset : ℤ} {act : Act State} → Owes Next (Reaches at object offset act)

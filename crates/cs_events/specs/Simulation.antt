@@ -4,7 +4,8 @@ use Rattle.cs_ast.specs.declared.place.Place.{Place}
 use Rattle.cs_inputs.specs.declared.path.Path.{Path}
 use Rattle.cs_events.specs.declared.outcome.Outcome.{Outcome}
 use Rattle.cs_events.specs.declared.operation.Operation.{Operation}
-use Rattle.cs_events.specs.Objects.{Object}
+use Rattle.cs_events.specs.declared.input.InputKind.{InputKind}
+use Rattle.cs_events.specs.Objects.{Object, Cell}
 use Rattle.cs_events.specs.Touches.{Touch}
 use Rattle.cs_events.specs.Acts.{Act, Goes, Stops, Reads, Asks, Allocates, Reaches, Touches}
 
@@ -13,8 +14,8 @@ module _ {S T : Type 0} (R : S → T → Type 0) where
   pub data Yields : Act S → Act T → Type 0 where
     both_go : {s : S} {t : T} → R s t → Yields (Goes s) (Goes t)
     both_stop : {outcome : Outcome} → Yields (Stops outcome) (Stops outcome)
-    both_read : {path : Path} {f : ℤ → Act S} {g : ℤ → Act T} → ((number : ℤ) → Yields (f number) (g number))
-        → Yields (Reads path f) (Reads path g)
+    both_read : {path : Path} {kind : InputKind} {f : Cell → Act S} {g : Cell → Act T} → ((cell : Cell) → Yields (f cell) (g cell))
+        → Yields (Reads path kind f) (Reads path kind g)
     both_ask : {at : Place} {operation : Operation} {f : ℤ → Act S} {g : ℤ → Act T} → ((number : ℤ) → Yields (f number) (g number))
         → Yields (Asks at operation f) (Asks at operation g)
     both_allocate : {at : Place} {path : Path} {f : Bool → Act S} {g : Bool → Act T} → ((given : Bool) → Yields (f given) (g given))

@@ -5,12 +5,16 @@
 
 pub mod event;
 pub mod guess;
+pub mod guess_ranges;
+pub mod input;
 pub mod operation;
 pub mod outcome;
 pub mod point;
 
 pub use event::{Event, Label, Wrap};
 pub use guess::Guess;
+pub use guess_ranges::{guess_range, lies_in, numbers_of, offsets};
+pub use input::{InputKind, Lookup};
 pub use operation::Operation;
 pub use outcome::{Budget, Outcome, Returned, RunBudgets};
 pub use point::PointKind;

@@ -37,11 +37,11 @@ converted model at e (pointer t) (pointer s) = pointed model at e t s
 converted model at e (struct n) (struct m) = if n == m then Fine e else Fault code.OperandTypes at
 converted model at e target source = Fault code.OperandTypes at
 
--- a pointer cast to a pointer type
+-- a pointer cast to a pointer type: a null pointer constant that is cast to `void *` once more isn't one any longer (C11 6.3.2.3, paragraph 3)
 unfoldable pub pointer_cast : DataModel → Place → Typed → Shape → Shape → Verdict Typed
 pointer_cast model at e target source =
-    if is_null model e then Fine (null_at at target)
-    else (if same_shape target source || is_void target then Fine (Of at (pointer target) (Convert e))
+    if same_shape target source || is_void target then Fine (Of at (pointer target) (Convert e))
+    else (if is_null model e then Fine (null_at at target)
     else Fault code.PointerConversion at)
 
 -- a value that is cast to a type (C11 6.5.4)

@@ -9,6 +9,7 @@ use Rattle.cs_ast.specs.declared.place.Place.{Place}
 use Rattle.cs_ast.specs.TypedTree.{Typed, Of, Form, Number, Text, Local, Global, Through, Index, Member as MemberForm, Arrow, Load, Decay}
 use Rattle.cs_scopes.specs.declared.refusal.TypeCode.TheVariants as code
 use Rattle.cs_scopes.specs.Verdicts.{Verdict, Fine, Fault}
+use Rattle.cs_folding.specs.TypedParts.{type_of, place_in}
 use Rattle.cs_scopes.specs.Sizes.{bytes_in}
 
 -- the expression is an lvalue: it names an object
@@ -21,6 +22,10 @@ is_object (Index a n order) = true
 is_object (MemberForm object offset) = true
 is_object (Arrow e offset) = true
 is_object other = false
+
+-- a verdict on an expression that has to name an object, or else to have a value: one of type `void` does neither (C11 6.3.2.2)
+abbrev pub unless_void : Typed → Verdict Typed → Verdict Typed
+unless_void e v = if is_void (type_of e) then Fault code.VoidValue (place_in e) else v
 
 -- a number of bytes, as `sizeof` gives it
 abbrev pub measure_of : DataModel → Place → Option ℕ → Verdict Typed

@@ -12,12 +12,13 @@ use Rattle.cs_ast.specs.TypedTree.{Typed, Of, Form, Through, Index, Member as Me
 use Rattle.cs_scopes.specs.declared.refusal.TypeCode.TheVariants as code
 use Rattle.cs_scopes.specs.Verdicts.{Verdict, Fine, Fault, lift}
 use Rattle.cs_folding.specs.TypedParts.{type_of, form_of}
-use Rattle.cs_expressions.specs.Objects.{is_object}
+use Rattle.cs_expressions.specs.Objects.{is_object, unless_void}
 use Rattle.cs_types.specs.Kinds.{is_void, is_complete}
 
 -- `&` (C11 6.5.3.2)
 unfoldable pub address_of : Place → Typed → Verdict Typed
-address_of at e = if is_object (form_of e) then Fine (Of at (pointer (type_of e)) (Address e)) else Fault code.NotLvalue at
+address_of at e =
+    unless_void e (if is_object (form_of e) then Fine (Of at (pointer (type_of e)) (Address e)) else Fault code.NotLvalue at)
 
 -- unary `*` (C11 6.5.3.2)
 unfoldable pub through : Place → Typed → Shape → Verdict Typed
@@ -73,10 +74,15 @@ abbrev pub member_by : List StructType → Place → Place → List ℕ → (Mem
 member_by table at name_at name rule (Some number) = lift rule (member_found name_at name (members_of table number))
 member_by table at name_at name rule None = Fault code.OperandTypes at
 
+-- a member of an expression, by the number of the struct that it is: it has to be an lvalue
+abbrev pub object_member : List StructType → Place → Place → List ℕ → Typed → Option ℕ → Verdict Typed
+object_member table at name_at name e (Some number) =
+    if is_object (form_of e) then member_by table at name_at name (member_in at e) (Some number) else Fault code.NotLvalue at
+object_member table at name_at name e None = Fault code.OperandTypes at
+
 -- `.` (C11 6.5.2.3)
 unfoldable pub selected : List StructType → Place → Place → List ℕ → Typed → Verdict Typed
-selected table at name_at name e =
-    if is_object (form_of e) then member_by table at name_at name (member_in at e) (struct_number (type_of e)) else Fault code.NotLvalue at
+selected table at name_at name e = unless_void e (object_member table at name_at name e (struct_number (type_of e)))
 
 -- `->` (C11 6.5.2.3)
 unfoldable pub selected_through : List StructType → Place → Place → List ℕ → Typed → Shape → Verdict Typed

@@ -1,5 +1,5 @@
 -- Operators that store (C11 6.5.2.4, 6.5.3.1, 6.5.16).
-use Rattle.std.specs.Prelude.{ℕ, pos, Bool, true, false, not, ◌&&◌, if◌then◌else◌, List}
+use Rattle.std.specs.Prelude.{ℕ, pos, Bool, true, false, not, ◌&&◌, if◌then◌else◌, List, Option, Some, None}
 use Rattle.cs_types.specs.declared.data_model.DataModel.{DataModel}
 use Rattle.cs_types.specs.declared.int_type.IntType.{IntType}
 use Rattle.cs_types.specs.declared.int_type.IntType.TheVariants.{Int}
@@ -16,25 +16,29 @@ use Rattle.cs_ast.specs.declared.typed.operator.Direction.TheVariants.{Forward, 
 use Rattle.cs_ast.specs.declared.typed.operator.Gives.{Gives}
 use Rattle.cs_ast.specs.declared.typed.operator.Gives.TheVariants.{Old, New}
 use Rattle.cs_ast.specs.TypedTree.{Typed, Of, Form, Number, Assign, Update, Move}
+use Rattle.cs_scopes.specs.declared.refusal.TypeCode.{TypeCode}
 use Rattle.cs_scopes.specs.declared.refusal.TypeCode.TheVariants as code
 use Rattle.cs_scopes.specs.Verdicts.{Verdict, Fine, Fault, lift}
 use Rattle.cs_folding.specs.TypedParts.{type_of, form_of}
 use Rattle.cs_expressions.specs.Integers.{in_type}
-use Rattle.cs_expressions.specs.Objects.{is_object}
+use Rattle.cs_expressions.specs.Objects.{is_object, unless_void}
 use Rattle.cs_types.specs.Kinds.{is_array, is_complete}
 use Rattle.cs_scopes.specs.Scalars.{has_few_scalars}
 use Rattle.cs_expressions.specs.Conversions.{converted}
+use Rattle.cs_expressions.specs.Calls.{lesser}
 
 -- an lvalue that can be stored to (C11 6.3.2.1, paragraph 1)
 abbrev pub is_stored_to : Typed → Bool
 is_stored_to e = is_object (form_of e) && not (is_array (type_of e))
 
--- the left side of `=`: a complete object of so few scalars that one store writes them
-unfoldable pub assignable : List StructType → Place → Typed → Verdict Typed
-assignable table at e =
-    if not (is_stored_to e) then Fault code.NotLvalue at
-    else (if not (is_complete table (type_of e)) then Fault code.IncompleteType at
-    else (if has_few_scalars table (type_of e) then Fine e else Fault code.TooManyScalars at))
+-- the left side of `=`
+unfoldable pub assignable : Place → Typed → Verdict Typed
+assignable at e = unless_void e (if is_stored_to e then Fine e else Fault code.NotLvalue at)
+
+-- what `=` asks of its left side besides: a complete type, of so few scalars that one store writes them
+unfoldable pub assigned_fault : List StructType → Shape → Option TypeCode
+assigned_fault table ty =
+    if not (is_complete table ty) then Some code.IncompleteType else (if has_few_scalars table ty then None else Some code.TooManyScalars)
 
 -- `=` (C11 6.5.16.1)
 abbrev pub assigned : Place → Typed → Typed → Verdict Typed
@@ -58,16 +62,39 @@ way_of Sub = Back
 way_of other = Forward
 
 -- an object of this type can be updated by an operator (C11 6.5.16.2)
-unfoldable pub updatable_as : List StructType → BinOp → Place → Typed → Shape → Verdict Typed
-updatable_as table op at e (integer ty) = Fine e
-updatable_as table op at e (pointer target) =
-    if not (is_additive op) then Fault code.OperandTypes at
-    else (if is_complete table target then Fine e else Fault code.IncompleteType at)
-updatable_as table op at e ty = Fault code.OperandTypes at
+unfoldable pub updatable_as : BinOp → Place → Typed → Shape → Verdict Typed
+updatable_as op at e (integer ty) = Fine e
+updatable_as op at e (pointer target) = if is_additive op then Fine e else Fault code.OperandTypes at
+updatable_as op at e ty = Fault code.OperandTypes at
 
--- the object of a compound assignment or a step
-unfoldable pub updatable : List StructType → BinOp → Place → Typed → Verdict Typed
-updatable table op at e = if is_stored_to e then updatable_as table op at e (type_of e) else Fault code.NotLvalue at
+-- the object of a compound assignment, and that of a step as far as both go
+unfoldable pub updatable : BinOp → Place → Typed → Verdict Typed
+updatable op at e = unless_void e (if is_stored_to e then updatable_as op at e (type_of e) else Fault code.NotLvalue at)
+
+-- what a compound assignment or a step asks of its object besides: a pointer is moved by complete elements
+unfoldable pub updated_fault : List StructType → Shape → Option TypeCode
+updated_fault table (pointer target) = if is_complete table target then None else Some code.IncompleteType
+updated_fault table ty = None
+
+-- a verdict of a place at which a code may hold besides: the least code of the place counts
+abbrev pub weighed : Place → Option TypeCode → Verdict Typed → Verdict Typed
+weighed at None v = v
+weighed at (Some code) (Fine e) = Fault code at
+weighed at (Some code) (Fault other place) = Fault (lesser code other) at
+
+-- a verdict on what comes after a place at which a code may hold: the earlier place counts where both fail
+abbrev pub led : Place → Option TypeCode → Verdict Typed → Verdict Typed
+led at None v = v
+led at (Some first) (Fine e) = Fine e
+led at (Some first) (Fault code place) = Fault first at
+
+-- an object that a step can move, where the step itself finds nothing else to refuse
+abbrev pub moved_by_step : List StructType → Place → Typed → Verdict Typed
+moved_by_step table at e = weighed at (updated_fault table (type_of e)) (Fine e)
+
+-- the object of a step
+unfoldable pub steppable : List StructType → BinOp → Place → Typed → Verdict Typed
+steppable table op at e = lift (moved_by_step table at) (updatable op at e)
 
 -- the type in which a compound assignment works
 abbrev pub works_in : DataModel → BinOp → IntType → IntType → IntType

@@ -158,10 +158,10 @@ fn pointer_cast_way<'a>(
         → pointer_cast model at (typed value.now) (shape_of to.now) (shape_of from.now)
         ≡ by_way at (typed value.now) result }
 {
-    if is_null(model, value) {
-        Way::Null(target)
-    } else if *to == *from || is_void(to) {
+    if *to == *from || is_void(to) {
         Way::Convert(target)
+    } else if is_null(model, value) {
+        Way::Null(target)
     } else {
         Way::Refused(TypeCode::PointerConversion)
     }

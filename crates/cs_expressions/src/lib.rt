@@ -20,4 +20,7 @@ pub use objects::{measured, operand, valued};
 pub use operators::{chosen, combined, denied, followed, tested};
 pub use places::{address_of, indexed, selected, selected_through, through};
 pub use primary::{constant_type, named, text};
-pub use stores::{assignable, assigned, step_operator, stepped, updatable, updated};
+pub use stores::{
+    assignable, assigned, assigned_fault, led, step_operator, steppable, stepped, updatable,
+    updated, updated_fault, weighed,
+};

@@ -22,6 +22,9 @@ use std::alloc::Global;
 pub fn address_of(alloc: Global, place: Place, object: Expr) -> Result<Expr, TypeRefusal>
     ensures { Yields (address_of place (typed object)) result }
 {
+    if is_void(&object.ty) {
+        return Err(TypeRefusal::Code(TypeCode::VoidValue, object.place));
+    }
     if !is_object(&*object.kind) {
         return Err(TypeRefusal::Code(TypeCode::NotLvalue, place));
     }
@@ -137,12 +140,15 @@ pub fn selected(
     ensures { Yields (selected table.now.list place name.now.place name.now.name (typed object))
         result }
 {
-    if !is_object(&*object.kind) {
-        return Err(TypeRefusal::Code(TypeCode::NotLvalue, place));
+    if is_void(&object.ty) {
+        return Err(TypeRefusal::Code(TypeCode::VoidValue, object.place));
     }
     let Some(number) = struct_number(&object.ty) else {
         return Err(TypeRefusal::Code(TypeCode::OperandTypes, place));
     };
+    if !is_object(&*object.kind) {
+        return Err(TypeRefusal::Code(TypeCode::NotLvalue, place));
+    }
     let found = member_of(table, name.place, &name.name, number)?;
     let ty = found.ty().copy(alloc)?;
     let made = member(alloc, place, ty, object, found.offset())?;

@@ -1,14 +1,15 @@
 //! Operators that store (C11 6.5.2.4, 6.5.3.1, 6.5.16).
-ghost use Rattle.std.specs.Prelude.{◌≡◌, IfOk};
+ghost use Rattle.std.specs.Prelude.{◌≡◌, IfOk, Ok};
 ghost use Rattle.cs_types.specs.Shape.{shape_of, integer};
 ghost use Rattle.cs_ast.specs.declared.typed.operator.Gives.TheVariants.{New};
-ghost use Rattle.cs_ast.specs.TypedTree.{Of, Update as UpdateForm};
+ghost use Rattle.cs_ast.specs.TypedTree.{Typed, Of, Update as UpdateForm};
 ghost use Rattle.cs_expressions.specs.Integers.{in_type};
-ghost use Rattle.cs_scopes.specs.Verdicts.{Fine};
+ghost use Rattle.cs_scopes.specs.Verdicts.{Verdict, Fine};
 ghost use Rattle.cs_ast.specs.TypedView.{typed};
 ghost use Rattle.cs_scopes.specs.Verdicts.{Yields};
-ghost use Rattle.cs_expressions.specs.Stores.{is_stored_to, assignable, assigned, is_additive, is_shift, way_of, updatable_as, updatable, works_in, taken_in, updated, step_operator, stepped};
+ghost use Rattle.cs_expressions.specs.Stores.{is_stored_to, assignable, assigned_fault, assigned, is_additive, is_shift, way_of, updatable_as, updatable, updated_fault, weighed, led, moved_by_step, steppable, works_in, taken_in, updated, step_operator, stepped};
 
+use crate::calls::least;
 use crate::integers::in_type;
 use crate::nodes::{assign, number, shift, update};
 use crate::objects::is_object;
@@ -17,7 +18,9 @@ use cs_ast::raw::operator::Step;
 use cs_ast::typed::expression::Expr;
 use cs_ast::typed::operator::{BinOp, Direction, Gives};
 use cs_scopes::{TypeCode, TypeRefusal, has_few_scalars};
-use cs_types::{CType, DataModel, IntType, StructTable, is_array, is_complete, promote, usual};
+use cs_types::{
+    CType, DataModel, IntType, StructTable, is_array, is_complete, is_void, promote, usual,
+};
 use std::alloc::{AllocError, Global};
 
 // Whether the expression is an lvalue that can be stored to.
@@ -27,21 +30,33 @@ fn is_stored_to(object: &Expr) -> bool
     is_object(&*object.kind) && !is_array(&object.ty)
 }
 
-/// The left side of `=`: a complete object of so few scalars that one store writes them.
+/// The left side of `=`: an lvalue that isn't an array.
 #[tactic(auto, unfolding(crate::specs::Stores::assignable))]
-pub fn assignable(table: &StructTable, place: Place, object: Expr) -> Result<Expr, TypeRefusal>
-    ensures { Yields (assignable table.now.list place (typed object)) result }
+pub fn assignable(place: Place, object: Expr) -> Result<Expr, TypeRefusal>
+    ensures { Yields (assignable place (typed object)) result }
 {
+    if is_void(&object.ty) {
+        return Err(TypeRefusal::Code(TypeCode::VoidValue, object.place));
+    }
     if !is_stored_to(&object) {
         return Err(TypeRefusal::Code(TypeCode::NotLvalue, place));
     }
-    if !is_complete(table, &object.ty) {
-        return Err(TypeRefusal::Code(TypeCode::IncompleteType, place));
-    }
-    if !has_few_scalars(table, &object.ty) {
-        return Err(TypeRefusal::Code(TypeCode::TooManyScalars, place));
-    }
     Ok(object)
+}
+
+/// What `=` asks of the type of its left side besides: that it is complete, and has so few scalars that one store writes them.
+#[tactic(auto, unfolding(crate::specs::Stores::assigned_fault))]
+pub fn assigned_fault(table: &StructTable, ty: &CType) -> Option<TypeCode>
+    ensures { result ≡ assigned_fault table.now.list (shape_of ty.now) }
+{
+    if !is_complete(table, ty) {
+        return Some(TypeCode::IncompleteType);
+    }
+    if has_few_scalars(table, ty) {
+        None
+    } else {
+        Some(TypeCode::TooManyScalars)
+    }
 }
 
 /// `=`.
@@ -84,27 +99,92 @@ fn way_of(operator: BinOp) -> Direction
     }
 }
 
-/// The object of a compound assignment or a step.
+/// The object of a compound assignment, and that of a step as far as both go.
 #[tactic(auto, unfolding(crate::specs::Stores::updatable, crate::specs::Stores::updatable_as))]
-pub fn updatable(
-    table: &StructTable,
-    operator: BinOp,
-    place: Place,
-    object: Expr,
-) -> Result<Expr, TypeRefusal>
-    ensures { Yields (updatable table.now.list operator place (typed object)) result }
+pub fn updatable(operator: BinOp, place: Place, object: Expr) -> Result<Expr, TypeRefusal>
+    ensures { Yields (updatable operator place (typed object)) result }
 {
+    if is_void(&object.ty) {
+        return Err(TypeRefusal::Code(TypeCode::VoidValue, object.place));
+    }
     if !is_stored_to(&object) {
         return Err(TypeRefusal::Code(TypeCode::NotLvalue, place));
     }
     match &object.ty {
         CType::Int(_) => Ok(object),
-        CType::Pointer(_) if !is_additive(operator) => {
-            Err(TypeRefusal::Code(TypeCode::OperandTypes, place))
-        }
-        CType::Pointer(target) if is_complete(table, target) => Ok(object),
-        CType::Pointer(_) => Err(TypeRefusal::Code(TypeCode::IncompleteType, place)),
+        CType::Pointer(_) if is_additive(operator) => Ok(object),
         _ => Err(TypeRefusal::Code(TypeCode::OperandTypes, place)),
+    }
+}
+
+/// What a compound assignment or a step asks of the type of its object besides: a pointer is moved by complete elements.
+#[tactic(auto, unfolding(crate::specs::Stores::updated_fault))]
+pub fn updated_fault(table: &StructTable, ty: &CType) -> Option<TypeCode>
+    ensures { result ≡ updated_fault table.now.list (shape_of ty.now) }
+{
+    match ty {
+        CType::Pointer(target) if !is_complete(table, target) => Some(TypeCode::IncompleteType),
+        _ => None,
+    }
+}
+
+/// The verdict of a place at which a code may hold besides: the least code of the place counts.
+pub fn weighed(
+    place: Place,
+    fault: Option<TypeCode>,
+    made: Result<Expr, TypeRefusal>,
+) -> Result<Expr, TypeRefusal>
+    ensures { (v : Verdict Typed) → Yields v made → Yields (weighed place fault v) result }
+{
+    let Some(code) = fault else {
+        return made;
+    };
+    match made {
+        Ok(_) => Err(TypeRefusal::Code(code, place)),
+        Err(refusal) => match refusal {
+            TypeRefusal::Code(other, _) => {
+                Err(TypeRefusal::Code(least(code, Some(other)), place))
+            }
+            TypeRefusal::Memory => Err(TypeRefusal::Memory),
+        },
+    }
+}
+
+/// The verdict on what comes after a place at which a code may hold: the earlier place counts where both fail.
+pub fn led(
+    place: Place,
+    fault: Option<TypeCode>,
+    made: Result<Expr, TypeRefusal>,
+) -> Result<Expr, TypeRefusal>
+    ensures reported { (v : Verdict Typed) → Yields v made → Yields (led place fault v) result }
+    ensures passed { IfOk result (λ value. made ≡ Ok value) }
+{
+    let Some(code) = fault else {
+        return made;
+    };
+    match made {
+        Ok(value) => Ok(value),
+        Err(refusal) => match refusal {
+            TypeRefusal::Code(_, _) => Err(TypeRefusal::Code(code, place)),
+            TypeRefusal::Memory => Err(TypeRefusal::Memory),
+        },
+    }
+}
+
+/// The object of a step.
+#[tactic(auto, unfolding(crate::specs::Stores::steppable), using(cs_scopes::proofs::Lifting::lifts))]
+pub fn steppable(
+    table: &StructTable,
+    operator: BinOp,
+    place: Place,
+    object: Expr,
+) -> Result<Expr, TypeRefusal>
+    ensures { Yields (steppable table.now.list operator place (typed object)) result }
+{
+    let object = updatable(operator, place, object)?;
+    match updated_fault(table, &object.ty) {
+        Some(code) => Err(TypeRefusal::Code(code, place)),
+        None => Ok(object),
     }
 }
 

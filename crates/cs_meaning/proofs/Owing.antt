@@ -23,10 +23,10 @@ use Rattle.cs_events.specs.Acts.{Act, Stops, Asks, Touches}
 use Rattle.cs_events.specs.Silence.{Owes, owes_next, stops, reads, asks, allocates, reaches, touches}
 use Rattle.cs_meaning.specs.Types.{scalar_offsets, type_of}
 use Rattle.cs_meaning.specs.Memory.{Memory, Found, Holds, Unknown, found_in, is_constant, changed}
-use Rattle.cs_meaning.specs.Inputs.{input_cell, opened}
-use Rattle.cs_meaning.specs.Access.{shows_then, place_of, is_direct, scalar_local, touches_then, direct, reach, locate, receive, read, read_all, set_then}
+use Rattle.cs_meaning.specs.Inputs.{opened}
+use Rattle.cs_meaning.specs.Access.{look, shows_then, place_of, is_direct, scalar_local, touches_then, direct, reach, locate, receive, read, read_all, set_then}
 use Rattle.cs_meaning.specs.Access.{value_at, load, store, write_operand}
-use Rattle.cs_meaning.specs.Operators.{takes_all, is_pointer, in_one_object, related, both_null, asks_order, look, truth, branch, operate, convert_number}
+use Rattle.cs_meaning.specs.Operators.{takes_all, is_pointer, in_one_object, related, both_null, asks_order, truth, branch, operate, convert_number}
 use Rattle.cs_meaning.specs.Operators.{convert, sum, equality, in_relation, compare_pointers, compare, difference, arrow}
 use Rattle.cs_meaning.specs.Machine.{Operand, Scalar, Whole, Nothing, State}
 
@@ -164,7 +164,7 @@ module _ (P : State → Type 0) where
       → ((after : Memory) (cell : Cell) → Owes P (onward after cell)) → Owes P (receive program memory found onward)
   owes_receive program memory (Holds cell) onward h = h memory cell
   owes_receive program memory (Unknown path scalar) onward h =
-      reads (λ number. h (opened program path scalar None number memory) (input_cell program.model path scalar number))
+      reads (λ cell. h (opened program path scalar None cell memory) cell)
 
   owes_read : (program : TypedProgram) (memory : Memory) (object : Object) (offset : ℕ) (onward : Memory → Cell → Act State)
       → ((after : Memory) (cell : Cell) → Owes P (onward after cell)) → Owes P (read program memory object offset onward)

@@ -1,7 +1,6 @@
 -- Samples of what a run touches and reads.
 use Rattle.std.proofs.Common.{◌≡◌, List, [], ◌∷◌, Option, Some, None, false, refl}
 use Rattle.cs_inputs.specs.declared.path.Root.TheVariants as root
-use Rattle.cs_inputs.specs.declared.path.Path.{Path}
 use Rattle.cs_ast.specs.declared.typed.operator.BinOp.TheVariants.{Add}
 use Rattle.cs_ast.specs.declared.typed.operator.CmpOp.TheVariants.{Less, Differs}
 use Rattle.cs_ast.specs.declared.typed.operator.Gives.TheVariants.{Old}
@@ -9,14 +8,16 @@ use Rattle.cs_types.specs.declared.int_type.IntType.TheVariants.{Int}
 use Rattle.cs_ast.specs.TypedTree.{Of, Global, Compare, Assign, Update, Value, Declare, Run, If, For, Return}
 use Rattle.cs_ast.specs.TypedProgram.{TypedProgram}
 use Rattle.cs_events.specs.declared.point.PointKind.TheVariants.{Enter, Head, Branch, Return as Returning}
+use Rattle.cs_events.specs.declared.input.InputKind.TheVariants.{Integer}
+use Rattle.cs_events.specs.declared.input.Lookup.{Lookup}
 use Rattle.cs_events.specs.Touches.{Touch, Meets, Loads, Stores, Clears}
 use Rattle.cs_events.specs.Runs as runs
 use Rattle.cs_events.specs.Runs.{Performed, Continues, Finishes}
 use Rattle.cs_meaning.specs.Machine.{State}
 use Rattle.cs_meaning.proofs.Building.{at, int, literal, local, loaded, value, sequence, named, defined, functions, USUAL, plain, come_to}
 
--- what a run has touched that has ended, and which paths it has read
-abbrev touched : Performed State → Option (List Touch × List Path)
+-- what a run has touched that has ended, and what it has read
+abbrev touched : Performed State → Option (List Touch × List Lookup)
 touched (Continues m log) = None
 touched (Finishes outcome log) = Some (log.touches, log.read)
 
@@ -61,7 +62,7 @@ touches_turns : touched (come_to turns_once 0 (plain []) USUAL 80) ≡ Some (
       ∷ (Loads 0 0 (at 38)
       ∷ (Stores 0 0 (at 39)
       ∷ (Meets Head (at 25) ∷ (Loads 0 0 (at 33) ∷ (Meets Branch (at 25) ∷ (Loads 0 0 (at 49) ∷ (Meets Returning (at 42) ∷ [])))))))))))),
-  record { root = root.Global (103 ∷ []); cells = 0 ∷ [] } ∷ [],
+  record { path = record { root = root.Global (103 ∷ []); cells = 0 ∷ [] }; kind = Integer Int } ∷ [],
 )
 unfolding runs.perform
 touches_turns = refl

@@ -13,13 +13,14 @@ use Rattle.cs_events.specs.declared.event.Label.TheVariants.{Look}
 use Rattle.cs_events.specs.declared.operation.Operation.TheVariants.{Order, Show}
 use Rattle.cs_events.specs.declared.outcome.Outcome.TheVariants.{Fault}
 use Rattle.cs_events.specs.Operations.{is_true}
-use Rattle.cs_events.specs.Objects.{Object, Cell, NumberCell, NullCell, PointerCell, UnsetCell}
+use Rattle.cs_events.specs.InputCells.{input_kind}
+use Rattle.cs_events.specs.Objects.{Object, LocalObject, Cell, NumberCell, NullCell, PointerCell, UnsetCell}
 use Rattle.cs_events.specs.Touches.{Touch, Loads, Stores}
 use Rattle.cs_events.specs.Acts.{Act, Stops, Reads, Asks, Reaches, Touches}
 use Rattle.cs_meaning.specs.Types.{size_of, scalar_of, scalar_offsets, type_of, is_scalar}
 use Rattle.cs_meaning.specs.Initials.{byte_cell}
-use Rattle.cs_meaning.specs.Memory.{Block, Memory, changed, write_cell, begins_at, Found, Holds, Unknown, found_in, is_constant}
-use Rattle.cs_meaning.specs.Inputs.{input_cell, opened}
+use Rattle.cs_meaning.specs.Memory.{Block, Memory, UnsetFill, new_block, changed, write_cell, begins_at, Found, Holds, Unknown, found_in, is_constant}
+use Rattle.cs_meaning.specs.Inputs.{opened}
 use Rattle.cs_meaning.specs.Machine.{Operand, Scalar, Whole, Nothing}
 
 -- the place of an expression
@@ -75,6 +76,10 @@ abbrev pub offset_number : ℤ → ℕ
 offset_number (pos n) = n
 offset_number (negsuc n) = 0
 
+-- what stands for an object that isn't there
+abbrev pub NO_BLOCK : Block
+NO_BLOCK = new_block void 0 UnsetFill
+
 module _ {S : Type 0} where
   -- a label shows at a place, and then an act follows
   abbrev pub shows_then : Place → Label → Act S → Act S
@@ -85,11 +90,32 @@ module _ {S : Type 0} where
   touches_then touch None act = act
   touches_then touch (Some declaration) act = Touches (touch declaration) act
 
-  -- an order test, which is a fault where it doesn't hold
-  abbrev pub ordered : Place → ℤ → ℤ → Act S → Act S
-  ordered at first second act = Asks at (Order first second) (λ number. if is_true number then act else Stops (Fault kind.Bounds at))
+  -- a pointer shows whether it is null; nothing else shows
+  abbrev pub look : Place → Cell → Act S → Act S
+  look at NullCell act = shows_then at (Look false) act
+  look at (PointerCell object offset) act = shows_then at (Look true) act
+  look at (NumberCell n) act = act
+  look at UnsetCell act = act
 
-  -- an object that is there no more is a fault (C11 6.2.4, paragraph 2)
+  -- null is a fault where an object is needed (C11 6.5.3.2, paragraph 4)
+  abbrev pub not_null : Place → Cell → Act S → Act S
+  not_null at NullCell act = Stops (Fault kind.Null at)
+  not_null at other act = act
+
+  -- an order test that came out so: it is a fault where it doesn't hold
+  abbrev pub within : Place → ℤ → Act S → Act S
+  within at number act = if is_true number then act else Stops (Fault kind.Bounds at)
+
+  abbrev pub ordered : Place → ℤ → ℤ → Act S → Act S
+  ordered at first second act = Asks at (Order first second) (λ number. within at number act)
+
+  -- an object that isn't there is a fault: a local of a frame that has ended, or else nothing to access (C11 6.2.4, paragraph 2)
+  abbrev pub there : Place → Object → Option Block → Act S → Act S
+  there at (LocalObject frame declaration) None act = Stops (Fault kind.DeadLocal at)
+  there at other None act = Stops (Fault kind.Bounds at)
+  there at object (Some block) act = act
+
+  -- a block that was released is a fault
   abbrev pub stands : Place → Standing → Act S → Act S
   stands at Live act = act
   stands at Freed act = Stops (Fault kind.Freed at)
@@ -100,28 +126,39 @@ module _ {S : Type 0} where
   fits at true act = act
   fits at false act = Stops (Fault kind.Bounds at)
 
-  -- an object of a type is reached in another: it stands, the type's bytes lie within it, the offset shows, and such an object begins there
-  abbrev pub reach_in : TypedProgram → Place → Shape → Object → ℤ → Option Block → (ℕ → Act S) → Act S
-  reach_in program at ty object offset None onward = Stops (Fault kind.Bounds at)
-  reach_in program at ty object offset (Some block) onward =
+  -- a store to what may not be stored to is a fault
+  abbrev pub writable : TypedProgram → Place → Object → Act S → Act S
+  writable program at object act = if is_constant program object then Stops (Fault kind.ConstWrite at) else act
+
+  -- an object of a type is reached in another that is there: it stands, the type's bytes lie within it, the offset shows, and such an
+  -- object begins there
+  abbrev pub reach_block : TypedProgram → Place → Shape → Object → ℤ → Block → (ℕ → Act S) → Act S
+  reach_block program at ty object offset block onward =
       stands at block.standing
       (ordered at offset (pos 0)
       (ordered at (neg_ℤ offset) (pos block.extent -ℤ pos (size_of program ty))
       (Reaches at object offset
       (fits at (begins_at program ty object block offset) (onward (offset_number offset))))))
 
-  -- an object of a type is reached through a pointer: it shows whether the pointer is null, which is a fault (C11 6.5.3.2, paragraph 4)
+  abbrev pub reach_in : TypedProgram → Place → Shape → Object → ℤ → Option Block → (ℕ → Act S) → Act S
+  reach_in program at ty object offset found onward =
+      there at object found (reach_block program at ty object offset (unwrap_or found NO_BLOCK) onward)
+
+  -- the object that a pointer names, and its offset; nothing else names one
+  abbrev pub named : Place → Cell → (Object → ℤ → Act S) → Act S
+  named at (PointerCell object offset) onward = onward object offset
+  named at other onward = Stops (Fault kind.Unset at)
+
+  -- an object of a type is reached through a pointer: it shows whether the pointer is null
   abbrev pub reach : TypedProgram → Memory → Place → Shape → Cell → (Object → ℕ → Act S) → Act S
-  reach program memory at ty NullCell onward = shows_then at (Look false) (Stops (Fault kind.Null at))
-  reach program memory at ty (PointerCell object offset) onward =
-      shows_then at (Look true) (reach_in program at ty object offset (memory object) (λ n. onward object n))
-  reach program memory at ty (NumberCell n) onward = Stops (Fault kind.Unset at)
-  reach program memory at ty UnsetCell onward = Stops (Fault kind.Unset at)
+  reach program memory at ty cell onward =
+      look at cell
+      (not_null at cell
+      (named at cell (λ object offset. reach_in program at ty object offset (memory object) (λ n. onward object n))))
 
   -- a variable, or a member of one
   abbrev pub direct : Place → Cell → (Object → ℕ → Act S) → Act S
-  direct at (PointerCell object offset) onward = onward object (offset_number offset)
-  direct at other onward = Stops (Fault kind.Unset at)
+  direct at cell onward = named at cell (λ object offset. onward object (offset_number offset))
 
   -- the object that is accessed, whose place has this value
   abbrev pub locate_object : TypedProgram → Memory → Access → Cell → (Object → ℕ → Act S) → Act S
@@ -136,7 +173,7 @@ module _ {S : Type 0} where
   abbrev pub receive : TypedProgram → Memory → Found → (Memory → Cell → Act S) → Act S
   receive program memory (Holds cell) onward = onward memory cell
   receive program memory (Unknown path scalar) onward =
-      Reads path (λ number. onward (opened program path scalar None number memory) (input_cell program.model path scalar number))
+      Reads path (input_kind scalar) (λ cell. onward (opened program path scalar None cell memory) cell)
 
   -- what a scalar of an object holds
   abbrev pub read : TypedProgram → Memory → Object → ℕ → (Memory → Cell → Act S) → Act S
@@ -175,10 +212,9 @@ module _ {S : Type 0} where
   abbrev pub store_object : TypedProgram → Memory → ℕ → Place → Access → Cell → Operand → (Memory → Act S) → Act S
   store_object program memory frame at access cell operand onward =
       locate_object program memory access cell (λ object offset.
-      if is_constant program object
-      then Stops (Fault kind.ConstWrite access.at)
-      else touches_then (λ declaration. Stores frame declaration at) access.local
-      (onward (changed (write_operand program access.ty offset operand) object memory)))
+      writable program access.at object
+      (touches_then (λ declaration. Stores frame declaration at) access.local
+      (onward (changed (write_operand program access.ty offset operand) object memory))))
 
   -- the same to the object that an expression names
   abbrev pub store : TypedProgram → Memory → ℕ → Place → Typed → Cell → Operand → (Memory → Act S) → Act S

@@ -1,6 +1,6 @@
 -- Calls (C11 6.5.2.2, 7.22.3): frames, functions without a body, allocations and releases.
 use Rattle.std.specs.Prelude.{ℕ, ◌+◌, ◌==◌, nat_lt, ℤ, pos, negsuc, Bool, true, false, not, List, [], ◌∷◌, length, replicate, Option, Some}
-use Rattle.std.specs.Prelude.{None, option_map, slice_get, if◌then◌else◌}
+use Rattle.std.specs.Prelude.{None, option_map, unwrap_or, slice_get, if◌then◌else◌}
 use Rattle.std.specs.Ordering.{int_eq}
 use Rattle.cs_types.specs.DataModel.{size_type_of}
 use Rattle.cs_types.specs.Shape.{Shape, void}
@@ -29,9 +29,9 @@ use Rattle.cs_events.specs.Acts.{Act, Goes, Stops, Asks, Allocates}
 use Rattle.cs_meaning.specs.Types.{size_of, element_of}
 use Rattle.cs_meaning.specs.Initials.{number_in}
 use Rattle.cs_meaning.specs.Memory.{Block, Memory, Fill, UnsetFill, ZeroFill, InputFill, new_block, with_block, changed, refill, stand, is_constant, Unknown}
-use Rattle.cs_meaning.specs.Access.{shows_then, receive}
+use Rattle.cs_meaning.specs.Access.{NO_BLOCK, shows_then, receive}
 use Rattle.cs_meaning.specs.Operators.{operate}
-use Rattle.cs_meaning.specs.Machine.{Operand, Scalar, Whole, Nothing, Execute, Item, Begin, End, CallFrame, Frame, Running, State, push, push_cell, pop}
+use Rattle.cs_meaning.specs.Machine.{Operand, Scalar, Whole, Nothing, Execute, Begin, End, CallFrame, Frame, Running, State, push, push_cell, pop}
 use Rattle.cs_meaning.specs.Machine.{pop_many, with_memory, cell_of, cell_at, newest, routine_of, body_of}
 use Rattle.cs_meaning.specs.CountedPoints.{counted_points}
 
@@ -64,10 +64,9 @@ with_locals program frame variables arguments memory (LocalObject number declara
     else memory (LocalObject number declaration)
 with_locals program frame variables arguments memory other = memory other
 
--- memory once a frame has ended, and with it its locals
+-- memory once a frame has ended: its locals are there no more
 abbrev pub without_locals : ℕ → Memory → Memory
-without_locals frame memory (LocalObject number declaration) =
-    if number == frame then option_map (stand Ended) (memory (LocalObject number declaration)) else memory (LocalObject number declaration)
+without_locals frame memory (LocalObject number declaration) = if number == frame then None else memory (LocalObject number declaration)
 without_locals frame memory other = memory other
 
 -- what a function gives at the end of its body: nothing, or a value that was never set (C11 6.9.1, paragraph 12)
@@ -98,13 +97,16 @@ inside program frame routine arguments m = record m {
 abbrev pub entered : TypedProgram → ℕ → Routine → List Operand → State → State
 entered program function routine arguments m = inside program (new_frame function m.frames routine) routine arguments m
 
+-- one more frame than there may be goes over the budget of depth
+abbrev pub within_depth : {S : Type 0} → RunBudgets → Place → ℕ → Act S → Act S
+within_depth budgets at frames act = if nat_lt frames budgets.depth then act else Stops (Over Depth at)
+
 -- a call of a function with a body: it shows, unless there are as many frames as there may be
 abbrev pub enter_as : {Rest : Type 0} → TypedProgram → RunBudgets → (ℕ → CallFrame Rest) → Place → ℕ → Routine → List Operand
     → Running Rest → Act (Running Rest)
 enter_as program budgets begins at function routine arguments m =
-    if nat_lt (length m.callers + 1) budgets.depth
-    then shows_then at (label.Callee function) (Goes (inside program (begins m.frames) routine arguments m))
-    else Stops (Over Depth at)
+    within_depth budgets at (length m.callers + 1)
+    (shows_then at (label.Callee function) (Goes (inside program (begins m.frames) routine arguments m)))
 
 abbrev pub enter : TypedProgram → RunBudgets → Place → ℕ → Routine → List Operand → State → Act State
 enter program budgets at function routine arguments m = enter_as program budgets (λ number. new_frame function number routine) at function routine arguments m
@@ -216,23 +218,39 @@ abbrev pub allocate : {Rest : Type 0} → TypedProgram → Place → Allocator �
 allocate program at Malloc element m = allocate_bytes at element (number_in (cell_at m 0)) UnsetFill (pop m)
 allocate program at Calloc element m = allocate_zeros program at element (number_in (cell_at m 1)) (number_in (cell_at m 0)) (pop_many 2 m)
 
--- a block that stands can be freed through a pointer to its beginning alone (C11 7.22.3.3)
-abbrev pub release_block : {Rest : Type 0} → Place → Standing → Object → ℤ → Running Rest → Act (Running Rest)
-release_block at Live object offset m =
-    if int_eq offset (pos 0) then Goes (push Nothing (with_memory (changed (stand Freed) object m.memory) m)) else Stops (Fault kind.BadFree at)
-release_block at Freed object offset m = Stops (Fault kind.DoubleFree at)
-release_block at Ended object offset m = Stops (Fault kind.BadFree at)
+-- only the beginning of a block can be freed (C11 7.22.3.3)
+abbrev pub at_beginning : {S : Type 0} → Place → ℤ → Act S → Act S
+at_beginning at offset act = if int_eq offset (pos 0) then act else Stops (Fault kind.BadFree at)
 
--- a block whose standing is known
-abbrev pub release_known : {Rest : Type 0} → Place → Option Block → Object → ℤ → Running Rest → Act (Running Rest)
-release_known at None object offset m = Stops (Fault kind.BadFree at)
-release_known at (Some block) object offset m = release_block at block.standing object offset m
+-- a block that was freed can't be freed again
+abbrev pub not_freed : {S : Type 0} → Place → Standing → Act S → Act S
+not_freed at Live act = act
+not_freed at Freed act = Stops (Fault kind.DoubleFree at)
+not_freed at Ended act = Stops (Fault kind.BadFree at)
+
+-- what isn't there can't be freed
+abbrev pub known : {S : Type 0} → Place → Option Block → Act S → Act S
+known at None act = Stops (Fault kind.BadFree at)
+known at (Some block) act = act
 
 -- only start and heap blocks can be freed
+abbrev pub releasable : {S : Type 0} → Place → Object → Act S → Act S
+releasable at (StartBlock path) act = act
+releasable at (HeapBlock allocation) act = act
+releasable at other act = Stops (Fault kind.BadFree at)
+
+-- a block with this standing is freed
+abbrev pub release_block : {Rest : Type 0} → Place → Standing → Object → ℤ → Running Rest → Act (Running Rest)
+release_block at standing object offset m =
+    not_freed at standing (at_beginning at offset (Goes (push Nothing (with_memory (changed (stand Freed) object m.memory) m))))
+
+-- a block that may be there is freed
+abbrev pub release_known : {Rest : Type 0} → Place → Option Block → Object → ℤ → Running Rest → Act (Running Rest)
+release_known at found object offset m = known at found (release_block at (unwrap_or found NO_BLOCK).standing object offset m)
+
+-- an object is freed
 abbrev pub release_object : {Rest : Type 0} → Place → Object → ℤ → Running Rest → Act (Running Rest)
-release_object at (StartBlock path) offset m = release_known at (m.memory (StartBlock path)) (StartBlock path) offset m
-release_object at (HeapBlock allocation) offset m = release_known at (m.memory (HeapBlock allocation)) (HeapBlock allocation) offset m
-release_object at other offset m = Stops (Fault kind.BadFree at)
+release_object at object offset m = releasable at object (release_known at (m.memory object) object offset m)
 
 -- a call of `free`
 abbrev pub release : {Rest : Type 0} → Place → Cell → Running Rest → Act (Running Rest)

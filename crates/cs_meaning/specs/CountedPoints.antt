@@ -38,11 +38,15 @@ abbrev mutual
 abbrev pub with_visits : {Rest : Type 0} → ℕ → ℕ → Running Rest → Running Rest
 with_visits counted_point count m = record m { frame = record m.frame { visits = slice_set m.frame.visits counted_point count } }
 
+-- one more visit than there may be goes over the budget of visits
+abbrev pub within_visits : {S : Type 0} → RunBudgets → Place → ℕ → Act S → Act S
+within_visits budgets at count act = if nat_lt count budgets.visits then act else Stops (Over Visits at)
+
 -- a counted point that was reached so often is reached once more, unless the budget of visits is used up; one that has no count is over
 abbrev pub reached_again : {Rest : Type 0} → RunBudgets → Place → PointKind → ℕ → Option ℕ → Running Rest → Act (Running Rest)
 reached_again budgets at kind counted_point None m = Stops (Over Visits at)
 reached_again budgets at kind counted_point (Some count) m =
-    if nat_lt count budgets.visits then Touches (Meets kind at) (Goes (with_visits counted_point (count + 1) m)) else Stops (Over Visits at)
+    within_visits budgets at count (Touches (Meets kind at) (Goes (with_visits counted_point (count + 1) m)))
 
 -- a counted point is reached
 abbrev pub reach_counted_point : {Rest : Type 0} → RunBudgets → Place → PointKind → ℕ → Running Rest → Act (Running Rest)

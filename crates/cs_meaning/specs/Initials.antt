@@ -1,7 +1,9 @@
 -- What objects hold at first (C11 6.7.9): the pieces of an initializer by their offsets, and what constant expressions give.
-use Rattle.std.specs.Prelude.{ℕ, ◌+◌, ◌-◌, ◌==◌, nat_lt, nat_le, ℤ, pos, ◌+ℤ◌, neg_ℤ, Bool, true, false, not, ◌&&◌, ◌||◌, List}
+use Rattle.std.specs.Prelude.{ℕ, ◌+◌, ◌-◌, ◌==◌, nat_lt, nat_le, ℤ, pos, ◌+ℤ◌, ◌*ℤ◌, neg_ℤ, int_lt, Bool, true, false, not}
+use Rattle.std.specs.Prelude.{◌&&◌, ◌||◌, List}
 use Rattle.std.specs.Prelude.{[], ◌∷◌, ◌++◌, take, length, slice_index_or, if◌then◌else◌}
 use Rattle.cs_types.specs.declared.data_model.DataModel.{DataModel}
+use Rattle.cs_types.specs.DataModel.{offset_bound_of}
 use Rattle.cs_types.specs.Shape.{Shape, integer, pointer}
 use Rattle.cs_types.specs.Wrap.{wrapped}
 use Rattle.cs_ast.specs.declared.typed.operator.Direction.{Direction}
@@ -57,9 +59,16 @@ abbrev pub directed : Direction → ℤ → ℤ
 directed Forward n = n
 directed Back n = neg_ℤ n
 
--- a pointer moved by elements of so many bytes
+-- an offset, or the nearer of the two bounds of offsets
+abbrev pub clamped : DataModel → ℤ → ℤ
+clamped model offset =
+    if int_lt (pos (offset_bound_of model)) offset
+    then pos (offset_bound_of model)
+    else (if int_lt offset (neg_ℤ (pos (offset_bound_of model))) then neg_ℤ (pos (offset_bound_of model)) else offset)
+
+-- a constant pointer moved by elements of so many bytes. No object reaches to the bounds: past one, each access is out of bounds
 abbrev pub moved : DataModel → Cell → ℤ → ℕ → Cell
-moved model (PointerCell object offset) amount size = PointerCell object (own_result model (operation.Sum offset amount size))
+moved model (PointerCell object offset) amount size = PointerCell object (clamped model (offset +ℤ amount *ℤ pos size))
 moved model other amount size = other
 
 -- a cell converted to a type

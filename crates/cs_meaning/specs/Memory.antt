@@ -1,5 +1,6 @@
 -- The memory of the reference machine.
-use Rattle.std.specs.Prelude.{ℕ, zero, suc, ◌*◌, ◌%◌, ◌==◌, ℤ, pos, negsuc, Bool, true, false, List, [], ◌∷◌, ◌++◌, Option, Some}
+use Rattle.std.specs.Prelude.{ℕ, zero, suc, ◌*◌, ◌%◌, ◌==◌, nat_lt, ℤ, pos, negsuc, Bool, ◌&&◌, true, false, List, [], ◌∷◌, ◌++◌}
+use Rattle.std.specs.Prelude.{Option, Some}
 use Rattle.std.specs.Prelude.{None, option_map, unwrap_or, slice_get, if◌then◌else◌}
 use Rattle.cs_types.specs.DataModel.{start_extent_of}
 use Rattle.cs_types.specs.Shape.{Shape, void}
@@ -27,7 +28,7 @@ pub record Block : Type 0 where
   pub fill : Fill
   pub written : ℕ → Option Cell
 
--- memory: the objects that are or were there
+-- memory: the objects that are there, released blocks among them; locals of a frame that has ended are there no more
 abbrev pub Memory : Type 0
 Memory = Object → Option Block
 
@@ -63,7 +64,7 @@ stand standing block = record block { standing = standing }
 abbrev pub cell_path : Path → ℕ → Path
 cell_path path offset = record path { cells = path.cells ++ offset ∷ [] }
 
--- the rest of an offset by the bytes of an element; an element without bytes is there once
+-- the rest of an offset by the bytes of an element, if it has any
 abbrev pub rest_of : ℕ → ℕ → ℕ
 rest_of offset zero = offset
 rest_of offset (suc bytes) = offset % suc bytes
@@ -78,9 +79,16 @@ position program other block offset = offset
 abbrev pub scalar_at : TypedProgram → Object → Block → ℕ → Shape
 scalar_at program object block offset = unwrap_or (scalar_of program block.shape (position program object block offset)) void
 
+-- whether an object has cells at all: a start or heap block has none where its elements have no bytes
+abbrev pub has_cells : TypedProgram → Object → Block → Bool
+has_cells program (StartBlock path) block = nat_lt 0 (size_of program block.shape)
+has_cells program (HeapBlock allocation) block = nat_lt 0 (size_of program block.shape)
+has_cells program other block = true
+
 -- whether a scalar of this type, or this struct, begins at an offset of an object
 abbrev pub begins_at : TypedProgram → Shape → Object → Block → ℤ → Bool
-begins_at program shape object block (pos offset) = begins program shape block.shape (position program object block offset)
+begins_at program shape object block (pos offset) =
+    has_cells program object block && begins program shape block.shape (position program object block offset)
 begins_at program shape object block (negsuc n) = false
 
 -- what is found in a scalar: a cell, or an input that isn't looked up yet, by its path and the scalar's type

@@ -1,6 +1,6 @@
 -- What operators do with their operands (C11 6.3, 6.5.3 to 6.5.10): what is checked, what shows, and what leads on.
 use Rattle.std.specs.Prelude.{ℕ, ◌*◌, ℤ, pos, ◌+ℤ◌, ◌-ℤ◌, ◌*ℤ◌, neg_ℤ, int_le, int_lt, Bool, true, false, not, ◌&&◌, ◌||◌}
-use Rattle.std.specs.Prelude.{Option, Some, None, if◌then◌else◌}
+use Rattle.std.specs.Prelude.{Option, Some, None, unwrap_or, if◌then◌else◌}
 use Rattle.std.specs.Ordering.{int_eq}
 use Rattle.cs_types.specs.declared.data_model.DataModel.{DataModel}
 use Rattle.cs_types.specs.declared.int_type.IntType.{IntType}
@@ -24,7 +24,7 @@ use Rattle.cs_events.specs.Touches.{Meets}
 use Rattle.cs_events.specs.Acts.{Act, Stops, Asks, Touches}
 use Rattle.cs_meaning.specs.Initials.{number_in, further}
 use Rattle.cs_meaning.specs.Machine.{Operand, Scalar, Nothing}
-use Rattle.cs_meaning.specs.Access.{shows_then, ordered}
+use Rattle.cs_meaning.specs.Access.{shows_then, look, not_null, ordered}
 
 -- whether a type holds every number of another
 abbrev pub takes_all : DataModel → Shape → IntType → Bool
@@ -67,14 +67,16 @@ asks_order other = true
 abbrev pub equality_of : CmpOp → Bool → Bool
 equality_of operator same = if asks_equal operator then same else not same
 
-module _ {S : Type 0} where
-  -- a pointer shows whether it is null; nothing else shows
-  abbrev pub look : Place → Cell → Act S → Act S
-  look at NullCell act = shows_then at (label.Look false) act
-  look at (PointerCell object offset) act = shows_then at (label.Look true) act
-  look at (NumberCell n) act = act
-  look at UnsetCell act = act
+-- a pointer so many bytes further on; unset where there is none
+abbrev pub pointed : Cell → ℕ → Cell
+pointed (PointerCell object from) offset = further (PointerCell object from) offset
+pointed other offset = UnsetCell
 
+-- what stands for the offsets of pointers that don't point into one object
+abbrev pub NO_OFFSETS : ℤ × ℤ
+NO_OFFSETS = (pos 0, pos 0)
+
+module _ {S : Type 0} where
   -- whether a value counts as true: a number other than 0, or a pointer other than null (C11 6.8.4.1, paragraph 2)
   abbrev pub truth : Place → Cell → (Bool → Act S) → Act S
   truth at (NumberCell n) onward = onward (is_true n)
@@ -117,8 +119,11 @@ module _ {S : Type 0} where
   convert model at from other operand onward = onward operand
 
   -- null moved by an amount other than 0 is a fault
+  abbrev pub unmoved : Place → ℤ → Act S → Act S
+  unmoved at amount act = if int_eq amount (pos 0) then act else Stops (Fault kind.Null at)
+
   abbrev pub move_null : Place → ℤ → (Cell → Act S) → Act S
-  move_null at amount onward = if int_eq amount (pos 0) then onward NullCell else Stops (Fault kind.Null at)
+  move_null at amount onward = unmoved at amount (onward NullCell)
 
   -- a pointer moved by an amount of elements of so many bytes: its offset stays within its bounds (C11 6.5.6, paragraph 8)
   abbrev pub sum : DataModel → Place → Cell → ℤ → ℕ → (Cell → Act S) → Act S
@@ -136,10 +141,14 @@ module _ {S : Type 0} where
   equality at operator same None onward = shows_then at (label.Truth (equality_of operator same)) (onward (truth_number (equality_of operator same)))
   equality at operator same (Some offsets) onward = Asks at (operation.Compare operator offsets.0 offsets.1) onward
 
-  -- what two pointers need one object for (C11 6.5.6, paragraph 9; 6.5.8, paragraph 5)
+  -- pointers that don't point into one object are a fault (C11 6.5.6, paragraph 9; 6.5.8, paragraph 5)
+  abbrev pub one_object : Place → Option (ℤ × ℤ) → Act S → Act S
+  one_object at None act = Stops (Fault kind.Unrelated at)
+  one_object at (Some offsets) act = act
+
+  -- what two pointers need one object for
   abbrev pub in_relation : Place → Option (ℤ × ℤ) → (ℤ → ℤ → Act S) → Act S
-  in_relation at None onward = Stops (Fault kind.Unrelated at)
-  in_relation at (Some offsets) onward = onward offsets.0 offsets.1
+  in_relation at found onward = one_object at found (onward (unwrap_or found NO_OFFSETS).0 (unwrap_or found NO_OFFSETS).1)
 
   -- a comparison of two pointers
   abbrev pub compare_pointers : Place → CmpOp → Cell → Cell → (ℤ → Act S) → Act S
@@ -163,7 +172,4 @@ module _ {S : Type 0} where
 
   -- the member at so many bytes of the object that a pointer points to (C11 6.5.2.3, paragraph 4)
   abbrev pub arrow : Place → Cell → ℕ → (Cell → Act S) → Act S
-  arrow at NullCell offset onward = shows_then at (label.Look false) (Stops (Fault kind.Null at))
-  arrow at (PointerCell object from) offset onward = shows_then at (label.Look true) (onward (further (PointerCell object from) offset))
-  arrow at (NumberCell n) offset onward = onward UnsetCell
-  arrow at UnsetCell offset onward = onward UnsetCell
+  arrow at cell offset onward = look at cell (not_null at cell (onward (pointed cell offset)))

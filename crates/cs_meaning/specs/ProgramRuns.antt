@@ -8,7 +8,9 @@ use Rattle.cs_events.specs.declared.guess.Guess.{Guess}
 use Rattle.cs_events.specs.declared.outcome.Outcome.{Outcome}
 use Rattle.cs_events.specs.declared.outcome.RunBudgets.{RunBudgets}
 use Rattle.cs_events.specs.Runs.{Setting, Log, Ends, Passes, ComesTo}
-use Rattle.cs_events.specs.Pending.{Pending, IsPending}
+use Rattle.cs_events.specs.declared.input.InputKind.{InputKind}
+use Rattle.cs_events.specs.PendingEvents.{Pending}
+use Rattle.cs_events.specs.Pending.{IsPending}
 use Rattle.cs_meaning.specs.Machine.{State}
 use Rattle.cs_meaning.specs.Steps.{step, start}
 
@@ -45,4 +47,5 @@ RunIsPending program entry run budgets event pending =
 -- the run reads a path
 abbrev pub RunReads : TypedProgram → ℕ → ProgramRun → RunBudgets → Path → Type 0
 RunReads program entry run budgets path =
-    (log : Log) × ComesTo (step program budgets) (setting_of program run budgets) (start_of program entry run) log × Contains log.read path
+    (log : Log) × (kind : InputKind) × ComesTo (step program budgets) (setting_of program run budgets) (start_of program entry run) log
+    × Contains log.read (record { path = path; kind = kind })

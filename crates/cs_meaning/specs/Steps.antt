@@ -8,14 +8,15 @@ use Rattle.cs_ast.specs.TypedTree.{Initial}
 use Rattle.cs_ast.specs.TypedProgram.{TypedProgram, FileObject, Routine, Variable}
 use Rattle.cs_events.specs.declared.outcome.RunBudgets.{RunBudgets}
 use Rattle.cs_events.specs.declared.point.PointKind.TheVariants as point
-use Rattle.cs_events.specs.Objects.{GlobalObject, LiteralObject, UnsetCell}
+use Rattle.cs_events.specs.InputCells.{input_cell, input_kind}
+use Rattle.cs_events.specs.Objects.{GlobalObject, LiteralObject, Cell, UnsetCell}
 use Rattle.cs_events.specs.Touches.{Meets}
 use Rattle.cs_events.specs.Acts.{Act, Goes, Touches}
 use Rattle.cs_meaning.specs.Types.{size_of}
 use Rattle.cs_meaning.specs.Initials.{Spelled, pieces}
 use Rattle.cs_meaning.specs.Memory.{Block, Memory, Fill, ZeroFill, InitialFill, InputFill, new_block}
-use Rattle.cs_meaning.specs.Inputs.{input_cell, opened}
-use Rattle.cs_meaning.specs.Machine.{Operand, Scalar, Item, Evaluate, EvaluateUnused, Act as Acting, Fetch, Choose, Judge, Use, Drop, Store, Spell, Execute}
+use Rattle.cs_meaning.specs.Inputs.{opened}
+use Rattle.cs_meaning.specs.Machine.{Scalar, Item, Evaluate, EvaluateUnused, Act as Acting, Fetch, Choose, Judge, Use, Drop, Store, Spell, Execute}
 use Rattle.cs_meaning.specs.Machine.{Decide, Turn, Again, Out, Begin, End, Give, Leave, State, to_do, push, pop, operand_at, routine_of}
 use Rattle.cs_meaning.specs.Calls.{root_path, with_locals, new_frame, falls_off, leave}
 use Rattle.cs_meaning.specs.Expressions.{evaluates, uses, act, fetch, choose, judge, use_result}
@@ -80,14 +81,14 @@ abbrev pub parameter_path : Variable → Path
 parameter_path v = root_path (root.Param v.name)
 
 -- what a parameter of an entry receives
-abbrev pub received : TypedProgram → (Path → ℤ) → Variable → Operand
-received program inputs v = Scalar (input_cell program.model (parameter_path v) v.ty (inputs (parameter_path v)))
+abbrev pub received : TypedProgram → (Path → ℤ) → Variable → Cell
+received program inputs v = input_cell program.model (parameter_path v) (input_kind v.ty) (inputs (parameter_path v))
 
 -- memory with the blocks that come with an entry's parameters
 abbrev pub with_received : TypedProgram → (Path → ℤ) → List Variable → Memory → Memory
 with_received program inputs [] memory = memory
 with_received program inputs (v ∷ others) memory =
-    with_received program inputs others (opened program (parameter_path v) v.ty v.block (inputs (parameter_path v)) memory)
+    with_received program inputs others (opened program (parameter_path v) v.ty v.block (received program inputs v) memory)
 
 -- the parameters of a function
 abbrev pub parameters_of : Routine → List Variable
@@ -98,7 +99,7 @@ abbrev pub started : TypedProgram → (Path → ℤ) → ℕ → Routine → Sta
 started program inputs entry routine = record {
   frame = new_frame entry 0 routine;
   callers = [];
-  memory = with_locals program 0 routine.variables (map (received program inputs) (parameters_of routine))
+  memory = with_locals program 0 routine.variables (map (λ v. Scalar (received program inputs v)) (parameters_of routine))
       (with_received program inputs (parameters_of routine) (static_memory program));
   frames = 1;
   allocations = 0;

@@ -4,7 +4,7 @@ use Rattle.std.specs.Prelude.{map, Option, Some, None, option_map, unwrap_or, sl
 use Rattle.cs_types.specs.declared.int_type.IntType.{IntType}
 use Rattle.cs_types.specs.declared.int_type.IntType.TheVariants.{Int, UChar}
 use Rattle.cs_types.specs.Members.{Member}
-use Rattle.cs_types.specs.Shape.{Shape, void, integer, pointer, array, struct, shape_of, same_shape}
+use Rattle.cs_types.specs.Shape.{Shape, void, integer, pointer, array, struct, same_shape}
 use Rattle.cs_types.specs.Layout.{Layout, Leaf, layout_of, leaf_of, members_of, complete_count}
 use Rattle.cs_ast.specs.TypedTree.{Typed, Of}
 use Rattle.cs_ast.specs.TypedProgram.{TypedProgram}

@@ -34,8 +34,9 @@ use Rattle.cs_grammar.specs.Text.{Kinds, size, words_text, pointers_text}
 use Rattle.cs_grammar.specs.FileText.{declarator_text, specs_text, initial_text, declared_text, head_text, some_text, first_text, test_text, sentence_text}
 use Rattle.cs_grammar.specs.FileText.{item_text, items_text, switch_item_text, external_text}
 use Rattle.cs_grammar.specs.Places.{StandsAt, following, after_words, after_bounds, IsPlaced, ArePlaced, HasPlaces}
-use Rattle.cs_decl_parser.specs.FilePlaces.{past, AreInRow, AreSideBySide, IsSomePlaced, IsInitialPlaced, AreInitialsPlaced, IsFirstValuePlaced}
-use Rattle.cs_decl_parser.specs.FilePlaces.{IsDeclaredPlaced, AreObjectsPlaced, IsDeclarationPlaced, IsFirstPlaced, ArePartsPlaced, IsItemPlaced}
+use Rattle.cs_declarator_parser.specs.DeclarationPlaces.{past, AreInRow, AreSideBySide, IsSomePlaced, IsInitialPlaced, AreInitialsPlaced, IsFirstValuePlaced}
+use Rattle.cs_declarator_parser.specs.DeclarationPlaces.{IsDeclaredPlaced, AreObjectsPlaced, IsDeclarationPlaced}
+use Rattle.cs_decl_parser.specs.FilePlaces.{IsFirstPlaced, ArePartsPlaced, IsItemPlaced}
 use Rattle.cs_decl_parser.specs.FilePlaces.{AreItemsPlaced, IsSwitchItemPlaced, AreSwitchItemsPlaced, IsBodyPlaced, IsExternalInside, IsExternalPlaced}
 use Rattle.cs_decl_parser.specs.FilePlaces.{AreFilePlaced}
 use Rattle.cs_well_formed.specs.WrittenPlaces.{WrittenAmong, RowAmong, ExpressionAmong, ValuesAmong, AllValuesAmong, FirstValueAmong, DeclaredAmong, FirstAmong}

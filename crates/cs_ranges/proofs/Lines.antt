@@ -1,9 +1,11 @@
 -- Where a line that doesn't fall reaches a number: serves `first_at_least` and `last_at_most`.
-use Rattle.std.proofs.Common.{◌≡◌, ◌<◌, ◌≤◌, ◌*◌, ◌/◌, ℕ, zero, suc, true, false, ◌&&◌, ℤ, pos, ◌+ℤ◌, ◌-ℤ◌}
+use Rattle.std.proofs.Common.{◌≡◌, ◌<◌, ◌≤◌, ◌*◌, ◌/◌, ℕ, zero, suc, true, false, ◌&&◌, ℤ, pos, negsuc, neg_ℤ, ◌+ℤ◌}
+use Rattle.std.proofs.Common.{◌-ℤ◌}
 use Rattle.std.proofs.Common.{◌*ℤ◌, ◌<ℤ◌, ◌≤ℤ◌, int_le, unsigned_abs, sym, ap, ◌∙◌, arith}
 use Rattle.std.proofs.Math.Nat.{mul-le-mul_left, div-lt_iff_lt-mul}
 use Rattle.std.proofs.lemmas.Int.{ints, by_lt_z}
 use Rattle.cs_ranges.specs.Affine.{affine}
+use Rattle.cs_ranges.proofs.AffineLaws.{affine-affine, affine-neg_ℤ}
 
 -- the test of a range, with what it tells
 pub over_yields : (x y s : ℤ) → (int_le x s && int_le s y) ≡ true → (x ≤ℤ s) × (s ≤ℤ y)
@@ -20,6 +22,32 @@ affine-mono : (k : ℕ) (first start s t : ℤ) → first ≤ℤ s → s ≤ℤ 
 affine-mono k first start s t le le' =
     let less : unsigned_abs (s -ℤ first) ≤ unsigned_abs (t -ℤ first) = omega (arith, ints) in
     omega (arith, ints, affine-steps k first start s le, affine-steps k first start t (omega (arith, ints)), mul-le-mul_left k less)
+
+-- an affine function with a slope that isn't negative doesn't fall
+affine-rises : (k : ℕ) (at value s t : ℤ) → s ≤ℤ t → affine (pos k) at value s ≤ℤ affine (pos k) at value t
+affine-rises k at value s t le =
+    omega (arith, ints, affine-steps k s (affine (pos k) at value s) t le, affine-affine (pos k) at value s t)
+
+-- between two numbers an affine function keeps to the bounds of its values at both
+pub affine-between : (low high slope at value first last x : ℤ) → first ≤ℤ x → x ≤ℤ last
+    → (low ≤ℤ affine slope at value first) × (affine slope at value first ≤ℤ high)
+    → (low ≤ℤ affine slope at value last) × (affine slope at value last ≤ℤ high)
+    → (low ≤ℤ affine slope at value x) × (affine slope at value x ≤ℤ high)
+affine-between low high (pos k) at value first last x from upto a b =
+    let before = affine-rises k at value first x from in
+    let after = affine-rises k at value x last upto in
+    (omega (arith, ints, before, a.0), omega (arith, ints, after, b.1))
+affine-between low high (negsuc k) at value first last x from upto a b =
+    let before = affine-rises (suc k) at (neg_ℤ value) first x from in
+    let after = affine-rises (suc k) at (neg_ℤ value) x last upto in
+    falls low high _ _ _ _ _ _
+    (affine-neg_ℤ (negsuc k) at value first) (affine-neg_ℤ (negsuc k) at value x) (affine-neg_ℤ (negsuc k) at value last)
+    before after a.1 b.0
+  where
+    falls : (low high f x l f' x' l' : ℤ) → f' ≡ neg_ℤ f → x' ≡ neg_ℤ x → l' ≡ neg_ℤ l → f' ≤ℤ x' → x' ≤ℤ l' → f ≤ℤ high
+        → low ≤ℤ l
+        → (low ≤ℤ x) × (x ≤ℤ high)
+    falls low high f x l f' x' l' e g h p q r s = (omega (arith, ints), omega (arith, ints))
 
 int_le-true : (x y : ℤ) → x ≤ℤ y → int_le x y ≡ true
 int_le-true x y h = grind (arith, ints)

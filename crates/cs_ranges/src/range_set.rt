@@ -1,10 +1,11 @@
 //! `RangeSet`, the set of integers that a symbol may stand for on a path, in the sense of the range
 //! sets of Clang's `RangeConstraintManager`: a finite union of closed ranges. The empty set says that
 //! the path is infeasible.
-ghost use Rattle.std.specs.Prelude.{◌≡◌, ℤ, neg_ℤ, [], ◌&&◌, ◌||◌, int_le, ◌≤ℤ◌, IfOk, OnOk};
+ghost use Rattle.std.specs.Prelude.{◌≡◌, ℤ, neg_ℤ, [], ◌&&◌, ◌||◌, int_le, ◌≤ℤ◌, ◌≤◌, length, IsOk, IfOk, OnOk};
 ghost use Rattle.cs_ranges.specs.Interval.{IsInside, IsProper, in_interval};
 ghost use Rattle.cs_ranges.specs.RangeSet.{contains, IsSpread, last_low};
 
+use smallvec::SmallVec;
 use std::alloc::{AllocError, Global};
 use std::marker::Model;
 
@@ -16,7 +17,7 @@ pub use affine::{affine_preimage, affine_value};
 
 /// The closed range from `low` to `high`: both ends belong to it, and it has no number where `low`
 /// is above `high`.
-#[derive(Clone, Copy, Debug, PartialEq, Eq)]
+#[derive(Clone, Copy, Debug, Default, PartialEq, Eq)]
 pub struct Interval {
     pub low: i128,
     pub high: i128,
@@ -47,11 +48,11 @@ pub const GREATEST: i128 = 1 << 126;
 ///
 /// Its intervals stand in ascending order, each has a number, and no two overlap or touch. So a set
 /// has one list of intervals only: `1..2` and `3..5` are kept as `1..5`.
-#[derive(Debug, Drop)]
+#[derive(Debug)]
 pub struct RangeSet {
     // A sorted vector: a comparison splits a range into at most two, so nearly every set on a path
-    // has one interval or two, and a vector of these is smaller and faster than any tree.
-    intervals: Vec<Interval>,
+    // has one interval or two. These are kept in the set itself, without an allocation.
+    intervals: SmallVec<Interval, 2>,
 }
 
 impl Model for RangeSet {
@@ -64,6 +65,14 @@ impl Model for RangeSet {
     ghost view = { λ s. s.intervals.items };
 
     ghost invariant = { λ s. IsSpread s.intervals.items };
+}
+
+// Written out, so that to drop a set is a call and not a choice by where its intervals are: proofs of functions that own
+// several sets stay small.
+impl Drop for RangeSet {
+    fn drop(self) {
+        let RangeSet { intervals: _ } = self;
+    }
 }
 
 impl Clone for RangeSet {
@@ -79,30 +88,35 @@ impl RangeSet {
         ensures { result ≡ [] }
     {
         RangeSet {
-            intervals: Vec::new(alloc),
+            intervals: SmallVec::new(alloc),
         }
     }
 
-    /// The numbers from `low` to `high`, none where `low` is above `high`.
+    /// The numbers from `low` to `high`, none where `low` is above `high`. It takes no memory.
     #[tactic(auto, unfolding(crate::specs::RangeSet::contains, crate::specs::Interval::in_interval))]
     pub fn of(alloc: Global, low: i128, high: i128) -> Result<RangeSet, AllocError>
         requires low_inside { IsInside low }
         requires high_inside { IsInside high }
-        ensures { IfOk result (λ s.
+        ensures numbers { IfOk result (λ s.
             (x : ℤ) → contains s x ≡ (int_le low x && int_le x high)) }
+        ensures succeeds { IsOk result }
     {
-        let mut intervals = Vec::new(alloc);
+        let mut intervals = SmallVec::new(alloc);
         if low <= high {
             intervals.push(Interval { low, high })?;
         }
         Ok(RangeSet { intervals })
     }
 
-    /// The same set once more.
+    /// The same set once more. It takes memory only where there are more than two intervals.
     pub fn copy(&self) -> Result<RangeSet, AllocError>
-        ensures { IfOk result (λ s. s ≡ self.now) }
+        ensures same { IfOk result (λ s. s ≡ self.now) }
+        ensures succeeds { length self.now ≤ 2 → IsOk result }
     {
-        let intervals = Vec::from_slice(*self.intervals.allocator(), &self.intervals)?;
+        let intervals = SmallVec::from_slice(
+            *self.intervals.allocator(),
+            self.intervals.as_slice(),
+        )?;
         Ok(RangeSet { intervals })
     }
 
@@ -111,7 +125,7 @@ impl RangeSet {
         ensures same { result.now ≡ self.now }
         ensures spread { IsSpread self.now }
     {
-        &self.intervals
+        self.intervals.as_slice()
     }
 
     /// Adds an interval that begins no earlier than the last one, and joins the two where they
@@ -125,13 +139,14 @@ impl RangeSet {
     {
         let len = self.intervals.len();
         if len > 0 {
-            let last = self.intervals[len - 1];
+            let last = self.intervals.as_slice()[len - 1];
             if interval.low <= last.high + 1 {
                 let high = last.high.max(interval.high);
-                self.intervals[len - 1] = Interval {
+                self.intervals.pop();
+                self.intervals.push_reserved(Interval {
                     low: last.low,
                     high,
-                };
+                });
                 return Ok(());
             }
         }

@@ -3,6 +3,7 @@ use Rattle.std.proofs.Common.{◌≡◌, ℕ, ℤ, List, [], map, reverse, lengt
 use Rattle.cs_ast.specs.TypedProgram.{TypedProgram, Routine}
 use Rattle.cs_inputs.specs.declared.path.Path.{Path}
 use Rattle.cs_meaning.specs.Calls.{new_frame, with_locals}
+use Rattle.cs_meaning.specs.Machine.{Scalar}
 use Rattle.cs_meaning.specs.Memory as meaning
 use Rattle.cs_meaning.specs.Steps.{started, received, with_received, parameters_of, static_memory}
 use Rattle.cs_run_state.specs.declared.machine.Frame.{Frame}
@@ -13,7 +14,7 @@ use Rattle.cs_run_state.specs.MachineView.{frame_of, state_of}
 module _ (program : TypedProgram) (inputs : Path → ℤ) (r : Routine) where
   -- what memory holds at first
   abbrev pub first_memory : meaning.Memory
-  first_memory = with_locals program 0 r.variables (map (received program inputs) (parameters_of r))
+  first_memory = with_locals program 0 r.variables (map (λ v. Scalar (received program inputs v)) (parameters_of r))
       (with_received program inputs (parameters_of r) (static_memory program))
 
   -- a machine in a first frame that no other called, with what memory holds at first

@@ -3,7 +3,6 @@ pub mod MachineStates
 pub mod Overwriting
 pub mod Stacks
 pub mod Locals
-pub mod Statics
 pub mod InRows
 pub mod Remaining
 pub mod Declaring

@@ -1,20 +1,12 @@
--- A row of objects that is made one by one, and elements that `get` lends: for the contracts of `local_blocks`, `call` and `start`.
-use Rattle.std.proofs.Common.{◌≡◌, ℕ, zero, suc, ◌+◌, ◌<◌, ◌≤◌, nat_lt, Bool, true, false, List, [], ◌∷◌, ◌++◌, length, Bor}
+-- A row of objects that is made one by one: for the contract of `local_blocks`.
+use Rattle.std.proofs.Common.{◌≡◌, ℕ, zero, suc, ◌+◌, ◌<◌, ◌≤◌, nat_lt, Bool, true, false, List, [], ◌∷◌, ◌++◌, length}
 use Rattle.std.proofs.Common.{Option, Some, None, refl, sym, ap, ◌∙◌, arith}
-use Rattle.std.specs.Prelude.{option_map, option_copied, slice_get}
-use Rattle.std.specs.Slice.{IsItemAt}
+use Rattle.std.specs.Prelude.{option_map}
 use Rattle.std.proofs.lemmas.Bool.Decides.{nat_tests}
-use Rattle.std.proofs.lemmas.Option.{slice_get_past, slice_get-get_or}
+use Rattle.std.proofs.lemmas.Option.{slice_get_past}
 use Rattle.cs_meaning.specs.Memory as meaning
 use Rattle.cs_run_state.specs.declared.blocks.Block.{Block}
 use Rattle.cs_run_state.specs.MemoryView.{block_of, block_at}
-
--- the element that is lent, if there is one
-pub lent : {X : Type 0} (xs : List X) (i : ℕ) (r : Option (Bor X)) → IsItemAt xs i r → option_copied r ≡ slice_get xs i
-lent xs i None is = sym (slice_get_past xs i is.3)
-lent xs i (Some x) is =
-    let found = is.3 in
-    sym (slice_get-get_or xs i x.now found.0 ∙ ap Some (sym (found.1 x.now)))
 
 -- an object of the row with one more at its end
 with_more : (row : List Block) (more : Block) (n : ℕ) → n < length row → block_at (row ++ more ∷ []) n ≡ block_at row n

@@ -2,7 +2,6 @@
 -- `drop_first`.
 use Rattle.std.proofs.Common.{◌≡◌, ℕ, zero, suc, ◌-◌, ◌<◌, ◌≤◌, List, [], ◌∷◌, ◌++◌, map, length, take, drop, reverse, refl}
 use Rattle.std.proofs.Common.{sym, ap, ◌∙◌, arith}
-use Rattle.cs_meaning.specs.Machine.{Operand, State, with_stack, pop, pop_many}
 use Rattle.std.proofs.lemmas.List.{reverse-append, reverse-reverse, length-reverse, take-append-drop, length-drop, length-map, take-map, drop-map}
 
 module _ {X : Type 0} where

@@ -1,14 +1,12 @@
 -- What an expression of each form does with its parts, which are on the stack, told without those parts.
 use Rattle.std.specs.Prelude.{ℕ, pos, not}
-use Rattle.cs_types.specs.declared.int_type.IntType.{IntType}
-use Rattle.cs_types.specs.Shape.{Shape, integer}
+use Rattle.cs_types.specs.Shape.{Shape}
 use Rattle.cs_ast.specs.declared.place.Place.{Place}
 use Rattle.cs_ast.specs.declared.typed.operator.BinOp.{BinOp}
 use Rattle.cs_ast.specs.declared.typed.operator.UnOp.{UnOp}
 use Rattle.cs_ast.specs.declared.typed.operator.CmpOp.{CmpOp}
 use Rattle.cs_ast.specs.declared.typed.operator.Order.{Order}
 use Rattle.cs_ast.specs.declared.typed.operator.Direction.{Direction}
-use Rattle.cs_ast.specs.declared.typed.operator.Gives.{Gives}
 use Rattle.cs_ast.specs.TypedTree.{Typed}
 use Rattle.cs_ast.specs.TypedProgram.{TypedProgram}
 use Rattle.cs_events.specs.declared.event.Label.TheVariants as label
@@ -17,11 +15,11 @@ use Rattle.cs_events.specs.Objects.{LocalObject, NumberCell, PointerCell}
 use Rattle.cs_events.specs.Acts.{Act, Goes, Asks}
 use Rattle.cs_meaning.specs.Types.{size_of, target_of, integer_of, type_of}
 use Rattle.cs_meaning.specs.Initials.{truth_cell, further, directed}
-use Rattle.cs_meaning.specs.Access.{shows_then, load}
-use Rattle.cs_meaning.specs.Operators.{truth, operate, convert_number, convert, sum, compare, difference, arrow}
+use Rattle.cs_meaning.specs.Access.{shows_then}
+use Rattle.cs_meaning.specs.Operators.{truth, operate, convert, sum, compare, difference, arrow}
 use Rattle.cs_meaning.specs.Calls.{release}
-use Rattle.cs_meaning.specs.Machine.{State, push, push_cell, pop, pop_many, with_memory, operand_at, cell_at}
-use Rattle.cs_meaning.specs.Expressions.{pointer_age, amount_age, number_at, stores, updates, moves}
+use Rattle.cs_meaning.specs.Machine.{State, push, push_cell, pop, pop_many, operand_at, cell_at}
+use Rattle.cs_meaning.specs.Expressions.{pointer_age, amount_age, number_at}
 
 -- the place of a local of the frame that runs is left
 abbrev pub local_place : ℕ → State → State

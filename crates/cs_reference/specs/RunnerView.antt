@@ -1,11 +1,11 @@
 -- A run on its way, seen as the reference machine's: its state, its program and its budgets, and what an act does to it.
 use Rattle.std.specs.Prelude.{◌≡◌, Result, ⊤, OnOk, IfErr}
-use Rattle.cs_types.specs.Layout.{IsLaidOut}
 use Rattle.cs_ast.specs.TypedProgram.{TypedProgram, typed_program}
 use Rattle.cs_events.specs.declared.outcome.RunBudgets.{RunBudgets}
 use Rattle.cs_events.specs.Acts.{Act}
 use Rattle.cs_meaning.specs.Machine.{State}
 use Rattle.cs_run_state.specs.declared.logs.Stop.{Stop}
+use Rattle.cs_run_state.specs.Prepared as settings
 use Rattle.cs_run_state.specs.MachineView.{state_of}
 use Rattle.cs_run_state.specs.Pieces as pieces
 use Rattle.cs_reference.specs.declared.runner.Runner.{Runner}
@@ -22,9 +22,9 @@ budgets_of run = run.setting.now.budgets
 abbrev pub state_in : Runner → State
 state_in run = state_of run.machine
 
--- the program's structs are laid out
+-- what it goes by is ready
 abbrev pub IsReady : Runner → Type 0
-IsReady run = IsLaidOut run.setting.now.program.now.model run.setting.now.program.now.table.list
+IsReady run = settings.IsReady run.setting.now
 
 module _ (old new : Runner) where
   -- an act leads the run on

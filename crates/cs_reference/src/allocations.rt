@@ -14,7 +14,6 @@ ghost use Rattle.cs_run_state.specs.MachineView.{state_of};
 ghost use Rattle.cs_run_state.specs.Pieces.{or_fault};
 ghost use Rattle.cs_reference.specs.RunnerView.{program_of, state_in, Performs};
 
-use crate::outside::root_path;
 use crate::runner::Runner;
 use cs_ast::Place;
 use cs_ast::typed::operator::{Allocator, BinOp};
@@ -26,6 +25,7 @@ use cs_run_state::blocks::{Block, Change, Fill};
 use cs_run_state::inputs::element_of;
 use cs_run_state::machine::Machine;
 use cs_run_state::operators::fault;
+use cs_run_state::paths::root_path;
 use cs_run_state::{Cell, Object, Operand, Stop};
 use cs_types::{CType, size_type};
 use std::alloc::AllocError;

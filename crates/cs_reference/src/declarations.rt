@@ -12,6 +12,7 @@ ghost use Rattle.cs_meaning.specs.Initials as initials;
 ghost use Rattle.cs_meaning.specs.Machine as machine;
 ghost use Rattle.cs_meaning.specs.Memory as memory;
 ghost use Rattle.cs_meaning.specs.Statements as meaning;
+ghost use Rattle.cs_run_state.specs.Prepared as settings;
 ghost use Rattle.cs_run_state.specs.MemoryView.{type_of, fill_of, piece_of};
 ghost use Rattle.cs_run_state.specs.MachineView.{state_of};
 ghost use Rattle.cs_reference.specs.Storing.{with_piece};
@@ -27,7 +28,7 @@ use cs_run_state::blocks::{BlockType, Change, Fill, Piece};
 use cs_run_state::items::{ExprStep, Item};
 use cs_run_state::machine::Machine;
 use cs_run_state::pieces::pieces;
-use cs_run_state::{Object, Stop, Touch};
+use cs_run_state::{Object, Setting, Stop, Touch};
 use cs_types::CType;
 use std::alloc::AllocError;
 
@@ -105,13 +106,7 @@ impl<'a> Runner<'a> {
         let frame = number_of(&self.machine);
         let local = scalar_local(&self.machine, self.setting.program, declaration);
         touch_store(&mut self.log, frame, place, local)?;
-        store_newest(
-            &mut self.machine,
-            self.setting.program,
-            ty,
-            declaration,
-            offset,
-        )?;
+        store_newest(&mut self.machine, self.setting, ty, declaration, offset)?;
         Ok(())
     }
 }
@@ -120,15 +115,15 @@ impl<'a> Runner<'a> {
 #[tactic(auto, using(cs_run_state::proofs::States::states), unfolding(cs_run_state::specs::MachineView::state_of))]
 fn store_newest(
     state: &mut Machine,
-    program: &Program,
+    setting: &Setting,
     ty: &CType,
     declaration: u32,
     offset: u64,
 ) -> Result<(), AllocError>
-    requires { IsLaidOut program.now.model program.now.table.list }
+    requires { settings.IsReady setting.now }
     ensures { OnOk result (state_of state.new
         ≡ machine.with_memory (memory.changed
-        (access.write_operand (typed_program program.now) (shape_of ty.now) offset
+        (access.write_operand (typed_program setting.now.program.now) (shape_of ty.now) offset
         (machine.operand_at (state_of state.old) 0))
         (LocalObject (state_of state.old).frame.number declaration) (state_of state.old).memory)
         (machine.pop (state_of state.old))) }
@@ -137,7 +132,7 @@ fn store_newest(
     let object = Object::Local(state.frame.number, declaration);
     state
         .memory
-        .write_operand(program, ty, &object, offset, &operand)?;
+        .write_operand(setting, ty, &object, offset, &operand)?;
     Ok(())
 }
 

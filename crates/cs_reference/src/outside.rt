@@ -1,10 +1,10 @@
 //! What a call of a function without a body does to memory: its result, and what it writes through its arguments.
 ghost use Rattle.std.specs.Prelude.{◌≡◌, OnOk, IfErr, IfOk, map};
-ghost use Rattle.cs_types.specs.Layout.{IsLaidOut};
 ghost use Rattle.cs_ast.specs.TypedProgram.{typed_program};
 ghost use Rattle.cs_meaning.specs.Calls as calls;
 ghost use Rattle.cs_meaning.specs.Machine as machine;
 ghost use Rattle.cs_meaning.specs.Memory as meaning;
+ghost use Rattle.cs_run_state.specs.Prepared.{IsReady};
 ghost use Rattle.cs_run_state.specs.View.{cell_of, operand_of, object_of};
 ghost use Rattle.cs_run_state.specs.MemoryView.{memory_of, type_of, KeepsCounts};
 ghost use Rattle.cs_run_state.specs.Pieces.{Gives, StopsIn, GivesBoth, StopsInBoth};
@@ -13,15 +13,16 @@ ghost use Rattle.cs_reference.specs.Calling.{received_result, is_nothing};
 use cs_ast::Place;
 use cs_ast::typed::program::Program;
 use cs_events::Label;
-use cs_inputs::{Cells, Path, Root};
+use cs_inputs::{Path, Root};
 use cs_model::Standing;
 use cs_run_state::access::is_constant;
 use cs_run_state::blocks::{BlockType, Change, Fill};
 use cs_run_state::found::Found;
 use cs_run_state::memory::Memory;
+use cs_run_state::paths::root_path;
 use cs_run_state::{Cell, Log, Object, Operand, Setting, Stop};
 use cs_types::CType;
-use std::alloc::{AllocError, Global};
+use std::alloc::AllocError;
 
 /// The result of a call of a function without a body, by the type that it gives: it is looked up, but nothing is where the type is
 /// void.
@@ -32,7 +33,7 @@ pub fn outside_result<'a>(
     returns: BlockType<'a>,
     call: u64,
 ) -> Result<Operand, Stop>
-    requires { IsLaidOut setting.now.program.now.model setting.now.program.now.table.list }
+    requires { IsReady setting.now }
     ensures ok { IfOk result (λ given.
         GivesBoth setting.now log.old log.new
         (calls.outside_result (typed_program setting.now.program.now) (type_of returns.entry) call
@@ -74,7 +75,7 @@ fn received<'a>(
     returns: BlockType<'a>,
     call: u64,
 ) -> Result<Operand, Stop>
-    requires { IsLaidOut setting.now.program.now.model setting.now.program.now.table.list }
+    requires { IsReady setting.now }
     ensures ok { IfOk result (λ given.
         GivesBoth setting.now log.old log.new
         (received_result (typed_program setting.now.program.now) (type_of returns.entry) call
@@ -215,15 +216,5 @@ fn is_writable(program: &Program, object: &Object, standing: Standing) -> bool
         Standing::Live => !is_constant(program, object),
         Standing::Freed => false,
         Standing::Ended => false,
-    }
-}
-
-/// A path without cells.
-pub fn root_path(alloc: Global, root: Root) -> Path
-    ensures { result ≡ calls.root_path root }
-{
-    Path {
-        root,
-        cells: Cells::new(alloc),
     }
 }

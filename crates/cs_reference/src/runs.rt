@@ -1,8 +1,8 @@
 //! Whole runs.
 ghost use Rattle.std.specs.Prelude.{IfOk};
-ghost use Rattle.cs_types.specs.Layout.{IsLaidOut};
 ghost use Rattle.cs_ast.specs.TypedProgram.{typed_program};
 ghost use Rattle.cs_meaning.specs.ProgramRuns.{RunGives};
+ghost use Rattle.cs_run_state.specs.Prepared.{IsReady};
 ghost use Rattle.cs_run_state.specs.View.{log_of};
 ghost use Rattle.cs_reference.specs.RunView.{run_of};
 
@@ -20,14 +20,15 @@ pub struct Ended {
 }
 
 /// Runs a function of a program as the reference machine does, until the run ends.
-pub fn run(alloc: Global, setting: &Setting, entry: u32) -> Result<Ended, AllocError>
-    requires { IsLaidOut setting.now.program.now.model setting.now.program.now.table.list }
+pub fn run<'a>(alloc: Global, setting: &'a Setting<'a>, entry: u32) -> Result<Ended, AllocError>
+    requires { IsReady setting.now }
     ensures { IfOk result (λ ended.
         RunGives (typed_program setting.now.program.now) entry (run_of setting.now)
         setting.now.budgets ended.outcome (log_of ended.log)) }
 {
+    let machine = start(alloc, setting, entry)?;
     let mut runner = Runner {
-        machine: start(alloc, setting, entry)?,
+        machine,
         log: Log::new(alloc),
         setting,
     };

@@ -1,6 +1,5 @@
 -- A run on its way from the beginning of a course, and how many steps it has left: for the loop of `follow`.
 use Rattle.std.proofs.Common.{◌≡◌, ℕ, ◌≤◌, ◌<◌, refl, sym, ap, ◌∙◌, subst, arith}
-use Rattle.cs_types.specs.Layout.{IsLaidOut}
 use Rattle.cs_ast.specs.TypedProgram.{typed_program}
 use Rattle.cs_events.specs.declared.outcome.Outcome.{Outcome}
 use Rattle.cs_events.specs.Acts.{Act}
@@ -8,6 +7,7 @@ use Rattle.cs_events.specs.Runs as runs
 use Rattle.cs_events.specs.Runs.{Log, Performed, Continues, Finishes, perform, empty, Leads, stays, goes}
 use Rattle.cs_events.proofs.RunLaws.{leads_on}
 use Rattle.cs_meaning.specs.ProgramRuns as meaning
+use Rattle.cs_run_state.specs.Prepared as settings
 use Rattle.cs_run_state.specs.declared.settings.Setting.{Setting}
 use Rattle.cs_run_state.specs.View.{setting_of, log_of}
 use Rattle.cs_cfg.specs.declared.code.Code.{Code}
@@ -62,11 +62,11 @@ module _ (course : Course) where
         (subst (λ (l : Log). HasLeft step_of goes_by course.ends.0 (perform goes_by l (step_of first_of))) (sym log) course.ends.1);
   }
 
-  -- it is ready for a step where the course's program is laid out and has its graphs
-  pub ready : (run : Replayer) → OnWay run → IsLaidOut course.setting.now.program.now.model course.setting.now.program.now.table.list
+  -- it is ready for a step where the course's setting is ready and its program has its graphs
+  pub ready : (run : Replayer) → OnWay run → settings.IsReady course.setting.now
       → HasGraphs (view.code course.code.now) (typed_program course.setting.now.program.now) → IsReady run
-  ready run way laid_out graphs = record {
-    laid_out = subst (λ (s : Setting). IsLaidOut s.program.now.model s.program.now.table.list) (sym way.setting) laid_out;
+  ready run way prepared graphs = record {
+    setting = subst settings.IsReady (sym way.setting) prepared;
     graphs = subst (λ (k : Code). HasGraphs (view.code k) (typed_program run.runner.setting.now.program.now)) (sym way.code)
         (subst (λ (s : Setting). HasGraphs (view.code course.code.now) (typed_program s.program.now)) (sym way.setting) graphs);
   }

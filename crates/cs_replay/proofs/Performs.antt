@@ -3,8 +3,8 @@ use Rattle.std.proofs.Common.{◌≡◌, Bool, true, false, if◌then◌else◌,
 use Rattle.cs_events.specs.declared.outcome.Outcome.{Outcome}
 use Rattle.cs_events.specs.Operations.{is_true}
 use Rattle.cs_events.specs.Acts.{Act}
-use Rattle.cs_events.specs.Runs.{Setting, Log, Performed, Continues, Finishes, perform, with_event, with_read, with_touch, has_room, operation_event, number_of}
-use Rattle.cs_events.specs.Runs.{allocation_event, access_event}
+use Rattle.cs_events.specs.Runs.{Setting, Log, Performed, Continues, Finishes, perform, with_operation, with_allocation, with_access, with_read, with_touch}
+use Rattle.cs_events.specs.Runs.{has_room, number_of, read_cell}
 use Rattle.cs_events.specs.Simulation.{Yields, both_go, both_stop, both_read, both_ask, both_allocate, both_reach, both_touch}
 
 -- a state is another one seen in some way
@@ -26,15 +26,16 @@ module _ {S T : Type 0} (seen : S → T) where
   unfolding perform
   performs setting log (both_go is) = ap (λ (t : T). Continues t log) is
   performs setting log both_stop = refl
-  performs setting log (both_read {path = path} same) = performs setting (with_read log path) (same (setting.inputs path))
+  performs setting log (both_read {path = path} {kind = kind} same) =
+      performs setting (with_read log path kind) (same (read_cell setting path kind))
   performs setting log (both_ask {at = at} {operation = operation} same) =
       if_room (has_room setting log) _ _ _ log
-      (performs setting (with_event log (operation_event setting log at operation)) (same (number_of setting log operation)))
+      (performs setting (with_operation setting log at operation) (same (number_of setting log operation)))
   performs setting log (both_allocate {at = at} {path = path} same) =
       if_room (has_room setting log) _ _ _ log
-      (performs setting (with_event (with_read log path) (allocation_event setting at path)) (same (is_true (setting.inputs path))))
-  performs setting log (both_reach {at = at} {offset = offset} same) =
-      if_room (has_room setting log) _ _ _ log (performs setting (with_event log (access_event at offset)) same)
+      (performs setting (with_allocation setting log at path) (same (is_true (setting.inputs path))))
+  performs setting log (both_reach {at = at} {object = object} {offset = offset} same) =
+      if_room (has_room setting log) _ _ _ log (performs setting (with_access log at object offset) same)
   performs setting log (both_touch {touch = touch} same) = performs setting (with_touch log touch) same
 
   -- where one act leads on, so does the other

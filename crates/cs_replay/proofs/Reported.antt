@@ -127,7 +127,10 @@ module _ (p : ℕ → Point) (callers : List (CallFrame Point)) where
   work_reported code program budgets at (of.Sum bytes direction order) m h =
       yields_sum R program.model at (cell_at m (pointer_age order)) (directed direction (number_at m (amount_age order))) bytes (λ cell. both_go refl)
   work_reported code program budgets at (of.Member offset) m h = both_go refl
-  work_reported code program budgets at (of.Arrow offset) m h = yields_arrow R at (cell_at m 0) offset (λ cell. both_go refl)
+  work_reported code program budgets at (of.Arrow offset) m h =
+      yields_arrow R at (cell_at m 0) offset {f = λ cell. Goes (push_cell cell (pop m))} {g = λ cell.
+      Goes (push_cell cell (pop (code_state p callers m)))}
+      (λ cell. both_go refl)
   work_reported code program budgets at (of.Load object) m h =
       yields_load R program m.memory m.frame.number (access object) (cell_at m 0) (λ memory operand. both_go refl)
   work_reported code program budgets at (of.Convert from to) m h =

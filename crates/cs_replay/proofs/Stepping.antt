@@ -70,7 +70,7 @@ module _ (old moved new : Replayer) (operation : Operation) (is : moved ≡ reco
       record { setting = same.setting; code = same.code }
 
   pub ready_after : IsReady old → IsReady moved
-  ready_after ready = subst (λ (run : Replayer). IsReady run) (sym is) (record { laid_out = ready.laid_out; graphs = ready.graphs })
+  ready_after ready = subst (λ (run : Replayer). IsReady run) (sym is) (record { setting = ready.setting; graphs = ready.graphs })
 
 -- what follows from a fact follows from it where a call has gone well
 pub on_ok : {X E P Q : Type 0} (r : Result X E) → (P → Q) → OnOk r P → OnOk r Q

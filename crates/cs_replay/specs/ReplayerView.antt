@@ -44,9 +44,9 @@ budgets_of run = runner.budgets_of run.runner
 abbrev pub state_in : Replayer → CodeState
 state_in run = code_state (point_of run.code.now run.position) (callers_of run.code.now run.callers.items) (runner.state_in run.runner)
 
--- the program's structs are laid out, and its functions with a body are those that have a graph
+-- what it goes by is ready, and the program's functions with a body are those that have a graph
 pub record IsReady (run : Replayer) : Type 0 where
-  pub laid_out : runner.IsReady run.runner
+  pub setting : runner.IsReady run.runner
   pub graphs : HasGraphs (code_of run) (program_of run)
 
 -- how a run has ended with a log; where memory was short nothing is said, and what it would have come to stands for it

@@ -1,6 +1,5 @@
 //! Locals that become unset or zero, and what is stored in declared objects (C11 6.2.4, paragraph 6; 6.7.9).
 ghost use Rattle.std.specs.Prelude.{◌≡◌, OnOk, IfErr};
-ghost use Rattle.cs_types.specs.Layout.{IsLaidOut};
 ghost use Rattle.cs_types.specs.Shape.{shape_of};
 ghost use Rattle.cs_ast.specs.TypedProgram.{typed_program};
 ghost use Rattle.cs_events.specs.Objects.{LocalObject};
@@ -8,6 +7,7 @@ ghost use Rattle.cs_meaning.specs.Access as access;
 ghost use Rattle.cs_meaning.specs.Machine as machine;
 ghost use Rattle.cs_meaning.specs.Memory as memory;
 ghost use Rattle.cs_meaning.specs.Statements as meaning;
+ghost use Rattle.cs_run_state.specs.Prepared as settings;
 ghost use Rattle.cs_run_state.specs.MemoryView.{fill_of};
 ghost use Rattle.cs_run_state.specs.MachineView.{state_of};
 ghost use Rattle.cs_cfg.specs.Graph as graph;
@@ -16,14 +16,13 @@ ghost use Rattle.cs_reference.specs.RunnerView.{program_of, budgets_of, state_in
 ghost use Rattle.cs_replay.specs.Works.{works};
 
 use cs_ast::Place;
-use cs_ast::typed::program::Program;
 use cs_reference::declarations::spell_local;
 use cs_reference::frames::number_of;
 use cs_reference::runner::Runner;
 use cs_run_state::access::touch_store;
 use cs_run_state::blocks::{Change, Fill};
 use cs_run_state::machine::Machine;
-use cs_run_state::{Object, Stop, Touch};
+use cs_run_state::{Object, Setting, Stop, Touch};
 use cs_types::CType;
 use std::alloc::AllocError;
 
@@ -67,8 +66,7 @@ pub fn store_local(
 {
     let frame = number_of(&run.machine);
     touch_store(&mut run.log, frame, place, if_local(scalar, declaration))?;
-    let program = run.setting.program;
-    store_newest(&mut run.machine, program, ty, declaration, offset)?;
+    store_newest(&mut run.machine, run.setting, ty, declaration, offset)?;
     Ok(())
 }
 
@@ -101,15 +99,15 @@ fn if_local(scalar: bool, declaration: u32) -> Option<u32>
 #[tactic(auto, using(cs_run_state::proofs::States::states), unfolding(cs_run_state::specs::MachineView::state_of))]
 fn store_newest(
     state: &mut Machine,
-    program: &Program,
+    setting: &Setting,
     ty: &CType,
     declaration: u32,
     offset: u64,
 ) -> Result<(), AllocError>
-    requires { IsLaidOut program.now.model program.now.table.list }
+    requires { settings.IsReady setting.now }
     ensures { OnOk result (state_of state.new
         ≡ machine.with_memory (memory.changed
-        (access.write_operand (typed_program program.now) (shape_of ty.now) offset
+        (access.write_operand (typed_program setting.now.program.now) (shape_of ty.now) offset
         (machine.operand_at (state_of state.old) 0))
         (LocalObject (state_of state.old).frame.number declaration) (state_of state.old).memory)
         (machine.pop (state_of state.old))) }
@@ -118,7 +116,7 @@ fn store_newest(
     let object = Object::Local(state.frame.number, declaration);
     state
         .memory
-        .write_operand(program, ty, &object, offset, &operand)?;
+        .write_operand(setting, ty, &object, offset, &operand)?;
     Ok(())
 }
 

@@ -1,6 +1,5 @@
 //! Whole runs of code.
 ghost use Rattle.std.specs.Prelude.{◌≡◌, ◌↔◌, Err, None, IfOk};
-ghost use Rattle.cs_types.specs.Layout.{IsLaidOut};
 ghost use Rattle.cs_ast.specs.TypedProgram.{typed_program};
 ghost use Rattle.cs_events.specs.Runs.{empty};
 ghost use Rattle.cs_meaning.specs.Machine.{routine_of};
@@ -8,6 +7,7 @@ ghost use Rattle.cs_meaning.specs.ProgramRuns as meaning;
 ghost use Rattle.cs_cfg.specs.CodeSteps.{code_step, code_start, CodeGives};
 ghost use Rattle.cs_cfg.specs.GraphView as view;
 ghost use Rattle.cs_cfg.specs.Lowered.{HasGraphs, IsLowered};
+ghost use Rattle.cs_run_state.specs.Prepared.{IsReady};
 ghost use Rattle.cs_run_state.specs.View.{log_of};
 ghost use Rattle.cs_reference.specs.RunView.{run_of};
 ghost use Rattle.cs_replay.specs.RunLengths.{HasLength, HasLength-prop};
@@ -43,7 +43,7 @@ pub fn replay(
     code: &Code,
     entry: u32,
 ) -> Result<Replayed, ReplayRefusal>
-    requires laid_out { IsLaidOut setting.now.program.now.model setting.now.program.now.table.list }
+    requires ready { IsReady setting.now }
     requires lowered { IsLowered (view.code code.now) (typed_program setting.now.program.now) }
     ensures gives { IfOk result (λ replayed.
         meaning.RunGives (typed_program setting.now.program.now) entry (run_of setting.now)
@@ -69,8 +69,7 @@ pub fn replay(
 
 // Follows a run to its end.
 fn follow(alloc: Global, course: &Course) -> Result<Replayed, AllocError>
-    requires laid_out { IsLaidOut course.now.setting.now.program.now.model
-        course.now.setting.now.program.now.table.list }
+    requires ready { IsReady course.now.setting.now }
     requires graphs { HasGraphs (view.code course.now.code.now)
         (typed_program course.now.setting.now.program.now) }
     ensures { IfOk result (λ replayed.

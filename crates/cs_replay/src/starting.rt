@@ -1,11 +1,11 @@
 //! How a run begins: the static objects, and the first frame.
 ghost use Rattle.std.specs.Prelude.{◌≡◌, IfOk, unwrap_or};
-ghost use Rattle.cs_types.specs.Layout.{IsLaidOut};
 ghost use Rattle.cs_ast.specs.TypedProgram.{typed_program};
 ghost use Rattle.cs_events.specs.Runs.{empty};
 ghost use Rattle.cs_cfg.specs.CodeSteps.{code_start};
 ghost use Rattle.cs_cfg.specs.Graph.{no_flow};
 ghost use Rattle.cs_cfg.specs.GraphView as view;
+ghost use Rattle.cs_run_state.specs.Prepared.{IsReady};
 ghost use Rattle.cs_run_state.specs.View.{log_of};
 ghost use Rattle.cs_reference.specs.RunView.{run_of};
 ghost use Rattle.cs_replay.specs.Nexts.{flow_found};
@@ -29,7 +29,7 @@ pub fn begin<'a>(
     code: &'a Code,
     entry: u32,
 ) -> Result<Replayer<'a>, AllocError>
-    requires { IsLaidOut setting.now.program.now.model setting.now.program.now.table.list }
+    requires { IsReady setting.now }
     ensures state { IfOk result (λ run.
         state_in run ≡ code_start (view.code code.now) (typed_program setting.now.program.now)
         entry (run_of setting.now)) }

@@ -5,7 +5,9 @@ pub mod Rows
 pub mod Starts
 pub mod Layouts
 pub mod Changes
-pub mod Rising
+pub mod PartOffsets
+pub mod Searching
+pub mod Statics
 pub mod Nested
 pub mod Reading
 pub mod States

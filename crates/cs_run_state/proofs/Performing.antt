@@ -9,11 +9,12 @@ use Rattle.cs_events.specs.declared.outcome.Outcome.{Outcome}
 use Rattle.cs_events.specs.declared.outcome.Outcome.TheVariants.{Over}
 use Rattle.cs_events.specs.declared.outcome.Budget.TheVariants.{Events}
 use Rattle.cs_events.specs.Operations.{is_true}
-use Rattle.cs_events.specs.Objects.{Object}
+use Rattle.cs_events.specs.Objects.{Object, Cell}
+use Rattle.cs_events.specs.declared.input.InputKind.{InputKind}
 use Rattle.cs_events.specs.Touches.{Touch}
 use Rattle.cs_events.specs.Acts.{Act, Goes, Stops, Reads, Asks, Allocates, Reaches, Touches}
-use Rattle.cs_events.specs.Runs.{Setting, Log, Continues, Finishes, perform, with_event, with_read, with_touch, has_room, operation_event, number_of}
-use Rattle.cs_events.specs.Runs.{allocation_event, access_event}
+use Rattle.cs_events.specs.Runs.{Setting, Log, Continues, Finishes, perform, with_operation, with_allocation, with_access, with_read, with_touch}
+use Rattle.cs_events.specs.Runs.{has_room, number_of, read_cell}
 use Rattle.cs_meaning.specs.Machine.{State}
 
 pub perform-Goes : (s : Setting) (log : Log) (next : State) → perform s log (Goes next) ≡ Continues next log
@@ -24,10 +25,10 @@ pub perform-Stops : (s : Setting) (log : Log) (outcome : Outcome) → perform {S
 unfolding perform
 perform-Stops s log outcome = refl
 
-pub perform-Reads : (s : Setting) (log : Log) (path : Path) (onward : ℤ → Act State)
-    → perform s log (Reads path onward) ≡ perform s (with_read log path) (onward (s.inputs path))
+pub perform-Reads : (s : Setting) (log : Log) (path : Path) (kind : InputKind) (onward : Cell → Act State)
+    → perform s log (Reads path kind onward) ≡ perform s (with_read log path kind) (onward (read_cell s path kind))
 unfolding perform
-perform-Reads s log path onward = refl
+perform-Reads s log path kind onward = refl
 
 pub perform-Touches : (s : Setting) (log : Log) (touch : Touch) (act : Act State) → perform s log (Touches touch act) ≡ perform s (with_touch log touch) act
 unfolding perform
@@ -35,21 +36,21 @@ perform-Touches s log touch act = refl
 
 pub perform-Asks : (s : Setting) (log : Log) (at : Place) (operation : Operation) (onward : ℤ → Act State)
     → perform s log (Asks at operation onward)
-    ≡ (if has_room s log then perform s (with_event log (operation_event s log at operation)) (onward (number_of s log operation))
+    ≡ (if has_room s log then perform s (with_operation s log at operation) (onward (number_of s log operation))
     else Finishes (Over Events at) log)
 unfolding perform
 perform-Asks s log at operation onward = refl
 
 pub perform-Allocates : (s : Setting) (log : Log) (at : Place) (path : Path) (onward : Bool → Act State)
     → perform s log (Allocates at path onward)
-    ≡ (if has_room s log then perform s (with_event (with_read log path) (allocation_event s at path)) (onward (is_true (s.inputs path)))
+    ≡ (if has_room s log then perform s (with_allocation s log at path) (onward (is_true (s.inputs path)))
     else Finishes (Over Events at) log)
 unfolding perform
 perform-Allocates s log at path onward = refl
 
 pub perform-Reaches : (s : Setting) (log : Log) (at : Place) (object : Object) (offset : ℤ) (act : Act State)
     → perform s log (Reaches at object offset act)
-    ≡ (if has_room s log then perform s (with_event log (access_event at offset)) act else Finishes (Over Events at) log)
+    ≡ (if has_room s log then perform s (with_access log at object offset) act else Finishes (Over Events at) log)
 unfolding perform
 perform-Reaches s log at object offset act = refl
 

@@ -1,14 +1,24 @@
--- Scalars that are read in a row: for the contract of `read_all`.
-use Rattle.std.proofs.Common.{◌≡◌, ℕ, zero, suc, ◌<◌, length, get_or, arith, ◌+◌, List, [], ◌∷◌, ◌++◌, drop, refl, sym, ap, ◌∙◌}
+-- Scalars that are read in a row: for the contracts of `read_all` and `read_each`.
+use Rattle.std.proofs.Common.{◌≡◌, ℕ, zero, suc, ◌<◌, length, get_or, arith, ◌+◌, List, [], ◌∷◌, ◌++◌, map, take, Option, Some, drop}
+use Rattle.std.proofs.Common.{refl, sym, ap, ◌∙◌}
 use Rattle.std.proofs.Common.{append_assoc}
-use Rattle.std.proofs.lemmas.List.{append-nil}
+use Rattle.std.specs.Prelude.{option_map}
+use Rattle.std.specs.BTreeMap.{get}
+use Rattle.std.specs.Ordering.{nat_cmp}
+use Rattle.std.proofs.lemmas.List.{append-nil, take_more}
 use mathlib.Core.Path.{fun_ext}
 use Rattle.cs_ast.specs.TypedProgram.{TypedProgram}
 use Rattle.cs_events.specs.Acts.{Act}
 use Rattle.cs_events.specs.Objects.{Object, Cell}
 use Rattle.cs_events.specs.Runs.{Setting, Log, Performed, perform}
 use Rattle.cs_meaning.specs.Machine.{State}
+use Rattle.cs_run_state.specs.declared.blocks.Block.{Block as Stored}
 use Rattle.cs_run_state.specs.declared.logs.Stop.{Stop}
+use Rattle.cs_run_state.specs.declared.objects.Cell.{Cell as Held}
+use Rattle.cs_run_state.specs.View.{cell_of}
+use Rattle.cs_run_state.specs.MemoryView.{block_of, written_at}
+use Rattle.cs_run_state.proofs.Performing.{map-push}
+use Rattle.cs_run_state.specs.AccessView.{HoldsAll}
 use Rattle.cs_run_state.specs.Pieces.{finished}
 use Rattle.cs_run_state.proofs.Chains.{ends_following}
 use Rattle.cs_meaning.specs.Memory.{Memory}
@@ -45,6 +55,38 @@ module _ (s : Setting) (program : TypedProgram) (object : Object) (from : ℕ) w
       → first ≡ perform s log (read_all program memory object from left (λ a r. onward a (done ++ r))) → first ≡ finished stop later first
   ends_reading stop log later memory left rest x done first onward split ends same =
       ends_following stop later same (rw split (ends (λ a c. read_all program a object from rest (λ b r. onward b (done ++ (c ∷ r))))))
+
+-- what was written of an object at offsets that are counted from another
+abbrev pub written_from : Stored → ℕ → List ℕ → List (Option Cell)
+written_from block from offsets = map (λ (offset : ℕ). written_at block (from + offset)) offsets
+
+-- one more was written
+pub one_more_found : (block : Stored) (from : ℕ) (offsets : List ℕ) (i at : ℕ) (held copy : Held) (cells more : List Held) → i < length offsets
+    → from + get_or offsets i 0 ≡ at → get nat_cmp block.written at ≡ Some held → cell_of copy ≡ cell_of held → more ≡ cells ++ copy ∷ []
+    → written_from block from (take i offsets) ≡ map (λ (cell : Held). Some (cell_of cell)) cells
+    → written_from block from (take (i + 1) offsets) ≡ map (λ (cell : Held). Some (cell_of cell)) more
+one_more_found block from offsets i at held copy cells more below place found copied added before =
+    let gives : ℕ → Option Cell = λ offset. written_at block (from + offset) in
+    let some : Held → Option Cell = λ cell. Some (cell_of cell) in
+    let last = get_or offsets i 0 in
+    let here : gives last ≡ some copy = ap (λ (n : ℕ). option_map cell_of (get nat_cmp block.written n)) place
+    ∙ (ap (option_map cell_of) found ∙ ap (λ (c : Cell). Some c) (sym copied)) in
+    ap (map gives) (take_more offsets i 0 below)
+    ∙ (map-push gives (take i offsets) last
+    ∙ (ap (λ (xs : List (Option Cell)). xs ++ gives last ∷ []) before
+    ∙ (ap (λ (x : Option Cell). map some cells ++ x ∷ []) here ∙ sym (ap (map some) added ∙ map-push some cells copy))))
+
+-- cells that were written are read as they are
+pub written_read : (memory : Memory) (object : Object) (block : Stored) (from : ℕ) (offsets : List ℕ) (cells : List Held)
+    → memory object ≡ Some (block_of block) → written_from block from offsets ≡ map (λ (cell : Held). Some (cell_of cell)) cells
+    → HoldsAll memory object from offsets (map cell_of cells)
+written_read memory object block from [] [] there same program onward = refl
+written_read memory object block from [] (cell ∷ cells) there same program onward = absurd (cc)
+written_read memory object block from (offset ∷ offsets) [] there same program onward = absurd (cc)
+written_read memory object block from (offset ∷ offsets) (cell ∷ cells) there same program onward =
+    let here : written_at block (from + offset) ≡ Some (cell_of cell) = cc in
+    let others : written_from block from offsets ≡ map (λ (c : Held). Some (cell_of c)) cells = cc in
+    rw (there, here) (written_read memory object block from offsets cells there others program (λ after rest. onward after (cell_of cell ∷ rest)))
 
 -- a list from an index on, where something stands
 pub drop-step : {A : Type 0} (xs : List A) (i : ℕ) (d : A) → i < length xs → drop i xs ≡ get_or xs i d ∷ drop (i + 1) xs

@@ -1,12 +1,11 @@
 -- Rows of objects, one of which is changed: for the contracts of memory.
-use Rattle.std.proofs.Common.{◌≡◌, ℕ, zero, suc, ◌+◌, ◌<◌, ◌≤◌, ◌==◌, List, [], ◌∷◌, length, set, get_or, Some, Vec, refl}
+use Rattle.std.proofs.Common.{◌≡◌, ℕ, zero, suc, ◌<◌, ◌≤◌, ◌==◌, List, [], ◌∷◌, length, set, get_or, Some, Vec, refl}
 use Rattle.std.proofs.Common.{◌++◌, Bool, true, false, arith}
 use Rattle.std.specs.declared.alloc.Global.{Global}
 use mathlib.Core.Path.{fun_ext}
-use Rattle.std.specs.Prelude.{option_map, slice_get, nat_lt, if◌then◌else◌}
+use Rattle.std.specs.Prelude.{slice_get, if◌then◌else◌}
 use Rattle.std.specs.Option.{option_and_then}
 use Rattle.std.proofs.lemmas.Option.{slice_get-get_or, slice_get_past}
-use Rattle.cs_model.specs.declared.standing.Standing.TheVariants.{Ended}
 use Rattle.cs_events.specs.Objects.{Object, StartBlock, GlobalObject, LiteralObject, LocalObject, HeapBlock}
 use Rattle.cs_meaning.specs.Memory as meaning
 use Rattle.cs_run_state.specs.declared.memory.Memory.{Memory}
@@ -60,17 +59,3 @@ frame_added memory frames locals is = fun_ext (λ object. at object)
     at (LiteralObject literal) = refl
     at (LocalObject n d) = local n d
     at (HeapBlock allocation) = refl
-
--- so many objects of a row have ended
-abbrev pub EndedBelow : List Block → ℕ → List Block → Type 0
-EndedBelow old i row = (n : ℕ) → block_at row n ≡ (if nat_lt n i then option_map (meaning.stand Ended) (block_at old n) else block_at old n)
-
--- one more has ended
-pub one_more : (old row : List Block) (i : ℕ) (here ended : Block) → i < length row → here ≡ get_or row i here
-    → block_of ended ≡ meaning.stand Ended (block_of here) → EndedBelow old i row → EndedBelow old (i + 1) (set row i ended)
-one_more old row i here ended inside is same below n = grind (arith, below n, slice_get-set row i n ended inside, slice_get-get_or row i here inside)
-
--- all have ended
-pub all_ended : (old row : List Block) (i : ℕ) → length row ≤ i → EndedBelow old i row
-    → (n : ℕ) → block_at row n ≡ option_map (meaning.stand Ended) (block_at old n)
-all_ended old row i past below n = grind (arith, below n, slice_get_past row n)

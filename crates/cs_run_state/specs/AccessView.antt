@@ -1,9 +1,9 @@
 -- What the interpreter knows of an access, seen as what the reference machine does, and words of touches and values.
-use Rattle.std.specs.Prelude.{ℕ, ◌+◌, ℤ, pos, neg_ℤ, ◌-ℤ◌, List, [], ◌∷◌, unwrap_or}
+use Rattle.std.specs.Prelude.{◌≡◌, ℕ, ◌+◌, ℤ, pos, neg_ℤ, ◌-ℤ◌, List, [], ◌∷◌, unwrap_or}
 use Rattle.cs_types.specs.Shape.{Shape, void, shape_of}
 use Rattle.cs_ast.specs.declared.place.Place.{Place}
 use Rattle.cs_ast.specs.TypedProgram.{TypedProgram}
-use Rattle.cs_events.specs.Objects.{Object}
+use Rattle.cs_events.specs.Objects.{Object, Cell}
 use Rattle.cs_events.specs.Touches.{Touch, Loads, Stores}
 use Rattle.cs_events.specs.Acts.{Act, Reaches}
 use Rattle.cs_meaning.specs.Types.{size_of, scalar_of, scalar_offsets}
@@ -34,6 +34,11 @@ abbrev pub spells : TypedProgram → Shape → ℕ → List ℕ → Block → Bl
 spells program ty from [] block = block
 spells program ty from (byte ∷ bytes) block =
     spells program ty (from + 1) bytes (write_cell from (byte_cell program.model (unwrap_or (scalar_of program ty from) void) byte) block)
+
+-- at offsets that are counted from another an object holds these cells: to read them takes no input
+abbrev pub HoldsAll : Memory → Object → ℕ → List ℕ → List Cell → Type 0
+HoldsAll memory object from offsets cells = (program : TypedProgram) (onward : Memory → List Cell → Act State)
+    → access.read_all program memory object from offsets onward ≡ onward memory cells
 
 -- the scalars of a struct of an object, set or not
 abbrev pub struct_value : TypedProgram → Memory → Shape → Object → ℕ → (Memory → Operand → Act State) → Act State

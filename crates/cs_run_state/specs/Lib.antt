@@ -1,7 +1,9 @@
 pub mod Results
 pub mod View
 pub mod Pieces
+pub mod PieceOrder
 pub mod MemoryView
+pub mod Prepared
 pub mod TypeView
 pub mod FoundView
 pub mod AccessView

@@ -1,5 +1,5 @@
 -- The interpreter's memory, seen as that of the reference machine.
-use Rattle.std.specs.Prelude.{◌≡◌, ℕ, zero, suc, List, map, length, Option, None, option_map, slice_get, ◌==◌, if◌then◌else◌, Vec}
+use Rattle.std.specs.Prelude.{◌≡◌, ℕ, zero, suc, List, map, length, Option, Some, None, option_map, slice_get, ◌==◌, if◌then◌else◌, Vec}
 use Rattle.std.specs.declared.alloc.Global.{Global}
 use Rattle.std.specs.Option.{option_and_then}
 use Rattle.std.specs.Map.{lookup}
@@ -41,7 +41,7 @@ piece_of (piece.Text offset bytes) = initials.Spelled offset bytes.now
 abbrev pub fill_of : Fill → meaning.Fill
 fill_of fill.Unset = meaning.UnsetFill
 fill_of fill.Zero = meaning.ZeroFill
-fill_of (fill.Initial pieces) = meaning.InitialFill (map piece_of pieces.items)
+fill_of (fill.Initial initializer) = meaning.InitialFill (map piece_of initializer.pieces.items)
 fill_of (fill.Input path) = meaning.InputFill path
 
 -- what was written at an offset
@@ -72,6 +72,14 @@ start_in starts path = option_map block_of (lookup (is_at (path_order path)) sta
 abbrev pub block_at : List Block → ℕ → Option meaning.Block
 block_at row at = option_map block_of (slice_get row at)
 
+-- a static object: as it was changed, or else as a run begins with it
+abbrev pub changed_or : Option meaning.Block → Option meaning.Block → Option meaning.Block
+changed_or (Some block) otherwise = Some block
+changed_or None otherwise = otherwise
+
+abbrev pub static_at : BTreeMap ℕ Block → List Block → ℕ → Option meaning.Block
+static_at changed row number = changed_or (option_map block_of (get nat_cmp changed number)) (block_at row number)
+
 -- a local of a frame
 abbrev pub local_in : List (Vec Block Global) → ℕ → ℕ → Option meaning.Block
 local_in frames frame declaration = option_and_then (λ (locals : Vec Block Global). block_at locals.items declaration) (slice_get frames frame)
@@ -84,8 +92,8 @@ given_in heap (suc before) = option_and_then (λ (given : Option Block). option_
 -- memory
 abbrev pub memory_of : Memory → meaning.Memory
 memory_of memory (StartBlock path) = start_in memory.starts path
-memory_of memory (GlobalObject global) = block_at memory.globals.items global
-memory_of memory (LiteralObject literal) = block_at memory.literals.items literal
+memory_of memory (GlobalObject global) = static_at memory.globals memory.prepared.now.globals.items global
+memory_of memory (LiteralObject literal) = static_at memory.literals memory.prepared.now.literals.items literal
 memory_of memory (LocalObject frame declaration) = local_in memory.frames.items frame declaration
 memory_of memory (HeapBlock allocation) = given_in memory.heap.items allocation
 

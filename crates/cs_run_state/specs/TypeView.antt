@@ -1,9 +1,10 @@
 -- Words of what begins in a type.
-use Rattle.std.specs.Prelude.{ℕ, ◌-◌, nat_le, Bool, true, false, ◌&&◌, List, [], ◌∷◌, Option, Some, None}
+use Rattle.std.specs.Prelude.{ℕ, ◌+◌, ◌-◌, nat_le, Bool, false, ◌&&◌, List, [], ◌∷◌, ◌++◌, map, Option, Some, None}
 use Rattle.cs_types.specs.Members.{Member}
+use Rattle.cs_types.specs.Shape.{Shape}
 use Rattle.cs_ast.specs.TypedProgram.{TypedProgram}
 use Rattle.cs_events.specs.Objects as objects
-use Rattle.cs_meaning.specs.Types.{begins_in, begins_in_struct}
+use Rattle.cs_meaning.specs.Types.{begins_in, begins_in_struct, scalar_offsets}
 use Rattle.cs_run_state.specs.declared.objects.Cell.{Cell}
 use Rattle.cs_run_state.specs.View.{cell_of}
 
@@ -21,7 +22,11 @@ abbrev pub or_cell : Option Cell → objects.Cell → objects.Cell
 or_cell None otherwise = otherwise
 or_cell (Some cell) otherwise = cell_of cell
 
--- the offset, if a scalar begins there
-abbrev pub if_here : ℕ → Bool → List ℕ
-if_here n true = n ∷ []
-if_here n false = []
+-- the offsets of the scalars of a type that begins at an offset
+abbrev pub offsets_from : TypedProgram → ℕ → Shape → List ℕ
+offsets_from program from ty = map (λ (offset : ℕ). from + offset) (scalar_offsets program ty)
+
+-- the same of the members of a struct that begins there
+abbrev pub member_offsets : TypedProgram → ℕ → List Member → List ℕ
+member_offsets program from [] = []
+member_offsets program from (m ∷ ms) = offsets_from program (from + m.offset) m.ty ++ member_offsets program from ms

@@ -1,27 +1,29 @@
 //! Loads and stores (C11 6.3.2.1, 6.5.16): what is checked and shown on the way to an object, and what memory gives and keeps.
-ghost use Rattle.std.specs.Prelude.{◌≡◌, pos, neg_ℤ, ◌-ℤ◌, IfOk, OnOk, IfErr, Some, map};
+ghost use Rattle.std.specs.Prelude.{◌≡◌, pos, neg_ℤ, ◌-ℤ◌, IfOk, OnOk, IfErr, IfSome, None, map};
 ghost use Rattle.cs_types.specs.Shape.{shape_of};
 ghost use Rattle.cs_types.specs.Layout.{IsLaidOut};
 ghost use Rattle.cs_ast.specs.TypedProgram.{typed_program};
 ghost use Rattle.cs_ast.specs.TypedView.{typed};
-ghost use Rattle.cs_events.specs.Acts.{Act};
+ghost use Rattle.cs_events.specs.Acts.{Act, Stops};
+ghost use Rattle.cs_events.specs.declared.outcome.Outcome.TheVariants.{Fault};
 ghost use Rattle.cs_meaning.specs.Machine.{State};
 ghost use Rattle.cs_meaning.specs.Memory as meaning;
 ghost use Rattle.cs_meaning.specs.Types as types;
 ghost use Rattle.cs_meaning.specs.Access as loads;
+ghost use Rattle.cs_run_state.specs.Prepared.{IsReady};
 ghost use Rattle.cs_run_state.specs.View.{cell_of, object_of, operand_of};
 ghost use Rattle.cs_run_state.specs.MemoryView.{block_of, memory_of, KeepsCounts};
-ghost use Rattle.cs_run_state.specs.AccessView.{access_of, load_touch, store_touch, reach_standing, scalar_value, struct_value};
+ghost use Rattle.cs_run_state.specs.AccessView.{access_of, load_touch, store_touch, reach_standing, scalar_value, struct_value, HoldsAll};
 ghost use Rattle.cs_run_state.specs.declared.settings.Setting.{Setting as SettingOfRun};
 ghost use Rattle.cs_run_state.specs.Pieces.{GoesOn, EndsIn, Gives, StopsIn, GivesBoth, StopsInBoth, or_fault};
 
 use crate::blocks::Block;
-use crate::found::position;
+use crate::found::cell_position;
 use crate::logs::{Log, Stop, Touch};
 use crate::memory::Memory;
 use crate::objects::{Cell, Object, Operand};
-use crate::offsets::scalar_offsets;
 use crate::operators::fault;
+use crate::prepared::scalar_offsets;
 use crate::settings::Setting;
 use crate::types::size_of;
 use cs_ast::Place;
@@ -124,7 +126,7 @@ fn offset_number(offset: i128) -> Result<u64, AllocError>
     }
 }
 
-// The fault by which an object that is there no more refuses an access, if it does (C11 6.2.4, paragraph 2).
+// The fault by which a block that was released refuses an access, if it does (C11 6.2.4, paragraph 2).
 fn refused(standing: Standing) -> Option<Kind>
     ensures { (place : Place) (act : Act State)
         → loads.stands place standing act ≡ or_fault place result act }
@@ -133,6 +135,21 @@ fn refused(standing: Standing) -> Option<Kind>
         Standing::Live => None,
         Standing::Freed => Some(Kind::Freed),
         Standing::Ended => Some(Kind::DeadLocal),
+    }
+}
+
+// The fault of an access to an object that isn't there: a local of a frame that has ended, or else nothing to access (C11 6.2.4,
+// paragraph 2).
+fn missing(object: &Object) -> Kind
+    ensures { (place : Place) (act : Act State)
+        → loads.there place (object_of object.now) None act ≡ Stops (Fault result place) }
+{
+    match object {
+        Object::Local(_, _) => Kind::DeadLocal,
+        Object::Start(_) => Kind::Bounds,
+        Object::Global(_) => Kind::Bounds,
+        Object::Literal(_) => Kind::Bounds,
+        Object::Heap(_) => Kind::Bounds,
     }
 }
 
@@ -153,8 +170,10 @@ fn begins_at(
         return Ok(false);
     }
     let number = offset_number(offset)?;
-    let at = position(program, object, block, number)?;
-    block.ty.begins(program, ty, at)
+    match cell_position(program, object, block, number)? {
+        Some(at) => block.ty.begins(program, ty, at),
+        None => Ok(false),
+    }
 }
 
 // How far an object's last byte lies after those of a type at its beginning, and whether an offset lies that far or less.
@@ -183,15 +202,15 @@ fn reach_block(
     block: &Block,
     offset: i128,
 ) -> Result<u64, Stop>
-    requires { IsLaidOut setting.now.program.now.model setting.now.program.now.table.list }
+    requires { IsReady setting.now }
     ensures ok { IfOk result
         (Gives setting.now log.old log.new
-        (loads.reach_in (typed_program setting.now.program.now) access.entry.place
-        (shape_of access.entry.ty.now) (object_of object.now) offset (Some (block_of block.now)))) }
+        (loads.reach_block (typed_program setting.now.program.now) access.entry.place
+        (shape_of access.entry.ty.now) (object_of object.now) offset (block_of block.now))) }
     ensures err { IfErr result
         (StopsIn setting.now log.old log.new
-        (loads.reach_in (typed_program setting.now.program.now) access.entry.place
-        (shape_of access.entry.ty.now) (object_of object.now) offset (Some (block_of block.now)))) }
+        (loads.reach_block (typed_program setting.now.program.now) access.entry.place
+        (shape_of access.entry.ty.now) (object_of object.now) offset (block_of block.now))) }
 {
     match refused(block.standing) {
         Some(kind) => Err(fault(kind, access.place)),
@@ -211,7 +230,7 @@ fn reach_standing(
     block: &Block,
     offset: i128,
 ) -> Result<u64, Stop>
-    requires { IsLaidOut setting.now.program.now.model setting.now.program.now.table.list }
+    requires { IsReady setting.now }
     ensures ok { IfOk result
         (Gives setting.now log.old log.new
         (reach_standing (typed_program setting.now.program.now) access.entry.place
@@ -287,7 +306,7 @@ impl<'a> Memory<'a> {
         object: &Object,
         offset: i128,
     ) -> Result<u64, Stop>
-        requires { IsLaidOut setting.now.program.now.model setting.now.program.now.table.list }
+        requires { IsReady setting.now }
         ensures ok { IfOk result
             (Gives setting.now log.old log.new
             (loads.reach_in (typed_program setting.now.program.now) access.entry.place
@@ -304,7 +323,7 @@ impl<'a> Memory<'a> {
                 let number = reach_block(log, setting, access, object, block, offset)?;
                 Ok(number)
             }
-            None => Err(fault(Kind::Bounds, access.place)),
+            None => Err(fault(missing(object), access.place)),
         }
     }
 
@@ -316,7 +335,7 @@ impl<'a> Memory<'a> {
         access: Access,
         place: &'p Cell,
     ) -> Result<(&'p Object, u64), Stop>
-        requires { IsLaidOut setting.now.program.now.model setting.now.program.now.table.list }
+        requires { IsReady setting.now }
         ensures ok { IfOk result (λ found.
             GivesBoth setting.now log.old log.new
             (loads.reach (typed_program setting.now.program.now) (memory_of self.now)
@@ -350,7 +369,7 @@ impl<'a> Memory<'a> {
         access: Access,
         place: &'p Cell,
     ) -> Result<(&'p Object, u64), Stop>
-        requires { IsLaidOut setting.now.program.now.model setting.now.program.now.table.list }
+        requires { IsReady setting.now }
         ensures ok { IfOk result (λ found.
             GivesBoth setting.now log.old log.new
             (loads.locate_object (typed_program setting.now.program.now) (memory_of self.now)
@@ -378,7 +397,7 @@ impl<'a> Memory<'a> {
         object: &Object,
         offset: u64,
     ) -> Result<Operand, Stop>
-        requires { IsLaidOut setting.now.program.now.model setting.now.program.now.table.list }
+        requires { IsReady setting.now }
         ensures ok { IfOk result (λ operand.
             GivesBoth setting.now log.old log.new
             (loads.value_at (typed_program setting.now.program.now) (memory_of self.old)
@@ -411,7 +430,7 @@ impl<'a> Memory<'a> {
         object: &Object,
         offset: u64,
     ) -> Result<Operand, Stop>
-        requires { IsLaidOut setting.now.program.now.model setting.now.program.now.table.list }
+        requires { IsReady setting.now }
         ensures ok { IfOk result (λ operand.
             GivesBoth setting.now log.old log.new
             (struct_value (typed_program setting.now.program.now) (memory_of self.old)
@@ -423,8 +442,8 @@ impl<'a> Memory<'a> {
             (shape_of ty.now) (object_of object.now) offset)) }
         ensures counts { IfOk result (λ _. KeepsCounts self.old self.new) }
     {
-        let offsets = scalar_offsets(setting.program, ty)?;
-        let cells = self.read_all(log, setting, object, offset, &offsets)?;
+        let offsets = scalar_offsets(setting, ty)?;
+        let cells = self.read_all(log, setting, object, offset, offsets.as_slice())?;
         Ok(Operand::Whole(cells))
     }
 
@@ -437,7 +456,7 @@ impl<'a> Memory<'a> {
         object: &Object,
         offset: u64,
     ) -> Result<Operand, Stop>
-        requires { IsLaidOut setting.now.program.now.model setting.now.program.now.table.list }
+        requires { IsReady setting.now }
         ensures ok { IfOk result (λ operand.
             GivesBoth setting.now log.old log.new
             (scalar_value (typed_program setting.now.program.now) (memory_of self.old) place
@@ -464,7 +483,51 @@ impl<'a> Memory<'a> {
         from: u64,
         offsets: &[u64],
     ) -> Result<Vec<Cell>, Stop>
-        requires { IsLaidOut setting.now.program.now.model setting.now.program.now.table.list }
+        requires { IsReady setting.now }
+        ensures ok { IfOk result (λ cells.
+            GivesBoth setting.now log.old log.new
+            (loads.read_all (typed_program setting.now.program.now) (memory_of self.old)
+            (object_of object.now) from offsets.now) (memory_of self.new)
+            (map cell_of cells.items)) }
+        ensures err { IfErr result
+            (StopsInBoth setting.now log.old log.new
+            (loads.read_all (typed_program setting.now.program.now) (memory_of self.old)
+            (object_of object.now) from offsets.now)) }
+        ensures counts { IfOk result (λ _. KeepsCounts self.old self.new) }
+    {
+        match self.written_cells(object, from, offsets)? {
+            Some(cells) => Ok(cells),
+            None => self.read_each(log, setting, object, from, offsets),
+        }
+    }
+
+    // What the scalars of an object hold at offsets that are counted from another, where all of them were written, and none between them.
+    fn written_cells(
+        &self,
+        object: &Object,
+        from: u64,
+        offsets: &[u64],
+    ) -> Result<Option<Vec<Cell>>, AllocError>
+        ensures { IfOk result (λ found. IfSome found (λ cells.
+            HoldsAll (memory_of self.now) (object_of object.now) from offsets.now
+            (map cell_of cells.items))) }
+    {
+        match self.block(object) {
+            Some(block) => block.written_cells(*self.heap.allocator(), from, offsets),
+            None => Ok(None),
+        }
+    }
+
+    // The same, one after the other.
+    fn read_each(
+        &mut self,
+        log: &mut Log,
+        setting: &Setting<'a>,
+        object: &Object,
+        from: u64,
+        offsets: &[u64],
+    ) -> Result<Vec<Cell>, Stop>
+        requires { IsReady setting.now }
         ensures ok { IfOk result (λ cells.
             GivesBoth setting.now log.old log.new
             (loads.read_all (typed_program setting.now.program.now) (memory_of self.old)
@@ -494,7 +557,7 @@ impl<'a> Memory<'a> {
         access: Access,
         place: &Cell,
     ) -> Result<Operand, Stop>
-        requires { IsLaidOut setting.now.program.now.model setting.now.program.now.table.list }
+        requires { IsReady setting.now }
         ensures ok { IfOk result (λ operand.
             GivesBoth setting.now log.old log.new
             (loads.load_object (typed_program setting.now.program.now) (memory_of self.old) frame
@@ -523,7 +586,7 @@ impl<'a> Memory<'a> {
         place: &Cell,
         operand: &Operand,
     ) -> Result<(), Stop>
-        requires { IsLaidOut setting.now.program.now.model setting.now.program.now.table.list }
+        requires { IsReady setting.now }
         ensures ok { OnOk result
             (Gives setting.now log.old log.new
             (loads.store_object (typed_program setting.now.program.now) (memory_of self.old) frame
@@ -540,7 +603,7 @@ impl<'a> Memory<'a> {
             return Err(fault(Kind::ConstWrite, access.place));
         }
         touch_store(log, frame, at, access.local)?;
-        self.write_operand(setting.program, access.ty, found.0, found.1, operand)?;
+        self.write_operand(setting, access.ty, found.0, found.1, operand)?;
         Ok(())
     }
 }

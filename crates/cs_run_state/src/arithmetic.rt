@@ -6,9 +6,8 @@ ghost use Rattle.cs_types.specs.Wrap.{near_quotient, wrapped};
 ghost use Rattle.cs_events.specs.Operations as operations;
 ghost use Rattle.cs_run_state.specs.Results.{IsOwn, IsConverted};
 
-use crate::guessing::{lies_in, offsets};
 use cs_ast::typed::operator::{BinOp, CmpOp, UnOp};
-use cs_events::{Operation, Wrap};
+use cs_events::{Operation, Wrap, lies_in, offsets};
 use cs_types::{DataModel, IntType, multiply, product_bound, quotient, wrap};
 
 /// The result of an operation, and how its exact result lies to its type.
@@ -28,7 +27,7 @@ pub fn compute(model: DataModel, operation: Operation) -> Option<Computed>
         Operation::Convert(ty, number) => converted(model, ty, number),
         Operation::Compare(operator, left, right) => Some(truth(compares(operator, left, right))),
         Operation::Order(first, second) => Some(truth(order(first, second)?)),
-        Operation::Product(count, size) => Some(truth(product_fits(model, count, size)?)),
+        Operation::Product(count, size) => Some(truth(product_fits(model, count, size))),
         Operation::Sum(offset, amount, size) => Some(plain(moved(model, offset, amount, size)?)),
         Operation::Difference(left, right, size) => {
             Some(plain(elements_between(left, right, size)?))
@@ -221,13 +220,15 @@ fn order(first: i128, second: i128) -> Option<bool>
     Some(0 <= sum)
 }
 
-// Whether so many elements of so many bytes are at most what one allocation may ask for.
-fn product_fits(model: DataModel, count: i128, size: i128) -> Option<bool>
-    ensures { IfSome result (λ fits.
-        fits ≡ int_le (count *ℤ size) (pos (product_bound_of model))) }
+// Whether so many elements of so many bytes are at most what one allocation may ask for. A product that 128 bits don't hold is past
+// that, unless it is below 0.
+fn product_fits(model: DataModel, count: i128, size: i128) -> bool
+    ensures { result ≡ int_le (count *ℤ size) (pos (product_bound_of model)) }
 {
-    let product = count.checked_mul(size)?;
-    Some(product <= i128::from(product_bound(model)))
+    match count.checked_mul(size) {
+        Some(product) => product <= i128::from(product_bound(model)),
+        None => (count < 0) != (size < 0),
+    }
 }
 
 // The offset of a pointer that is moved: 0 in place of one past the bounds.

@@ -1,9 +1,10 @@
 //! What is known of an object: its type, its bytes, whether it is there, and what its scalars hold.
-ghost use Rattle.std.specs.Prelude.{◌≡◌, OnOk};
+ghost use Rattle.std.specs.Prelude.{◌≡◌, ◌+◌, map, Some, IfSome, IfOk, OnOk};
 ghost use Rattle.cs_run_state.specs.View.{cell_of};
 ghost use Rattle.cs_meaning.specs.Memory as meaning;
-ghost use Rattle.cs_run_state.specs.MemoryView.{block_of, fill_of, type_of, change_of};
+ghost use Rattle.cs_run_state.specs.MemoryView.{block_of, fill_of, type_of, change_of, written_at};
 
+use crate::initializers::Initializer;
 use crate::objects::Cell;
 use cs_ast::typed::expression::Expr;
 use cs_inputs::Path;
@@ -36,8 +37,7 @@ pub enum Piece<'a> {
 pub enum Fill<'a> {
     Unset,
     Zero,
-    /// A constant initializer.
-    Initial(Vec<Piece<'a>>),
+    Initial(Initializer<'a>),
     /// The inputs below a path.
     Input(Path),
 }
@@ -65,6 +65,26 @@ pub enum Change<'a> {
     Stand(Standing),
 }
 
+impl<'a> Fill<'a> {
+    /// The same once more.
+    pub fn copy(&self) -> Result<Fill<'a>, AllocError>
+        ensures { IfOk result (λ made. fill_of made ≡ fill_of self.now) }
+    {
+        match self {
+            Fill::Unset => Ok(Fill::Unset),
+            Fill::Zero => Ok(Fill::Zero),
+            Fill::Initial(initializer) => {
+                let initializer = initializer.copy()?;
+                Ok(Fill::Initial(initializer))
+            }
+            Fill::Input(path) => {
+                let path = path.copy()?;
+                Ok(Fill::Input(path))
+            }
+        }
+    }
+}
+
 impl<'a> Block<'a> {
     /// An object that is there and was not written.
     pub fn new(alloc: Global, ty: BlockType<'a>, extent: u64, fill: Fill<'a>) -> Block<'a>
@@ -78,6 +98,47 @@ impl<'a> Block<'a> {
             fill,
             written: BTreeMap::new(alloc),
         }
+    }
+
+    /// The same object once more.
+    pub fn copy(&self) -> Result<Block<'a>, AllocError>
+        ensures { IfOk result (λ made. block_of made ≡ block_of self.now) }
+    {
+        let fill = self.fill.copy()?;
+        let written = self.written.clone()?;
+        Ok(Block {
+            ty: self.ty,
+            extent: self.extent,
+            standing: self.standing,
+            fill,
+            written,
+        })
+    }
+
+    /// What was written at offsets that are counted from another, in order; nothing unless all of them were, and none between them.
+    pub fn written_cells(
+        &self,
+        alloc: Global,
+        from: u64,
+        offsets: &[u64],
+    ) -> Result<Option<Vec<Cell>>, AllocError>
+        ensures { IfOk result (λ found. IfSome found (λ cells.
+            map (λ offset. written_at self.now (from + offset)) offsets.now
+            ≡ map (λ cell. Some (cell_of cell)) cells.items)) }
+    {
+        let mut cells = Vec::with_capacity(alloc, offsets.len())?;
+        // Entries that stand in a row are found without a search for each.
+        let mut entries = self.written.range(from..);
+        for offset in offsets {
+            let Some((at, cell)) = entries.next() else {
+                return Ok(None);
+            };
+            if from.checked_add(*offset) != Some(*at) {
+                return Ok(None);
+            }
+            cells.push(cell.copy()?)?;
+        }
+        Ok(Some(cells))
     }
 
     /// Changes the object.

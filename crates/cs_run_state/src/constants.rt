@@ -1,5 +1,5 @@
 //! What constant expressions give (C11 6.6).
-ghost use Rattle.std.specs.Prelude.{◌≡◌, IfOk};
+ghost use Rattle.std.specs.Prelude.{◌≡◌, ◌+ℤ◌, ◌*ℤ◌, pos, IfOk};
 ghost use Rattle.cs_types.specs.Shape.{shape_of, integer};
 ghost use Rattle.cs_types.specs.Layout.{IsLaidOut};
 ghost use Rattle.cs_ast.specs.TypedProgram.{typed_program};
@@ -12,13 +12,13 @@ ghost use Rattle.cs_run_state.specs.View.{cell_of};
 
 use crate::logs::own_result;
 use crate::objects::{Cell, Object, let_go_of_object};
-use crate::operations::{Stride, binary_operation, comparison, conversion, pointer_sum, stride_of};
+use crate::operations::{Stride, binary_operation, comparison, conversion, stride_of};
 use crate::types::size_of;
 use cs_ast::typed::expression::{Expr, ExprKind};
 use cs_ast::typed::operator::{Direction, UnOp};
 use cs_ast::typed::program::Program;
 use cs_events::Operation;
-use cs_types::{CType, DataModel, IntType};
+use cs_types::{CType, DataModel, IntType, offset_bound};
 use std::alloc::AllocError;
 
 /// The value of a constant expression: each operation has its own result.
@@ -189,14 +189,31 @@ fn moved(model: DataModel, pointer: Cell, stride: Stride) -> Result<Cell, AllocE
     }
 }
 
-// The offset of a pointer that is moved.
+// The offset of a pointer that is moved: past a bound, the bound.
 fn moved_offset(model: DataModel, offset: &i128, stride: Stride) -> Result<i128, AllocError>
     ensures { IfOk result (λ moved.
-        moved ≡ operations.own_result model
-        (Operation.Sum offset.now stride.amount stride.size)) }
+        moved ≡ initials.clamped model (offset.now +ℤ stride.amount *ℤ pos stride.size)) }
 {
-    let own = own_result(model, pointer_sum(offset, stride))?;
-    Ok(own.number)
+    let by = stride
+        .amount
+        .checked_mul(i128::from(stride.size))
+        .ok_or(AllocError)?;
+    let moved = offset.checked_add(by).ok_or(AllocError)?;
+    Ok(clamped(model, moved))
+}
+
+// An offset, or the nearer of the two bounds of offsets.
+fn clamped(model: DataModel, offset: i128) -> i128
+    ensures { result ≡ initials.clamped model offset }
+{
+    let bound = offset_bound(model);
+    if bound < offset {
+        bound
+    } else if offset < -bound {
+        -bound
+    } else {
+        offset
+    }
 }
 
 // A cell converted to a type.

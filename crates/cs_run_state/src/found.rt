@@ -1,20 +1,21 @@
 //! What is found in a scalar of memory.
-ghost use Rattle.std.specs.Prelude.{◌≡◌, IfOk, OnOk, IfErr, Some};
+ghost use Rattle.std.specs.Prelude.{◌≡◌, IfOk, OnOk, IfErr, Some, None, if◌then◌else◌};
 ghost use Rattle.cs_types.specs.Layout.{IsLaidOut};
 ghost use Rattle.cs_ast.specs.TypedProgram.{typed_program};
 ghost use Rattle.cs_meaning.specs.Memory as meaning;
 ghost use Rattle.cs_meaning.specs.Access as access;
+ghost use Rattle.cs_run_state.specs.Prepared.{IsReady};
 ghost use Rattle.cs_run_state.specs.View.{cell_of, object_of};
 ghost use Rattle.cs_run_state.specs.MemoryView.{type_of, block_of, fill_of, memory_of, KeepsCounts};
 ghost use Rattle.cs_run_state.specs.FoundView.{found_of};
 ghost use Rattle.cs_run_state.specs.Pieces.{GivesBoth, StopsInBoth};
 
 use crate::blocks::{Block, BlockType, Fill};
-use crate::inputs::input_cell;
+use crate::inputs::input_kind;
 use crate::logs::{Log, Stop};
 use crate::memory::Memory;
 use crate::objects::{Cell, Object};
-use crate::pieces::{initial_cell, zero_of};
+use crate::pieces::zero_of;
 use crate::settings::Setting;
 use cs_ast::typed::program::Program;
 use cs_inputs::Path;
@@ -29,7 +30,7 @@ pub enum Found<'a> {
 }
 
 // Where an offset lies in an object's type: a start or heap block has one element after the other, without an end.
-pub fn position(
+fn position(
     program: &Program,
     object: &Object,
     block: &Block,
@@ -55,7 +56,37 @@ pub fn position(
     }
 }
 
-// The rest of an offset by the bytes of an element; an element without bytes is there once.
+/// Where an offset lies in an object's type, if the object has cells: a start or heap block has none where its elements have no
+/// bytes.
+pub fn cell_position(
+    program: &Program,
+    object: &Object,
+    block: &Block,
+    offset: u64,
+) -> Result<Option<u64>, AllocError>
+    requires { IsLaidOut program.now.model program.now.table.list }
+    ensures { IfOk result (λ position.
+        position ≡ (if meaning.has_cells (typed_program program.now) (object_of object.now)
+        (block_of block.now)
+        then Some (meaning.position (typed_program program.now) (object_of object.now)
+        (block_of block.now) offset) else None)) }
+{
+    match object {
+        Object::Start(_) => {
+            let size = block.ty.size(program)?;
+            Ok(offset.checked_rem(size))
+        }
+        Object::Heap(_) => {
+            let size = block.ty.size(program)?;
+            Ok(offset.checked_rem(size))
+        }
+        Object::Global(_) => Ok(Some(offset)),
+        Object::Literal(_) => Ok(Some(offset)),
+        Object::Local(_, _) => Ok(Some(offset)),
+    }
+}
+
+// The rest of an offset by the bytes of an element, if it has any.
 fn rest_of(offset: u64, bytes: u64) -> u64
     ensures { result ≡ meaning.rest_of offset bytes }
 {
@@ -94,8 +125,8 @@ fn filled<'a>(
     match fill {
         Fill::Unset => Ok(Found::Holds(Cell::Unset)),
         Fill::Zero => Ok(Found::Holds(zero_of(scalar))),
-        Fill::Initial(pieces) => {
-            let cell = initial_cell(program, scalar, pieces, offset)?;
+        Fill::Initial(initializer) => {
+            let cell = initializer.cell(program, scalar, offset)?;
             Ok(Found::Holds(cell))
         }
         Fill::Input(root) => {
@@ -164,7 +195,7 @@ impl<'a> Memory<'a> {
         setting: &Setting<'a>,
         found: Found<'a>,
     ) -> Result<Cell, Stop>
-        requires { IsLaidOut setting.now.program.now.model setting.now.program.now.table.list }
+        requires { IsReady setting.now }
         ensures ok { IfOk result (λ cell.
             GivesBoth setting.now log.old log.new
             (access.receive (typed_program setting.now.program.now) (memory_of self.old)
@@ -192,7 +223,7 @@ impl<'a> Memory<'a> {
         path: Path,
         scalar: BlockType<'a>,
     ) -> Result<Cell, Stop>
-        requires { IsLaidOut setting.now.program.now.model setting.now.program.now.table.list }
+        requires { IsReady setting.now }
         ensures ok { IfOk result (λ cell.
             GivesBoth setting.now log.old log.new
             (access.receive (typed_program setting.now.program.now) (memory_of self.old)
@@ -203,9 +234,9 @@ impl<'a> Memory<'a> {
             (meaning.Unknown path (type_of scalar.entry)))) }
         ensures counts { IfOk result (λ _. KeepsCounts self.old self.new) }
     {
-        let number = log.read_input(setting, path.copy()?)?;
-        self.open(setting.program, &path, scalar, None, &number)?;
-        Ok(input_cell(setting.program.model, path, scalar, &number))
+        let cell = log.read_input(setting, &path, input_kind(scalar))?;
+        self.open(setting.program, &path, scalar, None, &cell)?;
+        Ok(cell)
     }
 
     /// What a scalar of an object holds.
@@ -216,7 +247,7 @@ impl<'a> Memory<'a> {
         object: &Object,
         offset: u64,
     ) -> Result<Cell, Stop>
-        requires { IsLaidOut setting.now.program.now.model setting.now.program.now.table.list }
+        requires { IsReady setting.now }
         ensures ok { IfOk result (λ cell.
             GivesBoth setting.now log.old log.new
             (access.read (typed_program setting.now.program.now) (memory_of self.old)

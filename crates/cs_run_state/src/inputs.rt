@@ -1,56 +1,76 @@
-//! What inputs give: the value of a scalar by its path's number, and the block that comes with a pointer.
+//! What inputs give: the cell of a scalar by its path's number, and the block that comes with a pointer.
 ghost use Rattle.std.specs.Prelude.{◌≡◌, pos, IfOk, OnOk, if◌then◌else◌};
 ghost use Rattle.cs_types.specs.Shape.{shape_of, pointer};
 ghost use Rattle.cs_types.specs.Layout.{IsLaidOut};
 ghost use Rattle.cs_ast.specs.TypedProgram.{typed_program};
 ghost use Rattle.cs_events.specs.Objects.{StartBlock, NumberCell, NullCell, PointerCell};
 ghost use Rattle.cs_events.specs.Operations as operations;
-ghost use Rattle.cs_events.specs.Runs as runs;
+ghost use Rattle.cs_events.specs.InputCells as inputs;
 ghost use Rattle.cs_meaning.specs.Types as types;
 ghost use Rattle.cs_meaning.specs.Memory as meaning;
-ghost use Rattle.cs_meaning.specs.Inputs as inputs;
+ghost use Rattle.cs_meaning.specs.Inputs as opening;
 ghost use Rattle.cs_run_state.specs.View.{cell_of};
 ghost use Rattle.cs_run_state.specs.MemoryView.{type_of, block_of, memory_of, KeepsCounts};
 
 use crate::arithmetic::is_true;
 use crate::blocks::{Block, BlockType, Fill};
-use crate::guessing::{lies_in, numbers_of};
 use crate::memory::Memory;
 use crate::objects::{Cell, Object};
 use cs_ast::typed::program::Program;
+use cs_events::{InputKind, lies_in, numbers_of};
 use cs_inputs::Path;
 use cs_types::{CType, DataModel, IntType, start_extent};
 use std::alloc::{AllocError, Global};
 
-/// The value that a number gives a scalar: the number, or 0 where the type doesn't hold it; null for 0, else a block of its own.
-pub fn input_cell(model: DataModel, path: Path, scalar: BlockType, number: &i128) -> Cell
-    ensures { cell_of result ≡ inputs.input_cell model path (type_of scalar.entry) number.now }
+/// What an input of a scalar type gives.
+pub fn input_kind(scalar: BlockType) -> InputKind
+    ensures { result ≡ inputs.input_kind (type_of scalar.entry) }
 {
     match scalar {
-        BlockType::Of(ty) => typed_cell(model, path, ty, number),
-        BlockType::Integer(ty) => integer_cell(model, ty, number),
-        BlockType::Text(_) => Cell::Unset,
-        BlockType::Void => Cell::Unset,
+        BlockType::Of(ty) => typed_kind(ty),
+        BlockType::Integer(ty) => InputKind::Integer(ty),
+        BlockType::Text(_) => InputKind::Nothing,
+        BlockType::Void => InputKind::Nothing,
     }
 }
 
-// The value of a scalar of a type of the program.
-fn typed_cell(model: DataModel, path: Path, ty: &CType, number: &i128) -> Cell
-    ensures { cell_of result ≡ inputs.input_cell model path (shape_of ty.now) number.now }
+// What an input of a type of the program gives.
+fn typed_kind(ty: &CType) -> InputKind
+    ensures { result ≡ inputs.input_kind (shape_of ty.now) }
 {
     match ty {
-        CType::Int(ty) => integer_cell(model, *ty, number),
-        CType::Pointer(_) => pointer_cell(path, number),
-        CType::Void => Cell::Unset,
-        CType::Array(_, _) => Cell::Unset,
-        CType::Struct(_) => Cell::Unset,
+        CType::Int(ty) => InputKind::Integer(*ty),
+        CType::Pointer(_) => InputKind::Pointer,
+        CType::Void => InputKind::Nothing,
+        CType::Array(_, _) => InputKind::Nothing,
+        CType::Struct(_) => InputKind::Nothing,
+    }
+}
+
+/// The cell that the number of an input gives: the number, or 0 where the type doesn't hold it; null for 0, else a block of its
+/// own.
+pub fn input_cell(
+    model: DataModel,
+    path: &Path,
+    kind: InputKind,
+    number: &i128,
+) -> Result<Cell, AllocError>
+    ensures { IfOk result (λ cell.
+        cell_of cell ≡ inputs.input_cell model path.now kind number.now) }
+{
+    match kind {
+        InputKind::Integer(ty) => Ok(integer_cell(model, ty, number)),
+        InputKind::Pointer => pointer_cell(path, number),
+        InputKind::Allocation => Ok(Cell::Unset),
+        InputKind::Nothing => Ok(Cell::Unset),
     }
 }
 
 // The value of a scalar of an integer type.
 fn integer_cell(model: DataModel, ty: IntType, number: &i128) -> Cell
     ensures { cell_of result ≡ NumberCell
-        (if runs.lies_in (operations.numbers_of model ty) number.now then number.now else pos 0) }
+        (if inputs.lies_in (operations.numbers_of model ty) number.now
+        then number.now else pos 0) }
 {
     if lies_in(numbers_of(model, ty), *number) {
         Cell::Number(*number)
@@ -60,15 +80,16 @@ fn integer_cell(model: DataModel, ty: IntType, number: &i128) -> Cell
 }
 
 // The value of a pointer.
-fn pointer_cell(path: Path, number: &i128) -> Cell
-    ensures { cell_of result
-        ≡ (if operations.is_true number.now then PointerCell (StartBlock path) (pos 0)
-        else NullCell) }
+fn pointer_cell(path: &Path, number: &i128) -> Result<Cell, AllocError>
+    ensures { IfOk result (λ cell. cell_of cell
+        ≡ (if operations.is_true number.now then PointerCell (StartBlock path.now) (pos 0)
+        else NullCell)) }
 {
     if is_true(*number) {
-        Cell::Pointer(Object::Start(path), 0)
+        let path = path.copy()?;
+        Ok(Cell::Pointer(Object::Start(path), 0))
     } else {
-        Cell::Null
+        Ok(Cell::Null)
     }
 }
 
@@ -122,24 +143,24 @@ fn start_block<'a>(
 }
 
 impl<'a> Memory<'a> {
-    /// A scalar with a path has the value of a number: the block after a pointer is there from now on. It has so many elements
-    /// where that is known.
+    /// A scalar with a path has this cell: the block after a pointer is there from now on. It has so many elements where that is
+    /// known.
     pub fn open(
         &mut self,
         program: &'a Program,
         path: &Path,
         scalar: BlockType<'a>,
         count: Option<u64>,
-        number: &i128,
+        cell: &Cell,
     ) -> Result<(), AllocError>
         requires { IsLaidOut program.now.model program.now.table.list }
         ensures memory { OnOk result
-            (memory_of self.new ≡ inputs.opened (typed_program program.now) path.now
-            (type_of scalar.entry) count number.now (memory_of self.old)) }
+            (memory_of self.new ≡ opening.opened (typed_program program.now) path.now
+            (type_of scalar.entry) count (cell_of cell.now) (memory_of self.old)) }
         ensures counts { OnOk result (KeepsCounts self.old self.new) }
     {
         match scalar {
-            BlockType::Of(ty) => self.open_type(program, path, ty, count, number),
+            BlockType::Of(ty) => self.open_type(program, path, ty, count, cell),
             BlockType::Integer(_) => Ok(()),
             BlockType::Text(_) => Ok(()),
             BlockType::Void => Ok(()),
@@ -153,16 +174,16 @@ impl<'a> Memory<'a> {
         path: &Path,
         ty: &'a CType,
         count: Option<u64>,
-        number: &i128,
+        cell: &Cell,
     ) -> Result<(), AllocError>
         requires { IsLaidOut program.now.model program.now.table.list }
         ensures memory { OnOk result
-            (memory_of self.new ≡ inputs.opened (typed_program program.now) path.now
-            (shape_of ty.now) count number.now (memory_of self.old)) }
+            (memory_of self.new ≡ opening.opened (typed_program program.now) path.now
+            (shape_of ty.now) count (cell_of cell.now) (memory_of self.old)) }
         ensures counts { OnOk result (KeepsCounts self.old self.new) }
     {
         match ty {
-            CType::Pointer(target) => self.open_target(program, path, target, count, number),
+            CType::Pointer(target) => self.open_target(program, path, target, count, cell),
             CType::Void => Ok(()),
             CType::Int(_) => Ok(()),
             CType::Array(_, _) => Ok(()),
@@ -177,28 +198,41 @@ impl<'a> Memory<'a> {
         path: &Path,
         target: &'a CType,
         count: Option<u64>,
-        number: &i128,
+        cell: &Cell,
     ) -> Result<(), AllocError>
         requires { IsLaidOut program.now.model program.now.table.list }
         ensures memory { OnOk result
-            (memory_of self.new ≡ inputs.opened (typed_program program.now) path.now
-            (pointer (shape_of target.now)) count number.now (memory_of self.old)) }
+            (memory_of self.new ≡ opening.opened (typed_program program.now) path.now
+            (pointer (shape_of target.now)) count (cell_of cell.now) (memory_of self.old)) }
         ensures counts { OnOk result (KeepsCounts self.old self.new) }
     {
-        if has_target(number) {
-            let alloc = *self.heap.allocator();
-            let root = path.copy()?;
-            let own = path.copy()?;
-            let block = start_block(alloc, program, root, target, count)?;
-            self.add_start(own, block)?;
+        match cell {
+            Cell::Pointer(_, _) => self.open_block(program, path, target, count),
+            Cell::Null => Ok(()),
+            Cell::Number(_) => Ok(()),
+            Cell::Unset => Ok(()),
         }
-        Ok(())
     }
-}
 
-// Whether a pointer whose path has a number isn't null.
-fn has_target(number: &i128) -> bool
-    ensures { result ≡ operations.is_true number.now }
-{
-    is_true(*number)
+    // The block after a pointer to a type is there from now on.
+    fn open_block(
+        &mut self,
+        program: &'a Program,
+        path: &Path,
+        target: &'a CType,
+        count: Option<u64>,
+    ) -> Result<(), AllocError>
+        requires { IsLaidOut program.now.model program.now.table.list }
+        ensures memory { OnOk result
+            (memory_of self.new ≡ meaning.with_new_block (StartBlock path.now)
+            (meaning.start_block (typed_program program.now) path.now (shape_of target.now) count)
+            (memory_of self.old)) }
+        ensures counts { OnOk result (KeepsCounts self.old self.new) }
+    {
+        let alloc = *self.heap.allocator();
+        let root = path.copy()?;
+        let own = path.copy()?;
+        let block = start_block(alloc, program, root, target, count)?;
+        self.add_start(own, block)
+    }
 }

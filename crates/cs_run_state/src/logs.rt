@@ -6,18 +6,21 @@ ghost use Rattle.cs_events.specs.Acts.{Asks, Allocates, Reaches, Reads, Touches}
 ghost use Rattle.cs_events.specs.Runs as runs;
 ghost use Rattle.cs_events.specs.Operations as operations;
 ghost use Rattle.cs_meaning.specs.Access.{shows_then};
-ghost use Rattle.cs_run_state.specs.View.{object_of, touch_of, setting_of, log_of};
+ghost use Rattle.cs_run_state.specs.View.{object_of, cell_of, touch_of, pending_of, setting_of, log_of};
 ghost use Rattle.cs_run_state.specs.declared.logs.Stop.TheVariants.{Memory};
 ghost use Rattle.cs_run_state.specs.declared.settings.Setting.{Setting as SettingOfRun};
 ghost use Rattle.cs_run_state.specs.Results.{IsOwn};
 ghost use Rattle.cs_run_state.specs.Pieces.{GoesOn, Gives, EndsIn, StopsIn};
 
 use crate::arithmetic::{Computed, compute, is_true};
-use crate::guessing::{guess_range, lies_in};
-use crate::objects::Object;
+use crate::inputs::input_cell;
+use crate::objects::{Cell, Object};
 use crate::settings::Setting;
 use cs_ast::Place;
-use cs_events::{Budget, Event, Guess, Label, Operation, Outcome, PointKind, Wrap};
+use cs_events::{
+    Budget, Event, Guess, InputKind, Label, Lookup, Operation, Outcome, PointKind, Wrap,
+    guess_range, lies_in,
+};
 use cs_inputs::Path;
 use cs_types::DataModel;
 use std::alloc::{AllocError, AllocFailed, Global};
@@ -34,11 +37,24 @@ pub enum Touch {
     Clears(u64, u32, Place),
 }
 
+/// What is about to show as an event at a place.
+#[derive(Drop)]
+pub enum Pending {
+    /// An operation with its operands.
+    Operates(Place, Operation),
+    /// An allocation, by the path of the input that decides whether it gives a block.
+    Tries(Place, Path),
+    /// An access to an object at an offset in bytes. The object is boxed, so that an entry takes no more than an operation needs.
+    Accesses(Place, Box<Object>, i128),
+}
+
 /// What a run has shown, read and touched so far, each in order.
 #[derive(Drop)]
 pub struct Log {
     pub events: Vec<Event>,
-    pub read: Vec<Path>,
+    /// What was pending at each event.
+    pub pending: Vec<Pending>,
+    pub read: Vec<Lookup>,
     pub touches: Vec<Touch>,
 }
 
@@ -74,6 +90,7 @@ impl Log {
     {
         Log {
             events: Vec::new(alloc),
+            pending: Vec::new(alloc),
             read: Vec::new(alloc),
             touches: Vec::new(alloc),
         }
@@ -94,7 +111,8 @@ impl Log {
         }
         let guess = self.used_guess(setting, operation);
         let own = own_result(setting.program.model, operation)?;
-        self.push(place, label(operation, own, guess))?;
+        let shown = label(operation, own, guess);
+        self.push(Pending::Operates(place, operation), place, shown)?;
         Ok(leading(own.number, guess))
     }
 
@@ -106,18 +124,30 @@ impl Log {
         if !self.has_room(setting) {
             return Err(Stop::Outcome(Outcome::Over(Budget::Events, place)));
         }
-        self.push(place, label)?;
+        self.push(
+            Pending::Operates(place, Operation::Show(label)),
+            place,
+            label,
+        )?;
         Ok(())
     }
 
-    /// The number of an input is looked up.
-    pub fn read_input(&mut self, setting: &Setting, path: Path) -> Result<i128, Stop>
-        ensures ok { IfOk result (Gives setting.now self.old self.new (Reads path)) }
-        ensures err { IfErr result (StopsIn setting.now self.old self.new (Reads path)) }
+    /// An input of a kind is looked up: what it gives.
+    pub fn read_input(
+        &mut self,
+        setting: &Setting,
+        path: &Path,
+        kind: InputKind,
+    ) -> Result<Cell, Stop>
+        ensures ok { IfOk result (λ cell.
+            Gives setting.now self.old self.new (Reads path.now kind) (cell_of cell)) }
+        ensures err { IfErr result
+            (StopsIn setting.now self.old self.new (Reads path.now kind)) }
     {
-        let number = setting.inputs.get(&path);
-        self.read.push(path)?;
-        Ok(number)
+        let number = setting.inputs.get(path);
+        self.look_up(path.copy()?, kind)?;
+        let cell = input_cell(setting.program.model, path, kind, &number)?;
+        Ok(cell)
     }
 
     /// An allocation shows at a place: whether it gives a block is an input.
@@ -134,8 +164,8 @@ impl Log {
             return Err(Stop::Outcome(Outcome::Over(Budget::Events, place)));
         }
         let given = is_true(setting.inputs.get(&path));
-        self.read.push(path)?;
-        self.push(place, Label::Alloc(given))?;
+        self.look_up(path.copy()?, InputKind::Allocation)?;
+        self.push(Pending::Tries(place, path), place, Label::Alloc(given))?;
         Ok(given)
     }
 
@@ -155,7 +185,9 @@ impl Log {
         if !self.has_room(setting) {
             return Err(Stop::Outcome(Outcome::Over(Budget::Events, place)));
         }
-        self.push(place, Label::Offset(offset_shown(offset)))?;
+        let object = Box::new(*self.events.allocator(), object.copy()?)?;
+        let shown = Label::Offset(offset_shown(offset));
+        self.push(Pending::Accesses(place, object, offset), place, shown)?;
         Ok(())
     }
 
@@ -175,12 +207,22 @@ impl Log {
         (self.events.len() as u64) < setting.budgets.events
     }
 
-    // One more event.
-    fn push(&mut self, place: Place, label: Label) -> Result<(), AllocError>
+    // One more event, and what was pending there.
+    fn push(&mut self, pending: Pending, place: Place, label: Label) -> Result<(), AllocError>
         ensures { OnOk result (log_of self.new
-            ≡ runs.with_event (log_of self.old) (record { place = place; label = label })) }
+            ≡ runs.with_event (log_of self.old) (pending_of pending)
+            (record { place = place; label = label })) }
     {
         self.events.push(Event { place, label })?;
+        self.pending.push(pending)?;
+        Ok(())
+    }
+
+    // One more input that was looked up.
+    fn look_up(&mut self, path: Path, kind: InputKind) -> Result<(), AllocError>
+        ensures { OnOk result (log_of self.new ≡ runs.with_read (log_of self.old) path kind) }
+    {
+        self.read.push(Lookup { path, kind })?;
         Ok(())
     }
 

@@ -2,11 +2,11 @@
 #![tactic(auto, using(crate::proofs::States::states), unfolding(crate::specs::MachineView::state_of))]
 
 ghost use Rattle.std.specs.Prelude.{◌≡◌, [], ◌∷◌, OnOk, IfOk, IfErr, IfSome, IfNone};
-ghost use Rattle.cs_types.specs.Layout.{IsLaidOut};
 ghost use Rattle.cs_ast.specs.TypedProgram.{typed_program};
 ghost use Rattle.cs_meaning.specs.Access as loads;
 ghost use Rattle.cs_meaning.specs.Expressions as expressions;
 ghost use Rattle.cs_meaning.specs.Machine as machine;
+ghost use Rattle.cs_run_state.specs.Prepared.{IsReady};
 ghost use Rattle.cs_run_state.specs.View.{cell_of, operand_of};
 ghost use Rattle.cs_run_state.specs.AccessView.{access_of};
 ghost use Rattle.cs_run_state.specs.MachineView.{item_of, state_of};
@@ -177,7 +177,7 @@ impl<'a> Machine<'a> {
         access: Access,
         place: &Cell,
     ) -> Result<Operand, Stop>
-        requires { IsLaidOut setting.now.program.now.model setting.now.program.now.table.list }
+        requires { IsReady setting.now }
         ensures ok { IfOk result (λ operand.
             GivesBoth setting.now log.old log.new
             (loads.load_object (typed_program setting.now.program.now) (state_of self.old).memory
@@ -206,7 +206,7 @@ impl<'a> Machine<'a> {
         place: &Cell,
         operand: &Operand,
     ) -> Result<(), Stop>
-        requires { IsLaidOut setting.now.program.now.model setting.now.program.now.table.list }
+        requires { IsReady setting.now }
         ensures ok { OnOk result
             (Gives setting.now log.old log.new
             (loads.store_object (typed_program setting.now.program.now) (state_of self.old).memory

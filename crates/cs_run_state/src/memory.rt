@@ -1,34 +1,56 @@
 //! The memory of a run: its objects, and what their scalars hold.
-ghost use Rattle.std.specs.Prelude.{◌≡◌, ◌==◌, ◌&&◌, ◌+◌, ℕ, length, if◌then◌else◌, option_map, option_copied, OnOk};
+ghost use Rattle.std.specs.Prelude.{◌≡◌, ◌==◌, ◌&&◌, ◌+◌, ℕ, [], length, None, if◌then◌else◌, option_map, option_copied, OnOk};
+ghost use Rattle.std.specs.BTreeMap.{get};
+ghost use Rattle.std.specs.Ordering.{nat_cmp};
 ghost use Rattle.cs_inputs.specs.declared.path.Path.{Path};
 ghost use Rattle.cs_inputs.specs.PathOrder.{path_order};
 ghost use Rattle.cs_events.specs.Objects.{is_equal, StartBlock, HeapBlock};
 ghost use Rattle.cs_meaning.specs.Calls.{without_locals};
 ghost use Rattle.cs_meaning.specs.Memory as meaning;
 ghost use Rattle.cs_run_state.specs.View.{object_of};
-ghost use Rattle.cs_run_state.specs.MemoryView.{block_of, memory_of, change_of, changed_at, block_at, start_in, local_in, given_in, KeepsCounts, with_frame};
+ghost use Rattle.cs_run_state.specs.Prepared.{statics_of};
+ghost use Rattle.cs_run_state.specs.MemoryView.{block_of, memory_of, change_of, changed_at, block_at, static_at, start_in, local_in, given_in, KeepsCounts, with_frame};
 
 use crate::blocks::{Block, Change};
 use crate::objects::Object;
+use crate::prepared::Prepared;
 use cs_inputs::Path;
-use cs_model::Standing;
-use std::alloc::AllocError;
+use std::alloc::{AllocError, Global};
 use std::collections::BTreeMap;
 
-/// The objects that are or were there, each kind with the numbers that name it.
+/// The objects that are there, released blocks among them, each kind with the numbers that name it.
 #[derive(Drop)]
 pub struct Memory<'a> {
     /// The blocks after unknown pointers, by the pointers' paths.
     pub starts: BTreeMap<Path, Block<'a>>,
-    pub globals: Vec<Block<'a>>,
-    pub literals: Vec<Block<'a>>,
-    /// The locals of each frame that there was, by the frame's number.
+    /// What the program's runs share: among it the file-scope objects and string literals that weren't changed.
+    pub prepared: &'a Prepared<'a>,
+    /// The file-scope objects that were changed, by their numbers, and the string literals.
+    pub globals: BTreeMap<u32, Block<'a>>,
+    pub literals: BTreeMap<u32, Block<'a>>,
+    /// The locals of each frame by its number; a frame that has ended has none.
     pub frames: Vec<Vec<Block<'a>>>,
     /// What each allocation gave, from the first one on.
     pub heap: Vec<Option<Block<'a>>>,
 }
 
 impl<'a> Memory<'a> {
+    /// The memory with which runs begin, before the first frame.
+    pub fn new(alloc: Global, prepared: &'a Prepared<'a>) -> Memory<'a>
+        ensures memory { memory_of result ≡ statics_of prepared.now }
+        ensures frames { result.frames.items ≡ [] }
+        ensures heap { result.heap.items ≡ [] }
+    {
+        Memory {
+            starts: BTreeMap::new(alloc),
+            prepared,
+            globals: BTreeMap::new(alloc),
+            literals: BTreeMap::new(alloc),
+            frames: Vec::new(alloc),
+            heap: Vec::new(alloc),
+        }
+    }
+
     /// What is known of an object.
     pub fn block(&self, object: &Object) -> Option<&Block<'a>>
         ensures { option_map block_of (option_copied result)
@@ -36,8 +58,12 @@ impl<'a> Memory<'a> {
     {
         match object {
             Object::Start(path) => self.starts.get(path),
-            Object::Global(global) => self.globals.get(*global as usize),
-            Object::Literal(literal) => self.literals.get(*literal as usize),
+            Object::Global(global) => static_in(&self.globals, &self.prepared.globals, *global),
+            Object::Literal(literal) => static_in(
+                &self.literals,
+                &self.prepared.literals,
+                *literal,
+            ),
             Object::Local(frame, declaration) => {
                 self.frames.get(*frame as usize)?.get(*declaration as usize)
             }
@@ -57,8 +83,17 @@ impl<'a> Memory<'a> {
     {
         match object {
             Object::Start(path) => change_start(&mut self.starts, path, change)?,
-            Object::Global(global) => change_at(&mut self.globals, *global as usize, change)?,
-            Object::Literal(literal) => change_at(&mut self.literals, *literal as usize, change)?,
+            Object::Global(global) => {
+                change_static(&mut self.globals, &self.prepared.globals, *global, change)?;
+            }
+            Object::Literal(literal) => {
+                change_static(
+                    &mut self.literals,
+                    &self.prepared.literals,
+                    *literal,
+                    change,
+                )?;
+            }
             Object::Local(frame, declaration) => {
                 change_local(
                     &mut self.frames,
@@ -123,27 +158,22 @@ impl<'a> Memory<'a> {
         Ok(())
     }
 
-    /// A frame has ended, and with it its locals (C11 6.2.4, paragraph 2).
+    /// A frame has ended: its locals are there no more (C11 6.2.4, paragraph 2).
     pub fn end_frame(&mut self, frame: u64)
         ensures memory { memory_of self.new ≡ without_locals frame (memory_of self.old) }
         ensures counts { KeepsCounts self.old self.new }
     {
         if (frame as usize) < self.frames.len() {
-            end_all(&mut self.frames[frame as usize]);
+            clear(&mut self.frames[frame as usize]);
         }
     }
 }
 
-// Ends all objects of a row.
-fn end_all(row: &mut Vec<Block>)
-    ensures { (n : ℕ) → block_at row.new.items n
-        ≡ option_map (meaning.stand Standing.Ended) (block_at row.old.items n) }
+// Drops all objects of a row.
+fn clear(row: &mut Vec<Block>)
+    ensures { row.new.items ≡ [] }
 {
-    let mut ended = 0;
-    while ended < row.len() {
-        row[ended].standing = Standing::Ended;
-        ended += 1;
-    }
+    *row = Vec::new(*row.allocator());
 }
 
 // Adds the block after an unknown pointer, unless it is there.
@@ -182,6 +212,60 @@ fn change_start<'a>(
     match starts.get_mut(path) {
         Some(block) => block.change(change),
         None => Ok(()),
+    }
+}
+
+// A static object: as it was changed, or else as a run begins with it.
+fn static_in<'m, 'a>(
+    changed: &'m BTreeMap<u32, Block<'a>>,
+    row: &'m [Block<'a>],
+    number: u32,
+) -> Option<&'m Block<'a>>
+    ensures { option_map block_of (option_copied result) ≡ static_at changed.now row.now number }
+{
+    match changed.get(&number) {
+        Some(block) => Some(block),
+        None => row.get(number as usize),
+    }
+}
+
+// Changes a static object, if it is there.
+fn change_static<'a>(
+    changed: &mut BTreeMap<u32, Block<'a>>,
+    row: &[Block<'a>],
+    number: u32,
+    change: Change<'a>,
+) -> Result<(), AllocError>
+    ensures { OnOk result ((n : ℕ)
+        → static_at changed.new row.now n
+        ≡ changed_at (change_of change.entry) number (static_at changed.old row.now) n) }
+{
+    match changed.get_mut(&number) {
+        Some(block) => block.change(change),
+        None => change_first(changed, row, number, change),
+    }
+}
+
+// Changes a static object for the first time, if it is there.
+fn change_first<'a>(
+    changed: &mut BTreeMap<u32, Block<'a>>,
+    row: &[Block<'a>],
+    number: u32,
+    change: Change<'a>,
+) -> Result<(), AllocError>
+    requires { get nat_cmp changed.old number ≡ None }
+    ensures { OnOk result ((n : ℕ)
+        → static_at changed.new row.now n
+        ≡ changed_at (change_of change.entry) number (static_at changed.old row.now) n) }
+{
+    let Some(block) = row.get(number as usize) else {
+        return Ok(());
+    };
+    let mut block = block.copy()?;
+    block.change(change)?;
+    match changed.insert(number, block) {
+        Ok(_) => Ok(()),
+        Err(_) => Err(AllocError),
     }
 }
 

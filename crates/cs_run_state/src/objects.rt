@@ -150,6 +150,14 @@ impl Cell {
     }
 }
 
+impl Clone for Cell {
+    ghost is_clone = { λ cell made. cell_of made ≡ cell_of cell };
+
+    fn clone(&self) -> Result<Cell, AllocError> {
+        self.copy()
+    }
+}
+
 impl Operand {
     /// The same value once more.
     pub fn copy(&self) -> Result<Operand, AllocError>

@@ -1,6 +1,7 @@
 //! What operators do with their operands (C11 6.3, 6.5.3 to 6.5.10): what is checked, what shows, and what leads on.
 ghost use Rattle.std.specs.Prelude.{◌≡◌, IfOk, OnOk, IfErr, Some, None};
 ghost use Rattle.cs_types.specs.Shape.{shape_of, integer};
+ghost use Rattle.cs_meaning.specs.Access as loads;
 ghost use Rattle.cs_meaning.specs.Operators as operators;
 ghost use Rattle.cs_meaning.specs.Initials.{number_in};
 ghost use Rattle.cs_meaning.specs.Machine.{State, Scalar};
@@ -9,7 +10,6 @@ ghost use Rattle.cs_run_state.specs.View.{cell_of, operand_of};
 ghost use Rattle.cs_run_state.specs.Pieces.{GoesOn, Gives, EndsIn, StopsIn, or_fault, holds_or_faults, moves_offset, compares_seen};
 
 use crate::arithmetic::{bytes, is_true};
-use crate::guessing::numbers_of;
 use crate::logs::{Log, Stop, Touch};
 use crate::objects::{Cell, Operand};
 use crate::operations::{
@@ -19,7 +19,7 @@ use crate::operations::{
 use crate::settings::Setting;
 use cs_ast::Place;
 use cs_ast::typed::operator::{BinOp, CmpOp};
-use cs_events::{Label, Operation, Outcome, PointKind};
+use cs_events::{Label, Operation, Outcome, PointKind, numbers_of};
 use cs_model::Kind;
 use cs_types::{CType, DataModel, IntType};
 
@@ -34,9 +34,9 @@ impl Log {
     /// A pointer shows whether it is null; nothing else shows.
     pub fn look(&mut self, setting: &Setting, place: Place, cell: &Cell) -> Result<(), Stop>
         ensures ok { OnOk result
-            (GoesOn setting.now self.old self.new (operators.look place (cell_of cell.now))) }
+            (GoesOn setting.now self.old self.new (loads.look place (cell_of cell.now))) }
         ensures err { IfErr result
-            (EndsIn setting.now self.old self.new (operators.look place (cell_of cell.now))) }
+            (EndsIn setting.now self.old self.new (loads.look place (cell_of cell.now))) }
     {
         match cell {
             Cell::Null => {

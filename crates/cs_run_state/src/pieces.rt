@@ -1,13 +1,14 @@
 //! The pieces of an initializer (C11 6.7.9), and what an object holds by those of a constant one.
-ghost use Rattle.std.specs.Prelude.{◌≡◌, ◌+◌, ◌++◌, ◌∷◌, List, map, take, IfOk, OnOk};
-ghost use Rattle.cs_types.specs.Shape.{struct};
+ghost use Rattle.std.specs.Prelude.{◌≡◌, ◌+◌, ◌++◌, ◌∷◌, List, map, take, nat_le, IsTrue, IfSome, IfOk, OnOk};
+ghost use Rattle.cs_types.specs.Shape.{Shape, struct};
 ghost use Rattle.cs_types.specs.Layout.{IsLaidOut};
-ghost use Rattle.cs_ast.specs.TypedProgram.{typed_program};
+ghost use Rattle.cs_ast.specs.TypedProgram.{TypedProgram, typed_program};
 ghost use Rattle.cs_ast.specs.TypedView.{initial, initial_list};
 ghost use Rattle.cs_meaning.specs.Types as types;
 ghost use Rattle.cs_meaning.specs.Initials as initials;
 ghost use Rattle.cs_run_state.specs.View.{cell_of};
 ghost use Rattle.cs_run_state.specs.MemoryView.{type_of, piece_of};
+ghost use Rattle.cs_run_state.specs.PieceOrder.{start_of, end_of, ascends_from};
 ghost use Rattle.cs_run_state.specs.TypeView.{or_cell};
 
 use crate::blocks::{BlockType, Piece};
@@ -178,6 +179,65 @@ fn beginning(bytes: &[u8], count: u64) -> &[u8]
         &bytes[..count as usize]
     } else {
         bytes
+    }
+}
+
+/// Whether pieces rise: each ends before the next one begins.
+pub fn ascend(pieces: &[Piece]) -> bool
+    ensures { IsTrue result → IsTrue (ascends_from 0 pieces.now) }
+{
+    let mut end = 0;
+    for piece in pieces {
+        match piece.end_from(end) {
+            Some(next) => end = next,
+            None => return false,
+        }
+    }
+    true
+}
+
+/// Of pieces that rise, the last one that begins at an offset or before it, if one does.
+pub fn nearest<'p, 'a>(pieces: &'p [Piece<'a>], offset: u64) -> &'p [Piece<'a>]
+    requires { IsTrue (ascends_from 0 pieces.now) }
+    ensures { (program : TypedProgram) (scalar : Shape)
+        → initials.initial_cell program scalar (map piece_of result.now) offset
+        ≡ initials.initial_cell program scalar (map piece_of pieces.now) offset }
+{
+    let count = pieces.partition_point(
+        |piece: &Piece| -> bool
+            ensures { result ≡ nat_le (start_of piece.now) offset }
+        { piece.start() <= offset },
+    );
+    if count == 0 {
+        &pieces[..0]
+    } else {
+        &pieces[count - 1..count]
+    }
+}
+
+impl<'a> Piece<'a> {
+    // Where a piece begins.
+    fn start(&self) -> u64
+        ensures { result ≡ start_of self.now }
+    {
+        match self {
+            Piece::Value(from, _) => *from,
+            Piece::Text(from, _) => *from,
+        }
+    }
+
+    // The first offset after a piece, if the piece begins at an offset or after it.
+    fn end_from(&self, from: u64) -> Option<u64>
+        ensures { IfSome result (λ end.
+            IsTrue (nat_le from (start_of self.now)) × (end ≡ end_of self.now)) }
+    {
+        if self.start() < from {
+            return None;
+        }
+        match self {
+            Piece::Value(start, _) => start.checked_add(1),
+            Piece::Text(start, bytes) => start.checked_add(bytes.len() as u64),
+        }
     }
 }
 

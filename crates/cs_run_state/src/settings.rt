@@ -1,5 +1,6 @@
 //! What a run goes by.
 
+use crate::prepared::Prepared;
 use cs_ast::typed::program::Program;
 use cs_events::{Guess, RunBudgets};
 use cs_inputs::Inputs;
@@ -8,6 +9,8 @@ use cs_inputs::Inputs;
 #[derive(Drop)]
 pub struct Setting<'a> {
     pub program: &'a Program,
+    /// What the program's runs share.
+    pub prepared: &'a Prepared<'a>,
     pub inputs: &'a Inputs,
     /// Numbers in place of the results at some events. The first one listed for an event counts.
     pub guesses: &'a [Guess],

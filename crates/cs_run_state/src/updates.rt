@@ -1,12 +1,12 @@
 //! Loads, assignments and updates of objects, whose operands are on the stack (C11 6.3.2.1, 6.5.2.4, 6.5.3.1, 6.5.16).
 ghost use Rattle.std.specs.Prelude.{◌≡◌, IfOk, OnOk, IfErr};
-ghost use Rattle.cs_types.specs.Layout.{IsLaidOut};
 ghost use Rattle.cs_ast.specs.TypedProgram.{typed_program};
 ghost use Rattle.cs_events.specs.Objects.{NumberCell};
 ghost use Rattle.cs_meaning.specs.Access as loads;
 ghost use Rattle.cs_meaning.specs.Expressions as expressions;
 ghost use Rattle.cs_meaning.specs.Initials.{directed};
 ghost use Rattle.cs_meaning.specs.Machine as machine;
+ghost use Rattle.cs_run_state.specs.Prepared.{IsReady};
 ghost use Rattle.cs_run_state.specs.AccessView.{access_of};
 ghost use Rattle.cs_run_state.specs.MachineView.{state_of};
 ghost use Rattle.cs_run_state.specs.Pieces as pieces;
@@ -33,7 +33,7 @@ impl<'a> Machine<'a> {
         setting: &Setting<'a>,
         access: Access,
     ) -> Result<(), Stop>
-        requires { IsLaidOut setting.now.program.now.model setting.now.program.now.table.list }
+        requires { IsReady setting.now }
         ensures { LeadsOrEnds setting.now log.old log.new result
             (load_act (typed_program setting.now.program.now) (access_of access.entry)
             (state_of self.old)) (state_of self.new) }
@@ -51,7 +51,7 @@ impl<'a> Machine<'a> {
         setting: &Setting<'a>,
         access: Access,
     ) -> Result<(), Stop>
-        requires { IsLaidOut setting.now.program.now.model setting.now.program.now.table.list }
+        requires { IsReady setting.now }
         ensures { LeadsOrEnds setting.now log.old log.new result
             (fetch_pointer_act (typed_program setting.now.program.now) (access_of access.entry)
             (state_of self.old)) (state_of self.new) }
@@ -70,7 +70,7 @@ impl<'a> Machine<'a> {
         access: Access,
         works_in: IntType,
     ) -> Result<(), Stop>
-        requires { IsLaidOut setting.now.program.now.model setting.now.program.now.table.list }
+        requires { IsReady setting.now }
         ensures { LeadsOrEnds setting.now log.old log.new result
             (fetch_number_act (typed_program setting.now.program.now) place (access_of access.entry)
             works_in (state_of self.old)) (state_of self.new) }
@@ -90,7 +90,7 @@ impl<'a> Machine<'a> {
         setting: &Setting<'a>,
         access: Access,
     ) -> Result<Operand, Stop>
-        requires { IsLaidOut setting.now.program.now.model setting.now.program.now.table.list }
+        requires { IsReady setting.now }
         ensures ok { IfOk result (λ operand.
             GivesBoth setting.now log.old log.new
             (loads.load_object (typed_program setting.now.program.now) (state_of self.old).memory
@@ -119,7 +119,7 @@ impl<'a> Machine<'a> {
         place: Place,
         access: Access,
     ) -> Result<(), Stop>
-        requires { IsLaidOut setting.now.program.now.model setting.now.program.now.table.list }
+        requires { IsReady setting.now }
         ensures { LeadsOrEnds setting.now log.old log.new result
             (assign_act (typed_program setting.now.program.now) place (access_of access.entry)
             (state_of self.old)) (state_of self.new) }
@@ -150,7 +150,7 @@ impl<'a> Machine<'a> {
         works_in: IntType,
         gives: Gives,
     ) -> Result<(), Stop>
-        requires { IsLaidOut setting.now.program.now.model setting.now.program.now.table.list }
+        requires { IsReady setting.now }
         ensures { LeadsOrEnds setting.now log.old log.new result
             (update_act (typed_program setting.now.program.now) place operator
             (access_of access.entry) works_in gives (state_of self.old)) (state_of self.new) }
@@ -185,7 +185,7 @@ impl<'a> Machine<'a> {
         left: &i128,
         right: &i128,
     ) -> Result<i128, Stop>
-        requires { IsLaidOut setting.now.program.now.model setting.now.program.now.table.list }
+        requires { IsReady setting.now }
         ensures ok { IfOk result
             (GivesBoth setting.now log.old log.new
             (stores_computed (typed_program setting.now.program.now) (state_of self.old).memory
@@ -217,7 +217,7 @@ impl<'a> Machine<'a> {
         direction: Direction,
         gives: Gives,
     ) -> Result<(), Stop>
-        requires { IsLaidOut setting.now.program.now.model setting.now.program.now.table.list }
+        requires { IsReady setting.now }
         ensures { LeadsOrEnds setting.now log.old log.new result
             (move_act (typed_program setting.now.program.now) place (access_of access.entry) bytes
             direction gives (state_of self.old)) (state_of self.new) }
@@ -252,7 +252,7 @@ impl<'a> Machine<'a> {
         bytes: u64,
         direction: Direction,
     ) -> Result<Cell, Stop>
-        requires { IsLaidOut setting.now.program.now.model setting.now.program.now.table.list }
+        requires { IsReady setting.now }
         ensures ok { IfOk result (λ moved.
             GivesBoth setting.now log.old log.new
             (stores_moved (typed_program setting.now.program.now) (state_of self.old).memory

@@ -7,6 +7,7 @@ ghost use Rattle.cs_meaning.specs.Memory as meaning;
 ghost use Rattle.cs_meaning.specs.Access as access;
 ghost use Rattle.cs_meaning.specs.Initials.{byte_cell};
 ghost use Rattle.cs_meaning.specs.Types.{scalar_of};
+ghost use Rattle.cs_run_state.specs.Prepared.{IsReady};
 ghost use Rattle.cs_run_state.specs.View.{cell_of, object_of, operand_of};
 ghost use Rattle.cs_run_state.specs.AccessView.{spells};
 ghost use Rattle.cs_run_state.specs.MemoryView.{memory_of, type_of, KeepsCounts};
@@ -14,8 +15,9 @@ ghost use Rattle.cs_run_state.specs.MemoryView.{memory_of, type_of, KeepsCounts}
 use crate::blocks::{BlockType, Change};
 use crate::memory::Memory;
 use crate::objects::{Cell, Object, Operand};
-use crate::offsets::scalar_offsets;
 use crate::pieces::byte_cell;
+use crate::prepared::scalar_offsets;
+use crate::settings::Setting;
 use cs_ast::typed::program::Program;
 use cs_types::CType;
 use std::alloc::AllocError;
@@ -24,16 +26,16 @@ impl<'a> Memory<'a> {
     /// Writes a value of a type at an offset of an object.
     pub fn write_operand(
         &mut self,
-        program: &Program,
+        setting: &Setting,
         ty: &CType,
         object: &Object,
         offset: u64,
         operand: &Operand,
     ) -> Result<(), AllocError>
-        requires { IsLaidOut program.now.model program.now.table.list }
+        requires { IsReady setting.now }
         ensures memory { OnOk result
             (memory_of self.new ≡ meaning.changed
-            (access.write_operand (typed_program program.now) (shape_of ty.now) offset
+            (access.write_operand (typed_program setting.now.program.now) (shape_of ty.now) offset
             (operand_of operand.now)) (object_of object.now) (memory_of self.old)) }
         ensures counts { OnOk result (KeepsCounts self.old self.new) }
     {
@@ -43,8 +45,8 @@ impl<'a> Memory<'a> {
                 self.change(object, Change::Write(offset, cell))
             }
             Operand::Whole(cells) => {
-                let offsets = scalar_offsets(program, ty)?;
-                self.write_cells(object, offset, &offsets, cells)
+                let offsets = scalar_offsets(setting, ty)?;
+                self.write_cells(object, offset, offsets.as_slice(), cells)
             }
             Operand::Nothing => Ok(()),
         }

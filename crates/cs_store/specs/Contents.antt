@@ -1,10 +1,13 @@
 -- What one base region holds: its fill, and the values that were bound at offsets since.
-use Rattle.std.specs.Prelude.{◌≡◌, ℕ, nat_eq, List, [], ◌∷◌, map, Option, None, Some, refl, is_some, IsTrue, if◌then◌else◌}
+use Rattle.std.specs.Prelude.{◌≡◌, ◌↔◌, ℕ, nat_eq, List, [], ◌∷◌, map, Option, None, Some, refl, is_some, IsTrue, if◌then◌else◌}
 use Rattle.std.specs.FinMap as finite
 use Rattle.std.specs.Option.{option_map_or, option_or}
+use Rattle.std.specs.List.{Contains}
+use Rattle.std.specs.List.Sorted.{IsStrictlyIncreasing}
 use Rattle.std.specs.Coded.{Coded, code_by, coded×, coded_ℕ}
 use Rattle.cs_pmap.specs.Keys.{key_cmp, EntryList}
 use Rattle.cs_store.specs.declared.value.Fill.{Fill}
+use Rattle.cs_store.specs.declared.value.Fill.TheVariants.{Unset}
 use Rattle.cs_store.specs.declared.value.Value.{Value}
 use Rattle.cs_store.specs.declared.value.Found.{Found}
 use Rattle.cs_store.specs.declared.value.Found.TheVariants as found
@@ -48,10 +51,15 @@ last_leaf (leaf ∷ leaves) offset =
 abbrev pub after_leaves : List (ℕ × Value) → ℕ → Found → Found
 after_leaves leaves offset before = option_map_or (λ value. found.Direct value) (last_leaf leaves offset) before
 
--- entries by their offsets
-abbrev pub by_offset : EntryList Value → List (ℕ × Value)
-by_offset entries = map (λ entry. (entry.0.0, entry.1)) entries
+-- nothing is held: no cell was bound since the fill, and that is unset
+abbrev pub HoldsNothing : Contents → Type 0
+HoldsNothing contents = (offset : ℕ) → held_in contents offset ≡ found.Fill Unset
 
--- the direct bindings in order of offset
-abbrev pub listed : Contents → List (ℕ × Value)
-listed contents = by_offset (finite.entries contents.direct)
+-- entries by the first numbers of their keys
+abbrev pub by_number : {V : Type 0} → EntryList V → List (ℕ × V)
+by_number entries = map (λ entry. (entry.0.0, entry.1)) entries
+
+-- the list has just the values that were bound since the fill, in rising order of offset
+pub record IsListing (contents : Contents) (bindings : List (ℕ × Value)) : Type 0 where
+  pub rising : IsStrictlyIncreasing (map (λ binding. binding.0) bindings)
+  pub exact : (offset : ℕ) (value : Value) → Contains bindings (offset, value) ↔ (held_in contents offset ≡ found.Direct value)

@@ -1,15 +1,13 @@
 -- What a store holds at the offsets of all base regions.
-use Rattle.std.specs.Prelude.{◌≡◌, ◌↔◌, ℕ, List, map}
+use Rattle.std.specs.Prelude.{◌≡◌, ◌↔◌, ℕ, List, map, Some}
 use Rattle.std.specs.FinMap.{FinMap, get}
 use Rattle.std.specs.Option.{unwrap_or}
 use Rattle.std.specs.List.{Contains}
 use Rattle.std.specs.List.Sorted.{IsStrictlyIncreasing}
 use Rattle.cs_pmap.specs.Keys.{key_cmp}
 use Rattle.cs_store.specs.declared.value.Fill.TheVariants.{Unset}
-use Rattle.cs_store.specs.declared.value.Value.{Value}
 use Rattle.cs_store.specs.declared.value.Found.{Found}
-use Rattle.cs_store.specs.declared.value.Found.TheVariants.{Direct}
-use Rattle.cs_store.specs.Contents.{Contents, filled, held_in}
+use Rattle.cs_store.specs.Contents.{Contents, filled, held_in, HoldsNothing}
 
 -- the contents of base regions, keyed by the region's number beside a zero
 abbrev pub Regions : Type 0
@@ -23,7 +21,11 @@ contents_of store base = unwrap_or (get store (base, 0)) (filled Unset)
 abbrev pub held : Regions → ℕ → ℕ → Found
 held store base offset = held_in (contents_of store base) offset
 
--- the list has just the values that were bound in a base region, in rising order of offset
-pub record IsListing (store : Regions) (base : ℕ) (bindings : List (ℕ × Value)) : Type 0 where
-  pub rising : IsStrictlyIncreasing (map (λ binding. binding.0) bindings)
-  pub exact : (offset : ℕ) (value : Value) → Contains bindings (offset, value) ↔ (held store base offset ≡ Direct value)
+-- each region is kept under its number beside a zero, and holds something
+abbrev pub AreInUse : Regions → Type 0
+AreInUse store = (key : ℕ × ℕ) (contents : Contents) → get store key ≡ Some contents → (key.1 ≡ 0) × ¬ HoldsNothing contents
+
+-- the list has just the base regions that hold something, each with all that it holds, in rising order of their numbers
+pub record IsRegionListing (store : Regions) (regions : List (ℕ × Contents)) : Type 0 where
+  pub rising : IsStrictlyIncreasing (map (λ region. region.0) regions)
+  pub exact : (base : ℕ) (contents : Contents) → Contains regions (base, contents) ↔ ((contents_of store base ≡ contents) × ¬ HoldsNothing contents)

@@ -6,7 +6,7 @@ mod store;
 mod value;
 mod write;
 
-pub use region::Bindings;
-pub use store::Store;
+pub use region::{Bindings, Region};
+pub use store::{EachRegion, Store};
 pub use value::{Fill, Found, Value};
 pub use write::{Write, replayed};

@@ -2,7 +2,7 @@
 //! of Clang's analyzer.
 ghost use Rattle.std.specs.Prelude.{◌≡◌, ℕ, IfOk, OnOk, OnErr};
 ghost use Rattle.std.specs.Iterator.{YieldsFirstBy, item_count};
-ghost use Rattle.cs_store.specs.Contents.{filled, held_in, with_binding, after_leaves, listed, HasOffsets};
+ghost use Rattle.cs_store.specs.Contents.{filled, held_in, with_binding, after_leaves, IsListing};
 
 use crate::value::{Fill, Found, Value};
 use cs_pmap::{Entries, PMap};
@@ -35,13 +35,20 @@ impl Model for Region {
 
 impl Region {
     /// A fill, and no direct binding.
-    pub fn filled(alloc: Global, fill: Fill) -> Region
+    pub(crate) fn filled(alloc: Global, fill: Fill) -> Region
         ensures { result ≡ filled fill }
     {
         Region {
             fill,
             direct: PMap::new(alloc),
         }
+    }
+
+    /// The default binding.
+    pub fn fill(&self) -> Fill
+        ensures { result ≡ self.now.fill }
+    {
+        self.fill
     }
 
     /// What the region holds at an offset.
@@ -55,7 +62,7 @@ impl Region {
     }
 
     /// Binds a value at an offset.
-    pub fn bind(&mut self, offset: u64, value: Value) -> Result<(), AllocError>
+    pub(crate) fn bind(&mut self, offset: u64, value: Value) -> Result<(), AllocError>
         ensures ok { OnOk result (self.new ≡ with_binding self.old offset value) }
         ensures err { OnErr result (self.new ≡ self.old) }
     {
@@ -64,7 +71,7 @@ impl Region {
     }
 
     /// The region after one more binding for each leaf, in order.
-    pub fn with_leaves(&self, leaves: &[(u64, Value)]) -> Result<Region, AllocError>
+    pub(crate) fn with_leaves(&self, leaves: &[(u64, Value)]) -> Result<Region, AllocError>
         ensures { IfOk result (λ region.
             (offset : ℕ) → held_in region offset
             ≡ after_leaves leaves.now offset (held_in self.now offset)) }
@@ -76,10 +83,9 @@ impl Region {
         Ok(region)
     }
 
-    /// The direct bindings in order of offset.
+    /// The direct bindings in order of offset. The iterator takes its memory here and none later.
     pub fn bindings(&self) -> Result<Bindings<'_>, AllocError>
-        ensures listed { IfOk result (λ bindings. bindings ≡ listed self.now) }
-        ensures offsets { HasOffsets self.now.direct }
+        ensures { IfOk result (IsListing self.now) }
     {
         Ok(Bindings {
             entries: self.direct.iter()?,
@@ -107,11 +113,11 @@ pub struct Bindings<'a> {
 impl<'a> Model for Bindings<'a> {
     ghost use Rattle.std.specs.Prelude.{ℕ, List};
     ghost use Rattle.cs_store.specs.declared.value.Value.{Value as CellValue};
-    ghost use Rattle.cs_store.specs.Contents.{by_offset};
+    ghost use Rattle.cs_store.specs.Contents.{by_number};
 
     ghost Value = { List (ℕ × CellValue) };
 
-    ghost view = { λ b. by_offset b.entries };
+    ghost view = { λ b. by_number b.entries };
 }
 
 impl<'a> Iterator for Bindings<'a> {

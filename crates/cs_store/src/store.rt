@@ -1,13 +1,14 @@
 //! The store: which base region holds what.
-ghost use Rattle.std.specs.Prelude.{◌≡◌, ◌≢◌, ◌⊎◌, ℕ, nat_eq, if◌then◌else◌, IfOk, OnOk, OnErr};
+ghost use Rattle.std.specs.Prelude.{◌≡◌, ◌≢◌, ◌⊎◌, ℕ, nat_eq, Some, if◌then◌else◌, IfOk, OnOk, OnErr};
 ghost use Rattle.std.specs.FinMap.{get};
+ghost use Rattle.std.specs.Iterator.{YieldsFirstBy, item_count};
 ghost use Rattle.std.specs.List.{Contains, list_any};
-ghost use Rattle.cs_store.specs.Contents.{after_leaves};
-ghost use Rattle.cs_store.specs.Held.{contents_of, held, IsListing};
+ghost use Rattle.cs_store.specs.Contents.{Contents, after_leaves, IsListing};
+ghost use Rattle.cs_store.specs.Held.{contents_of, held, IsRegionListing};
 
 use crate::region::{Bindings, Region};
 use crate::value::{Fill, Found, Value};
-use cs_pmap::PMap;
+use cs_pmap::{Entries, PMap};
 use std::alloc::{AllocError, Global};
 use std::marker::Model;
 
@@ -19,6 +20,7 @@ use std::marker::Model;
 pub struct Store {
     alloc: Global,
     // Keyed by the region's number beside a zero. Each region has a map of its own, so that a fill drops its direct bindings at once.
+    // A region that holds nothing isn't kept, so that a store's regions are those that were written and hold what was written.
     regions: PMap<Region>,
     // What stands for each region that is not among the keys.
     unwritten: Region,
@@ -39,10 +41,11 @@ impl Model for Store {
 
     ghost use Rattle.cs_store.specs.declared.value.Fill.TheVariants.{Unset};
     ghost use Rattle.cs_store.specs.Contents.{filled};
+    ghost use Rattle.cs_store.specs.Held.{AreInUse};
 
     ghost view = { λ s. s.regions };
 
-    ghost invariant = { λ s. s.unwritten ≡ filled Unset };
+    ghost invariant = { λ s. (s.unwritten ≡ filled Unset) × AreInUse s.regions };
 }
 
 impl Store {
@@ -95,6 +98,10 @@ impl Store {
             → held self.new b o ≡ held self.old b o) }
         ensures err { OnErr result (self.new ≡ self.old) }
     {
+        if let Fill::Unset = fill {
+            self.regions.remove((base, 0))?;
+            return Ok(());
+        }
         let region = Region::filled(self.alloc, fill);
         self.regions.insert((base, 0), region)?;
         Ok(())
@@ -108,6 +115,9 @@ impl Store {
             → held self.new b o ≡ held self.old b o) }
         ensures err { OnErr result (self.new ≡ self.old) }
     {
+        if leaves.is_empty() {
+            return Ok(());
+        }
         let region = self.region(base).with_leaves(leaves)?;
         self.regions.insert((base, 0), region)?;
         Ok(())
@@ -127,9 +137,19 @@ impl Store {
 
     /// The values that were bound in a base region, in order of offset. The iterator takes its memory here and none later.
     pub fn bindings(&self, base: u64) -> Result<Bindings<'_>, AllocError>
-        ensures { IfOk result (λ bindings. IsListing self.now base bindings) }
+        ensures { IfOk result (IsListing (contents_of self.now base)) }
     {
         self.region(base).bindings()
+    }
+
+    /// The base regions that hold something, each with all that it holds, in order of their numbers. The iterator takes its memory here
+    /// and none later.
+    pub fn regions(&self) -> Result<EachRegion<'_>, AllocError>
+        ensures { IfOk result (IsRegionListing self.now) }
+    {
+        Ok(EachRegion {
+            entries: self.regions.iter()?,
+        })
     }
 
     fn region(&self, base: u64) -> &Region
@@ -142,11 +162,47 @@ impl Store {
     }
 }
 
+/// Base regions that are still to come, in order of their numbers. A contract sees them as a list of numbers with contents.
+#[derive(Drop)]
+pub struct EachRegion<'a> {
+    entries: Entries<'a, Region>,
+}
+
+impl<'a> Model for EachRegion<'a> {
+    ghost use Rattle.std.specs.Prelude.{ℕ, List};
+    ghost use Rattle.std.specs.Coded.{coded×, coded_list, coded_ℕ};
+    ghost use Rattle.cs_store.specs.Contents.{Contents, by_number, contents_code};
+    ghost use Rattle.cs_store.specs.contracts.value.Fill.{the_row as fill_row};
+    ghost use Rattle.cs_store.specs.contracts.value.Value.{the_row as value_row};
+
+    ghost Value = { List (ℕ × Contents) };
+
+    ghost coded = { coded_list (coded× coded_ℕ (contents_code fill_row.coded value_row.coded)) };
+
+    ghost view = { λ r. by_number r.entries };
+}
+
+impl<'a> Iterator for EachRegion<'a> {
+    type Item = (u64, &'a Region);
+
+    ghost next_gives = { YieldsFirstBy (λ item. (item.0, item.1.now)) (λ regions. regions) };
+
+    ghost remaining = { item_count (λ regions. regions) };
+
+    fn next(&mut self) -> Option<(u64, &'a Region)> {
+        let ((base, _), region) = self.entries.next()?;
+        Some((base, region))
+    }
+}
+
 // The regions other than these.
 fn without(regions: &PMap<Region>, bases: &[u64]) -> Result<PMap<Region>, AllocError>
-    ensures { IfOk result (λ others.
+    ensures others { IfOk result (λ others.
         (b : ℕ) → get others (b, 0)
         ≡ (if list_any (λ x. nat_eq b x) bases.now then None else get regions.now (b, 0))) }
+    ensures kept { IfOk result (λ others.
+        (key : ℕ × ℕ) (contents : Contents) → get others key ≡ Some contents
+        → get regions.now key ≡ Some contents) }
 {
     let mut others = regions.copy()?;
     for base in bases {

@@ -4,5 +4,6 @@ pub mod Names
 pub mod Narrow
 pub mod Numbering
 pub mod Products
+pub mod Small
 pub mod TypeRanges
 pub mod Values

@@ -21,7 +21,7 @@ use Rattle.cs_terms.specs.declared.term.Lin.{Lin}
 use Rattle.cs_terms.specs.Pieces.{IsPiece, IsProductOn, IsProductPiece, HasOneQuotient, product_quotient_of}
 use Rattle.cs_terms.specs.Term.{value_at, IsTerm}
 use Rattle.cs_terms.proofs.Cutting.{value_at-affine}
-use Rattle.cs_terms.proofs.TypeRanges.{word_multiple}
+use Rattle.cs_terms.proofs.TypeRanges.{modulus-small}
 use Rattle.cs_terms.proofs.Values.{*ℤ-swap}
 
 -- the product at one number seen from another
@@ -46,7 +46,7 @@ wrapped-moves model ty z z' d q e =
     moved z z' d taken taken' t e = omega (arith, ints)
 
 -- a factor isn't larger than a product that isn't 0
-abs-product : (p d : ℤ) → d ≢ pos 0 → unsigned_abs p ≤ unsigned_abs (p *ℤ d)
+pub abs-product : (p d : ℤ) → d ≢ pos 0 → unsigned_abs p ≤ unsigned_abs (p *ℤ d)
 abs-product p (pos zero) h = absurd (h refl)
 abs-product (pos a) (pos (suc n)) h = omega (arith, ints)
 abs-product (pos a) (negsuc n) h = omega (arith, ints)
@@ -60,7 +60,7 @@ slope-fits model ty z z' p d h q e =
     let rise = wrapped-moves model ty z z' (p *ℤ d) q e in
     let first = wrapped-InRange model ty z in
     let second = wrapped-InRange model ty z' in
-    small (wrapped model ty z) (wrapped model ty z') (p *ℤ d) p (negatives_of model ty) (modulus_of model ty) (word_multiple model ty).small
+    small (wrapped model ty z) (wrapped model ty z') (p *ℤ d) p (negatives_of model ty) (modulus_of model ty) (modulus-small model ty)
     (negatives-below model ty) first.from_least first.to_greatest second.from_least second.to_greatest rise (abs-product p d h)
   where
     small : (w w' rise p : ℤ) (b m : ℕ) → m ≤ 2 ^ 64 → b < m → (pos 0 -ℤ pos b) ≤ℤ w → w ≤ℤ pos (m - b - 1)

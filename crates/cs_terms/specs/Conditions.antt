@@ -1,5 +1,5 @@
 -- Which numbers have to lie from -2^126 to 2^126 before terms are added or scaled.
-use Rattle.std.specs.Prelude.{◌≡◌, ℤ, ◌+ℤ◌, ◌*ℤ◌, Option, None, Some}
+use Rattle.std.specs.Prelude.{◌≡◌, ◌≤◌, ◌^◌, unsigned_abs, ℤ, ◌+ℤ◌, ◌*ℤ◌, Option, None, Some}
 use Rattle.cs_ranges.specs.Interval.{IsInside}
 use Rattle.cs_terms.specs.declared.symbol.Sym.{Sym}
 use Rattle.cs_terms.specs.declared.term.Lin.{Lin}
@@ -34,3 +34,12 @@ pub record CanScale (term : Lin) (factor : ℤ) : Type 0 where
   pub scaled_slope : IsInside (term.slope *ℤ factor)
   pub value : IsInside term.value
   pub scaled_value : IsInside (term.value *ℤ factor)
+
+-- the slope is at most 2^65 in size, and the value that the term gives is at most 2^64: two such terms that are seen from one number can be added
+pub record IsSmall (term : Lin) : Type 0 where
+  pub slope : unsigned_abs term.slope ≤ 2 ^ 65
+  pub value : unsigned_abs term.value ≤ 2 ^ 64
+
+-- the two have no symbol in common, or give their values at the same number of it
+abbrev pub AreSeenTogether : Lin → Lin → Type 0
+AreSeenTogether left right = HaveOneSymbol left.sym right.sym → left.at ≡ right.at

@@ -1,3 +1,4 @@
+pub mod Bounds
 pub mod Conditions
 pub mod Near
 pub mod Pieces

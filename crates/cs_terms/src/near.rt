@@ -5,8 +5,9 @@ ghost use Rattle.cs_types.specs.IntType.{least_of, greatest_of, modulus_of, IsIn
 ghost use Rattle.cs_types.specs.Wrap.{wrap_quotient};
 ghost use Rattle.cs_terms.specs.Near.{HaveQuotients, HasQuotient, HasCofactors, HasEndsInside, IsNarrow};
 
+use crate::type_range::{least_of_type, modulus};
 use cs_ranges::{GREATEST, Interval, LEAST};
-use cs_types::{DataModel, IntType, in_range, quotient};
+use cs_types::{DataModel, IntType};
 
 /// The numbers whose quotient is -1, those whose quotient is 0 and those whose quotient is 1. The quotient is a
 /// number's own, or that of its product with a factor.
@@ -60,31 +61,11 @@ fn with_quotient(model: DataModel, ty: IntType, number: i128) -> Interval
     ensures narrow { IsNarrow result }
 {
     let modulus = modulus(model, ty);
-    let least = least(model, ty, modulus);
+    let least = least_of_type(model, ty);
     let low = least + number * modulus;
     Interval {
         low,
         high: low + modulus - 1,
-    }
-}
-
-// How many numbers the type has. It divides 2^64 for every type, so that the quotient of 2^64 tells it.
-fn modulus(model: DataModel, ty: IntType) -> i128
-    ensures { result ≡ pos (modulus_of model ty) }
-{
-    let word = 1 << 64;
-    word / quotient(model, ty, word)
-}
-
-// The least number of the type that has this many numbers.
-fn least(model: DataModel, ty: IntType, modulus: i128) -> i128
-    requires { modulus ≡ pos (modulus_of model ty) }
-    ensures { result ≡ least_of model ty }
-{
-    if in_range(model, ty, -1) {
-        -(modulus / 2)
-    } else {
-        0
     }
 }
 

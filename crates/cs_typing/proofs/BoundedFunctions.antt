@@ -26,12 +26,13 @@ use Rattle.cs_scopes.specs.TypeNames.{starred}
 use Rattle.cs_scopes.specs.Verdicts.{Fine, Fault, lift}
 use Rattle.cs_declarations.specs.Bodies.{specs_type}
 use Rattle.cs_declarations.specs.Environment.{Environment, meaning_here, entered}
-use Rattle.cs_declarations.specs.Parameters.{Head, place_of, is_free_name, with_parameter, parameter_passed, parameter_typed, parameters_after}
-use Rattle.cs_declarations.specs.Parameters.{parameters_typed}
+use Rattle.cs_declarations.specs.Parameters.{Head, with_parameter, parameter_passed, parameter_typed, parameters_after}
+use Rattle.cs_declarations.specs.Parameters.{no_parameter, parameters_typed, after_twice, twice_after}
 use Rattle.cs_typing.specs.Objects.{Filed}
 use Rattle.cs_typing.specs.Statements.{in_a_row, no_statements, body_typed}
 use Rattle.cs_typing.specs.Functions.{is_result, same_types, types_of, may_be_function, bodiless, number_in, Routed, new_function, function_of, declared_inside}
 use Rattle.cs_typing.specs.Functions.{bodied, with_body, at_beginning, where_in, body_added, completed, outside_of, headed, resulted, function_added}
+use Rattle.cs_typing.specs.Functions.{declared_once}
 use Rattle.cs_well_formed.specs.Bounded.{texts_nodes}
 use Rattle.cs_well_formed.specs.Nodes.{statements_nodes, routine_nodes}
 use Rattle.cs_well_formed.specs.Places.{RoutineStandsAmong}
@@ -45,6 +46,7 @@ use Rattle.cs_typing.proofs.BoundedParts.{IsHead, parameters-bounded}
 use Rattle.cs_typing.proofs.BoundedTexts.{parameters_count}
 use Rattle.cs_typing.proofs.BoundedStatements.{weight, HasRoom, body-fits}
 use Rattle.cs_typing.proofs.BoundedObjects.{changed-nodes, FiledFits, fits-less, fits-known}
+use Rattle.cs_typing.proofs.RepeatedNames.{once-then}
 
 -- ---- parameters
 
@@ -54,13 +56,12 @@ HasMore before more head = length head.variables ≡ length before.variables + m
 
 parameter-one : (p : RawParameter) (before : Head) → IfFine (parameter_typed p before) (HasMore before 1)
 parameter-one p before =
-    lift-then (λ _. Unit {0}) (HasMore before 1) _ (specs_type before.known p.place p.specs) (if_fine-any (specs_type before.known p.place p.specs))
+    let words = after_twice before.twice (specs_type before.known p.place p.specs) in
+    lift-then (λ _. Unit {0}) (HasMore before 1) _ words (if_fine-any words)
     (λ found _.
-    cond-then (HasMore before 1) (is_free_name p.name found.1) _ (Fault DeclaredTwice (place_of p.place p.name))
-    (λ _.
-    lift-then (λ _. Unit {0}) (HasMore before 1) (with_parameter p before found.1) (parameter_passed found.1.context p (starred p.pointers.items found.0))
-    (if_fine-any (parameter_passed found.1.context p (starred p.pointers.items found.0))) (λ passed _. length_push before.variables _))
-    (λ _. tt))
+    let passed = after_twice (twice_after p before.twice found.1) (parameter_passed found.1.context p (starred p.pointers.items found.0)) in
+    lift-then (λ _. Unit {0}) (HasMore before 1) (with_parameter p before found.1) passed (if_fine-any passed)
+    (λ passed _. length_push before.variables _))
 
 parameters-more : (ps : List RawParameter) (before : Head) → IfFine (parameters_after ps before) (HasMore before (length ps))
 parameters-more [] before = omega arith
@@ -78,7 +79,7 @@ few-variables : (k : Environment) (raw : RawParameters) → IfFine (parameters_t
 few-variables k parameter_lists.Empty = omega arith
 few-variables k parameter_lists.Void = omega arith
 few-variables k (parameter_lists.List list) =
-    let begun : Head = record { variables = []; written = []; known = k } in
+    let begun : Head = no_parameter k in
     if_fine-weaker (HasMore begun (length list.items)) (FewVariables (parameter_lists.List list)) (parameters_after list.items begun)
     (parameters-more list.items begun)
     (λ head h. omega (arith, h, parameters_count list.items))
@@ -169,7 +170,9 @@ module _ (Is : Place → Type 0) (room : ℕ) where
       → FiledFits Is room (24 * text_size (head_text (head d) following)) f → IfFine (headed d body f result h) (After rest)
   headed-fits d body f result h rest here among bounded few following ends fits =
       lift-then (RoutedFits more) (After rest) (completed d body result h.variables (declared_inside f.known h.known)) _
+      (lift-then (RoutedFits more) (RoutedFits more) (declared_once h.twice) _
       (function_of-fits (outside_of f h) d result h.variables h.written (meaning_here d.name (outside_of f h).known) more here outside)
+      (λ r k. once-then (RoutedFits more) h.twice r k))
       (λ r k. completed-fits d body result h.variables (declared_inside f.known h.known) r rest here among k)
     where
       more : ℕ

@@ -32,11 +32,11 @@ use Rattle.cs_declarations.specs.Bodies.{Typing, with_struct, with_tagged_struct
 use Rattle.cs_declarations.specs.Bodies.{members_declared, is_int, Counting, constant_added, number_said, constant_declared, constants_declared, with_enum_tag}
 use Rattle.cs_declarations.specs.Bodies.{is_new_enum, enum_body, Opening, is_among, opened, opening_tagged, opening, Body, struct_read, group_declared}
 use Rattle.cs_declarations.specs.Bodies.{first_name, plain_row, row_type, members_read, plain_words, words_type, specs_type, typedefs_added}
-use Rattle.cs_declarations.specs.Sizes.{sizes_said, bounded, element_of}
-use Rattle.cs_declarations.specs.Parameters.{Head, Passed, place_of, name_in, plainly_passed, array_passed, passed, naming, is_free_name, with_parameter}
-use Rattle.cs_declarations.specs.Parameters.{parameter_passed, parameter_typed, parameters_after, parameters_typed}
+use Rattle.cs_declarations.specs.Sizes.{sizes_said, refused_bound, unless_refused, bounded, element_of}
+use Rattle.cs_declarations.specs.Parameters.{Head, Passed, place_of, name_in, plainly_passed, array_passed, passed, naming, with_parameter}
+use Rattle.cs_declarations.specs.Parameters.{parameter_passed, parameter_typed, parameters_after, no_parameter, parameters_typed, twice_after}
 use Rattle.cs_well_formed.specs.Expressions.{IsScalar}
-use Rattle.cs_well_formed.proofs.Verdicts.{IfFine, if_fine-any, if_fine-weaker, lift-then, cond-then}
+use Rattle.cs_well_formed.proofs.Verdicts.{IfFine, if_fine-any, if_fine-weaker, lift-then, cond-then, unless_refused-then, after_twice-then}
 
 -- one list is the beginning of another
 abbrev pub Starts : {A : Type 0} → List A → List A → Type 0
@@ -266,8 +266,9 @@ parameter-passed : (c : Context) (p : RawParameter) (base : Shape) → IfFine (p
 parameter-passed c p base =
     lift-then (λ _. Unit {0}) IsPassed _ _ (if_fine-any (bounded c (place_of p.place p.name) base p.bounds.items))
     (λ whole _.
-    lift-then (λ _. Unit {0}) IsPassed (passed c (place_of p.place p.name) whole) _ (if_fine-any (sizes_said c p.bounds.items))
-    (λ sizes _. bounds-passed c (place_of p.place p.name) whole sizes))
+    lift-then IsPassed IsPassed (unless_refused (refused_bound c p.bounds.items)) _
+    (bounds-passed c (place_of p.place p.name) whole (sizes_said c p.bounds.items))
+    (λ found m. unless_refused-then IsPassed (refused_bound c p.bounds.items) found m))
 
 record HeadGrows (before after : Head) : Type 0 where
   known : DeclaresOn before.known after.known
@@ -284,16 +285,16 @@ one-more marks variables mark v is = let one = length_push marks mark in let oth
 
 parameter_typed-grows : (p : RawParameter) (before : Head) → IfFine (parameter_typed p before) (HeadGrows before)
 parameter_typed-grows p before =
-    lift-then (TypeDeclaresOn before.known) (HeadGrows before) _ _ (specs_type-on before.known p.place p.specs)
-    (λ found h. cond-then (HeadGrows before) (is_free_name p.name found.1) _ _
-    (λ _. lift-then IsPassed (HeadGrows before) (with_parameter p before found.1) _ (parameter-passed found.1.context p (starred p.pointers.items found.0))
+    lift-then (TypeDeclaresOn before.known) (HeadGrows before) _ _
+    (after_twice-then (TypeDeclaresOn before.known) before.twice _ (specs_type-on before.known p.place p.specs))
+    (λ found h. lift-then IsPassed (HeadGrows before) (with_parameter p before found.1) _
+    (after_twice-then IsPassed (twice_after p before.twice found.1) _ (parameter-passed found.1.context p (starred p.pointers.items found.0)))
     (λ way scalar. record {
       known = on-trans before.known found.1 _ h (naming-on p.name (length before.variables) way.ty found.1);
       written = λ is. one-more before.written before.variables _ _ is;
       scalars = λ all. All-push (λ (v : Variable). IsScalar v.ty) before.variables (record { name = name_in p.name; ty = way.ty; block = way.block }) all
           scalar;
     }))
-    (λ _. tt))
 
 parameters_after-grow : (ps : List RawParameter) (before : Head) → IfFine (parameters_after ps before) (HeadGrows before)
 parameters_after-grow [] before = record { known = on-self before.known; written = λ is. is; scalars = λ all. all }
@@ -312,13 +313,13 @@ pub record HeadDeclaresOn (k : Environment) (head : Head) : Type 0 where
   pub written : length head.written ≡ length head.variables
   pub scalars : AreScalars head.variables
 
-no-parameter : (k : Environment) → HeadDeclaresOn k (record { variables = []; written = []; known = k })
+no-parameter : (k : Environment) → HeadDeclaresOn k (no_parameter k)
 no-parameter k = record { known = on-self k; written = refl; scalars = All-nil (λ (v : Variable). IsScalar v.ty) }
 
 pub parameters_typed-on : (k : Environment) (raw : RawParameters) → IfFine (parameters_typed k raw) (HeadDeclaresOn k)
 parameters_typed-on k parameter_lists.Empty = no-parameter k
 parameters_typed-on k parameter_lists.Void = no-parameter k
 parameters_typed-on k (parameter_lists.List list) =
-    if_fine-weaker (HeadGrows (record { variables = []; written = []; known = k })) (HeadDeclaresOn k) _
-    (parameters_after-grow list.items (record { variables = []; written = []; known = k }))
+    if_fine-weaker (HeadGrows (no_parameter k)) (HeadDeclaresOn k) _
+    (parameters_after-grow list.items (no_parameter k))
     (λ head h. record { known = h.known; written = h.written refl; scalars = h.scalars (All-nil (λ (v : Variable). IsScalar v.ty)) })

@@ -17,6 +17,7 @@ pub mod OrderedNames
 pub mod ParameterTypes
 pub mod PlacedFunctions
 pub mod ProgramsLaidOut
+pub mod RepeatedNames
 pub mod SoundFiles
 pub mod SoundStatements
 pub mod StatementKinds

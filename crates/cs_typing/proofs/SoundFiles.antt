@@ -34,8 +34,10 @@ use Rattle.cs_typing.specs.Order.{order_of}
 use Rattle.cs_typing.specs.Statements.{body_typed, no_statements}
 use Rattle.cs_typing.specs.Functions.{Routed, same_types, types_of, function_of, may_be_function, where_in, at_beginning, declared_inside, body_added}
 use Rattle.cs_typing.specs.Functions.{completed, outside_of, headed, is_result, resulted, function_added}
+use Rattle.cs_typing.specs.Functions.{declared_once}
 use Rattle.cs_typing.specs.Files.{beginning, external_declared, external_typed, specs_of, file_typed, typed_file}
 use Rattle.cs_typing.proofs.SoundStatements.{IsLaidUnder, following, ReportedIsSound, body_typed-sound}
+use Rattle.cs_typing.proofs.RepeatedNames.{once-fine}
 
 module _ (m : DataModel) where
   -- the structs that are known after parts of a file
@@ -106,7 +108,9 @@ module _ (m : DataModel) where
       → IfFine (headed d body f result head) FiledIsSound
   headed-sound d body f result head h =
       IfFine-lift (completed d body result head.variables (declared_inside f.known head.known)) _ RoutedIsSound FiledIsSound
+      (IfFine-lift (declared_once head.twice) _ RoutedIsSound RoutedIsSound
       (function_of-sound (outside_of f head) d result head.variables head.written (meaning_here d.name (outside_of f head).known) h)
+      (λ r g. once-fine RoutedIsSound head.twice r g))
       (λ r g. completed-sound d body result head.variables (declared_inside f.known head.known) r g)
 
   function_added-sound : (d : RawFunction) (body : Option RawBody) (f : Filed) (ty : Shape) → FiledIsSound f

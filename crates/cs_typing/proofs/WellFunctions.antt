@@ -33,6 +33,7 @@ use Rattle.cs_typing.specs.Order.{is_of_library}
 use Rattle.cs_typing.specs.Functions.{is_result, same_types, types_of, has_body, may_be_function, bodiless, numbered, number_in, Routed, new_function}
 use Rattle.cs_typing.specs.Functions.{function_of, declared_inside, bodied, with_body, at_beginning, where_in, body_added, completed, outside_of, headed}
 use Rattle.cs_typing.specs.Functions.{resulted, function_added}
+use Rattle.cs_typing.specs.Functions.{declared_once}
 use Rattle.cs_typing.specs.Files.{allocators}
 use Rattle.cs_well_formed.specs.Structs.{NamesStructs, VariablesName, HasNamedTypes}
 use Rattle.cs_well_formed.specs.Expressions.{Setting, IsScalar, IsWhole, parameter_types}
@@ -52,6 +53,7 @@ use Rattle.cs_typing.proofs.HeldConstants.{ItemsHaveConstants}
 use Rattle.cs_typing.proofs.LedJumps.{ReportedIsLed, body_typed-led}
 use Rattle.cs_typing.proofs.OrderedNames.{IsOrdered, IsPlaced, number-names}
 use Rattle.cs_typing.proofs.WellStatements.{both-fine, Has as HasInside, Knows, Yields, body_typed-well, AreThere}
+use Rattle.cs_typing.proofs.RepeatedNames.{once-then}
 
 -- what holds of a value for each of some
 for-each : {A : Type 0} (Q : Type 0) (P : Q → A → Type 0) (v : Verdict A) → ((q : Q) → IfFine v (P q)) → IfFine v (λ a. (q : Q) → P q a)
@@ -578,12 +580,17 @@ module _ (p : TypedProgram) (laid_out : IsLaidOut p.model p.table) where
       may_be_function f (is_some body) result (meaning_here d.name f.known) ≡ true → IsResult result → BodyHasConstants body
       → IfFine (headed d body f result head) (Adds p f)
   headed-adds f d body result head named kept h placed may fits fit =
-      lift-then (AddsFunction (outside_of f head) result head.variables) (Adds p f)
+      lift-then Added (Adds p f)
       (completed d body result head.variables (declared_inside f.known head.known)) _
+      (lift-then Added Added (declared_once head.twice) _
       (function_of-adds (outside_of f head) d result head.variables head.written (meaning_here d.name (outside_of f head).known)
       (names-longer (table_of f.known) (table_of head.known) h.named.0.longer result named) h.named.1 adds.kept stands fits h.written h.scalars)
+      (λ r k. once-then Added head.twice r k))
       (λ r k. completed-adds f d body result head r (adds-trans p f (outside_of f head) r.1 adds k.0) k.0.longer h k.1 fit)
     where
+      Added : Routed → Type 0
+      Added = AddsFunction (outside_of f head) result head.variables
+
       adds : Adds p f (outside_of f head)
       adds = outside-adds f head kept h
 

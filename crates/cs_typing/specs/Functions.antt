@@ -5,6 +5,7 @@ use Rattle.std.specs.Option.{option_and_then}
 use Rattle.std.specs.List.{position_or_len}
 use Rattle.std.specs.Cmp.Lexicographic.{pointwise}
 use Rattle.cs_types.specs.Shape.{Shape, array, struct, same_shape}
+use Rattle.cs_ast.specs.declared.place.Place.{Place}
 use Rattle.cs_ast.specs.declared.raw.declaration.RawFunction.{RawFunction}
 use Rattle.cs_ast.specs.declared.raw.external.RawBody.{RawBody}
 use Rattle.cs_ast.specs.TypedTree.{Block}
@@ -138,11 +139,18 @@ completed d (Some body) result parameters inner r = body_added d body result par
 abbrev pub outside_of : Filed → Head → Filed
 outside_of f head = with_known (left f.known head.known) f
 
+-- a function of whose parameters none has a name that is declared a second time (C11 6.7, paragraph 3): that name comes after the
+-- function's own
+abbrev pub declared_once : Option Place → Routed → Verdict Routed
+declared_once None r = Fine r
+declared_once (Some at) r = Fault DeclaredTwice at
+
 -- a function with these parameters
 abbrev pub headed : RawFunction → Option RawBody → Filed → Shape → Head → Verdict Filed
 headed d body f result head =
     lift (completed d body result head.variables (declared_inside f.known head.known))
-    (function_of (outside_of f head) d result head.variables head.written (meaning_here d.name (outside_of f head).known))
+    (lift (declared_once head.twice)
+    (function_of (outside_of f head) d result head.variables head.written (meaning_here d.name (outside_of f head).known)))
 
 -- a function with a result that it may have
 abbrev pub resulted : RawFunction → Option RawBody → Filed → Shape → Verdict Filed

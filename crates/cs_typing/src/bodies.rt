@@ -130,7 +130,7 @@ fn resulted(
     let around = filed.known.enter();
     let parameters = parameters_typed(alloc, &mut filed.known, &head.parameters)?;
     let inner = filed.known.leave_with(alloc, around)?;
-    let callee = filed.function_of(alloc, head, returns, &parameters)?;
+    let callee = filed.function_once(alloc, head, returns, &parameters)?;
     match (body, callee) {
         (Some(body), Callee::Numbered(number)) => {
             let list = parameters.parameters;

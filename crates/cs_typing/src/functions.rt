@@ -3,12 +3,13 @@ ghost use Rattle.std.specs.Prelude.{◌≡◌, map, IfOk};
 ghost use Rattle.cs_types.specs.Shape.{shape_of};
 ghost use Rattle.cs_ast.specs.TypedProgram.{variable, routine};
 ghost use Rattle.cs_scopes.specs.Meanings.{signature_of};
+ghost use Rattle.cs_scopes.specs.Verdicts.{lift};
 ghost use Rattle.cs_declarations.specs.Answered.{AnswersWith};
 ghost use Rattle.cs_declarations.specs.Environment.{meaning_here};
 ghost use Rattle.cs_declarations.specs.View.{environment_of};
 ghost use Rattle.cs_typing.specs.Functions as functions;
 ghost use Rattle.cs_typing.specs.Objects.{changed};
-ghost use Rattle.cs_typing.specs.Functions.{is_result, same_types, types_of, has_body, may_be_function, number_in, bodiless, numbered};
+ghost use Rattle.cs_typing.specs.Functions.{is_result, same_types, types_of, has_body, may_be_function, number_in, bodiless, numbered, declared_once};
 ghost use Rattle.cs_typing.specs.View.{filed_of, routed_of};
 
 use crate::filed::Filed;
@@ -175,8 +176,8 @@ impl Filed {
         Ok(Callee::Numbered(number))
     }
 
-    /// What a call of a declared function is: a new one, or the one that was declared before, whose parameters have the same types.
-    pub fn function_of(
+    // What a call of a declared function is: a new one, or the one that was declared before, whose parameters have the same types.
+    fn function_of(
         &mut self,
         alloc: Global,
         head: &RawFunction,
@@ -200,6 +201,28 @@ impl Filed {
                 let callee = self.add_function(alloc, head, returns, parameters)?;
                 Ok(callee)
             }
+        }
+    }
+
+    /// What a call of a declared function is, of whose parameters none has a name that is declared a second time.
+    #[tactic(auto, using(cs_scopes::proofs::Lifting::lifts))]
+    pub fn function_once(
+        &mut self,
+        alloc: Global,
+        head: &RawFunction,
+        returns: &CType,
+        parameters: &Head,
+    ) -> Result<Callee, TypeRefusal>
+        ensures { AnswersWith routed_of
+            (lift (declared_once parameters.now.twice)
+            (functions.function_of (filed_of self.old) head.now (shape_of returns.now)
+            (map variable parameters.now.parameters.items) parameters.now.written.items
+            (meaning_here head.now.name (environment_of self.old.known)))) result self.new }
+    {
+        let callee = self.function_of(alloc, head, returns, parameters)?;
+        match parameters.twice {
+            Some(place) => Err(TypeRefusal::Code(TypeCode::DeclaredTwice, place)),
+            None => Ok(callee),
         }
     }
 }

@@ -83,11 +83,9 @@ module _ (s : Setting) (model : DataModel) (at : Place) where
       → IfFine (pointer_cast model at e target source) (IsWell s)
   unfolding pointer_cast
   pointer_cast-well e target source names well v =
-      cond-then (IsWell s) (is_null model e) _ _
-      (λ _. ((target, refl), names))
-      (λ _. cond-then (IsWell s) (same_shape target source || is_void target) _ _
+      cond-then (IsWell s) (same_shape target source || is_void target) _ _
       (λ h. by_way (either-true (same_shape target source) (is_void target) h))
-      (λ _. tt))
+      (λ _. cond-then (IsWell s) (is_null model e) _ _ (λ _. ((target, refl), names)) (λ _. tt))
     where
       by_way : (same_shape target source ≡ true) ⊎ (is_void target ≡ true) → IsWell s (Of at (pointer target) (Convert e))
       by_way (inl h) = (well, v.0, inl (v.1 ∙ ap pointer (sym (same_shape-true target source h))))

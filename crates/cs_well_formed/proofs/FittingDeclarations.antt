@@ -41,12 +41,12 @@ use Rattle.cs_declarations.specs.Bodies.{has_member, placed_if, member_added, me
 use Rattle.cs_declarations.specs.Bodies.{constant_added, number_said, constant_declared, constants_declared, with_enum_tag, is_new_enum, enum_body, Opening}
 use Rattle.cs_declarations.specs.Bodies.{is_among, opening_tagged, opening, name_or_none, Body, struct_read, group_declared, first_name, plain_row, row_type}
 use Rattle.cs_declarations.specs.Bodies.{members_read, plain_words, words_type, specs_type, typedef_added, typedefs_added}
-use Rattle.cs_declarations.specs.Parameters.{Head, Passed, name_in, may_write, naming, is_free_name, with_parameter, parameter_passed, parameter_typed}
-use Rattle.cs_declarations.specs.Parameters.{parameters_after, parameters_typed}
+use Rattle.cs_declarations.specs.Parameters.{Head, Passed, name_in, may_write, naming, with_parameter, parameter_passed, parameter_typed}
+use Rattle.cs_declarations.specs.Parameters.{parameters_after, no_parameter, parameters_typed, after_twice, twice_after}
 use Rattle.cs_well_formed.specs.Nodes.{struct_nodes}
 use Rattle.cs_well_formed.specs.Sizes.{size_of}
 use Rattle.cs_well_formed.specs.Bounded.{known_nodes, IsBoundedHead, WordsAreBounded, TypedefsAreBounded, ParametersAreBounded}
-use Rattle.cs_well_formed.proofs.Verdicts.{IfFine, if_fine-at, if_fine-any, if_fine-weaker, lift-then, cond-then}
+use Rattle.cs_well_formed.proofs.Verdicts.{IfFine, if_fine-at, if_fine-any, if_fine-weaker, lift-then, cond-then, after_twice-then}
 use Rattle.cs_well_formed.proofs.TextSizes.{size-pointers, size-declarator, size-with_commas, size-spec, size-specs, size-members, size-parameter, token-some}
 use Rattle.cs_well_formed.proofs.TextSizes.{all_nodes-append, all_nodes-set}
 
@@ -398,13 +398,12 @@ parameter_typed-fits : (p : RawParameter) (before : Head)
     → IfFine (parameter_typed p before) (HeadFits before (16 * size_of (specs_text (specs p.specs)) + 2))
 parameter_typed-fits p before =
     let size = size_of (specs_text (specs p.specs)) in
-    lift-then (AddsTo (16 * size) before.known) (HeadFits before (16 * size + 2)) _ _ (specs_type-fits before.known p.place p.specs)
-    (λ found h. cond-then (HeadFits before (16 * size + 2)) (is_free_name p.name found.1) _ _
-    (λ _.
+    lift-then (AddsTo (16 * size) before.known) (HeadFits before (16 * size + 2)) _ _
+    (after_twice-then (AddsTo (16 * size) before.known) before.twice _ (specs_type-fits before.known p.place p.specs))
+    (λ found h.
     lift-then (λ _. Unit {0}) (HeadFits before (16 * size + 2)) (with_parameter p before found.1) _
-    (if_fine-any (parameter_passed found.1.context p (starred p.pointers.items found.0)))
+    (if_fine-any (after_twice (twice_after p before.twice found.1) (parameter_passed found.1.context p (starred p.pointers.items found.0))))
     (λ passed _. with_parameter-fits p before found.1 passed (16 * size) h))
-    (λ _. tt))
 
 sized-parameter : (p : Parameter) → size_of (specs_text p.specs) ≤ size_of (parameter_text p)
 sized-parameter p = omega (arith, size-specs p.specs (pointers_text p.pointers (name_text p.name (brackets_text p.bounds []))))
@@ -439,7 +438,7 @@ parameters_typed-fits : (k : Environment) (raw : RawParameters)
 parameters_typed-fits k parameter_lists.Empty = record { literals = refl; nodes = omega arith }
 parameters_typed-fits k parameter_lists.Void = record { literals = refl; nodes = omega arith }
 parameters_typed-fits k (parameter_lists.List list) =
-    let before : Head = record { variables = []; written = []; known = k } in
+    let before : Head = no_parameter k in
     if_fine-weaker (HeadFits before (16 * size_of (each_after_comma parameter_text (map parameter list.items))))
     (λ head. IsBoundedHead k head (size_of (with_commas parameter_text (map parameter list.items)))) _
     (parameters_after-fits list.items before)

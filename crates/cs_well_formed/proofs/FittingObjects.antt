@@ -1,5 +1,5 @@
 -- What the rules on places, stores and calls give stands where their operands do, and has a few nodes more: for `typed_nodes_are_bounded`.
-use Rattle.std.proofs.Common.{ℕ, suc, ◌+◌, ◌≤◌, not, List, [], ◌∷◌, Option, Some, None, arith}
+use Rattle.std.proofs.Common.{ℕ, suc, ◌+◌, ◌≤◌, List, [], ◌∷◌, Option, Some, None, arith}
 use Rattle.cs_types.specs.declared.data_model.DataModel.{DataModel}
 use Rattle.cs_types.specs.declared.structs.StructType.{StructType}
 use Rattle.cs_types.specs.Layout.{members_of}
@@ -22,15 +22,16 @@ use Rattle.cs_scopes.specs.Verdicts.{Verdict, Fine, Fault}
 use Rattle.cs_folding.specs.TypedParts.{type_of, form_of}
 use Rattle.cs_expressions.specs.Objects.{is_object}
 use Rattle.cs_types.specs.Kinds.{is_void, is_complete}
-use Rattle.cs_scopes.specs.Scalars.{has_few_scalars}
 use Rattle.cs_expressions.specs.Places.{address_of, through, element, indexed, member_found, member_in, member_after, struct_number, struct_after, member_by}
+use Rattle.cs_expressions.specs.Places.{object_member}
 use Rattle.cs_expressions.specs.Places.{selected, selected_through}
-use Rattle.cs_expressions.specs.Stores.{is_stored_to, assignable, assigned, is_additive, updatable_as, updatable, updated, taken_in, stepped}
+use Rattle.cs_expressions.specs.Stores.{is_stored_to, assignable, assigned, is_additive, updatable_as, updatable, updated_fault, led, moved_by_step, steppable}
+use Rattle.cs_expressions.specs.Stores.{updated, taken_in, stepped}
 use Rattle.cs_expressions.specs.Calls.{parameters_of, admitted, before_others, converted_list, allocated, freed, call_by, call_of}
-use Rattle.cs_consts.specs.Typing.{is_plain, operator_of, left_side, stored, call_with, call_or_not, no_function}
+use Rattle.cs_consts.specs.Typing.{is_plain, operator_of, left_side, left_fault, stored_by, stored, stored_to, call_with, call_or_not, no_function}
 use Rattle.cs_well_formed.specs.Nodes.{expression_nodes, row_nodes}
 use Rattle.cs_well_formed.specs.Places.{RowStandsAmong}
-use Rattle.cs_well_formed.proofs.Verdicts.{IfFine, if_fine-any, if_fine-weaker, lift-then, lift2-then, cond-then}
+use Rattle.cs_well_formed.proofs.Verdicts.{IfFine, if_fine-any, if_fine-weaker, lift-then, lift2-then, cond-then, weighed-then, led-then}
 use Rattle.cs_well_formed.proofs.FittingValues.{Fits, fits-more, converted-fits, in_type-fits}
 
 -- expressions in a row that stand among some places and have so many nodes at most
@@ -49,7 +50,11 @@ module _ (Is : Place → Type 0) where
     pub address_of-fits : (room : ℕ) (e : Typed) → Fits Is room e → IfFine (address_of at e) (Fits Is (room + 1))
     unfolding address_of
     address_of-fits room e h =
-        cond-then (Fits Is (room + 1)) (is_object (form_of e)) _ _ (λ _. record { stands = (here, h.stands); nodes = omega (arith, h.nodes) }) (λ _. tt)
+        cond-then (Fits Is (room + 1)) (is_void (type_of e)) _ _
+        (λ _. tt)
+        (λ _. cond-then (Fits Is (room + 1)) (is_object (form_of e)) _ _
+        (λ _. record { stands = (here, h.stands); nodes = omega (arith, h.nodes) })
+        (λ _. tt))
 
     pub through-fits : (room : ℕ) (e : Typed) (ty : Shape) → Fits Is room e → IfFine (through at e ty) (Fits Is (room + 1))
     unfolding through
@@ -82,15 +87,23 @@ module _ (Is : Place → Type 0) where
         lift-then (λ _. Unit {0}) (Fits Is room) rule (member_found name_at name (members_of table number)) (if_fine-any _) (λ m _. fits m)
     member_by-fits room table name_at name rule None fits = tt
 
+    object_member-fits : (table : List StructType) (name_at : Place) (name : List ℕ) (room : ℕ) (e : Typed) (number : Option ℕ) → Fits Is room e
+        → IfFine (object_member table at name_at name e number) (Fits Is (room + 1))
+    object_member-fits table name_at name room e (Some number) h =
+        cond-then (Fits Is (room + 1)) (is_object (form_of e)) _ _
+        (λ _.
+        member_by-fits (room + 1) table name_at name (member_in at e) (Some number)
+        (λ m. record { stands = (here, h.stands); nodes = omega (arith, h.nodes) }))
+        (λ _. tt)
+    object_member-fits table name_at name room e None h = tt
+
     pub selected-fits : (table : List StructType) (name_at : Place) (name : List ℕ) (room : ℕ) (e : Typed) → Fits Is room e
         → IfFine (selected table at name_at name e) (Fits Is (room + 1))
     unfolding selected
     selected-fits table name_at name room e h =
-        cond-then (Fits Is (room + 1)) (is_object (form_of e)) _ _
-        (λ _.
-        member_by-fits (room + 1) table name_at name (member_in at e) (struct_number (type_of e))
-        (λ m. record { stands = (here, h.stands); nodes = omega (arith, h.nodes) }))
+        cond-then (Fits Is (room + 1)) (is_void (type_of e)) _ _
         (λ _. tt)
+        (λ _. object_member-fits table name_at name room e (struct_number (type_of e)) h)
 
     pub selected_through-fits : (table : List StructType) (name_at : Place) (name : List ℕ) (room : ℕ) (e : Typed) (ty : Shape) → Fits Is room e
         → IfFine (selected_through table at name_at name e ty) (Fits Is (room + 1))
@@ -118,15 +131,28 @@ module _ (Is : Place → Type 0) where
         record { stands = (here, (h.stands, k.stands)); nodes = omega (arith, h.nodes, k.nodes) }
     updated-fits model op m n object value t u h k = tt
 
-    pub stored-fits : (c : Context) (op : AssignOp) (m n : ℕ) (object value : Typed) → Fits Is m object → Fits Is n value
-        → IfFine (stored c op at object value) (Fits Is (m + n + 2))
-    unfolding stored
-    stored-fits c op m n object value h k =
+    stored_by-fits : (c : Context) (op : AssignOp) (m n : ℕ) (object value : Typed) → Fits Is m object → Fits Is n value
+        → IfFine (stored_by c op at object value) (Fits Is (m + n + 2))
+    unfolding stored_by
+    stored_by-fits c op m n object value h k =
         cond-then (Fits Is (m + n + 2)) (is_plain op) _ _
         (λ _. lift-then (Fits Is (n + 1)) (Fits Is (m + n + 2)) (assigned at object) _
         (converted-fits Is at here c.model n value (type_of object) (type_of value) k)
         (λ r g. record { stands = (here, (h.stands, g.stands)); nodes = omega (arith, h.nodes, g.nodes) }))
         (λ _. updated-fits c.model (operator_of op) m n object value (type_of object) (type_of value) h k)
+
+    stored-fits : (c : Context) (op : AssignOp) (m n : ℕ) (object value : Typed) → Fits Is m object → Fits Is n value
+        → IfFine (stored c op at object value) (Fits Is (m + n + 2))
+    unfolding stored
+    stored-fits c op m n object value h k =
+        weighed-then (Fits Is (m + n + 2)) at (left_fault c op (type_of object)) (stored_by c op at object value)
+        (λ _. stored_by-fits c op m n object value h k)
+
+    pub stored_to-fits : (c : Context) (op : AssignOp) (m n : ℕ) (right : Verdict Typed) (object : Typed) → Fits Is m object → IfFine right (Fits Is n)
+        → IfFine (stored_to c op at right object) (Fits Is (m + n + 2))
+    stored_to-fits c op m n right object h given =
+        lift-then (Fits Is n) (Fits Is (m + n + 2)) (stored c op at object) (led at (left_fault c op (type_of object)) right)
+        (led-then (Fits Is n) at (left_fault c op (type_of object)) right given) (λ v k. stored-fits c op m n object v h k)
 
     -- the values of arguments, each converted to the type of its parameter
     before-fits : (m n : ℕ) (v : Verdict Typed) (w : Verdict TypedList) → IfFine v (Fits Is m) → IfFine w (FitInRow Is n)
@@ -192,31 +218,32 @@ module _ (Is : Place → Type 0) where
         (λ g vs _ h. call_with-fits c room target g vs h.0 h.1)
 
   -- objects that are stored to
-  updatable_as-fits : (table : List StructType) (op : BinOp) (at : Place) (room : ℕ) (e : Typed) (ty : Shape) → Fits Is room e
-      → IfFine (updatable_as table op at e ty) (Fits Is room)
+  updatable_as-fits : (op : BinOp) (at : Place) (room : ℕ) (e : Typed) (ty : Shape) → Fits Is room e → IfFine (updatable_as op at e ty) (Fits Is room)
   unfolding updatable_as
-  updatable_as-fits table op at room e (integer ty) h = h
-  updatable_as-fits table op at room e (pointer target) h =
-      cond-then (Fits Is room) (not (is_additive op)) _ _ (λ _. tt) (λ _. cond-then (Fits Is room) (is_complete table target) _ _ (λ _. h) (λ _. tt))
-  updatable_as-fits table op at room e ty h = tt
+  updatable_as-fits op at room e (integer ty) h = h
+  updatable_as-fits op at room e (pointer target) h = cond-then (Fits Is room) (is_additive op) _ _ (λ _. h) (λ _. tt)
+  updatable_as-fits op at room e ty h = tt
 
-  pub updatable-fits : (table : List StructType) (op : BinOp) (at : Place) (room : ℕ) (e : Typed) → Fits Is room e
-      → IfFine (updatable table op at e) (Fits Is room)
+  updatable-fits : (op : BinOp) (at : Place) (room : ℕ) (e : Typed) → Fits Is room e → IfFine (updatable op at e) (Fits Is room)
   unfolding updatable
-  updatable-fits table op at room e h =
-      cond-then (Fits Is room) (is_stored_to e) _ _ (λ _. updatable_as-fits table op at room e (type_of e) h) (λ _. tt)
+  updatable-fits op at room e h =
+      cond-then (Fits Is room) (is_void (type_of e)) _ _
+      (λ _. tt)
+      (λ _. cond-then (Fits Is room) (is_stored_to e) _ _ (λ _. updatable_as-fits op at room e (type_of e) h) (λ _. tt))
 
-  assignable-fits : (table : List StructType) (at : Place) (room : ℕ) (e : Typed) → Fits Is room e → IfFine (assignable table at e) (Fits Is room)
+  pub steppable-fits : (table : List StructType) (op : BinOp) (at : Place) (room : ℕ) (e : Typed) → Fits Is room e
+      → IfFine (steppable table op at e) (Fits Is room)
+  unfolding steppable
+  steppable-fits table op at room e h =
+      lift-then (Fits Is room) (Fits Is room) (moved_by_step table at) (updatable op at e) (updatable-fits op at room e h)
+      (λ o g. weighed-then (Fits Is room) at (updated_fault table (type_of o)) (Fine o) (λ _. g))
+
+  assignable-fits : (at : Place) (room : ℕ) (e : Typed) → Fits Is room e → IfFine (assignable at e) (Fits Is room)
   unfolding assignable
-  assignable-fits table at room e h =
-      cond-then (Fits Is room) (not (is_stored_to e)) _ _
-      (λ _. tt)
-      (λ _. cond-then (Fits Is room) (not (is_complete table (type_of e))) _ _
-      (λ _. tt)
-      (λ _. cond-then (Fits Is room) (has_few_scalars table (type_of e)) _ _ (λ _. h) (λ _. tt)))
+  assignable-fits at room e h =
+      cond-then (Fits Is room) (is_void (type_of e)) _ _ (λ _. tt) (λ _. cond-then (Fits Is room) (is_stored_to e) _ _ (λ _. h) (λ _. tt))
 
-  pub left_side-fits : (c : Context) (op : AssignOp) (at : Place) (room : ℕ) (e : Typed) → Fits Is room e → IfFine (left_side c op at e) (Fits Is room)
+  pub left_side-fits : (op : AssignOp) (at : Place) (room : ℕ) (e : Typed) → Fits Is room e → IfFine (left_side op at e) (Fits Is room)
   unfolding left_side
-  left_side-fits c op at room e h =
-      cond-then (Fits Is room) (is_plain op) _ _ (λ _. assignable-fits c.table.list at room e h)
-      (λ _. updatable-fits c.table.list (operator_of op) at room e h)
+  left_side-fits op at room e h =
+      cond-then (Fits Is room) (is_plain op) _ _ (λ _. assignable-fits at room e h) (λ _. updatable-fits (operator_of op) at room e h)

@@ -26,13 +26,13 @@ use Rattle.cs_consts.specs.Constants.{finished}
 use Rattle.cs_expressions.specs.Conversions.{recast}
 use Rattle.cs_expressions.specs.Operators.{combined, tested, followed}
 use Rattle.cs_expressions.specs.Places.{selected}
-use Rattle.cs_expressions.specs.Stores.{updatable, step_operator}
+use Rattle.cs_expressions.specs.Stores.{steppable, step_operator}
 use Rattle.cs_scopes.specs.Scopes.{newest}
 use Rattle.cs_scopes.specs.TypeNames.{arrayed}
 use Rattle.cs_expressions.specs.Calls.{called, parameters_of}
 use Rattle.cs_expressions.specs.Primary.{Literals, named, text_at}
 use Rattle.cs_consts.specs.Typing.{literals_after, row_length, done, value_in, operand_in, purpose_if, purpose_after, is_address, prefixed_value, prefixed}
-use Rattle.cs_consts.specs.Typing.{indexed_values, arrow_on, stepped_object, left_side, stored, right_target, cast_type, given_shape, cast_operand, cast_to}
+use Rattle.cs_consts.specs.Typing.{indexed_values, arrow_on, stepped_object, left_side, right_target, cast_type, given_shape, cast_operand, cast_to}
 use Rattle.cs_consts.specs.Typing.{chosen_values, measured_type, measured_arrays, base_in, further, formed, arguments_formed}
 use Rattle.cs_well_formed.specs.Nodes.{row_nodes}
 use Rattle.cs_well_formed.specs.Places.{RowStandsAmong}
@@ -44,7 +44,7 @@ use Rattle.cs_well_formed.proofs.LiteralsAfter.{sized-Choice, sized-Assign, size
 use Rattle.cs_well_formed.proofs.FittingValues.{Fits, if_fine-more, finished-fits, valued-fits, operand-fits, measured-fits, raised-fits, turned-fits}
 use Rattle.cs_well_formed.proofs.FittingValues.{recast-fits, combined-fits, chosen-fits, followed-fits, denied-fits, tested-fits}
 use Rattle.cs_well_formed.proofs.FittingObjects.{row_count, address_of-fits, through-fits, indexed-fits, selected-fits, selected_through-fits, stepped-fits}
-use Rattle.cs_well_formed.proofs.FittingObjects.{stored-fits, call-fits, updatable-fits, left_side-fits}
+use Rattle.cs_well_formed.proofs.FittingObjects.{stored_to-fits, call-fits, steppable-fits, left_side-fits}
 
 -- the room that an expression has by its text
 abbrev pub room_of : RawExprKind → ℕ
@@ -111,10 +111,10 @@ module _ (Is : Place → Type 0) (c : Context) where
 
     -- a step
     step-fits : (op : _) (gives : Gives) (room : ℕ) (v : Verdict Typed) → IfFine v (Fits Is room)
-        → IfFine (lift (stepped_object c op gives at) (lift (updatable c.table.list op at) v)) (Fits Is (room + 2))
+        → IfFine (lift (stepped_object c op gives at) (lift (steppable c.table.list op at) v)) (Fits Is (room + 2))
     step-fits op gives room v h =
         lift-then (Fits Is room) (Fits Is (room + 2)) (stepped_object c op gives at) _
-        (lift-then (Fits Is room) (Fits Is room) (updatable c.table.list op at) v h (λ e. updatable-fits Is c.table.list op at room e))
+        (lift-then (Fits Is room) (Fits Is room) (steppable c.table.list op at) v h (λ e. steppable-fits Is c.table.list op at room e))
         (λ e. stepped-fits Is at here c.model op gives room e (type_of e))
 
     -- `sizeof`
@@ -228,14 +228,14 @@ module _ (Is : Place → Type 0) (c : Context) where
         (λ t a b g k l. chosen-fits Is at h.0 (room_of one + 1) (room_of other + 1) a b k l c.model (room_of test + 1) t (type_of a) (type_of b) g))
         (omega (arith, sized-Choice (written_kind test) (written_kind one) (written_kind other)))
     formed-fits purpose literals target at (kind.Assign' operator place p object place' q value) h =
-        let left = lift (left_side c operator at) (done c purpose (formed c purpose literals None place object)) in
+        let left = lift (left_side operator at) (done c purpose (formed c purpose literals None place object)) in
+        let right = formed-fits purpose (literals_after literals object) (right_target operator left) place' value h.2 in
         if_fine-more Is (room_of object + (room_of value + 1) + 2) _ _
-        (lift2-then (Fits Is (room_of object)) (Fits Is (room_of value + 1)) (Fits Is (room_of object + (room_of value + 1) + 2)) (stored c operator at) _ _
-        (lift-then (Fits Is (room_of object)) (Fits Is (room_of object)) (left_side c operator at) _
+        (lift-then (Fits Is (room_of object)) (Fits Is (room_of object + (room_of value + 1) + 2)) _ left
+        (lift-then (Fits Is (room_of object)) (Fits Is (room_of object)) (left_side operator at) _
         (done-fits (room_of object) purpose _ (formed-fits purpose literals None place object h.1))
-        (λ e. left_side-fits Is c operator at (room_of object) e))
-        (operand_in-fits (room_of value) purpose _ (formed-fits purpose (literals_after literals object) (right_target operator left) place' value h.2))
-        (λ o v. stored-fits Is at h.0 c operator (room_of object) (room_of value + 1) o v))
+        (λ e. left_side-fits Is operator at (room_of object) e))
+        (λ o g. stored_to-fits Is at h.0 c operator (room_of object) (room_of value + 1) _ o g (operand_in-fits (room_of value) purpose _ right)))
         (omega (arith, sized-Assign operator (written_kind object) (written_kind value)))
     formed-fits purpose literals target at (kind.Comma' place p first place' q second) h =
         if_fine-more Is (room_of first + 1 + (room_of second + 1) + 1) _ _

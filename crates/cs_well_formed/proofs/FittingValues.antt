@@ -178,9 +178,9 @@ module _ (Is : Place → Type 0) where
         → IfFine (pointer_cast model at e target source) (Fits Is (room + 1))
     unfolding pointer_cast
     pointer_cast-fits model room e target source h =
-        cond-then (Fits Is (room + 1)) (is_null model e) _ _
-        (λ _. null-fits room target)
-        (λ _. cond-then (Fits Is (room + 1)) (same_shape target source || is_void target) _ _ (λ _. converts room e (pointer target) h) (λ _. tt))
+        cond-then (Fits Is (room + 1)) (same_shape target source || is_void target) _ _
+        (λ _. converts room e (pointer target) h)
+        (λ _. cond-then (Fits Is (room + 1)) (is_null model e) _ _ (λ _. null-fits room target) (λ _. tt))
 
     -- a cast
     pub recast-fits : (model : DataModel) (room : ℕ) (e : Typed) (target source : Shape) → Fits Is room e

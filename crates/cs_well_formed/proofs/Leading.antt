@@ -42,12 +42,12 @@ use Rattle.cs_declarations.specs.Bodies.{constants_declared, with_enum_tag, is_n
 use Rattle.cs_declarations.specs.Bodies.{name_or_none, Body, struct_read, group_declared, first_name, plain_row, row_type, members_read, plain_words}
 use Rattle.cs_declarations.specs.Bodies.{words_type, specs_type, typedef_added, typedefs_added}
 use Rattle.cs_declarations.specs.Objects.{count_given, object_type}
-use Rattle.cs_declarations.specs.Parameters.{Head, Passed, naming, is_free_name, with_parameter, parameter_passed, parameter_typed, parameters_after}
-use Rattle.cs_declarations.specs.Parameters.{parameters_typed}
+use Rattle.cs_declarations.specs.Parameters.{Head, Passed, naming, with_parameter, parameter_passed, parameter_typed, parameters_after}
+use Rattle.cs_declarations.specs.Parameters.{no_parameter, parameters_typed, after_twice, twice_after}
 use Rattle.cs_well_formed.specs.Expressions.{Setting, IsWhole}
 use Rattle.cs_well_formed.specs.Agreement.{Keeps, IsThere, Agrees}
 use Rattle.cs_well_formed.specs.Leading.{Leads, AreVariables, WordsLead, TypedefsLead, ParametersLead, ObjectsAreWhole}
-use Rattle.cs_well_formed.proofs.Verdicts.{IfFine, if_fine-at, if_fine-any, if_fine-weaker, lift-then, cond-then, both_true}
+use Rattle.cs_well_formed.proofs.Verdicts.{IfFine, if_fine-at, if_fine-any, if_fine-weaker, lift-then, cond-then, after_twice-then, both_true}
 use Rattle.cs_well_formed.proofs.Objects.{complete-IsWhole}
 use Rattle.cs_well_formed.proofs.Structs.{keeps-self, keeps-trans}
 
@@ -368,12 +368,12 @@ module _ (s : Setting) where
   parameter_typed-leads : (p : RawParameter) (before : Head) → before.known.context.model ≡ s.program.model
       → IfFine (parameter_typed p before) (HeadLeads before)
   parameter_typed-leads p before same =
-      lift-then (LeadsTo s before.known) (HeadLeads before) _ _ (specs_type-leads s before.known p.place p.specs same)
-      (λ found h. cond-then (HeadLeads before) (is_free_name p.name found.1) _ _
-      (λ _.
+      lift-then (LeadsTo s before.known) (HeadLeads before) _ _
+      (after_twice-then (LeadsTo s before.known) before.twice _ (specs_type-leads s before.known p.place p.specs same))
+      (λ found h.
       lift-then (λ _. Unit {0}) (HeadLeads before) (with_parameter p before found.1) _
-      (if_fine-any (parameter_passed found.1.context p (starred p.pointers.items found.0))) (λ passed _. with_parameter-leads p before found.1 passed h))
-      (λ _. tt))
+      (if_fine-any (after_twice (twice_after p before.twice found.1) (parameter_passed found.1.context p (starred p.pointers.items found.0))))
+      (λ passed _. with_parameter-leads p before found.1 passed h))
 
   no_parameter-leads : (before : Head) → HeadLeads before before
   no_parameter-leads before = record { model = refl; known = λ _. leads-self s before.known; variables = λ h. h }
@@ -391,7 +391,7 @@ module _ (s : Setting) where
       }))
 
   abbrev nothing_before : Environment → Head
-  nothing_before k = record { variables = []; written = []; known = k }
+  nothing_before k = no_parameter k
 
   -- the parameters of a function
   pub parameters_typed-leads : (k : Environment) (raw : RawParameters) → k.context.model ≡ s.program.model

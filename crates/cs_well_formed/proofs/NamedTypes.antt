@@ -46,14 +46,15 @@ use Rattle.cs_declarations.specs.Bodies.{Counting, constant_added, number_said, 
 use Rattle.cs_declarations.specs.Bodies.{Opening, is_among, opening_tagged, opening, name_or_none, Body, struct_read, group_declared, first_name, plain_row}
 use Rattle.cs_declarations.specs.Bodies.{row_type, members_read, plain_words, words_type, specs_type, typedefs_added}
 use Rattle.cs_declarations.specs.LaidOut.{IsOfTable}
-use Rattle.cs_declarations.specs.Sizes.{sizes_said, all_said, bounded, element_of, Extent, Whole, Unsized, outermost, extent_of, filled}
+use Rattle.cs_declarations.specs.Sizes.{sizes_said, refused_bound, unless_refused, all_said, bounded, element_of, Extent, Whole, Unsized, outermost, extent_of}
+use Rattle.cs_declarations.specs.Sizes.{filled}
 use Rattle.cs_declarations.specs.Objects.{count_given, object_type}
-use Rattle.cs_declarations.specs.Parameters.{Head, Passed, place_of, plainly_passed, array_passed, passed, naming, is_free_name, with_parameter}
-use Rattle.cs_declarations.specs.Parameters.{parameter_passed, parameter_typed, parameters_after, parameters_typed}
+use Rattle.cs_declarations.specs.Parameters.{Head, Passed, place_of, plainly_passed, array_passed, passed, naming, with_parameter}
+use Rattle.cs_declarations.specs.Parameters.{parameter_passed, parameter_typed, parameters_after, no_parameter, parameters_typed, twice_after}
 use Rattle.cs_well_formed.specs.Structs.{NamesStructs, MembersName, VariablesName}
 use Rattle.cs_well_formed.specs.Agreement.{IsNamed, KnownTypesAreNamed}
 use Rattle.cs_well_formed.specs.Naming.{WordsAreNamed, TypedefsAreNamed, ParametersAreNamed, ObjectsAreNamed}
-use Rattle.cs_well_formed.proofs.Verdicts.{IfFine, if_fine-at, if_fine-any, if_fine-weaker, lift-then, cond-then}
+use Rattle.cs_well_formed.proofs.Verdicts.{IfFine, if_fine-at, if_fine-any, if_fine-weaker, lift-then, cond-then, unless_refused-then, after_twice-then}
 use Rattle.cs_well_formed.proofs.Names.{newest-holds}
 use Rattle.cs_well_formed.proofs.Structs.{names-longer, members-longer, structs-longer, variables-longer, meaning-longer, tag-longer}
 
@@ -155,14 +156,15 @@ module _ (c : Context) where
 
   pub declarator_type-named : (base : Shape) (count : Option ℕ) (d : RawDeclarator) → NamesHere base → IfFine (declarator_type c base count d) NamesHere
   declarator_type-named base count d h =
-      lift-then NamesHere NamesHere (λ whole. lift (λ sizes. lift (filled c d.place count) (extent_of c d.place whole sizes)) (sizes_said c d.bounds.items)) _
+      let sizes = sizes_said c d.bounds.items in
+      let refused = refused_bound c d.bounds.items in
+      lift-then NamesHere NamesHere (λ whole. lift (unless_refused refused) (lift (filled c d.place count) (extent_of c d.place whole sizes))) _
       (bounded-named d.place (starred d.pointers.items base) d.bounds.items (starred-named c.table.list d.pointers.items base h))
       (λ whole k.
-      lift-then (λ _. Unit {0}) NamesHere (λ sizes. lift (filled c d.place count) (extent_of c d.place whole sizes)) _
-      (if_fine-any (sizes_said c d.bounds.items))
-      (λ sizes _.
-      lift-then ExtentNames NamesHere (filled c d.place count) _ (extent_of-named d.place whole sizes k)
-      (λ extent m. filled-named d.place count extent m)))
+      lift-then NamesHere NamesHere (unless_refused refused) _
+      (lift-then ExtentNames NamesHere (filled c d.place count) _ (extent_of-named d.place whole sizes k)
+      (λ extent m. filled-named d.place count extent m))
+      (λ ty m. unless_refused-then NamesHere refused ty m))
 
   -- the type of a declared object
   pub object_type-named : (base : Shape) (d : RawInit) → NamesHere base → IfFine (object_type c base d) NamesHere
@@ -226,11 +228,13 @@ module _ (c : Context) where
 
   parameter_passed-named : (p : RawParameter) (base : Shape) → NamesHere base → IfFine (parameter_passed c p base) PassedNames
   parameter_passed-named p base h =
-      lift-then NamesHere PassedNames (λ whole. lift (passed c (place_of p.place p.name) whole) (sizes_said c p.bounds.items)) _
+      let sizes = sizes_said c p.bounds.items in
+      let refused = refused_bound c p.bounds.items in
+      lift-then NamesHere PassedNames (λ whole. lift (unless_refused refused) (passed c (place_of p.place p.name) whole sizes)) _
       (bounded-named (place_of p.place p.name) base p.bounds.items h)
       (λ whole k.
-      lift-then (λ _. Unit {0}) PassedNames (passed c (place_of p.place p.name) whole) _ (if_fine-any (sizes_said c p.bounds.items))
-      (λ sizes _. passed-named (place_of p.place p.name) whole sizes k))
+      lift-then PassedNames PassedNames (unless_refused refused) _ (passed-named (place_of p.place p.name) whole sizes k)
+      (λ found m. unless_refused-then PassedNames refused found m))
 
   -- a written type between parentheses
   module _ (known : KnownTypesAreNamed c) where
@@ -552,12 +556,14 @@ with_parameter-named p before k found variables h is = (
 parameter_typed-named : (p : RawParameter) (before : Head) → VariablesName (table_of before.known) before.variables
     → KnownTypesAreNamed before.known.context → IfFine (parameter_typed p before) (HeadNamed before.known)
 parameter_typed-named p before variables h =
-    lift-then (TypeNamed before.known) (HeadNamed before.known) _ _ (specs_type-named before.known p.place p.specs h)
-    (λ found g. cond-then (HeadNamed before.known) (is_free_name p.name found.1) _ _
-    (λ _. lift-then (λ (way : Passed). NamesStructs (table_of found.1) way.ty) (HeadNamed before.known) (with_parameter p before found.1) _
-    (parameter_passed-named found.1.context p (starred p.pointers.items found.0) (starred-named (table_of found.1) p.pointers.items found.0 g.1))
+    lift-then (TypeNamed before.known) (HeadNamed before.known) _ _
+    (after_twice-then (TypeNamed before.known) before.twice _ (specs_type-named before.known p.place p.specs h))
+    (λ found g.
+    let PassedHere : Passed → Type 0 = λ way. NamesStructs (table_of found.1) way.ty in
+    lift-then PassedHere (HeadNamed before.known) (with_parameter p before found.1) _
+    (after_twice-then PassedHere (twice_after p before.twice found.1) (parameter_passed found.1.context p (starred p.pointers.items found.0))
+    (parameter_passed-named found.1.context p (starred p.pointers.items found.0) (starred-named (table_of found.1) p.pointers.items found.0 g.1)))
     (λ way n. with_parameter-named p before found.1 way variables g.0 n))
-    (λ _. tt))
 
 parameters_after-named : (ps : List RawParameter) (before : Head) → VariablesName (table_of before.known) before.variables
     → KnownTypesAreNamed before.known.context → IfFine (parameters_after ps before) (HeadNamed before.known)
@@ -573,7 +579,7 @@ pub parameters_typed-named : (k : Environment) (raw : RawParameters) → KnownTy
 parameters_typed-named k parameter_lists.Empty h = (named_on-self k h, All-nil (λ (v : Variable). NamesStructs (table_of k) v.ty))
 parameters_typed-named k parameter_lists.Void h = (named_on-self k h, All-nil (λ (v : Variable). NamesStructs (table_of k) v.ty))
 parameters_typed-named k (parameter_lists.List list) h =
-    parameters_after-named list.items (record { variables = []; written = []; known = k }) (All-nil (λ (v : Variable). NamesStructs (table_of k) v.ty)) h
+    parameters_after-named list.items (no_parameter k) (All-nil (λ (v : Variable). NamesStructs (table_of k) v.ty)) h
 
 pub words_are_named : WordsAreNamed
 words_are_named k m at raw ty h is = let found = if_fine-at (TypeNamed k) (specs_type k at raw) (ty, m) (specs_type-named k at raw h) is in

@@ -15,8 +15,8 @@ use Rattle.cs_folding.specs.TypedParts.{type_of, form_of}
 use Rattle.cs_expressions.specs.Objects.{is_object}
 use Rattle.cs_types.specs.Kinds.{is_void, is_complete}
 use Rattle.cs_expressions.specs.Places.{address_of, through, element, indexed, member_named, member_at, member_found, member_in, member_after, struct_number}
-use Rattle.cs_expressions.specs.Places.{member_by, selected, selected_through}
-use Rattle.cs_well_formed.specs.Expressions.{Setting, IsWell, IsObject, IsValueOf, HasType, HasMember}
+use Rattle.cs_expressions.specs.Places.{object_member, selected, selected_through}
+use Rattle.cs_well_formed.specs.Expressions.{Setting, IsWell, IsValueOf, HasType, HasMember}
 use Rattle.cs_well_formed.specs.Agreement.{Agrees}
 use Rattle.cs_well_formed.proofs.Verdicts.{IfFine, lift-then, cond-then}
 use Rattle.cs_well_formed.proofs.Objects.{complete-IsWhole}
@@ -34,7 +34,8 @@ named-among name (first ∷ ms) m h = by_name (pointwise nat_eq first.name name)
 module _ (s : Setting) where
   pub address_of-well : (at : Place) (e : Typed) → IsWell s e → IfFine (address_of at e) (IsWell s)
   unfolding address_of
-  address_of-well at e well = cond-then (IsWell s) (is_object (form_of e)) _ _ (λ h. (well, h, refl)) (λ _. tt)
+  address_of-well at e well =
+      cond-then (IsWell s) (is_void (type_of e)) _ _ (λ _. tt) (λ _. cond-then (IsWell s) (is_object (form_of e)) _ _ (λ h. (well, h, refl)) (λ _. tt))
 
   pub through-well : (at : Place) (e : Typed) (ty : Shape) → IsWell s e → IsValueOf e ty → IfFine (through at e ty) (IsWell s)
   unfolding through
@@ -84,13 +85,16 @@ module _ (s : Setting) (c : Context) (agrees : Agrees s c) where
   pub selected-well : (at name_at : Place) (name : List ℕ) (e : Typed) → IsWell s e → IfFine (selected c.table.list at name_at name e) (IsWell s)
   unfolding selected
   selected-well at name_at name e well =
-      cond-then (IsWell s) (is_object (form_of e)) _ _ (λ object. by_type (type_of e) object refl) (λ _. tt)
+      cond-then (IsWell s) (is_void (type_of e)) _ _ (λ _. tt) (λ _. by_type (type_of e) refl)
     where
-      by_type : (ty : Shape) → IsObject e → HasType e ty → IfFine (member_by c.table.list at name_at name (member_in at e) (struct_number ty)) (IsWell s)
-      by_type (struct number) object is =
+      by_type : (ty : Shape) → HasType e ty → IfFine (object_member c.table.list at name_at name e (struct_number ty)) (IsWell s)
+      by_type (struct number) is =
+          cond-then (IsWell s) (is_object (form_of e)) _ _
+          (λ object.
           lift-then (λ m. HasMember s.program number m.offset m.ty) (IsWell s) (member_in at e) _ (member-found name_at name number)
-          (λ m has. (well, object, number, is, has))
-      by_type ty object is = tt
+          (λ m has. (well, object, number, is, has)))
+          (λ _. tt)
+      by_type ty is = tt
 
   pub selected_through-well : (at name_at : Place) (name : List ℕ) (e : Typed) (ty : Shape) → IsWell s e → IsValueOf e ty
       → IfFine (selected_through c.table.list at name_at name e ty) (IsWell s)

@@ -1,10 +1,10 @@
 -- Operators that store give well-formed expressions: the rules of assignments and steps.
-use Rattle.std.proofs.Common.{◌≡◌, Bool, true, false, cond, not, refl, subst, arith}
+use Rattle.std.proofs.Common.{◌≡◌, Bool, true, false, cond, not, Some, None, refl, subst, arith}
 use Rattle.cs_types.specs.declared.data_model.DataModel.{DataModel}
 use Rattle.cs_types.specs.declared.int_type.IntType.{IntType}
 use Rattle.cs_types.specs.declared.int_type.IntType.TheVariants.{Int}
 use Rattle.cs_types.specs.Conversions.{promoted}
-use Rattle.cs_types.specs.Shape.{Shape, integer, pointer}
+use Rattle.cs_types.specs.Shape.{Shape, void, integer, pointer, array, struct}
 use Rattle.cs_ast.specs.declared.place.Place.{Place}
 use Rattle.cs_ast.specs.declared.raw.operator.AssignOp.{AssignOp}
 use Rattle.cs_ast.specs.declared.typed.operator.BinOp.{BinOp}
@@ -12,19 +12,21 @@ use Rattle.cs_ast.specs.declared.typed.operator.BinOp.TheVariants.{Shl, Shr}
 use Rattle.cs_ast.specs.declared.typed.operator.Gives.{Gives}
 use Rattle.cs_ast.specs.TypedTree.{Typed}
 use Rattle.cs_scopes.specs.declared.context.Context.{Context}
-use Rattle.cs_scopes.specs.Verdicts.{lift}
+use Rattle.cs_scopes.specs.declared.refusal.TypeCode.TheVariants as code
+use Rattle.cs_scopes.specs.Verdicts.{Verdict, Fine, lift}
 use Rattle.cs_folding.specs.TypedParts.{type_of, form_of}
 use Rattle.cs_expressions.specs.Integers.{in_type}
 use Rattle.cs_expressions.specs.Objects.{is_object}
-use Rattle.cs_types.specs.Kinds.{is_array, is_complete}
+use Rattle.cs_types.specs.Kinds.{is_void, is_array, is_complete}
 use Rattle.cs_scopes.specs.Scalars.{has_few_scalars}
 use Rattle.cs_expressions.specs.Conversions.{converted}
-use Rattle.cs_expressions.specs.Stores.{is_stored_to, assignable, assigned, is_additive, updatable_as, updatable, works_in, taken_in, updated, one_in, stepped}
-use Rattle.cs_consts.specs.Typing.{is_plain, operator_of, left_side, stored}
+use Rattle.cs_expressions.specs.Stores.{is_stored_to, assignable, assigned_fault, assigned, is_additive, updatable_as, updatable, updated_fault, led}
+use Rattle.cs_expressions.specs.Stores.{moved_by_step, steppable, works_in, taken_in, updated, one_in, stepped}
+use Rattle.cs_consts.specs.Typing.{is_plain, operator_of, left_side, left_fault, stored_by, stored, stored_to}
 use Rattle.cs_well_formed.specs.Structs.{NamesStructs}
 use Rattle.cs_well_formed.specs.Expressions.{Setting, TypesAroundAreNamed, IsWell, IsObject, IsValue, IsValueOf, HasType, IsWhole, IsHeld, IsRight}
 use Rattle.cs_well_formed.specs.Agreement.{Agrees}
-use Rattle.cs_well_formed.proofs.Verdicts.{IfFine, lift-then, cond-then, both_true, not_false, not_true}
+use Rattle.cs_well_formed.proofs.Verdicts.{IfFine, lift-then, cond-then, weighed-then, led-then, both_true, not_true}
 use Rattle.cs_well_formed.proofs.Numbers.{small-InRange}
 use Rattle.cs_well_formed.proofs.Integers.{in_type-well, integer-value, value-IsRight}
 use Rattle.cs_well_formed.proofs.Objects.{complete-IsWhole}
@@ -43,10 +45,20 @@ pub record IsAssigned (s : Setting) (e : Typed) : Type 0 where
   pub object : IsObject e
   pub held : IsHeld s.program (type_of e)
 
+-- the same as far as the operators that store ask it of an object alone
+pub record IsUpdatable (s : Setting) (e : Typed) : Type 0 where
+  pub well : IsWell s e
+  pub object : IsObject e
+
+pub record IsAssignable (s : Setting) (e : Typed) : Type 0 where
+  pub well : IsWell s e
+  pub object : IsObject e
+  pub no_array : is_array (type_of e) ≡ false
+
 -- what the left side of an operator that stores is
 abbrev pub IsLeft : Setting → Bool → Typed → Type 0
-IsLeft s true e = IsAssigned s e
-IsLeft s false e = IsUpdated s e
+IsLeft s true e = IsAssignable s e
+IsLeft s false e = IsUpdatable s e
 
 -- its type names structs
 pub left-named : (s : Setting) (plain : Bool) (e : Typed) → TypesAroundAreNamed s → IsLeft s plain e → NamesStructs s.program.table (type_of e)
@@ -94,62 +106,106 @@ module _ (s : Setting) where
       (λ r given. (left.well, given.0, left.object, refl, given.1, left.held))
 
 module _ (s : Setting) (c : Context) (agrees : Agrees s c) where
-  stored_to : (e : Typed) → is_stored_to e ≡ true → IsObject e × (is_array (type_of e) ≡ false)
-  stored_to e h = let both = both_true (is_object (form_of e)) (not (is_array (type_of e))) h in (both.0, not_true (is_array (type_of e)) both.1)
+  stored-parts : (e : Typed) → is_stored_to e ≡ true → IsObject e × (is_array (type_of e) ≡ false)
+  stored-parts e h = let both = both_true (is_object (form_of e)) (not (is_array (type_of e))) h in (both.0, not_true (is_array (type_of e)) both.1)
 
-  assignable-well : (at : Place) (e : Typed) → IsWell s e → IfFine (assignable c.table.list at e) (IsAssigned s)
+  assignable-well : (at : Place) (e : Typed) → IsWell s e → IfFine (assignable at e) (IsAssignable s)
   unfolding assignable
   assignable-well at e well =
-      cond-then (IsAssigned s) (not (is_stored_to e)) _ _
+      cond-then (IsAssignable s) (is_void (type_of e)) _ _
       (λ _. tt)
-      (λ h. cond-then (IsAssigned s) (not (is_complete c.table.list (type_of e))) _ _
-      (λ _. tt)
-      (λ h'. cond-then (IsAssigned s) (has_few_scalars c.table.list (type_of e)) _ _
-      (λ _. let to = stored_to e (not_false (is_stored_to e) h) in
-      record { well = well; object = to.0; held = (complete-IsWhole s c agrees (type_of e) (not_false (is_complete c.table.list (type_of e)) h'), to.1) })
-      (λ _. tt)))
-
-  updatable_as-well : (op : BinOp) (at : Place) (e : Typed) (ty : Shape) → IsWell s e → IsObject e → HasType e ty
-      → IfFine (updatable_as c.table.list op at e ty) (IsUpdated s)
-  unfolding updatable_as
-  updatable_as-well op at e (integer ty) well object is =
-      record { well = well; object = object; elements = λ target is'. absurd cc }
-  updatable_as-well op at e (pointer target) well object is =
-      cond-then (IsUpdated s) (not (is_additive op)) _ _
-      (λ _. tt)
-      (λ _. cond-then (IsUpdated s) (is_complete c.table.list target) _ _
-      (λ h.
-      record {
-        well = well;
-        object = object;
-        elements = λ other is'. let same : target ≡ other = cc in subst (IsWhole s.program) same (complete-IsWhole s c agrees target h);
-      })
+      (λ _. cond-then (IsAssignable s) (is_stored_to e) _ _
+      (λ h. let to = stored-parts e h in record { well = well; object = to.0; no_array = to.1 })
       (λ _. tt))
-  updatable_as-well op at e ty well object is = tt
+
+  -- an object of a type of which `=` asks no more is whole
+  complete-now : (ty : Shape) → assigned_fault c.table.list ty ≡ None → is_complete c.table.list ty ≡ true
+  unfolding assigned_fault
+  complete-now ty none = by_complete (is_complete c.table.list ty) none
+    where
+      by_complete : (complete : Bool)
+          → cond (not complete) (Some code.IncompleteType) (cond (has_few_scalars c.table.list ty) None (Some code.TooManyScalars)) ≡ None
+          → complete ≡ true
+      by_complete true none = refl
+      by_complete false none = absurd cc
+
+  assigned-now : (e : Typed) → IsAssignable s e → assigned_fault c.table.list (type_of e) ≡ None → IsAssigned s e
+  assigned-now e left none =
+      record {
+        well = left.well;
+        object = left.object;
+        held = (complete-IsWhole s c agrees (type_of e) (complete-now (type_of e) none), left.no_array);
+      }
+
+  updatable_as-well : (op : BinOp) (at : Place) (e : Typed) (ty : Shape) → IsWell s e → IsObject e → IfFine (updatable_as op at e ty) (IsUpdatable s)
+  unfolding updatable_as
+  updatable_as-well op at e (integer ty) well object = record { well = well; object = object }
+  updatable_as-well op at e (pointer target) well object =
+      cond-then (IsUpdatable s) (is_additive op) _ _ (λ _. record { well = well; object = object }) (λ _. tt)
+  updatable_as-well op at e ty well object = tt
 
   -- the object of a compound assignment or a step
-  pub updatable-well : (op : BinOp) (at : Place) (e : Typed) → IsWell s e → IfFine (updatable c.table.list op at e) (IsUpdated s)
+  updatable-well : (op : BinOp) (at : Place) (e : Typed) → IsWell s e → IfFine (updatable op at e) (IsUpdatable s)
   unfolding updatable
   updatable-well op at e well =
-      cond-then (IsUpdated s) (is_stored_to e) _ _ (λ h. updatable_as-well op at e (type_of e) well (stored_to e h).0 refl) (λ _. tt)
+      cond-then (IsUpdatable s) (is_void (type_of e)) _ _
+      (λ _. tt)
+      (λ _. cond-then (IsUpdatable s) (is_stored_to e) _ _ (λ h. updatable_as-well op at e (type_of e) well (stored-parts e h).0) (λ _. tt))
+
+  -- a pointer of whose type no more is asked points to what is whole
+  elements-whole : (ty target : Shape) → updated_fault c.table.list ty ≡ None → ty ≡ pointer target → IsWhole s.program target
+  unfolding updated_fault
+  elements-whole (pointer elements) target none is = by_complete (is_complete c.table.list elements) refl none
+    where
+      by_complete : (complete : Bool) → is_complete c.table.list elements ≡ complete → cond complete None (Some code.IncompleteType) ≡ None
+          → IsWhole s.program target
+      by_complete true h none = let same : elements ≡ target = cc in subst (IsWhole s.program) same (complete-IsWhole s c agrees elements h)
+      by_complete false h none = absurd cc
+  elements-whole void target none is = absurd cc
+  elements-whole (integer ty) target none is = absurd cc
+  elements-whole (array element count) target none is = absurd cc
+  elements-whole (struct number) target none is = absurd cc
+
+  updated-now : (e : Typed) → IsUpdatable s e → updated_fault c.table.list (type_of e) ≡ None → IsUpdated s e
+  updated-now e left none =
+      record { well = left.well; object = left.object; elements = λ target is. elements-whole (type_of e) target none is }
+
+  -- the object of a step
+  pub steppable-well : (op : BinOp) (at : Place) (e : Typed) → IsWell s e → IfFine (steppable c.table.list op at e) (IsUpdated s)
+  unfolding steppable
+  steppable-well op at e well =
+      lift-then (IsUpdatable s) (IsUpdated s) (moved_by_step c.table.list at) (updatable op at e) (updatable-well op at e well)
+      (λ o left. weighed-then (IsUpdated s) at (updated_fault c.table.list (type_of o)) (Fine o) (λ none. updated-now o left none))
 
   -- the left side of an operator that stores
-  pub left_side-well : (op : AssignOp) (at : Place) (e : Typed) → IsWell s e → IfFine (left_side c op at e) (IsLeft s (is_plain op))
+  pub left_side-well : (op : AssignOp) (at : Place) (e : Typed) → IsWell s e → IfFine (left_side op at e) (IsLeft s (is_plain op))
   unfolding left_side
   left_side-well op at e well = by_plain (is_plain op)
     where
-      by_plain : (plain : Bool) → IfFine (cond plain (assignable c.table.list at e) (updatable c.table.list (operator_of op) at e)) (IsLeft s plain)
+      by_plain : (plain : Bool) → IfFine (cond plain (assignable at e) (updatable (operator_of op) at e)) (IsLeft s plain)
       by_plain true = assignable-well at e well
       by_plain false = updatable-well (operator_of op) at e well
 
   -- an operator that stores
-  pub stored-well : (op : AssignOp) (at : Place) (object value : Typed) → IsLeft s (is_plain op) object → IsWell s value → IsValue value
+  stored-well : (op : AssignOp) (at : Place) (object value : Typed) → IsLeft s (is_plain op) object → IsWell s value → IsValue value
       → IfFine (stored c op at object value) (IsWell s)
-  unfolding stored
-  stored-well op at object value left well v = by_plain (is_plain op) left
+  unfolding stored left_fault stored_by
+  stored-well op at object value left well v =
+      weighed-then (IsWell s) at (left_fault c op (type_of object)) (stored_by c op at object value) (λ none. by_plain (is_plain op) left none)
     where
       by_plain : (plain : Bool) → IsLeft s plain object
+          → cond plain (assigned_fault c.table.list (type_of object)) (updated_fault c.table.list (type_of object)) ≡ None
           → IfFine (cond plain (lift (assigned at object) (converted c.model at value (type_of object) (type_of value)))
           (updated c.model (operator_of op) at object value (type_of object) (type_of value))) (IsWell s)
-      by_plain true left = assigned-well s c.model at object value (type_of-named s agrees.types object left.well) left well v
-      by_plain false left = updated-well s c.model (operator_of op) at object value (type_of object) (type_of value) left refl well (v, refl)
+      by_plain true left none =
+          assigned-well s c.model at object value (type_of-named s agrees.types object left.well) (assigned-now object left none) well v
+      by_plain false left none =
+          updated-well s c.model (operator_of op) at object value (type_of object) (type_of value) (updated-now object left none) refl well (v, refl)
+
+  -- the same of one whose right side may be refused
+  pub stored_to-well : (op : AssignOp) (at : Place) (right : Verdict Typed) (object : Typed) → IsLeft s (is_plain op) object
+      → IfFine right (λ v. IsWell s v × IsValue v) → IfFine (stored_to c op at right object) (IsWell s)
+  stored_to-well op at right object left given =
+      lift-then (λ v. IsWell s v × IsValue v) (IsWell s) (stored c op at object) (led at (left_fault c op (type_of object)) right)
+      (led-then (λ v. IsWell s v × IsValue v) at (left_fault c op (type_of object)) right given)
+      (λ v k. stored-well op at object v left k.0 k.1)

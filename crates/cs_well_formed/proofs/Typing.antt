@@ -28,12 +28,12 @@ use Rattle.cs_consts.specs.Constants.{finished}
 use Rattle.cs_expressions.specs.Conversions.{recast}
 use Rattle.cs_expressions.specs.Operators.{combined, tested, followed}
 use Rattle.cs_expressions.specs.Places.{selected}
-use Rattle.cs_expressions.specs.Stores.{updatable, step_operator}
+use Rattle.cs_expressions.specs.Stores.{steppable, step_operator}
 use Rattle.cs_scopes.specs.Scopes.{newest}
 use Rattle.cs_expressions.specs.Calls.{called, parameters_of}
 use Rattle.cs_expressions.specs.Primary.{Literals, constant_type}
 use Rattle.cs_consts.specs.Typing.{literals_after, literals_after_row, row_length, done, value_in, operand_in, purpose_if, purpose_after, is_address}
-use Rattle.cs_consts.specs.Typing.{prefixed_value, prefixed, indexed_values, arrow_on, stepped_object, is_plain, left_side, stored, type_in, right_target}
+use Rattle.cs_consts.specs.Typing.{prefixed_value, prefixed, indexed_values, arrow_on, stepped_object, is_plain, left_side, type_in, right_target}
 use Rattle.cs_consts.specs.Typing.{cast_type, given_shape, cast_operand, cast_to, chosen_values, measured_type, measured_arrays, base_in, further, formed}
 use Rattle.cs_consts.specs.Typing.{arguments_formed}
 use Rattle.cs_well_formed.specs.Structs.{NamesStructs}
@@ -49,7 +49,7 @@ use Rattle.cs_well_formed.proofs.Objects.{valued-well, operand-well, measured-we
 use Rattle.cs_well_formed.proofs.Conversions.{recast-well}
 use Rattle.cs_well_formed.proofs.Operators.{tested-well, denied-well, chosen-well, followed-well, combined-well}
 use Rattle.cs_well_formed.proofs.Places.{address_of-well, through-well, indexed-well, selected-well, selected_through-well}
-use Rattle.cs_well_formed.proofs.Stores.{IsUpdated, IsLeft, stepped-well, updatable-well, left-named, left_side-well, stored-well}
+use Rattle.cs_well_formed.proofs.Stores.{IsUpdated, IsLeft, stepped-well, steppable-well, left-named, left_side-well, stored_to-well}
 use Rattle.cs_well_formed.specs.Laws.{TargetNames}
 use Rattle.cs_well_formed.proofs.Structs.{names-longer, AreNamed}
 use Rattle.cs_well_formed.proofs.Naming.{type_of-named}
@@ -135,10 +135,10 @@ module _ (s : Setting) (c : Context) (agrees : Agrees s c) where
 
   -- a step
   step-well : (op : _) (gives : _) (at : Place) (v : Verdict Typed) → IfFine v (IsWell s)
-      → IfFine (lift (stepped_object c op gives at) (lift (updatable c.table.list op at) v)) (IsWell s)
+      → IfFine (lift (stepped_object c op gives at) (lift (steppable c.table.list op at) v)) (IsWell s)
   step-well op gives at v well =
       lift-then (IsUpdated s) (IsWell s) (stepped_object c op gives at) _
-      (lift-then (IsWell s) (IsUpdated s) (updatable c.table.list op at) v well (updatable-well s c agrees op at))
+      (lift-then (IsWell s) (IsUpdated s) (steppable c.table.list op at) v well (steppable-well s c agrees op at))
       (λ object left. stepped-well s c.model op gives at object (type_of object) left refl)
 
   -- `sizeof`
@@ -235,15 +235,15 @@ module _ (s : Setting) (c : Context) (agrees : Agrees s c) where
         chosen-well s c.model at t a b (type_of a) (type_of b) (type_of-named s agrees.types a k.0) (type_of-named s agrees.types b l.0) h.0 h.1 k.0
         (k.1, refl) l.0 (l.1, refl))
     formed-well purpose literals target names at (kind.Assign' operator place p object place' q value) fit texts =
-        let left = lift (left_side c operator at) (done c purpose (formed c purpose literals None place object)) in
+        let left = lift (left_side operator at) (done c purpose (formed c purpose literals None place object)) in
         let is_left =
-        lift-then (IsWell s) (IsLeft s (is_plain operator)) (left_side c operator at) _
+        lift-then (IsWell s) (IsLeft s (is_plain operator)) (left_side operator at) _
         (done-well purpose _ (formed-well purpose literals None tt place object fit.0 (both-first s literals object value texts)))
         (left_side-well s c agrees operator at) in
         let right_names = right_named operator left is_left in
-        lift2-then (IsLeft s (is_plain operator)) (IsWellValue s) (IsWell s) (stored c operator at) _ _ is_left
-        (operand_in-well purpose _ (formed-well purpose (literals_after literals object) (right_target operator left) right_names place' value fit.1 texts))
-        (λ o v h k. stored-well s c agrees operator at o v h k.0 k.1)
+        let right = formed-well purpose (literals_after literals object) (right_target operator left) right_names place' value fit.1 texts in
+        lift-then (IsLeft s (is_plain operator)) (IsWell s) _ left is_left
+        (λ o h. stored_to-well s c agrees operator at _ o h (operand_in-well purpose _ right))
     formed-well purpose literals target names at (kind.Comma' place p first place' q second) fit texts =
         lift2-then (IsWellValue s) (IsWellValue s) (IsWell s) (followed at) _ _
         (value_in-well purpose _ (formed-well purpose literals None tt place first fit.0 (both-first s literals first second texts)))

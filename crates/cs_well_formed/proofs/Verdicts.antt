@@ -1,6 +1,12 @@
 -- What holds of what a rule gives, if it gives something: for each rule of the typing of expressions.
-use Rattle.std.proofs.Common.{◌≡◌, Bool, true, false, cond, ◌&&◌, not, refl, subst}
+use Rattle.std.proofs.Common.{◌≡◌, Bool, true, false, cond, ◌&&◌, not, Option, Some, None, refl, subst}
+use Rattle.cs_ast.specs.declared.place.Place.{Place}
+use Rattle.cs_ast.specs.TypedTree.{Typed}
+use Rattle.cs_scopes.specs.declared.refusal.TypeCode.{TypeCode}
 use Rattle.cs_scopes.specs.Verdicts.{Verdict, Fine, Fault, lift, lift2, lift3}
+use Rattle.cs_expressions.specs.Stores.{weighed, led}
+use Rattle.cs_declarations.specs.Sizes.{unless_refused}
+use Rattle.cs_declarations.specs.Parameters.{after_twice}
 
 -- it holds of the value, if there is one
 abbrev pub IfFine : {A : Type 0} → Verdict A → (A → Type 0) → Type 0
@@ -46,6 +52,31 @@ pub cond-then : {A : Type 0} (P : A → Type 0) (test : Bool) (v w : Verdict A) 
     → IfFine (cond test v w) P
 cond-then P true v w one other = one refl
 cond-then P false v w one other = other refl
+
+-- of a verdict at whose place another code may hold, and of one after such a place
+pub weighed-then : (P : Typed → Type 0) (at : Place) (fault : Option TypeCode) (v : Verdict Typed) → (fault ≡ None → IfFine v P)
+    → IfFine (weighed at fault v) P
+weighed-then P at None v held = held refl
+weighed-then P at (Some code) (Fine e) held = tt
+weighed-then P at (Some code) (Fault other place) held = tt
+
+pub led-then : (P : Typed → Type 0) (at : Place) (fault : Option TypeCode) (v : Verdict Typed) → IfFine v P → IfFine (led at fault v) P
+led-then P at None v held = held
+led-then P at (Some first) (Fine e) held = held
+led-then P at (Some first) (Fault code place) held = tt
+
+-- of what a name declares, after which bounds stand
+pub unless_refused-then : {A : Type 0} (P : A → Type 0) (refused : Option (TypeCode × Place)) (found : A) → P found
+    → IfFine (unless_refused refused found) P
+unfolding lift
+unless_refused-then P None found held = held
+unless_refused-then P (Some fault) found held = tt
+
+-- of what comes after a parameter whose name is declared a second time
+pub after_twice-then : {A : Type 0} (P : A → Type 0) (twice : Option Place) (v : Verdict A) → IfFine v P → IfFine (after_twice twice v) P
+after_twice-then P twice (Fine value) held = held
+after_twice-then P None (Fault code place) held = tt
+after_twice-then P (Some at) (Fault code place) held = tt
 
 -- tests that came out
 pub both_true : (a b : Bool) → (a && b) ≡ true → (a ≡ true) × (b ≡ true)

@@ -1,8 +1,7 @@
-//! Which token is refused in the beginnings of a file and in the file with one token changed. `data/chart.py` makes the
+//! Which token is refused, and why, in the beginnings of a file and in the file with one token changed. `data/chart.py` makes the
 //! tables: a chart parser that reads the grammar as it is written.
 
-use crate::front::{Reported, front};
-use cs_grammar::SyntaxRefusal;
+use crate::front::{Reported, front, in_words};
 use std::alloc::{AllocError, Global};
 use std::test::Fail;
 
@@ -106,21 +105,23 @@ const FILES: [usize; 5] = [0, 13, 20, 37, 87];
 /// A change of one token.
 #[derive(Clone, Copy)]
 enum Edit {
-    Unsupported,
+    Removed,
     Twice,
     By(&'static str),
 }
 
-/// Each change, and for each token of the file the number of the token that is refused where that one is changed.
-const EDITS: [(Edit, [usize; 87]); 6] = [
+/// Each change, for each token of the file the number of the token that is refused where that one is changed, and the numbers of those
+/// whose change makes an unsupported punctuator of the refused token.
+const EDITS: [(Edit, [usize; 87], &[usize]); 6] = [
     (
-        Edit::Unsupported,
+        Edit::Removed,
         [
             0, A, 2, 3, 4, 5, 6, 7, A, 9, 10, 11, 12, 13, 14, 15, 16, A, 18, 19, A, 21, 22, 23, A,
             25, 26, A, 29, 29, 30, A, 32, 33, 34, 35, 38, 37, 38, 39, 40, 41, A, 44, 44, 45, A, 47,
             A, 49, 50, 51, 52, 53, 54, 55, 56, 65, 58, A, 60, 61, 62, 63, 65, 65, A, A, 68, 69, 70,
             71, 72, 73, 74, 75, 76, 77, 78, 79, 80, 81, 82, A, A, 85, 86,
         ],
+        &[14, 22, 38],
     ),
     (
         Edit::Twice,
@@ -130,6 +131,7 @@ const EDITS: [(Edit, [usize; 87]); 6] = [
             49, A, 50, A, 52, 53, 54, 55, 56, A, 58, 67, 60, 67, 62, 63, 64, 66, 66, 67, 68, A, 70,
             71, 72, 73, 74, 75, 76, A, 78, 79, 80, 81, 82, A, 84, 85, A, 87,
         ],
+        &[],
     ),
     (
         Edit::By(";"),
@@ -139,6 +141,7 @@ const EDITS: [(Edit, [usize; 87]); 6] = [
             48, 49, A, 52, A, 53, A, 55, A, 66, 58, 59, 60, 61, 62, 63, 64, 65, A, A, A, 70, A, 71,
             A, 73, A, 75, A, 78, A, 79, A, 81, A, A, A, A, 87,
         ],
+        &[],
     ),
     (
         Edit::By("("),
@@ -148,6 +151,7 @@ const EDITS: [(Edit, [usize; 87]); 6] = [
             47, 48, 49, 50, 52, 56, 54, 56, 55, 57, 66, A, 66, A, 62, 66, 63, 66, 66, 68, 68, 76,
             70, 76, 71, 76, 74, 76, 75, 82, 78, 82, 79, 82, 82, 83, 85, 85, 86, 87,
         ],
+        &[2, 4, 8, 9, 12, 14, 17, 22, 27, 28, 38, 42, 43, 48, 49],
     ),
     (
         Edit::By("x"),
@@ -157,6 +161,7 @@ const EDITS: [(Edit, [usize; 87]); 6] = [
             A, 50, A, 52, A, 54, A, 56, 66, 58, A, 60, A, 62, A, 64, 65, 67, A, 68, A, 70, A, 72,
             A, 74, A, 76, A, 78, A, 80, A, 82, 84, A, 85, 87,
         ],
+        &[],
     ),
     (
         Edit::By(","),
@@ -166,6 +171,7 @@ const EDITS: [(Edit, [usize; 87]); 6] = [
             46, 47, 48, 49, A, 51, A, 53, A, 55, 57, 57, 58, 59, 65, 61, A, 63, 65, 66, 66, 67, A,
             69, A, 71, A, 73, A, 75, A, 77, A, 79, A, 81, 83, 83, 84, 86, 86,
         ],
+        &[],
     ),
 ];
 
@@ -178,7 +184,7 @@ fn edited(alloc: Global, edit: Edit, at: usize) -> Result<Vec<&'static str>, All
             continue;
         }
         match edit {
-            Edit::Unsupported => (),
+            Edit::Removed => (),
             Edit::Twice => {
                 list.push(*token)?;
                 list.push(*token)?;
@@ -199,34 +205,33 @@ fn line(alloc: Global, list: &[&'static str]) -> Result<String, AllocError> {
     Ok(text)
 }
 
-/// The column of the first refused token of a line, and none where the line is a file. The end of input is a token.
-fn refused(alloc: Global, text: &str) -> Option<usize> {
+/// The refusal of a line, in words; nothing where it is a file. The end of input is a token.
+fn refused(alloc: Global, text: &str) -> Result<String, AllocError> {
     match front(alloc, text) {
-        Reported::NoTokens => Some(0),
-        Reported::Refused(refusal) => Some(column(&refusal)),
-        Reported::File(_) => None,
+        Reported::NoTokens => String::from_str(alloc, "no tokens"),
+        Reported::Refused(refusal) => in_words(alloc, &refusal),
+        Reported::File(_) => Ok(String::new(alloc)),
     }
 }
 
-/// The column of a refusal; want of memory has one that no token could have.
-fn column(refusal: &SyntaxRefusal) -> usize {
-    match refusal {
-        SyntaxRefusal::Syntax(at) | SyntaxRefusal::TooDeep(at) => at.column as usize,
-        SyntaxRefusal::Unsupported(at, _) => at.column as usize,
-        SyntaxRefusal::Memory => 0,
-    }
-}
-
-/// The column that the token with a number has in the line of these tokens, and none where the line is a file.
-fn expected(list: &[&'static str], number: usize) -> Option<usize> {
+/// The refusal of the line of these tokens at the token with a number, in words; nothing where the line is a file.
+fn expected(
+    alloc: Global,
+    list: &[&'static str],
+    number: usize,
+    is_unsupported: bool,
+) -> Result<String, AllocError> {
     if number == A {
-        return None;
+        return Ok(String::new(alloc));
     }
     let mut column = 1usize;
     for token in list.iter().take(number) {
         column = column.wrapping_add(token.len()).wrapping_add(1);
     }
-    Some(column)
+    match list.get(number) {
+        Some(word) if is_unsupported => format!(in alloc; "left out {word} 1:{column}"),
+        _ => format!(in alloc; "syntax 1:{column}"),
+    }
 }
 
 #[test]
@@ -235,11 +240,9 @@ fn refuses_each_beginning_at_its_end(rt: HostRuntime) -> Result<(), Fail> {
         let list = FILE.get(..count).unwrap_or(&FILE);
         let text = line(rt.alloc(), list)?;
         let number = if FILES.contains(&count) { A } else { count };
-        assert_eq!(rt;
-            refused(rt.alloc(), text.as_str()),
-            expected(list, number),
-            "{count}"
-        );
+        let found = refused(rt.alloc(), text.as_str())?;
+        let wanted = expected(rt.alloc(), list, number, false)?;
+        assert_eq!(rt; found.as_str(), wanted.as_str(), "{count}");
     }
     Ok(())
 }
@@ -248,15 +251,14 @@ fn refuses_each_beginning_at_its_end(rt: HostRuntime) -> Result<(), Fail> {
 fn refuses_a_changed_file_at_the_token_that_a_chart_parser_finds(
     rt: HostRuntime,
 ) -> Result<(), Fail> {
-    for (edit, numbers) in EDITS {
+    for (edit, numbers, unsupported) in EDITS {
         for (at, number) in numbers.iter().enumerate() {
             let list = edited(rt.alloc(), edit, at)?;
             let text = line(rt.alloc(), list.as_slice())?;
-            assert_eq!(rt;
-                refused(rt.alloc(), text.as_str()),
-                expected(list.as_slice(), *number),
-                "{at}"
-            );
+            let found = refused(rt.alloc(), text.as_str())?;
+            let is_unsupported = unsupported.contains(&at);
+            let wanted = expected(rt.alloc(), list.as_slice(), *number, is_unsupported)?;
+            assert_eq!(rt; found.as_str(), wanted.as_str(), "{at}");
         }
     }
     Ok(())

@@ -13,7 +13,8 @@ use cs_lexer::{Lexed, tokens};
 use cs_limits::{MOST_BYTES, MOST_TOKENS};
 use cs_types::DataModel;
 use cs_typing::typed;
-use std::alloc::Global;
+use std::alloc::{AllocError, Global};
+use std::str::from_utf8;
 
 /// What the front end says of a text.
 #[derive(Drop)]
@@ -42,6 +43,19 @@ pub fn front(alloc: Global, text: &str) -> Reported {
     match parse(alloc, list, lexed.end) {
         Ok(tree) => Reported::File(tree),
         Err(refusal) => Reported::Refused(refusal),
+    }
+}
+
+/// A refusal in words: its kind, the unsupported word, its line and its column.
+pub fn in_words(alloc: Global, refusal: &SyntaxRefusal) -> Result<String, AllocError> {
+    match refusal {
+        SyntaxRefusal::Syntax(at) => format!(in alloc; "syntax {}:{}", at.line, at.column),
+        SyntaxRefusal::TooDeep(at) => format!(in alloc; "too deep {}:{}", at.line, at.column),
+        SyntaxRefusal::Unsupported(at, word) => {
+            let word = from_utf8(word.as_bytes()).unwrap_or("?");
+            format!(in alloc; "left out {word} {}:{}", at.line, at.column)
+        }
+        SyntaxRefusal::Memory => String::from_str(alloc, "no memory"),
     }
 }
 

@@ -7,6 +7,8 @@ pub mod asked;
 #[cfg(test)]
 mod edited;
 #[cfg(test)]
+mod faults;
+#[cfg(test)]
 mod flows;
 pub mod front;
 #[cfg(test)]
@@ -17,5 +19,7 @@ mod parsed;
 mod refused;
 #[cfg(test)]
 mod replayed;
+#[cfg(test)]
+mod truncated;
 #[cfg(test)]
 mod typed;

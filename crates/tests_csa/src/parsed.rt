@@ -1,9 +1,7 @@
 //! What the front end says of whole files: how many parts they have, or which token is refused and why.
 
-use crate::front::{Reported, front};
-use cs_grammar::SyntaxRefusal;
+use crate::front::{Reported, front, in_words};
 use std::alloc::{AllocError, Global};
-use std::str::from_utf8;
 use std::test::Fail;
 
 /// Files with what the front end says of them.
@@ -72,19 +70,6 @@ fn verdict(alloc: Global, file: &str) -> Result<String, AllocError> {
             let count = tree.externals.len();
             format!(in alloc; "{count} parts")
         }
-    }
-}
-
-/// A refusal in words.
-fn in_words(alloc: Global, refusal: &SyntaxRefusal) -> Result<String, AllocError> {
-    match refusal {
-        SyntaxRefusal::Syntax(at) => format!(in alloc; "syntax {}:{}", at.line, at.column),
-        SyntaxRefusal::TooDeep(at) => format!(in alloc; "too deep {}:{}", at.line, at.column),
-        SyntaxRefusal::Unsupported(at, word) => {
-            let word = from_utf8(word.as_bytes()).unwrap_or("?");
-            format!(in alloc; "left out {word} {}:{}", at.line, at.column)
-        }
-        SyntaxRefusal::Memory => String::from_str(alloc, "no memory"),
     }
 }
 

@@ -1,6 +1,7 @@
 //! Files that are refused by their types, each beside a like one that isn't.
 
 use crate::asked::answered;
+use cs_app::Status;
 use std::alloc::{AllocError, Global};
 use std::str;
 use std::test::Fail;
@@ -220,13 +221,22 @@ const CODES: [(&str, &str, &str); 43] = [
     ),
 ];
 
+/// Whether a file is a program, by what `analyze` answers: it lists the functions, or only says that they aren't of the small form.
+fn is_accepted(ended: Status, text: &[u8]) -> bool {
+    match ended {
+        Status::Clean | Status::Found => true,
+        Status::BadFile => text == b"refused form\n".as_slice(),
+        _ => false,
+    }
+}
+
 /// Of a table of refused files, their lines and their neighbours, the rows that are answered otherwise, with what is answered.
 fn differing(alloc: Global, table: &[(&str, &str, &str)]) -> Result<String, AllocError> {
     let mut found = String::new(alloc);
     for (file, line, neighbour) in table {
         let (_, refused) = answered(alloc, "analyze", file)?;
-        let (_, taken) = answered(alloc, "analyze", neighbour)?;
-        if refused.as_slice() != line.as_bytes() || taken.starts_with(b"refused type") {
+        let (ended, taken) = answered(alloc, "analyze", neighbour)?;
+        if refused.as_slice() != line.as_bytes() || !is_accepted(ended, &taken) {
             let one = str::from_utf8(&refused).unwrap_or("no text");
             let other = str::from_utf8(&taken).unwrap_or("no text");
             let reported = format!(in alloc; "{file} gives {one} and {neighbour} gives {other}")?;

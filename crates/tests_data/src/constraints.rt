@@ -49,3 +49,36 @@ fn collapses(rt: HostRuntime) -> Result<(), Fail> {
     assert_eq!(rt; (collapsed.sym, collapsed.value), (None, 10));
     Ok(())
 }
+
+#[test]
+fn prepares(rt: HostRuntime) -> Result<(), Fail> {
+    let mut constraints = Constraints::new(rt.alloc());
+    let small = RangeSet::of(rt.alloc(), -3, 9)?;
+    assert!(rt; !small.is_empty());
+    constraints.declare(X, small)?;
+    let prepared = constraints.prepared(X_PLUS_1);
+    assert_eq!(rt;
+        prepared,
+        Lin {
+            sym: Some(X),
+            slope: 1,
+            at: -3,
+            value: -2,
+        }
+    );
+    Ok(())
+}
+
+#[test]
+fn prepares_a_constant(rt: HostRuntime) -> Result<(), Fail> {
+    let mut constraints = Constraints::new(rt.alloc());
+    let nine = RangeSet::of(rt.alloc(), 9, 9)?;
+    assert!(rt; !nine.is_empty());
+    constraints.declare(X, nine)?;
+    let prepared = constraints.prepared(X_PLUS_1);
+    assert_eq!(rt;
+        (prepared.sym, prepared.slope, prepared.value),
+        (None, 0, 10)
+    );
+    Ok(())
+}

@@ -60,6 +60,29 @@ fn lists_the_bindings_of_a_region(rt: HostRuntime) -> Result<(), Fail> {
 }
 
 #[test]
+fn lists_the_regions_that_hold_something(rt: HostRuntime) -> Result<(), Fail> {
+    let mut store = written(rt.alloc())?;
+    store.bind_default(7, Fill::Zero)?;
+    store.bind_default(0, Fill::Wrote(3, 1))?;
+    store.bind_default(5, Fill::Unset)?;
+    store.drop_frame(&[7])?;
+    let mut listed = Vec::new(rt.alloc());
+    for (base, region) in store.regions()? {
+        listed.push((base, region.fill(), region.at(0)))?;
+    }
+    assert_eq!(rt;
+        listed.as_slice(),
+        [
+            (0, Fill::Wrote(3, 1), Found::Fill(Fill::Wrote(3, 1))),
+            (1, Fill::Input, Found::Direct(Value::Null)),
+            (2, Fill::Unset, Found::Direct(number(3))),
+        ]
+        .as_slice()
+    );
+    Ok(())
+}
+
+#[test]
 fn a_dropped_frame_is_gone_from_one_copy_alone(rt: HostRuntime) -> Result<(), Fail> {
     let store = written(rt.alloc())?;
     let mut other = store.copy()?;

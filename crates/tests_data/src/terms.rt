@@ -1,7 +1,8 @@
 //! Terms added, scaled and cut by wrap quotients, and the numbers of symbols.
 use cs_ranges::{Interval, RangeSet};
 use cs_terms::{
-    Lin, Sym, SymName, SymTable, add, diff, merged, product_pieces, scale, wrap_pieces,
+    Lin, Sym, SymName, SymTable, add, diff, greatest_of_type, least_of_type, merged,
+    product_pieces, scale, stays_between, stays_within, wrap_pieces,
 };
 use cs_types::{DataModel, IntType};
 use std::test::Fail;
@@ -119,4 +120,55 @@ fn cuts_a_product(rt: HostRuntime) -> Result<(), Fail> {
         [interval(3, 18446744073709551615)].as_slice()
     );
     Ok(())
+}
+
+#[test]
+fn a_sum_stays_or_wraps(rt: HostRuntime) -> Result<(), Fail> {
+    let x_plus_1 = Lin {
+        sym: Some(Sym(0)),
+        slope: 1,
+        at: 0,
+        value: 1,
+    };
+    let all = RangeSet::of(rt.alloc(), -2147483648, 2147483647)?;
+    let most = RangeSet::of(rt.alloc(), -2147483648, 2147483646)?;
+    let model = DataModel::Lp64;
+    assert!(rt; !stays_within(model, IntType::Int, x_plus_1, &all));
+    assert!(rt; stays_within(model, IntType::Int, x_plus_1, &most));
+    assert!(rt; !stays_within(model, IntType::UInt, x_plus_1, &most));
+    assert!(rt; stays_within(model, IntType::Long, x_plus_1, &all));
+    assert!(rt; !stays_within(DataModel::Ilp32, IntType::Long, x_plus_1, &all));
+    Ok(())
+}
+
+#[test]
+fn both_ends_decide(rt: HostRuntime) -> Result<(), Fail> {
+    // 10 - 2x falls from 10 to -8.
+    let falling = Lin {
+        sym: Some(Sym(0)),
+        slope: -2,
+        at: 5,
+        value: 0,
+    };
+    let digits = RangeSet::of(rt.alloc(), 0, 9)?;
+    assert!(rt; stays_between(falling, &digits, -8, 10));
+    assert!(rt; !stays_between(falling, &digits, -7, 10));
+    assert!(rt; !stays_between(falling, &digits, -8, 9));
+    assert!(rt; stays_between(falling, &digits.minus(&digits)?, 1, 0));
+    Ok(())
+}
+
+#[test]
+fn types_have_least_and_greatest_numbers(rt: HostRuntime) {
+    let both = |model, ty| (least_of_type(model, ty), greatest_of_type(model, ty));
+    assert_eq!(rt; both(DataModel::Lp64, IntType::Char), (-128, 127));
+    assert_eq!(rt; both(DataModel::Lp64, IntType::UShort), (0, 65535));
+    assert_eq!(rt;
+        both(DataModel::Ilp32, IntType::Long),
+        (-2147483648, 2147483647)
+    );
+    assert_eq!(rt;
+        both(DataModel::Lp64, IntType::ULLong),
+        (0, 18446744073709551615)
+    );
 }

@@ -7,10 +7,10 @@ use cs_inputs::Inputs;
 use cs_model::{Kind, Standing};
 use cs_run_state::blocks::{Block, BlockType, Change, Fill};
 use cs_run_state::memory::Memory;
+use cs_run_state::prepared::Prepared;
 use cs_run_state::{Log, Object, Setting, Stop};
 use cs_types::{DataModel, IntType, StructTable, Structs};
 use std::alloc::Global;
-use std::collections::BTreeMap;
 use std::test::Fail;
 
 const HERE: Place = Place {
@@ -33,6 +33,15 @@ fn program(alloc: Global) -> Program {
     }
 }
 
+// What the runs of that program share.
+fn prepared<'a>(alloc: Global) -> Prepared<'a> {
+    Prepared {
+        globals: Vec::new(alloc),
+        literals: Vec::new(alloc),
+        offsets: Vec::new(alloc),
+    }
+}
+
 // What an operator of two `int` answers at its event, and the log after it.
 fn answered(
     alloc: Global,
@@ -44,8 +53,10 @@ fn answered(
 ) -> (Result<i128, Stop>, Log) {
     let program = program(alloc);
     let inputs = Inputs::new(alloc);
+    let prepared = prepared(alloc);
     let setting = Setting {
         program: &program,
+        prepared: &prepared,
         inputs: &inputs,
         guesses,
         budgets: RunBudgets {
@@ -135,13 +146,8 @@ fn an_operator_gives_what_it_gives_in_c(rt: HostRuntime) -> Result<(), Fail> {
 #[test]
 fn memory_keeps_what_was_freed(rt: HostRuntime) -> Result<(), Fail> {
     let alloc = rt.alloc();
-    let mut memory = Memory {
-        starts: BTreeMap::new(alloc),
-        globals: Vec::new(alloc),
-        literals: Vec::new(alloc),
-        frames: Vec::new(alloc),
-        heap: Vec::new(alloc),
-    };
+    let prepared = prepared(alloc);
+    let mut memory = Memory::new(alloc, &prepared);
     memory.allocate(Block::new(alloc, BlockType::Integer(IntType::UChar), 4, Fill::Unset))?;
     memory.allocate_none()?;
     memory.allocate(Block::new(alloc, BlockType::Integer(IntType::UChar), 8, Fill::Zero))?;

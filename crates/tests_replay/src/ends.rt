@@ -6,7 +6,7 @@ use std::test::Fail;
 
 /// Words and a file with the line of how the run ends: each kind of fault, the order of checks at one access, budgets, and what an
 /// entry returns; what a function without a body writes; data models; inputs.
-const ENDS: [(&str, &str, &str); 68] = [
+const ENDS: [(&str, &str, &str); 72] = [
     (
         "replay f",
         "int f(int*p){return *p;}",
@@ -131,6 +131,26 @@ const ENDS: [(&str, &str, &str); 68] = [
         "replay f",
         "int*g(void){int x=1;return &x;}int f(void){int*p=g();return p[7];}",
         "fault dead-local <input>:1:62\n",
+    ),
+    (
+        "replay f",
+        "int*g(void){int x=1;return &x;}int f(void){int*p=g();free(p);return 1;}",
+        "fault bad-free <input>:1:58\n",
+    ),
+    (
+        "replay f p=1 q=1",
+        "struct e{};int f(struct e*p,struct e*q){*p=*q;return 1;}",
+        "fault bounds <input>:1:44\n",
+    ),
+    (
+        "replay f",
+        "int a[3];int*const p=&a[1000000000000];int f(void){return *p;}",
+        "fault bounds <input>:1:59\n",
+    ),
+    (
+        "replay f n=18446744073709551615 m=18446744073709551615 malloc#1=1",
+        "int*f(unsigned long n,unsigned long m){int*p=calloc(n,m);return p;}",
+        "done null\n",
     ),
     (
         "replay f",

@@ -4,7 +4,11 @@
 #[cfg(test)]
 mod ends;
 #[cfg(test)]
+mod guessed;
+#[cfg(test)]
 mod machines;
+#[cfg(test)]
+mod pending;
 #[cfg(test)]
 mod programs;
 #[cfg(test)]

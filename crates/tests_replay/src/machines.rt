@@ -1,12 +1,15 @@
 //! The run of a program's code beside the run of the reference machine.
 ghost use Rattle.cs_ast.specs.TypedProgram.{typed_program};
+ghost use Rattle.cs_run_state.specs.Prepared.{IsPrepared, IsReady};
 ghost use Rattle.cs_well_formed.specs.Programs.{IsWellFormed};
 
+use crate::pending::{same_lookups, same_pending};
 use cs_app::entry_of;
 use cs_ast::typed::program::Program;
 use cs_lower::lower;
 use cs_reference::run;
 use cs_replay::{Replayed, replay};
+use cs_run_state::prepared::Prepared;
 use cs_run_state::{Log, Setting};
 use cs_words::{Command, ReplayWords, words_of};
 use std::alloc::{AllocError, Global};
@@ -14,8 +17,9 @@ use tests_csa::asked;
 use tests_csa::front::program;
 
 /// The run of a function's code, if it has a body and memory is found.
-fn coded(alloc: Global, setting: &Setting, entry: u32) -> Option<Replayed>
-    requires { IsWellFormed (typed_program setting.now.program.now) }
+pub fn coded(alloc: Global, setting: &Setting, entry: u32) -> Option<Replayed>
+    requires ready { IsReady setting.now }
+    requires well_formed { IsWellFormed (typed_program setting.now.program.now) }
 {
     match lower(alloc, setting.program) {
         Ok(code) => replay(alloc, setting, &code, entry).ok(),
@@ -23,15 +27,19 @@ fn coded(alloc: Global, setting: &Setting, entry: u32) -> Option<Replayed>
     }
 }
 
-/// Whether two runs have shown, read and touched the same.
-fn same_logs(one: &Log, other: &Log) -> bool {
-    one.events == other.events && one.read == other.read && one.touches == other.touches
+/// Whether two runs have shown, read and touched the same, and the same was pending at their events.
+pub fn same_logs(one: &Log, other: &Log) -> bool {
+    one.events == other.events
+        && one.touches == other.touches
+        && same_pending(&one.pending, &other.pending)
+        && same_lookups(&one.read, &other.read)
 }
 
 /// Whether the run of a function's code ends as the reference machine's run, and shows, reads and touches the same. Nothing where memory is
 /// short.
-fn runs_agree(alloc: Global, setting: &Setting, entry: u32) -> Option<bool>
-    requires { IsWellFormed (typed_program setting.now.program.now) }
+fn runs_agree<'a>(alloc: Global, setting: &'a Setting<'a>, entry: u32) -> Option<bool>
+    requires ready { IsReady setting.now }
+    requires well_formed { IsWellFormed (typed_program setting.now.program.now) }
 {
     let plain = run(alloc, setting, entry).ok()?;
     let coded = coded(alloc, setting, entry)?;
@@ -43,9 +51,27 @@ fn agree(alloc: Global, words: &ReplayWords, program: &Program) -> Option<bool>
     requires { IsWellFormed (typed_program program.now) }
 {
     let entry = u32::try_from(entry_of(&program.functions, &words.entry)?).ok()?;
+    match Prepared::new(alloc, program) {
+        Ok(prepared) => prepared_agree(alloc, words, program, &prepared, entry),
+        Err(_) => None,
+    }
+}
+
+/// The same where what the program's runs share is prepared.
+fn prepared_agree(
+    alloc: Global,
+    words: &ReplayWords,
+    program: &Program,
+    prepared: &Prepared,
+    entry: u32,
+) -> Option<bool>
+    requires well_formed { IsWellFormed (typed_program program.now) }
+    requires prepared { IsPrepared prepared.now program.now }
+{
     let guesses = Vec::new(alloc);
     let setting = Setting {
         program,
+        prepared,
         inputs: &words.inputs,
         guesses: &guesses,
         budgets: words.budgets,

@@ -6,7 +6,7 @@ use std::test::Fail;
 
 /// Words and a file of which a function returns what gcc 12 (-fwrapv) says that it does: integer types, updates, arrays, pointers,
 /// structs, statements, jumps, calls, constant objects, the heap.
-const PROGRAMS: [(&str, &str, &str); 74] = [
+const PROGRAMS: [(&str, &str, &str); 77] = [
     (
         "replay --visits 1000 --events 100000 --depth 60 f",
         "int f(void){signed char c=127;c=c+1;return c;}",
@@ -356,6 +356,21 @@ const PROGRAMS: [(&str, &str, &str); 74] = [
         "replay --visits 1000 --events 100000 --depth 60 f",
         "struct p{int x;char*s;};const struct p t={4,\"xyz\"};int f(void){return t.x*1000+t.s[1];}",
         "done 4121\n",
+    ),
+    (
+        "replay --visits 1000 --events 100000 --depth 60 f",
+        "struct in{char t[3];int n;};struct all{int a[3];struct in s[2];char*p;long z;};const struct all w={{1,2},{{\"xy\",3},{\"z\"}},\"pq\",9};int f(void){unsigned s=0;int i;int j;for(i=0;i<3;i++)s=s*31+w.a[i];for(i=0;i<2;i++){for(j=0;j<3;j++)s=s*31+w.s[i].t[j];s=s*31+w.s[i].n;}for(i=0;i<3;i++)s=s*31+w.p[i];s=s*31+w.z;return s%1000003;}",
+        "done 217387\n",
+    ),
+    (
+        "replay --visits 1000 --events 100000 --depth 60 f",
+        "struct in{char t[3];int n;};struct all{int a[2];struct in s[2];long z;};struct all g;int f(void){struct all x={{1,2},{{\"ab\",3},{\"c\",4}},5};struct all y;y.z=8;g=x;y=g;g.s[1].n=7;return y.a[1]*100000+y.s[0].t[1]*1000+y.s[1].n*100+y.z*10+g.s[1].n;}",
+        "done 298457\n",
+    ),
+    (
+        "replay --visits 1000 --events 100000 --depth 60 f",
+        "struct e{char c;long l;};struct big{struct e r[2048];};int f(void){struct big x;struct big y;x.r[2047].c=3;x.r[2047].l=4;y=x;return y.r[2047].c*10+y.r[2047].l;}",
+        "done 34\n",
     ),
     (
         "replay --visits 1000 --events 100000 --depth 60 f malloc#1=1 malloc#2=1",

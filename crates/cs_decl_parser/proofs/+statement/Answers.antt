@@ -8,9 +8,9 @@ use Rattle.cs_decl_parser.specs.declared.form.Form.{Form}
 use Rattle.cs_decl_parser.specs.declared.form.Form.TheVariants as form
 use Rattle.cs_expr_parser.specs.Positions.{kind_or_end}
 use Rattle.cs_decl_parser.specs.Nodes.{IsNode}
-use Rattle.cs_decl_parser.specs.DeclarationAnswers.{IsNameAt}
+use Rattle.cs_declarator_parser.specs.DeclarationAnswers.{IsNameAt}
 use Rattle.cs_decl_parser.specs.Forms.{least}
-use Rattle.cs_decl_parser.specs.Answers.{Answers, ExactAnswers}
+use Rattle.cs_declarator_parser.specs.Answers.{Answers, ExactAnswers}
 use Rattle.cs_decl_parser.specs.Blocks.{ItemsAnswers, switch_items_of}
 use Rattle.cs_decl_parser.proofs.StatementSites.{statement_full, unlabelled_stops, nothing_taken, reported_form, while_test_stops, while_body_stops}
 use Rattle.cs_decl_parser.proofs.StatementSites.{while_taken, if_test_stops, if_body_stops, if_taken, else_stops, else_taken, do_body_stops, do_while_missing}
@@ -20,7 +20,7 @@ use Rattle.cs_decl_parser.proofs.BlockSites.{switch_stop, switch_more, switch_ro
 use Rattle.cs_decl_parser.proofs.BlockSites.{switch_taken, no_case, inside_stops, inside_taken}
 use Rattle.cs_decl_parser.proofs.LocalSites.{declares_stops, declares_taken, does_stops, does_taken}
 use Rattle.cs_decl_parser.proofs.ForSites.{for_control_stops, for_body_stops, for_taken}
-use Rattle.cs_decl_parser.specs.FilePlaces.{IsNamePlaced}
+use Rattle.cs_declarator_parser.specs.DeclarationPlaces.{IsNamePlaced}
 use Rattle.cs_decl_parser.proofs.PlacingStatements.{label_placed, block_placed, tested_placed, choice_placed, done_placed, loop_placed, switch_placed}
 use Rattle.cs_decl_parser.proofs.PlacingStatements.{items_begun, items_go_on, switch_begun, switch_goes_on}
 use Rattle.cs_decl_parser.proofs.+statement.Goals as goal

@@ -27,7 +27,7 @@ pub fn affine_preimage(
     };
     let line = Line::rising(slope, at, value, first, last);
     let found = if slope < 0 {
-        line.preimage(alloc, &set.negated(alloc)?)?
+        line.preimage_of_negatives(alloc, set)?
     } else {
         line.preimage(alloc, set)?
     };
@@ -105,6 +105,15 @@ impl Line {
             }
         }
         Ok(found)
+    }
+
+    /// The numbers from `first` to `last` at which the set has the negative of the line's value.
+    fn preimage_of_negatives(&self, alloc: Global, set: &RangeSet) -> Result<RangeSet, AllocError>
+        ensures { IfOk result (λ p.
+            (s : ℤ) → contains p s
+            ≡ (is_over self.now s && contains set.now (neg_ℤ (value_of self.now s)))) }
+    {
+        self.preimage(alloc, &set.negated(alloc)?)
     }
 
     /// The numbers at which the line has a value in the interval.

@@ -103,7 +103,7 @@ impl RangeSet {
     {
         let mut gaps = RangeSet::empty(alloc);
         let mut next = LEAST;
-        for interval in &self.intervals {
+        for interval in self.intervals.as_slice() {
             if next < interval.low {
                 gaps.push(Interval {
                     low: next,

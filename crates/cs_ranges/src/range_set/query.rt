@@ -12,8 +12,9 @@ impl RangeSet {
     pub fn contains(&self, number: i128) -> bool
         ensures { result ≡ contains self.now number }
     {
-        let at = self.intervals.partition_point(|i| i.high < number);
-        at < self.intervals.len() && self.intervals[at].low <= number
+        let intervals = self.intervals.as_slice();
+        let at = intervals.partition_point(|i| i.high < number);
+        at < intervals.len() && intervals[at].low <= number
     }
 
     /// Whether the set has no number.
@@ -38,7 +39,7 @@ impl RangeSet {
         ensures { MatchOption result (IsEmpty self.now) (IsLeastAbs self.now) }
     {
         let mut least = None;
-        for interval in &self.intervals {
+        for interval in self.intervals.as_slice() {
             let nearest = nearest_to_zero(*interval);
             least = Some(match least {
                 None => nearest,
@@ -75,7 +76,7 @@ impl RangeSet {
         ensures { IsCount self.now result }
     {
         let mut count = 0;
-        for interval in &self.intervals {
+        for interval in self.intervals.as_slice() {
             count += interval.high.abs_diff(interval.low) + 1;
         }
         count

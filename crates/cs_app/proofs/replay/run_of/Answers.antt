@@ -1,30 +1,10 @@
-use Rattle.std.proofs.Common.{Err, ap, ◌∙◌}
 use Rattle.cs_ast.specs.TypedProgram.{typed_program}
-use Rattle.cs_run_state.specs.View.{log_of}
 use Rattle.cs_app.proofs.AllocatedWell.{well_formed_allocates}
-use Rattle.cs_app.proofs.ReplayLemmas.{entry_has_body, replay_is}
 use Rattle.cs_app.proofs.replay.run_of.Goals as goal
 
 pub lower-requires : goal.lower-requires
 lower-requires c = c.requires.well_formed.laid_out
 
-pub replay-requires-clause-laid_out : goal.replay-requires-clause-laid_out
-replay-requires-clause-laid_out c = c.requires.well_formed.laid_out
-
-pub replay-requires-clause-lowered : goal.replay-requires-clause-lowered
-replay-requires-clause-lowered c = c.in_ok-code.ensures.lowered (well_formed_allocates (typed_program c.args.program.now) c.requires.well_formed)
-
-pub returns-in-Ok : goal.returns-in-Ok
-returns-in-Ok c =
-    let answer = c.in_ok-answer-in-Ok.answer in
-    let replayed = c.in-Ok.replayed in
-    let none = c.deref.ensures.value ∙ c.new-guesses.ensures.items in
-    replay_is c.args.files.now (typed_program c.args.program.now) c.args.words.now c.args.entry c.in_ok-number.number c.deref.result.now replayed.outcome
-    (log_of replayed.log) answer.status answer.text.items c.in_ok-number.ensures none c.in-Ok.ensures.gives c.in_ok-answer-in-Ok.ensures.text
-    c.in_ok-answer-in-Ok.ensures.status
-
-pub returns-in-Err-NoEntry : goal.returns-in-Err-NoEntry
-returns-in-Err-NoEntry c =
-    let program = typed_program c.args.program.now in
-    let none = rw c.in_ok-number.ensures at (c.in-Err-NoEntry.ensures.no_entry.0 (ap Err c.in-Err-NoEntry.field-0-is)) in
-    absurd (entry_has_body program c.args.words.now.entry c.args.entry c.requires.found none)
+pub run_prepared-requires-clause-lowered : goal.run_prepared-requires-clause-lowered
+run_prepared-requires-clause-lowered c =
+    c.in_ok-code.ensures.lowered (well_formed_allocates (typed_program c.args.program.now) c.requires.well_formed)

@@ -1,4 +1,4 @@
-use Rattle.cs_cfg.proofs.Spots.{has_spot}
+use Rattle.cs_cfg.proofs.PointsAtSpots.{has_spot}
 use Rattle.cs_cfg.proofs.laws.points_are_at_spots.Goals as goal
 
 pub returns : goal.returns

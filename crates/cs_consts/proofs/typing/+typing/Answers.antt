@@ -1,5 +1,5 @@
 -- The cycle of typing: each return is its production's equation at these parts.
-use Rattle.std.proofs.Common.{◌≡◌, ◌+◌, [], ◌∷◌, ◌++◌, max, drop, length, map, Option, Some, None, Ok, Err, rules, arith, refl, sym, ap}
+use Rattle.std.proofs.Common.{◌≡◌, ◌+◌, [], ◌∷◌, ◌++◌, max, drop, length, map, None, Err, rules, arith, refl, sym, ap}
 use Rattle.std.proofs.Common.{subst, ◌∙◌}
 use Rattle.std.specs.Prelude.{option_copied, OnOk, FitsSigned}
 use Rattle.std.specs.Int.{w128}
@@ -9,21 +9,18 @@ use Rattle.std.proofs.lemmas.List.{length-map, drop_all}
 use Rattle.cs_types.specs.declared.ctype.CType.{CType}
 use Rattle.cs_types.specs.Shape.{shape_of}
 use Rattle.cs_ast.specs.declared.raw.expression.RawExprKind.TheVariants as kind
-use Rattle.cs_ast.specs.declared.raw.expression.RawExpr.{RawExpr}
-use Rattle.cs_ast.specs.declared.typed.operator.Gives.TheVariants.{Old, New}
-use Rattle.cs_consts.specs.declared.purpose.Purpose.TheVariants.{Run}
 use Rattle.cs_ast.specs.TypedView.{typed, typed_list, form}
 use Rattle.cs_ast.specs.RawView.{written, written_kind, written_list}
 use Rattle.cs_ast.specs.RawHeight.{height, highest}
 use Rattle.cs_ast.proofs.HeightsOfNodes.{height-Call, height-SizeOfType, height-Cast}
 use Rattle.cs_consts.proofs.Heights.{height-among}
 use Rattle.cs_scopes.specs.Verdicts.{Fine, lift, lift2, IsRefused, Yields, Answers}
-use Rattle.cs_expressions.specs.Stores.{updatable, step_operator}
+use Rattle.cs_expressions.specs.Stores.{steppable, step_operator, led}
 use Rattle.cs_expressions.specs.Operators.{followed}
 use Rattle.cs_expressions.specs.Places.{selected}
 use Rattle.cs_scopes.specs.TypeNames.{complete_at}
 use Rattle.cs_scopes.specs.Meanings.{signature_of}
-use Rattle.cs_expressions.specs.Calls.{shape_in, parameters_of}
+use Rattle.cs_expressions.specs.Calls.{shape_in}
 use Rattle.cs_consts.specs.Rows.{expressions_before, numbers_before}
 use Rattle.cs_consts.specs.Typing.{literals_after, literals_after_list, arguments_listed, formed, done, value_in, operand_in, infix_formed, choice_formed}
 use Rattle.cs_consts.specs.Typing.{store_formed, cast_formed, call_formed, stepped_object, measured_arrays, measured_type, base_in, numbers_listed}
@@ -37,7 +34,7 @@ use Rattle.cs_consts.proofs.Admitting.{admitted_counts}
 use Rattle.cs_consts.proofs.ProductionRows.{formed-Call, formed-SizeOfType, formed-Cast, literals-Call, literals-SizeOfType}
 use Rattle.cs_consts.proofs.RowsSoFar.{none_before, no_numbers_before, at_place, arguments_turn, arguments_stop, arguments_end, numbers_turn, numbers_stop}
 use Rattle.cs_consts.proofs.RowsSoFar.{numbers_end}
-use Rattle.cs_consts.proofs.SingleParts.{part_taken, parts_taken, second_stops, step_object_stops, step_updatable_stops, step_taken, size_base_stops}
+use Rattle.cs_consts.proofs.SingleParts.{part_taken, parts_taken, second_stops, step_object_stops, step_steppable_stops, step_taken, size_base_stops}
 use Rattle.cs_consts.proofs.SingleParts.{size_complete_stops, size_numbers_stop, size_taken}
 use Rattle.cs_consts.proofs.typing.+typing.Goals as goal
 
@@ -152,18 +149,28 @@ store-returns-in_err-object-2-clause-reported t c =
 pub store-returns-in_err-value-clause-reported : goal.store-returns-in_err-value-clause-reported
 store-returns-in_err-value-clause-reported t c =
     let e : c.from_residual-in_err-value.result ≡ Err c.in_err-value.field-0.0 = search rules in
+    let right =
+    operand_in c.args.context.now c.args.purpose
+    (formed c.args.context.now c.args.purpose c.judged.new.literals.items (shape_in c.right_target-target.result) c.args.value.now.place
+    c.args.value.now.kind.value) in
+    let refused = c.in_err-value.ensures.reported right c.operand_in-right.ensures.reported in
     subst (Yields (store_formed c.args.context.now c.args.purpose c.args.literals.now.items c.args.place c.args.operator c.args.object.now c.args.value.now))
     (sym e) (store_value_stops c.args.context.now c.args.purpose c.args.literals.now.items c.judged.new.literals.items c.args.place c.args.operator
     c.args.object.now c.args.value.now (typed c.in_ok-object.object) (typed c.in_ok-object-2.object) (shape_in c.right_target-target.result)
     c.in_err-value.field-0.0 c.in_ok-object.ensures.reported c.in_ok-object-2.ensures c.in_ok-object.ensures.texts c.right_target-target.ensures
-    c.in_err-value.ensures.reported)
+    (subst (λ f. IsRefused (led c.args.place f right) c.in_err-value.field-0.0) c.left_fault-fault.ensures refused))
 
 pub store-returns-clause-reported : goal.store-returns-clause-reported
 store-returns-clause-reported t c =
+    let right =
+    operand_in c.args.context.now c.args.purpose
+    (formed c.args.context.now c.args.purpose c.judged.new.literals.items (shape_in c.right_target-target.result) c.args.value.now.place
+    c.args.value.now.kind.value) in
+    let given = c.in_ok-value.ensures.reported right c.operand_in-right.ensures.reported in
     store_taken c.args.context.now c.args.purpose c.args.literals.now.items c.judged.new.literals.items c.args.place c.args.operator c.args.object.now
     c.args.value.now (typed c.in_ok-object.object) (typed c.in_ok-object-2.object) (typed c.in_ok-value.value) (shape_in c.right_target-target.result)
     c.stored.result c.in_ok-object.ensures.reported c.in_ok-object-2.ensures c.in_ok-object.ensures.texts c.right_target-target.ensures
-    c.in_ok-value.ensures.reported c.stored.ensures
+    (subst (λ f. led c.args.place f right ≡ Fine (typed c.in_ok-value.value)) c.left_fault-fault.ensures given) c.stored.ensures
 
 pub cast-returns-in_err-target-clause-reported : goal.cast-returns-in_err-target-clause-reported
 cast-returns-in_err-target-clause-reported t c =
@@ -188,7 +195,7 @@ pub step-returns-in_err-object-clause-reported : goal.step-returns-in_err-object
 step-returns-in_err-object-clause-reported t c =
     let e : c.from_residual.result ≡ Err c.in_err-object.field-0.0 = search rules in
     subst (Yields (lift (stepped_object c.args.context.now (step_operator c.args.step) c.args.gives c.args.place)
-    (lift (updatable c.args.context.now.table.list (step_operator c.args.step) c.args.place)
+    (lift (steppable c.args.context.now.table.list (step_operator c.args.step) c.args.place)
     (done c.args.context.now c.args.purpose
     (formed c.args.context.now c.args.purpose c.args.literals.now.items None c.args.object.now.place c.args.object.now.kind.value))))) (sym e)
     (step_object_stops c.args.context.now c.args.place (step_operator c.args.step) c.args.gives
@@ -200,10 +207,10 @@ pub step-returns-in_err-object-2-clause-reported : goal.step-returns-in_err-obje
 step-returns-in_err-object-2-clause-reported t c =
     let e : c.from_residual-in_err-object-2.result ≡ Err c.in_err-object-2.field-0.0 = search rules in
     subst (Yields (lift (stepped_object c.args.context.now (step_operator c.args.step) c.args.gives c.args.place)
-    (lift (updatable c.args.context.now.table.list (step_operator c.args.step) c.args.place)
+    (lift (steppable c.args.context.now.table.list (step_operator c.args.step) c.args.place)
     (done c.args.context.now c.args.purpose
     (formed c.args.context.now c.args.purpose c.args.literals.now.items None c.args.object.now.place c.args.object.now.kind.value))))) (sym e)
-    (step_updatable_stops c.args.context.now c.args.place (step_operator c.args.step) c.step_operator-operator.result c.args.gives
+    (step_steppable_stops c.args.context.now c.args.place (step_operator c.args.step) c.step_operator-operator.result c.args.gives
     (done c.args.context.now c.args.purpose
     (formed c.args.context.now c.args.purpose c.args.literals.now.items None c.args.object.now.place c.args.object.now.kind.value))
     (typed c.in_ok-object.object) c.in_err-object-2.field-0.0 c.step_operator-operator.ensures c.in_ok-object.ensures.reported c.in_err-object-2.ensures)

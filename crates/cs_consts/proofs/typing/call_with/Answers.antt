@@ -1,4 +1,4 @@
-use Rattle.std.proofs.Common.{◌≡◌, map, Ok, Err, rules, sym, subst}
+use Rattle.std.proofs.Common.{◌≡◌, map, Err, rules, sym, subst}
 use Rattle.cs_types.specs.declared.ctype.CType.{CType}
 use Rattle.cs_types.specs.Shape.{shape_of}
 use Rattle.cs_ast.specs.TypedView.{typed_list}

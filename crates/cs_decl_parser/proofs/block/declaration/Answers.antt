@@ -1,6 +1,6 @@
 -- Each return is the refusal of the first token, of the type or of the objects, or all were taken.
 use Rattle.std.proofs.Common.{◌≡◌, Err, refl, sym, subst, arith, rules}
-use Rattle.cs_decl_parser.specs.Answers.{ExactAnswers}
+use Rattle.cs_declarator_parser.specs.Answers.{ExactAnswers}
 use Rattle.cs_decl_parser.specs.Blocks.{Locals, local_of}
 use Rattle.cs_decl_parser.proofs.LocalSites.{local_none, local_type_stops, local_objects_stop, local_taken}
 use Rattle.cs_decl_parser.proofs.PlacingStatements.{declaration_placed}

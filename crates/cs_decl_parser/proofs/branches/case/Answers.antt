@@ -2,7 +2,7 @@
 use Rattle.std.proofs.Common.{◌≡◌, Err, refl, sym, subst, arith, rules}
 use Rattle.cs_ast.specs.RawStatementView.{switch_item}
 use Rattle.cs_grammar.specs.FileClasses.{SwitchParts}
-use Rattle.cs_decl_parser.specs.Answers.{Answers}
+use Rattle.cs_declarator_parser.specs.Answers.{Answers}
 use Rattle.cs_decl_parser.proofs.BlockSites.{case_full, case_stops, case_taken}
 use Rattle.cs_decl_parser.proofs.PlacingStatements.{case_placed}
 use Rattle.cs_decl_parser.proofs.branches.case.Goals as goal

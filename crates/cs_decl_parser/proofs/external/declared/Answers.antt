@@ -3,7 +3,7 @@ use Rattle.std.proofs.Common.{◌≡◌, Err, refl, sym, ◌∙◌, subst, rules
 use Rattle.std.proofs.lemmas.Bool.{false≢true}
 use Rattle.cs_ast.specs.RawStatementView.{external_of}
 use Rattle.cs_grammar.specs.DeclarationClasses.{Externals}
-use Rattle.cs_decl_parser.specs.Answers.{ExactAnswers}
+use Rattle.cs_declarator_parser.specs.Answers.{ExactAnswers}
 use Rattle.cs_decl_parser.proofs.ExternalSites.{declared_type_stops, external_alone_taken, external_name_stops}
 use Rattle.cs_decl_parser.specs.FileAnswers.{IsBodyApt}
 use Rattle.cs_decl_parser.proofs.InBodies.{type_body, name_body}

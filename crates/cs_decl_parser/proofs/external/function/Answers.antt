@@ -3,7 +3,7 @@ use Rattle.std.proofs.Common.{◌≡◌, Err, refl, sym, ◌∙◌, subst, arith
 use Rattle.std.proofs.lemmas.Bool.{false≢true}
 use Rattle.cs_ast.specs.RawStatementView.{external_of}
 use Rattle.cs_grammar.specs.DeclarationClasses.{Externals}
-use Rattle.cs_decl_parser.specs.Answers.{ExactAnswers}
+use Rattle.cs_declarator_parser.specs.Answers.{ExactAnswers}
 use Rattle.cs_decl_parser.proofs.ExternalSites.{external_parameters_stop, head_made, external_end_missing, external_function_taken, external_body_stops}
 use Rattle.cs_decl_parser.proofs.ExternalSites.{external_definition_taken}
 use Rattle.cs_decl_parser.proofs.PlacingFiles.{head_placed, function_placed, body_placed, definition_placed}

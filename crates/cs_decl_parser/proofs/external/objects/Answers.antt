@@ -2,14 +2,14 @@
 use Rattle.std.proofs.Common.{◌≡◌, Err, refl, sym, subst, arith, rules}
 use Rattle.cs_ast.specs.RawStatementView.{external_of}
 use Rattle.cs_grammar.specs.DeclarationClasses.{Externals}
-use Rattle.cs_decl_parser.specs.Answers.{ExactAnswers}
+use Rattle.cs_declarator_parser.specs.Answers.{ExactAnswers}
 use Rattle.cs_decl_parser.proofs.ExternalSites.{external_declarator_stops, external_value_stops, external_object_stops, external_objects_taken}
 use Rattle.cs_decl_parser.proofs.PlacingStatements.{declaration_placed}
 use Rattle.cs_decl_parser.specs.FileAnswers.{IsBodyApt}
 use Rattle.cs_decl_parser.proofs.InBodies.{objects_body}
-use Rattle.cs_decl_parser.specs.declared.source.Scope.TheVariants as scope
-use Rattle.cs_decl_parser.specs.Aptness.{IsAnswerApt}
-use Rattle.cs_decl_parser.proofs.AptReasons.{stop_apt}
+use Rattle.cs_declarator_parser.specs.declared.source.Scope.TheVariants as scope
+use Rattle.cs_declarator_parser.specs.Aptness.{IsAnswerApt}
+use Rattle.cs_declarator_parser.proofs.AptReasons.{stop_apt}
 use Rattle.cs_decl_parser.proofs.external.objects.Goals as goal
 
 pub returns-in_err-declarator-clause-parsed : goal.returns-in_err-declarator-clause-parsed

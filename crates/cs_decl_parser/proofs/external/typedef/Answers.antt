@@ -2,7 +2,7 @@
 use Rattle.std.proofs.Common.{◌≡◌, Err, refl, sym, subst, arith, rules}
 use Rattle.cs_ast.specs.RawStatementView.{external_of}
 use Rattle.cs_grammar.specs.DeclarationClasses.{Externals}
-use Rattle.cs_decl_parser.specs.Answers.{ExactAnswers}
+use Rattle.cs_declarator_parser.specs.Answers.{ExactAnswers}
 use Rattle.cs_decl_parser.proofs.ExternalSites.{typedef_type_stops, typedef_names_stop, typedef_taken}
 use Rattle.cs_decl_parser.proofs.PlacingFiles.{typedef_placed}
 use Rattle.cs_decl_parser.specs.FileAnswers.{IsBodyApt}

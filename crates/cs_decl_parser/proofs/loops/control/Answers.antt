@@ -1,7 +1,7 @@
 -- Each return is the refusal of the parenthesis or of a part, or all were taken.
 use Rattle.std.proofs.Common.{◌≡◌, ◌+◌, Err, refl, sym, ◌∙◌, subst, arith, rules}
 use Rattle.std.proofs.lemmas.Bool.{false≢true}
-use Rattle.cs_decl_parser.specs.Answers.{ExactAnswers}
+use Rattle.cs_declarator_parser.specs.Answers.{ExactAnswers}
 use Rattle.cs_decl_parser.specs.Blocks.{Controls, control_of}
 use Rattle.cs_decl_parser.proofs.ForSites.{control_missing, control_first_stops, control_test_stops, control_last_stops, control_taken}
 use Rattle.cs_decl_parser.proofs.PlacingStatements.{control_placed}

@@ -2,7 +2,7 @@
 use Rattle.std.proofs.Common.{◌≡◌, Err, refl, sym, ◌∙◌, subst, rules}
 use Rattle.cs_ast.specs.RawStatementView.{first_of}
 use Rattle.cs_grammar.specs.FileClasses.{Firsts}
-use Rattle.cs_decl_parser.specs.Answers.{ExactAnswers}
+use Rattle.cs_declarator_parser.specs.Answers.{ExactAnswers}
 use Rattle.cs_decl_parser.proofs.ForSites.{first_declares_stops, first_declares_taken, first_runs_stops, first_runs_taken}
 use Rattle.std.specs.Prelude.{drop}
 use Rattle.cs_decl_parser.proofs.loops.first_part.Goals as goal

@@ -1,6 +1,6 @@
 use Rattle.std.proofs.Common.{Option, subst}
 use Rattle.cs_ast.specs.declared.raw.expression.RawExpr.{RawExpr}
-use Rattle.cs_decl_parser.specs.FilePlaces.{IsSomePlaced}
+use Rattle.cs_declarator_parser.specs.DeclarationPlaces.{IsSomePlaced}
 use Rattle.cs_decl_parser.proofs.loops.run_if_any.Goals as goal
 
 pub returns-in-Some-clause-placed : goal.returns-in-Some-clause-placed

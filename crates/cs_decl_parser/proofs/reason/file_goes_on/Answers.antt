@@ -1,8 +1,8 @@
 -- The last token is too deep, or the end of input is refused after it, exactly where a file continues with it.
 use Rattle.std.proofs.Common.{◌≡◌, List, [], ◌∷◌, ◌++◌, refl, ap, ◌∙◌, subst}
 use Rattle.cs_ast.specs.declared.token.Token.{Token}
-use Rattle.cs_decl_parser.specs.Files.{parts_of, IsTheFile, IsStoppedAt}
-use Rattle.cs_decl_parser.specs.FileStops.{FileStops}
+use Rattle.cs_decl_parser.specs.Files.{parts_of, IsTheFile}
+use Rattle.cs_decl_parser.specs.FileStops.{IsStoppedAt, FileStops}
 use Rattle.cs_decl_parser.proofs.Copies.{token_same}
 use Rattle.cs_decl_parser.proofs.GoingOn.{goes_on_whole, goes_on_after}
 use Rattle.cs_decl_parser.proofs.reason.file_goes_on.Goals as goal

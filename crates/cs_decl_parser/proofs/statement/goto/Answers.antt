@@ -2,7 +2,7 @@
 use Rattle.std.proofs.Common.{◌+◌, sym, ◌∙◌, subst}
 use Rattle.std.proofs.lemmas.Bool.{false≢true}
 use Rattle.cs_expr_parser.specs.Positions.{kind_or_end}
-use Rattle.cs_decl_parser.specs.DeclarationAnswers.{IsNameAt}
+use Rattle.cs_declarator_parser.specs.DeclarationAnswers.{IsNameAt}
 use Rattle.cs_decl_parser.proofs.StatementSites.{goto_name_missing, goto_semicolon_missing, goto_taken}
 use Rattle.cs_decl_parser.proofs.statement.goto.Goals as goal
 

@@ -2,7 +2,7 @@
 use Rattle.std.proofs.Common.{◌≡◌, Err, sym, subst, rules}
 use Rattle.cs_ast.specs.RawStatementView.{statement_of}
 use Rattle.cs_grammar.specs.FileClasses.{Sentences}
-use Rattle.cs_decl_parser.specs.Answers.{Answers}
+use Rattle.cs_declarator_parser.specs.Answers.{Answers}
 use Rattle.cs_decl_parser.proofs.StatementSites.{return_stops, return_taken}
 use Rattle.cs_decl_parser.proofs.PlacingStatements.{return_placed}
 use Rattle.cs_decl_parser.proofs.statement.return_statement.Goals as goal

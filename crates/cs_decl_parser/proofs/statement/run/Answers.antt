@@ -2,7 +2,7 @@
 use Rattle.std.proofs.Common.{◌≡◌, Err, sym, subst, arith, rules}
 use Rattle.cs_ast.specs.RawStatementView.{statement_of}
 use Rattle.cs_grammar.specs.FileClasses.{Sentences}
-use Rattle.cs_decl_parser.specs.Answers.{Answers}
+use Rattle.cs_declarator_parser.specs.Answers.{Answers}
 use Rattle.cs_decl_parser.proofs.RunSites.{run_stops, run_taken}
 use Rattle.std.specs.Prelude.{drop}
 use Rattle.cs_decl_parser.proofs.statement.run.Goals as goal

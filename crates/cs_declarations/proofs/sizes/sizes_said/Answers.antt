@@ -1,31 +1,63 @@
-use Rattle.std.proofs.Common.{List, Option, ℤ, ◌≡◌, ◌+◌, rules, Err, sym, ap, subst, ◌∙◌}
-use Rattle.std.specs.Prelude.{drop}
+use Rattle.std.proofs.Common.{◌≡◌, ◌+◌, ◌++◌, ◌∷◌, [], List, Option, Some, None, ℤ, rules, refl, sym, ap, subst, ◌∙◌, append-nil}
+use Rattle.std.specs.Prelude.{drop, map, pos}
+use Rattle.std.specs.Option.{option_or}
 use Rattle.std.proofs.lemmas.List.{drop_all}
-use Rattle.cs_scopes.specs.Verdicts.{Answers}
-use Rattle.cs_declarations.specs.Sizes.{sizes_said}
-use Rattle.cs_declarations.proofs.SaidSoFar.{following, following-none, following-all, size_taken, size_stops}
+use Rattle.cs_scopes.specs.Verdicts.{Fine, Fault, IsRefused}
+use Rattle.cs_declarations.specs.Sizes.{size_said, size_or_one, sizes_said, fault_in, refused_bound}
+use Rattle.cs_declarations.proofs.SaidSoFar.{size_taken, refused_taken, option_or-none}
 use Rattle.cs_declarations.proofs.sizes.sizes_said.Goals as goal
+use Rattle.cs_declarations.proofs.sizes.sizes_said.Goals.{in-Ok+in_ok-push-in-Ok, in-Err-Code+in_ok-push-in-Err-Code}
 
 pub loop-bound-init : goal.loop-bound-init
-loop-bound-init c =
-    let said = sizes_said c.args.context.now c.args.bounds.now in
-    following-none said ∙ ap (λ items. following items said) (sym c.new-sizes.ensures.items)
-
-pub returns-in_err-size_said : goal.returns-in_err-size_said
-returns-in_err-size_said c =
-    let e : c.from_residual.result ≡ Err c.in_err-size_said.field-0.0 = search rules in
-    subst (Answers (λ sizes. sizes.items) (sizes_said c.args.context.now c.args.bounds.now)) (sym e)
-    (size_stops c.args.context.now c.args.bounds.now c.loop-bound.bound-index c.loop-bound.sizes.items c.bound-item.result c.loop-bound-test.true
-    c.bound-item.is c.loop-bound.invariant c.in_err-size_said.field-0.0 c.in_err-size_said.ensures)
+loop-bound-init c = record {
+  list = ap (λ items. items ++ sizes_said c.args.context.now c.args.bounds.now) (sym c.new-list.ensures.items);
+  refused = refl;
+}
 
 pub loop-bound-preserved : goal.loop-bound-preserved
 loop-bound-preserved c =
-    let rest = sizes_said c.args.context.now (drop (c.loop-bound.bound-index + 1) c.args.bounds.now) in
-    size_taken c.args.context.now c.args.bounds.now c.loop-bound.bound-index c.loop-bound.sizes.items c.bound-item.result c.loop-bound-test.true c.bound-item.is
-    c.loop-bound.invariant c.in_ok-size_said.field-0 c.in_ok-size_said.ensures
-    ∙ ap (λ items. following items rest) (sym {A = List (Option ℤ)} c.in_ok-push.ensures.items)
+    let context = c.args.context.now in
+    let i = c.loop-bound.bound-index in
+    let sizes = sizes_said context (drop (i + 1) c.args.bounds.now) in
+    let faults = refused_bound context (drop (i + 1) c.args.bounds.now) in
+    elim c.match-size_said.branch [
+      | in-Ok+in_ok-push-in-Ok w ↦
+          let said : size_said context c.bound-item.result ≡ Fine w.in-Ok.size = w.in-Ok.ensures in
+          let items : c.match-size_said.list.items ≡ c.loop-bound.list.items ++ w.in-Ok.size ∷ [] =
+          ap (λ list. list.items) w.list-is ∙ w.in_ok-push-in-Ok.ensures.items in
+          record {
+            list = size_taken context c.args.bounds.now i c.loop-bound.list.items c.bound-item.result c.loop-bound-test.true c.bound-item.is w.in-Ok.size
+                c.loop-bound.invariant.list (ap size_or_one said)
+                ∙ ap (λ items. items ++ sizes) (sym items);
+            refused = refused_taken context c.args.bounds.now i c.loop-bound.list.items c.bound-item.result c.loop-bound-test.true c.bound-item.is
+                c.loop-bound.refused c.loop-bound.invariant.refused
+                ∙ ap (λ r. option_or r faults)
+                (ap (λ v. option_or c.loop-bound.refused (fault_in v)) said ∙ option_or-none c.loop-bound.refused ∙ sym w.refused-is);
+          }
+      | in-Err-Code+in_ok-push-in-Err-Code w ↦
+          let said : size_said context c.bound-item.result ≡ Fault w.in-Err-Code.code w.in-Err-Code.place =
+          subst (IsRefused (size_said context c.bound-item.result)) w.in-Err-Code.field-0-is w.in-Err-Code.ensures in
+          let items : c.match-size_said.list.items ≡ c.loop-bound.list.items ++ Some (pos 1) ∷ [] =
+          ap (λ list. list.items) w.list-is ∙ w.in_ok-push-in-Err-Code.ensures.items in
+          record {
+            list = size_taken context c.args.bounds.now i c.loop-bound.list.items c.bound-item.result c.loop-bound-test.true c.bound-item.is (Some (pos 1))
+                c.loop-bound.invariant.list (ap size_or_one said)
+                ∙ ap (λ items. items ++ sizes) (sym items);
+            refused = refused_taken context c.args.bounds.now i c.loop-bound.list.items c.bound-item.result c.loop-bound-test.true c.bound-item.is
+                c.loop-bound.refused c.loop-bound.invariant.refused
+                ∙ ap (λ r. option_or r faults)
+                (ap (λ v. option_or c.loop-bound.refused (fault_in v)) said ∙ sym (w.refused-is ∙ w.first_of-refused.ensures));
+          }
+    ]
 
-pub returns : goal.returns
-returns c = c.loop-bound.invariant
-    ∙ ap (λ bounds. following c.loop-bound.sizes.items (sizes_said c.args.context.now bounds))
-    (drop_all c.loop-bound.bound-index c.args.bounds.now c.loop-bound-test.false) ∙ following-all c.loop-bound.sizes.items
+pub returns-clause-list : goal.returns-clause-list
+returns-clause-list c =
+    sym (c.loop-bound.invariant.list
+    ∙ ap (λ bounds. c.loop-bound.list.items ++ sizes_said c.args.context.now bounds)
+    (drop_all c.loop-bound.bound-index c.args.bounds.now c.loop-bound-test.false) ∙ append-nil c.loop-bound.list.items)
+
+pub returns-clause-refused : goal.returns-clause-refused
+returns-clause-refused c =
+    sym (c.loop-bound.invariant.refused
+    ∙ ap (λ bounds. option_or c.loop-bound.refused (refused_bound c.args.context.now bounds))
+    (drop_all c.loop-bound.bound-index c.args.bounds.now c.loop-bound-test.false) ∙ option_or-none c.loop-bound.refused)

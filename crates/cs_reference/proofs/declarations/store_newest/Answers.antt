@@ -14,7 +14,7 @@ pub returns : goal.returns
 unfolding state_of
 returns c =
     let popped = c.pop-operand.new.self in
-    let program = typed_program c.args.program.now in
+    let program = typed_program c.args.setting.now.program.now in
     let ty = shape_of c.args.ty.now in
     let stored = c.in_ok-write_operand.ensures.memory
     ∙ ap (λ (o : Operand).

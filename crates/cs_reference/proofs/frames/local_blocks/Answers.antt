@@ -7,7 +7,8 @@ use Rattle.cs_meaning.specs.Machine as machine
 use Rattle.cs_meaning.specs.Memory as meaning
 use Rattle.cs_run_state.specs.View.{operand_of}
 use Rattle.cs_run_state.specs.MemoryView.{block_of}
-use Rattle.cs_reference.proofs.Rows.{lent, one_more_block, all_blocks, longer}
+use Rattle.cs_run_state.proofs.Statics.{lent}
+use Rattle.cs_reference.proofs.Rows.{one_more_block, all_blocks, longer}
 use Rattle.cs_reference.proofs.frames.local_blocks.Goals as goal
 
 pub loop-number-preserved : goal.loop-number-preserved

@@ -10,7 +10,7 @@ use Rattle.cs_reference.proofs.Remaining.{fewer_left}
 use Rattle.cs_reference.proofs.runs.run.Goals as goal
 
 pub loop-outcome-init : goal.loop-outcome-init
-loop-outcome-init c = record { leads = stays (sym c.in_ok-start.ensures) (sym c.new.ensures); kept = refl }
+loop-outcome-init c = record { leads = stays (sym c.in_ok-machine.ensures) (sym c.new.ensures); kept = refl }
 
 pub step-requires : goal.step-requires
 step-requires c = rw c.loop-outcome.invariant.kept c.requires

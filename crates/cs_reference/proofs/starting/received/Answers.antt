@@ -11,7 +11,7 @@ use Rattle.cs_inputs.specs.Inputs.{number_at}
 use Rattle.cs_meaning.specs.Calls.{root_path}
 use Rattle.cs_meaning.specs.Machine as machine
 use Rattle.cs_meaning.specs.Memory.{Memory}
-use Rattle.cs_meaning.specs.Inputs.{input_cell, opened}
+use Rattle.cs_meaning.specs.Inputs.{opened}
 use Rattle.cs_meaning.specs.Steps.{parameter_path, received, with_received}
 use Rattle.cs_run_state.specs.declared.objects.Operand.{Operand}
 use Rattle.cs_run_state.specs.declared.objects.Operand.TheVariants as operand
@@ -55,13 +55,14 @@ loop-parameter-preserved c =
     let number : c.get-number.result ≡ numbers (parameter_path v) = c.get-number.ensures ∙ ap numbers path in
     let fits : FitsSigned w128 c.get-number.result = search rules in
     let plain = to_z-of_z w128 c.get-number.result fits in
-    let opens : memory_of c.open.new.self ≡ opened program (parameter_path v) v.ty v.block (numbers (parameter_path v)) (memory_of c.loop-parameter.memory) =
-    rw (path, plain, number) at c.in_ok-open.ensures.memory in
-    let cell : cell_of c.input_cell-cell.result ≡ input_cell program.model (parameter_path v) v.ty (numbers (parameter_path v)) =
-    rw (path, plain, number) at c.input_cell-cell.ensures in
+    let kind = c.input_kind.ensures in
+    let cell : cell_of c.in_ok-cell.cell ≡ received program numbers v = rw (path, plain, number, kind) at c.in_ok-cell.ensures in
+    let opens : memory_of c.open.new.self ≡ opened program (parameter_path v) v.ty v.block (received program numbers v) (memory_of c.loop-parameter.memory) =
+    rw (path, cell) at c.in_ok-open.ensures.memory in
     record {
-      values = more_values (received program numbers) c.loop-parameter.made.items c.push.new.self.items (operand.Scalar c.input_cell-cell.result) locals i local
-          below c.parameter-item.is c.loop-parameter.invariant.values c.in_ok-push.ensures.items (ap machine.Scalar cell);
+      values = more_values (λ p. machine.Scalar (received program numbers p)) c.loop-parameter.made.items c.push.new.self.items
+          (operand.Scalar c.in_ok-cell.cell) locals i local below c.parameter-item.is c.loop-parameter.invariant.values c.in_ok-push.ensures.items
+          (ap machine.Scalar cell);
       memory = ap (with_received program numbers (map variable (drop (i + 1) locals))) opens
           ∙ (sym (ap (λ (vs : List Variable). with_received program numbers vs (memory_of c.loop-parameter.memory))
           (one_before locals i local below c.parameter-item.is)) ∙ c.loop-parameter.invariant.memory);

@@ -2,6 +2,7 @@
 use Rattle.std.proofs.Common.{◌≡◌, map, take, drop}
 use Rattle.cs_ast.specs.TypedProgram.{typed_program, variable}
 use Rattle.cs_inputs.specs.Inputs.{number_at}
+use Rattle.cs_meaning.specs.Machine.{Scalar}
 use Rattle.cs_meaning.specs.Steps as steps
 use Rattle.cs_run_state.specs.View.{operand_of}
 use Rattle.cs_run_state.specs.MemoryView.{memory_of, KeepsCounts}
@@ -9,7 +10,8 @@ use Rattle.cs_reference.proofs.starting.received.Given as goal
 
 abbrev pub invariant-loop-parameter : goal.invariant-loop-parameter
 invariant-loop-parameter l = record {
-  values : map operand_of l.made.items ≡ map (steps.received (typed_program l.setting.program.now) (number_at l.setting.inputs.now))
+  values : map operand_of l.made.items
+      ≡ map (λ v. Scalar (steps.received (typed_program l.setting.program.now) (number_at l.setting.inputs.now) v))
       (map variable (take l.parameter-index l.parameters));
   memory : steps.with_received (typed_program l.setting.program.now) (number_at l.setting.inputs.now) (map variable (drop l.parameter-index l.parameters))
       (memory_of l.memory) ≡ steps.with_received (typed_program l.setting.program.now) (number_at l.setting.inputs.now) (map variable l.parameters)

@@ -6,7 +6,7 @@ use Rattle.cs_inputs.specs.Inputs.{number_at}
 use Rattle.cs_meaning.specs.Steps.{started}
 use Rattle.cs_run_state.specs.MachineView.{state_of}
 use Rattle.cs_reference.proofs.Calling.{routine_is, routine_none}
-use Rattle.cs_reference.proofs.Rows.{lent}
+use Rattle.cs_run_state.proofs.Statics.{lent}
 use Rattle.cs_reference.proofs.starting.start.Goals as goal
 
 pub returns-in-Some : goal.returns-in-Some

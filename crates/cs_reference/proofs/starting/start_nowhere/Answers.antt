@@ -15,14 +15,14 @@ returns c =
     let program = typed_program c.args.setting.now.program.now in
     let inputs = number_at c.args.setting.now.inputs.now in
     let r = no_routine NOWHERE in
-    let static = memory_of c.in_ok-memory.memory in
-    let none : length c.in_ok-memory.memory.frames.items ≡ 0 = ap length c.in_ok-memory.ensures.frames in
+    let static = memory_of c.new-memory.result in
+    let none : length c.new-memory.result.frames.items ≡ 0 = ap length c.new-memory.ensures.frames in
     let seen : memory_of c.add_frame.new.self ≡ first_memory program inputs r = c.in_ok-add_frame.ensures.memory
     ∙ (ap (λ (n : ℕ). with_frame n (block_at c.new.result.items) static) none
     ∙ (ap (λ (l : List Block). with_frame 0 (block_at l) static) c.new.ensures.items
     ∙ (locals_are program 0 [] [] (block_at []) static (λ n. refl)
-    ∙ ap (λ (m : Memory). with_locals program 0 [] [] m) c.in_ok-memory.ensures.memory))) in
+    ∙ ap (λ (m : Memory). with_locals program 0 [] [] m) (c.new-memory.ensures.memory ∙ c.requires.prepared.objects)))) in
     let frames = c.in_ok-add_frame.ensures.frames ∙ ap (λ (n : ℕ). n + 1) none in
-    let allocations = c.in_ok-add_frame.ensures.allocations ∙ ap length c.in_ok-memory.ensures.heap in
+    let allocations = c.in_ok-add_frame.ensures.allocations ∙ ap length c.new-memory.ensures.heap in
     started_is program inputs r c.args.entry (record { frame = c.in_ok-frame.frame; callers = c.new-2.result; memory = c.add_frame.new.self; calls = 0 })
     c.in_ok-frame.ensures c.new-2.ensures.items seen frames allocations refl

@@ -8,7 +8,7 @@ loop-outcome-init c =
     begins c.args.course.now run c.in_ok-replayer.ensures.kept.0 c.in_ok-replayer.ensures.kept.1 c.in_ok-replayer.ensures.state c.in_ok-replayer.ensures.log
 
 pub step-requires : goal.step-requires
-step-requires c = ready c.args.course.now c.loop-outcome.replayer c.loop-outcome.invariant c.requires.laid_out c.requires.graphs
+step-requires c = ready c.args.course.now c.loop-outcome.replayer c.loop-outcome.invariant c.requires.ready c.requires.graphs
 
 pub loop-outcome-preserved : goal.loop-outcome-preserved
 loop-outcome-preserved c = goes_on c.args.course.now c.loop-outcome.replayer c.step.new.self c.loop-outcome.invariant c.in-Ok.ensures.kept c.in-Ok.ensures.ok

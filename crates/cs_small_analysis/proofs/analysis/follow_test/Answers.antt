@@ -36,7 +36,7 @@ literal_has : (c : In_ok-taken) (x : ℤ) → contains c.in_ok-literal.literal x
 literal_has c =
     let fits : FitsSigned w128 c.tested_literal-number.result = search rules in
     subst (λ (n : ℤ). (x : ℤ) → contains c.in_ok-literal.literal x ≡ (int_le n x && int_le x n)) c.tested_literal-number.ensures
-    (simp to_z-of_z at c.in_ok-literal.ensures)
+    (simp to_z-of_z at c.in_ok-literal.ensures.numbers)
 
 hit_part : (c : In_ok-taken)
     → IsPart c.in_ok-hit.hit (range_of c.args.path.now.ranges.items (tested_parameter (expression c.args.test.now))) true

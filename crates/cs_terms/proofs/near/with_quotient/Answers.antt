@@ -8,7 +8,7 @@ use Rattle.cs_terms.proofs.near.with_quotient.Goals as goal
 
 pub overflow_add-result : goal.overflow_add-result
 overflow_add-result c =
-    let least : to_z w128 (of_z w128 c.least-least.result) ≡ least_of c.args.model c.args.ty = search rules in
+    let least : to_z w128 (of_z w128 c.least_of_type-least.result) ≡ least_of c.args.model c.args.ty = search rules in
     let m : to_z w128 (of_z w128 c.modulus-modulus.result) ≡ pos (modulus_of c.args.model c.args.ty) = search rules in
     let q : to_z w128 (of_z w128 c.args.number) ≡ c.args.number = search rules in
     let fits = room c.args.model c.args.ty c.args.number c.requires in
@@ -16,7 +16,7 @@ overflow_add-result c =
 
 pub overflow_sub-result : goal.overflow_sub-result
 overflow_sub-result c =
-    let least : to_z w128 (of_z w128 c.least-least.result) ≡ least_of c.args.model c.args.ty = search rules in
+    let least : to_z w128 (of_z w128 c.least_of_type-least.result) ≡ least_of c.args.model c.args.ty = search rules in
     let m : to_z w128 (of_z w128 c.modulus-modulus.result) ≡ pos (modulus_of c.args.model c.args.ty) = search rules in
     let q : to_z w128 (of_z w128 c.args.number) ≡ c.args.number = search rules in
     let fits = room c.args.model c.args.ty c.args.number c.requires in
@@ -25,7 +25,7 @@ overflow_sub-result c =
 pub returns-clause-numbers : goal.returns-clause-numbers
 unfolding in_interval
 returns-clause-numbers c =
-    let least : to_z w128 (of_z w128 c.least-least.result) ≡ least_of c.args.model c.args.ty = search rules in
+    let least : to_z w128 (of_z w128 c.least_of_type-least.result) ≡ least_of c.args.model c.args.ty = search rules in
     let m : to_z w128 (of_z w128 c.modulus-modulus.result) ≡ pos (modulus_of c.args.model c.args.ty) = search rules in
     let q : to_z w128 (of_z w128 c.args.number) ≡ c.args.number = search rules in
     let fits = room c.args.model c.args.ty c.args.number c.requires in
@@ -34,7 +34,7 @@ returns-clause-numbers c =
 
 pub returns-clause-narrow : goal.returns-clause-narrow
 returns-clause-narrow c =
-    let least : to_z w128 (of_z w128 c.least-least.result) ≡ least_of c.args.model c.args.ty = search rules in
+    let least : to_z w128 (of_z w128 c.least_of_type-least.result) ≡ least_of c.args.model c.args.ty = search rules in
     let m : to_z w128 (of_z w128 c.modulus-modulus.result) ≡ pos (modulus_of c.args.model c.args.ty) = search rules in
     let q : to_z w128 (of_z w128 c.args.number) ≡ c.args.number = search rules in
     let fits = room c.args.model c.args.ty c.args.number c.requires in

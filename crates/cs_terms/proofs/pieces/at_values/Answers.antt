@@ -30,7 +30,7 @@ returns c =
     let low : FitsSigned w128 c.args.values.low = omega (arith, ints, c.requires.ends.0) in
     let high : FitsSigned w128 c.args.values.high = omega (arith, ints, c.requires.ends.1) in
     let given : (x : ℤ) → contains values x ≡ in_interval c.args.values x = λ x.
-    rw (to_z-of_z w128 _ low, to_z-of_z w128 _ high) at (c.in_ok-values.ensures x) in
+    rw (to_z-of_z w128 _ low, to_z-of_z w128 _ high) at (c.in_ok-values.ensures.numbers x) in
     let made = rw (slope, at, value) at c.affine_preimage.ensures in
     let IsPreimage : List Interval → Type 0 = λ p.
     (s : ℤ) → contains p s ≡ (contains range s && contains values (affine term.slope term.at term.value s)) in

@@ -9,11 +9,11 @@ use Rattle.cs_ranges.proofs.range_set.RangeSet.complement.Goals as goal
 
 pub loop-interval-init : goal.loop-interval-init
 loop-interval-init c =
-    rw (c.empty-gaps.ensures, ← c.self.view_is, c.deref-interval-items.ensures.value) (Splits-start _ c.self.invariant)
+    rw (c.empty-gaps.ensures, ← c.self.view_is, c.as_slice-interval-items.ensures) (Splits-start _ c.self.invariant)
 
 pub push-requires-clause-proper : goal.push-requires-clause-proper
 push-requires-clause-proper c =
-    let s = c.deref-interval-items.result.now in
+    let s = c.as_slice-interval-items.result.now in
     let k = c.loop-interval.interval-index in
     let zero : Interval = record { low = pos 0; high = pos 0 } in
     let split : drop k s ≡ get_or s k zero ∷ drop (k + 1) s = drop_more s k zero c.loop-interval-test.true in
@@ -27,7 +27,7 @@ push-requires-clause-proper c =
 
 pub loop-interval-preserved : goal.loop-interval-preserved
 loop-interval-preserved c =
-    let s = c.deref-interval-items.result.now in
+    let s = c.as_slice-interval-items.result.now in
     let k = c.loop-interval.interval-index in
     let zero : Interval = record { low = pos 0; high = pos 0 } in
     let split : drop k s ≡ get_or s k zero ∷ drop (k + 1) s = drop_more s k zero c.loop-interval-test.true in
@@ -49,7 +49,7 @@ loop-interval-preserved c =
 
 pub returns : goal.returns
 returns c =
-    let s = c.deref-interval-items.result.now in
+    let s = c.as_slice-interval-items.result.now in
     let k = c.loop-interval.interval-index in
     let h = rw (drop_all k s c.loop-interval-test.false) at c.loop-interval.invariant in
     elim c.if-next-le-GREATEST.branch [

@@ -49,30 +49,27 @@ found_none : (x : ℤ) (s : List Interval) (k : ℕ) (d : Interval) → FitsSign
 found_none x s k d fits h point le =
     contains-past s d x (λ j below. int_lt-true _ _ (sym (ends_below-is x s j d fits h below) ∙ point.0 j d (omega arith) (omega arith)))
 
-pub returns-then-at-len : goal.returns-then-at-len
-returns-then-at-len c =
-    let s = c.deref.result.now in
+pub returns-then-at-intervals : goal.returns-then-at-intervals
+returns-then-at-intervals c =
+    let s = c.as_slice-intervals.result.now in
     let x = c.args.number in
-    let h : IsSpread s = subst IsSpread (sym c.deref.ensures.value) c.self.invariant in
+    let zero : Interval = record { low = pos 0; high = pos 0 } in
+    let h : IsSpread s = subst IsSpread (sym c.as_slice-intervals.ensures) c.self.invariant in
     let point = IsPartitionPoint-from_clause (ends_below x) s _ c.partition_point-at.ensures.partitioned (partitioned x s c.ranges.number h)
     (λ a r q k. search rules) in
     let k = c.partition_point-at.result in
-    let i = c.index.result.now in
-    let lt : k < length s = omega (arith, c.deref.ensures.len) in
-    let is : i ≡ get_or s k i = c.index.ensures ∙ ap (λ l. get_or l k i) (sym c.deref.ensures.value) in
-    let at = IsSpreadFrom-at _ s k i h lt in
-    let low : FitsSigned w128 i.low = omega (arith, ints, at.0, at.1, at.2, ap (λ (j : Interval). j.low) is) in
+    let at = IsSpreadFrom-at _ s k zero h c.if-at-intervals.true in
+    let low : FitsSigned w128 (get_or s k zero).low = omega (arith, ints, at.0, at.1, at.2) in
     rw (to_z-of_z w128 _ low, to_z-of_z w128 x c.ranges.number)
-    (ap (λ (j : Interval). int_le j.low x) is ∙ sym (found_at x s k i c.ranges.number h point lt)
-    ∙ ap (λ l. contains l x) (c.deref.ensures.value ∙ c.self.view_is))
+    (sym (found_at x s k zero c.ranges.number h point c.if-at-intervals.true) ∙ ap (λ l. contains l x) (c.as_slice-intervals.ensures ∙ c.self.view_is))
 
-pub returns-else-at-len : goal.returns-else-at-len
-returns-else-at-len c =
-    let s = c.deref.result.now in
+pub returns-else-at-intervals : goal.returns-else-at-intervals
+returns-else-at-intervals c =
+    let s = c.as_slice-intervals.result.now in
     let x = c.args.number in
-    let h : IsSpread s = subst IsSpread (sym c.deref.ensures.value) c.self.invariant in
+    let h : IsSpread s = subst IsSpread (sym c.as_slice-intervals.ensures) c.self.invariant in
     let point = IsPartitionPoint-from_clause (ends_below x) s _ c.partition_point-at.ensures.partitioned (partitioned x s c.ranges.number h)
     (λ a r q k. search rules) in
-    le-ltb _ _ c.if-at-len.false
-    ∙ sym (ap (λ l. contains l x) (sym (c.deref.ensures.value ∙ c.self.view_is))
-    ∙ found_none x s _ (record { low = pos 0; high = pos 0 }) c.ranges.number h point (omega (arith, c.deref.ensures.len)))
+    le-ltb _ _ c.if-at-intervals.false
+    ∙ sym (ap (λ l. contains l x) (sym (c.as_slice-intervals.ensures ∙ c.self.view_is))
+    ∙ found_none x s _ (record { low = pos 0; high = pos 0 }) c.ranges.number h point c.if-at-intervals.false)

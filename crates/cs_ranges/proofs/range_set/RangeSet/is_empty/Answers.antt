@@ -1,4 +1,4 @@
-use Rattle.std.proofs.Common.{◌≡◌, Bool, false, ◌==◌, List, [], ◌∷◌, length, ap, ◌∙◌, arith}
+use Rattle.std.proofs.Common.{◌≡◌, Bool, false, ◌==◌, List, [], ◌∷◌, length, ◌∙◌, arith}
 use Rattle.std.specs.Bool.{MatchBool}
 use Rattle.std.proofs.lemmas.Bool.{or_left, ne_eqb}
 use Rattle.cs_ranges.specs.declared.range_set.Interval.{Interval}
@@ -14,4 +14,4 @@ empty_cases (i ∷ s) b h e =
     rw some (i.low, contains-cons i s i.low ∙ or_left _ _ (in_interval-low i h.1))
 
 pub returns : goal.returns
-returns c = rw (← c.self.view_is) (empty_cases _ _ c.self.invariant (c.is_empty.ensures ∙ ap (λ n. n == 0) c.self.inside.intervals.ok.0))
+returns c = rw (← c.self.view_is) (empty_cases _ _ c.self.invariant c.is_empty.ensures)

@@ -43,25 +43,25 @@ HasTwo-other (i ∷ j ∷ s) d other h = inr (record {
 pub returns-in-len1 : goal.returns-in-len1
 returns-in-len1 c =
     let s = c.as_slice.result.now in
-    let h : IsSpread s = subst IsSpread (sym c.as_slice.ensures.value) c.self.invariant in
+    let h : IsSpread s = subst IsSpread (sym c.as_slice.ensures) c.self.invariant in
     let d : Interval = record { low = pos 0; high = pos 0 } in
     let at = IsSpreadFrom-at _ s 0 d h (omega arith) in
     let low : FitsSigned w128 (get_or s 0 d).low = omega (arith, ints, at.0, at.1, at.2) in
-    rw (← c.self.view_is, ← c.as_slice.ensures.value, to_z-of_z w128 _ low)
+    rw (← c.self.view_is, ← c.as_slice.ensures, to_z-of_z w128 _ low)
     (IsOnly-single s d (omega arith) (omega (arith, ints, at.0, at.1, at.2)) h)
 
 pub returns-in_default : goal.returns-in_default
 returns-in_default c =
-    rw (← c.self.view_is, ← c.as_slice.ensures.value)
-    (HasTwo-other _ (record { low = pos 0; high = pos 0 }) (λ len. absurd (omega arith)) (subst IsSpread (sym c.as_slice.ensures.value) c.self.invariant))
+    rw (← c.self.view_is, ← c.as_slice.ensures)
+    (HasTwo-other _ (record { low = pos 0; high = pos 0 }) (λ len. absurd (omega arith)) (subst IsSpread (sym c.as_slice.ensures) c.self.invariant))
 
 pub returns-in_default-2 : goal.returns-in_default-2
 returns-in_default-2 c =
-    rw (← c.self.view_is, ← c.as_slice.ensures.value)
+    rw (← c.self.view_is, ← c.as_slice.ensures)
     (HasTwo-other _ (record { low = pos 0; high = pos 0 }) (λ len e. c.if-only.false (ap (of_z w128) e))
-    (subst IsSpread (sym c.as_slice.ensures.value) c.self.invariant))
+    (subst IsSpread (sym c.as_slice.ensures) c.self.invariant))
 
 pub returns-in_default-3 : goal.returns-in_default-3
 returns-in_default-3 c =
-    rw (← c.self.view_is, ← c.as_slice.ensures.value)
-    (HasTwo-other _ (record { low = pos 0; high = pos 0 }) (λ len. absurd (omega arith)) (subst IsSpread (sym c.as_slice.ensures.value) c.self.invariant))
+    rw (← c.self.view_is, ← c.as_slice.ensures)
+    (HasTwo-other _ (record { low = pos 0; high = pos 0 }) (λ len. absurd (omega arith)) (subst IsSpread (sym c.as_slice.ensures) c.self.invariant))

@@ -19,12 +19,12 @@ found_all s t k (Some x) le ge e h = subst (λ l. IsLeastAbs l x) (take_all k s 
 
 pub nearest_to_zero-nearest-requires : goal.nearest_to_zero-nearest-requires
 nearest_to_zero-nearest-requires c =
-    let spread = subst IsSpread (sym c.deref-interval-items.ensures.value) c.self.invariant in
+    let spread = subst IsSpread (sym c.as_slice-interval-items.ensures) c.self.invariant in
     (IsSpreadFrom-at _ _ _ _ spread c.loop-interval-test.true).1
 
 pub loop-interval-preserved : goal.loop-interval-preserved
 loop-interval-preserved c =
-    let s = c.deref-interval-items.result.now in
+    let s = c.as_slice-interval-items.result.now in
     let k = c.loop-interval.interval-index in
     let more = take_more s k (record { low = pos 0; high = pos 0 }) c.loop-interval-test.true in
     let near = c.nearest_to_zero-nearest in
@@ -46,5 +46,5 @@ loop-interval-preserved c =
 
 pub returns : goal.returns
 returns c =
-    found_all _ _ _ _ c.loop-interval-test.false c.loop-interval.auto.interval-index-end (c.deref-interval-items.ensures.value ∙ c.self.view_is)
+    found_all _ _ _ _ c.loop-interval-test.false c.loop-interval.auto.interval-index-end (c.as_slice-interval-items.ensures ∙ c.self.view_is)
     c.loop-interval.invariant

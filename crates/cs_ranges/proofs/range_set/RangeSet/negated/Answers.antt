@@ -5,7 +5,7 @@ use Rattle.cs_ranges.proofs.range_set.RangeSet.negated.Goals as goal
 
 pub loop-last-init : goal.loop-last-init
 loop-last-init c =
-    rw (c.empty-negatives.ensures, c.as_slice-rest.ensures.value, ← c.self.view_is) (Mirrors-start _ c.self.invariant)
+    rw (c.empty-negatives.ensures, c.as_slice-rest.ensures, ← c.self.view_is) (Mirrors-start _ c.self.invariant)
 
 pub negated-requires : goal.negated-requires
 negated-requires c = IsProper-last _ _ (rw c.in-Some.ensures.cases.0 at c.loop-last.invariant).spread

@@ -8,7 +8,7 @@ use Rattle.cs_ranges.proofs.range_set.RangeSet.union.Goals as goal
 
 pub loop-a-init : goal.loop-a-init
 loop-a-init c =
-    rw (c.empty-joined.ensures, c.as_slice-left.ensures.value, c.as_slice-right.ensures.value, ← c.self.view_is, ← c.other.view_is)
+    rw (c.empty-joined.ensures, c.as_slice-left.ensures, c.as_slice-right.ensures, ← c.self.view_is, ← c.other.view_is)
     (Joins-start _ _ c.self.invariant c.other.invariant)
 
 pub push-requires-clause-proper : goal.push-requires-clause-proper

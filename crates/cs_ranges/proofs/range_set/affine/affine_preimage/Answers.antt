@@ -11,7 +11,7 @@ use Rattle.cs_ranges.specs.RangeSet.{contains, IsLeast, IsGreatest}
 use Rattle.cs_ranges.proofs.Drawing.{is_over-within}
 use Rattle.cs_ranges.proofs.Members.{contains-nil}
 use Rattle.cs_ranges.proofs.range_set.affine.affine_preimage.Goals.{in_default-via-in-Some+in_default, in_default-via-in_default}
-use Rattle.cs_ranges.proofs.range_set.affine.affine_preimage.Goals.{then-slope-lt0+in_ok-negated+in_ok-found, else-slope-lt0+in_ok-found-2}
+use Rattle.cs_ranges.proofs.range_set.affine.affine_preimage.Goals.{then-slope-lt0+in_ok-found, else-slope-lt0+in_ok-found-2}
 use Rattle.cs_ranges.proofs.range_set.affine.affine_preimage.Goals as goal
 
 -- what the line answers, cut down to the numbers asked for, over each of which it is
@@ -56,10 +56,10 @@ returns c =
     let over : (s : ℤ) → contains within s ≡ true → is_over line s ≡ true = λ s.
     is_over-asked line within _ _ s ends c.in-Some-Some.ensures.least c.in-Some-Some.ensures'.greatest in
     let answered : (s : ℤ) → contains c.if-slope-lt0.found s ≡ (is_over line s && contains set (value s)) = λ s. elim c.if-slope-lt0.branch [
-      | then-slope-lt0+in_ok-negated+in_ok-found w ↦
+      | then-slope-lt0+in_ok-found w ↦
           rw w.found-is (w.in_ok-found.ensures s
-          ∙ ap (λ x. is_over line s && contains w.in_ok-negated.field-0 x) (falls (omega (arith, ints)) s)
-          ∙ ap (λ b. is_over line s && b) (w.in_ok-negated.ensures (neg_ℤ (value s)) ∙ ap (contains set) (neg_ℤ-neg_ℤ (value s))))
+          ∙ ap (λ x. is_over line s && contains set (neg_ℤ x)) (falls (omega (arith, ints)) s)
+          ∙ ap (λ x. is_over line s && contains set x) (neg_ℤ-neg_ℤ (value s)))
       | else-slope-lt0+in_ok-found-2 w ↦
           rw w.found-is (w.in_ok-found-2.ensures s ∙ ap (λ x. is_over line s && contains set x) (rises (omega (arith, ints)) s))
     ] in

@@ -9,7 +9,7 @@ use Rattle.cs_run_state.specs.View.{operand_of}
 use Rattle.cs_run_state.specs.MachineView.{state_of}
 use Rattle.cs_reference.specs.RunnerView.{Performs}
 use Rattle.cs_reference.proofs.Calling.{routine_is, routine_none, call_is}
-use Rattle.cs_reference.proofs.Rows.{lent}
+use Rattle.cs_run_state.proofs.Statics.{lent}
 use Rattle.cs_reference.proofs.runner.Runner.call.Goals as goal
 
 pub returns-in-None-body : goal.returns-in-None-body

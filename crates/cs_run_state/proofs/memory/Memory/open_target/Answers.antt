@@ -1,8 +1,14 @@
-use Rattle.std.proofs.Common.{◌≡◌, true, sym, ◌∙◌}
-use Rattle.cs_events.specs.Operations.{is_true}
+use Rattle.std.proofs.Common.{refl}
 use Rattle.cs_run_state.proofs.memory.Memory.open_target.Goals as goal
 
-pub returns-in_ok-add_start-clause-memory : goal.returns-in_ok-add_start-clause-memory
-returns-in_ok-add_start-clause-memory c =
-    let holds : is_true c.args.number.now ≡ true = sym c.has_target.ensures ∙ c.if-has_target.true in
-    rw holds (rw (c.in_ok-block.ensures, c.in_ok-root.ensures, c.in_ok-own.ensures) at c.in_ok-add_start.ensures.memory)
+pub returns-in-Pointer-clause-memory : goal.returns-in-Pointer-clause-memory
+returns-in-Pointer-clause-memory c = rw c.in-Pointer.is c.open_block.ensures.memory
+
+pub returns-in-Null-clause-memory : goal.returns-in-Null-clause-memory
+returns-in-Null-clause-memory c = rw c.in-Null.is refl
+
+pub returns-in-Number-clause-memory : goal.returns-in-Number-clause-memory
+returns-in-Number-clause-memory c = rw c.in-Number.is refl
+
+pub returns-in-Unset-clause-memory : goal.returns-in-Unset-clause-memory
+returns-in-Unset-clause-memory c = rw c.in-Unset.is refl

@@ -15,4 +15,4 @@ returns-in_ok-cell-in-Scalar-clause-memory c =
 
 pub returns-in_ok-offsets-in-Whole-clause-memory : goal.returns-in_ok-offsets-in-Whole-clause-memory
 returns-in_ok-offsets-in-Whole-clause-memory c =
-    rw c.in-Whole.is (rw (c.deref.ensures.value, c.deref-in-Whole.ensures.value, c.in_ok-offsets-in-Whole.ensures) at c.write_cells.ensures.memory)
+    rw c.in-Whole.is (rw (c.deref.ensures.value, c.as_slice.ensures, c.in_ok-offsets-in-Whole.ensures) at c.write_cells.ensures.memory)

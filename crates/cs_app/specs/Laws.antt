@@ -1,0 +1,25 @@
+-- A file is refused or accepted, and not both; where its tokens are a tree, it is refused just as typing says of that tree.
+use Rattle.std.specs.Prelude.{◌≡◌, ℕ, List}
+use Rattle.cs_types.specs.declared.data_model.DataModel.{DataModel}
+use Rattle.cs_ast.specs.declared.place.Place.{Place}
+use Rattle.cs_ast.specs.declared.raw.external.RawExternal.{RawExternal}
+use Rattle.cs_lexer.specs.declared.lexer.Lexed.{Lexed}
+use Rattle.cs_scopes.specs.declared.refusal.TypeCode.{TypeCode}
+use Rattle.cs_scopes.specs.Verdicts.{Fault}
+use Rattle.cs_words.specs.declared.command.Command.{Command}
+use Rattle.cs_app.specs.declared.status.Status.{Status}
+use Rattle.cs_app.specs.Trees.{Parses, typed_tree}
+use Rattle.cs_app.specs.Refusals.{IsRefusal, type_line}
+use Rattle.cs_app.specs.Answers.{Accepts, model_of}
+
+-- no file is both
+abbrev pub RefusedIsNotAccepted : Type 0
+RefusedIsNotAccepted =
+    (command : Command) (file : List ℕ) (status : Status) (text other : List ℕ) → IsRefusal (model_of command) file text
+    → Accepts command file status other → ⊥
+
+-- the refusal of a file whose tokens are a tree is that of its types
+abbrev pub TreesAreRefusedByTypes : Type 0
+TreesAreRefusedByTypes =
+    (model : DataModel) (file : List ℕ) (lexed : Lexed) (tree : List RawExternal) (text : List ℕ) → Parses file lexed tree → IsRefusal model file text
+    → (code : TypeCode) × (place : Place) × (typed_tree model lexed tree ≡ Fault code place) × (text ≡ type_line lexed.files.items code place)

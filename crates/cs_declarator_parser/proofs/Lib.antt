@@ -1,0 +1,16 @@
+pub mod PartStops
+pub mod RowSites
+pub mod ExpressionSites
+pub mod DeclaratorSites
+pub mod ListSites
+pub mod ObjectSites
+pub mod StuckWords
+pub mod BlockSpecSites
+pub mod SpecSites
+pub mod MemberSites
+pub mod ParameterSites
+pub mod ParameterRowSites
+pub mod Placing
+pub mod PlacingSpecs
+pub mod PlacingParameters
+pub mod AptReasons

@@ -1,0 +1,10 @@
+pub mod Reasons
+pub mod Aptness
+pub mod Bounds
+pub mod Answers
+pub mod DeclarationAnswers
+pub mod ParameterAnswers
+pub mod SpecWords
+pub mod DeclarationPlaces
+pub mod SpecPlaces
+pub mod TreePlaces

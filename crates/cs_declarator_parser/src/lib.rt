@@ -1,0 +1,16 @@
+//! From tokens to what declarations consist of: specifiers, declarators, declared objects, initializers and parameters.
+#![tactic(auto)]
+
+pub mod block_specs;
+mod constants;
+pub mod declarator;
+pub mod expression;
+mod initial;
+mod members;
+pub mod names;
+pub mod objects;
+pub mod parameters;
+pub mod source;
+pub mod specs;
+pub mod stop;
+mod words;

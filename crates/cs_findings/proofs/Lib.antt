@@ -1,0 +1,4 @@
+pub mod Passing
+pub mod EarlierGuesses
+pub mod Replays
+pub mod Samples

@@ -1,0 +1,5 @@
+pub mod Products
+pub mod Places
+pub mod ListedGuesses
+pub mod Meetings
+pub mod Reality

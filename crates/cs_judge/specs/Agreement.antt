@@ -1,0 +1,25 @@
+-- Lists that agree up to a place, and guesses that stand at the same events.
+use Rattle.std.specs.Prelude.{◌≡◌, ℕ, ◌<◌, ◌≤◌, nat_lt, List, length, Some, slice_get}
+use Rattle.cs_events.specs.declared.event.Event.{Event}
+use Rattle.cs_events.specs.declared.guess.Guess.{Guess}
+use Rattle.cs_judge.specs.declared.pool.Replay.{Replay}
+
+-- two lists have the same items before a place
+abbrev pub AgreeTo : ℕ → List Event → List Event → Type 0
+AgreeTo count one other = (index : ℕ) → index < count → slice_get one index ≡ slice_get other index
+
+-- each replay of a pool passes so many events as the shown run does
+abbrev pub AreShares : List Event → List Replay → List ℕ → Type 0
+AreShares shown pool shares = (number : ℕ) (replay : Replay) (share : ℕ) → slice_get pool number ≡ Some replay
+    → slice_get shares number ≡ Some share
+    → AgreeTo share replay.events.items shown
+
+-- just the guesses before a place of the list stand before an event
+abbrev pub AreBefore : ℕ → ℕ → List Guess → Type 0
+AreBefore place event guesses = (index : ℕ) (guess : Guess) → slice_get guesses index ≡ Some guess → nat_lt guess.event event ≡ nat_lt index place
+
+-- guesses at the events of the first ones of another list
+pub record AreAtEvents (place : ℕ) (mine other : List Guess) : Type 0 where
+  pub count : length other ≡ place
+  pub enough : place ≤ length mine
+  pub same : (index : ℕ) (guess its : Guess) → slice_get mine index ≡ Some guess → slice_get other index ≡ Some its → its.event ≡ guess.event

@@ -1,0 +1,4 @@
+pub mod Wide
+pub mod Agreement
+pub mod Pools
+pub mod Certificates

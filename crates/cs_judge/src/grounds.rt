@@ -1,0 +1,232 @@
+//! Grounds to guess: the table of `cs_findings`, computed.
+ghost use Rattle.std.specs.Prelude.{◌≡◌, ◌≤◌, ◌^◌, ◌↔◌, IsTrue, IfSome, pos, ◌*ℤ◌, int_le, int_lt, unsigned_abs};
+ghost use Rattle.cs_types.specs.IntType.{IsIntegerOfC};
+ghost use Rattle.cs_types.specs.DataModel.{product_bound_of};
+ghost use Rattle.cs_types.specs.Wrap.{wrap_quotient};
+ghost use Rattle.cs_ast.specs.declared.typed.operator.BinOp.TheVariants.{Add, Sub, Mul, Shl};
+ghost use Rattle.cs_events.specs.Operations as operations;
+ghost use Rattle.cs_findings.specs.Grounds as grounds;
+ghost use Rattle.cs_findings.specs.Operands as operands;
+ghost use Rattle.cs_judge.specs.Wide.{IsSmall, AreSmall};
+
+use crate::differences::{
+    are_spread, comparisons_differ, left_differs, right_differs, tests_differ,
+};
+use crate::extremes::{greatest_left, greatest_right, least_left, least_right, meets_zero};
+use crate::lines::{is_small, product_above, product_at_most};
+use crate::operands::operands;
+use cs_ast::typed::operator::{BinOp, CmpOp};
+use cs_events::Operation;
+use cs_findings::Others;
+use cs_types::{DataModel, IntType, multiply, product_bound, quotient};
+
+/// Whether two or three runs give a ground to guess an operation's result. Operands that no run of a program has may be refused.
+pub fn has_ground(model: DataModel, operation: &Operation, others: Others<(i128, i128)>) -> bool
+    ensures { IsTrue result → IsTrue (grounds.has_ground model operation.now others) }
+{
+    let mine = operands(operation);
+    is_small(mine) && are_small(others) && gives_ground(model, operation, mine, others)
+}
+
+fn are_small(others: Others<(i128, i128)>) -> bool
+    ensures { IsTrue result ↔ AreSmall others }
+{
+    match others {
+        Others::One(first) => is_small(first),
+        Others::Two(first, second) => is_small(first) && is_small(second),
+    }
+}
+
+fn gives_ground(
+    model: DataModel,
+    operation: &Operation,
+    mine: (i128, i128),
+    others: Others<(i128, i128)>,
+) -> bool
+    requires mine { IsSmall mine }
+    requires others { AreSmall others }
+    requires operands { mine ≡ operands.operands operation.now }
+    ensures { IsTrue result → IsTrue (grounds.has_ground model operation.now others) }
+{
+    match *operation {
+        Operation::Binary(operator, ty, _, _) => binary_ground(model, operator, ty, mine, others),
+        Operation::Convert(ty, number) => {
+            left_differs(mine, others) && is_far_number(model, ty, number)
+        }
+        Operation::Compare(operator, _, _) => comparison_ground(operator, mine, others),
+        Operation::Order(_, _) => are_spread(mine, others) && tests_differ(mine, others),
+        Operation::Product(_, _) => product_ground(model, mine, others),
+        Operation::Sum(_, _, _) => are_spread(mine, others),
+        Operation::Difference(_, _, _) => either_differs(mine, others),
+        Operation::Unary(_, _, _) => false,
+        Operation::Show(_) => false,
+    }
+}
+
+fn binary_ground(
+    model: DataModel,
+    operator: BinOp,
+    ty: IntType,
+    mine: (i128, i128),
+    others: Others<(i128, i128)>,
+) -> bool
+    requires mine { IsSmall mine }
+    requires others { AreSmall others }
+    ensures { let far = grounds.is_far (wrap_quotient model ty
+        (operations.exact model operator ty mine.0 mine.1)) in
+        IsTrue result → IsTrue (grounds.binary_ground operator far mine others) }
+{
+    match operator {
+        BinOp::Add => {
+            are_spread(mine, others)
+                || (either_differs(mine, others) && is_far_sum(model, ty, mine))
+        }
+        BinOp::Sub => {
+            are_spread(mine, others)
+                || (either_differs(mine, others) && is_far_difference(model, ty, mine))
+        }
+        BinOp::Mul => {
+            (left_differs(mine, others) && right_differs(mine, others))
+                || (either_differs(mine, others) && is_far_product(model, ty, mine.0, mine.1))
+        }
+        BinOp::Shl => {
+            right_differs(mine, others)
+                || (left_differs(mine, others) && is_far_shift(model, ty, mine.0, mine.1))
+        }
+        BinOp::Div => either_differs(mine, others),
+        BinOp::Rem => either_differs(mine, others),
+        BinOp::Shr => either_differs(mine, others),
+        BinOp::And => either_differs(mine, others),
+        BinOp::Xor => either_differs(mine, others),
+        BinOp::Or => either_differs(mine, others),
+    }
+}
+
+fn either_differs(mine: (i128, i128), others: Others<(i128, i128)>) -> bool
+    ensures { result ≡ grounds.either_differs mine others }
+{
+    left_differs(mine, others) || right_differs(mine, others)
+}
+
+fn comparison_ground(operator: CmpOp, mine: (i128, i128), others: Others<(i128, i128)>) -> bool
+    requires mine { IsSmall mine }
+    requires others { AreSmall others }
+    ensures { result ≡ grounds.comparison_ground operator mine others }
+{
+    match operator {
+        CmpOp::Equal => are_spread(mine, others) && meets_zero(mine, others),
+        CmpOp::Differs => are_spread(mine, others) && meets_zero(mine, others),
+        CmpOp::Less => { are_spread(mine, others) && comparisons_differ(CmpOp::Less, mine, others) }
+        CmpOp::AtMost => {
+            are_spread(mine, others) && comparisons_differ(CmpOp::AtMost, mine, others)
+        }
+        CmpOp::More => { are_spread(mine, others) && comparisons_differ(CmpOp::More, mine, others) }
+        CmpOp::AtLeast => {
+            are_spread(mine, others) && comparisons_differ(CmpOp::AtLeast, mine, others)
+        }
+    }
+}
+
+fn product_ground(model: DataModel, mine: (i128, i128), others: Others<(i128, i128)>) -> bool
+    requires mine { IsSmall mine }
+    requires others { AreSmall others }
+    ensures { result ≡ grounds.product_ground model mine others }
+{
+    left_differs(mine, others)
+        && right_differs(mine, others)
+        && may_be_met(model, mine, others)
+        && may_be_failed(model, mine, others)
+}
+
+// Whether the product of the least numbers meets the order test of `calloc`.
+fn may_be_met(model: DataModel, mine: (i128, i128), others: Others<(i128, i128)>) -> bool
+    requires mine { IsSmall mine }
+    requires others { AreSmall others }
+    ensures { result ≡ int_le (grounds.least (λ pair. pair.0) mine others
+        *ℤ grounds.least (λ pair. pair.1) mine others) (pos (product_bound_of model)) }
+{
+    let left = least_left(mine, others);
+    let right = least_right(mine, others);
+    product_at_most(left, right, product_bound(model))
+}
+
+// Whether the product of the greatest numbers fails it.
+fn may_be_failed(model: DataModel, mine: (i128, i128), others: Others<(i128, i128)>) -> bool
+    requires mine { IsSmall mine }
+    requires others { AreSmall others }
+    ensures { result ≡ int_lt (pos (product_bound_of model))
+        (grounds.greatest (λ pair. pair.0) mine others
+        *ℤ grounds.greatest (λ pair. pair.1) mine others) }
+{
+    let left = greatest_left(mine, others);
+    let right = greatest_right(mine, others);
+    product_above(left, right, product_bound(model))
+}
+
+// Whether the wrap quotient of a sum is none of -1, 0 and 1.
+fn is_far_sum(model: DataModel, ty: IntType, pair: (i128, i128)) -> bool
+    requires { IsSmall pair }
+    ensures { result ≡ grounds.is_far (wrap_quotient model ty
+        (operations.exact model Add ty pair.0 pair.1)) }
+{
+    is_far_number(model, ty, pair.0 + pair.1)
+}
+
+// The same of a difference.
+fn is_far_difference(model: DataModel, ty: IntType, pair: (i128, i128)) -> bool
+    requires { IsSmall pair }
+    ensures { result ≡ grounds.is_far (wrap_quotient model ty
+        (operations.exact model Sub ty pair.0 pair.1)) }
+{
+    is_far_number(model, ty, pair.0 - pair.1)
+}
+
+// Whether the wrap quotient of a number is none of -1, 0 and 1.
+fn is_far_number(model: DataModel, ty: IntType, number: i128) -> bool
+    requires { unsigned_abs number ≤ 2 ^ 126 }
+    ensures { result ≡ grounds.is_far (wrap_quotient model ty number) }
+{
+    is_far(quotient(model, ty, number))
+}
+
+fn is_far(quotient: i128) -> bool
+    ensures { result ≡ grounds.is_far quotient }
+{
+    quotient < -1 || 1 < quotient
+}
+
+// The same of a product of integers.
+fn is_far_product(model: DataModel, ty: IntType, left: i128, right: i128) -> bool
+    ensures { IsTrue result → IsTrue (grounds.is_far (wrap_quotient model ty
+        (operations.exact model Mul ty left right))) }
+{
+    is_integer(left) && is_integer(right) && multiply(model, ty, left, right).quotient.is_none()
+}
+
+fn is_integer(number: i128) -> bool
+    ensures { IsTrue result ↔ IsIntegerOfC number }
+{
+    -0x8000_0000_0000_0000 <= number && number <= 0xffff_ffff_ffff_ffff
+}
+
+// The same of a left shift.
+fn is_far_shift(model: DataModel, ty: IntType, left: i128, count: i128) -> bool
+    ensures { IsTrue result → IsTrue (grounds.is_far (wrap_quotient model ty
+        (operations.exact model Shl ty left count))) }
+{
+    match power(count) {
+        Some(factor) => is_far_product(model, ty, left, factor),
+        None => false,
+    }
+}
+
+// The two to the power of a number below 64.
+fn power(exponent: i128) -> Option<i128>
+    ensures { IfSome result (λ two_to. two_to ≡ pos (operations.power exponent)) }
+{
+    if 0 <= exponent && exponent < 64 {
+        Some(1 << exponent)
+    } else {
+        None
+    }
+}

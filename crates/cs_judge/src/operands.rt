@@ -1,0 +1,135 @@
+//! The operands of operations.
+ghost use Rattle.std.specs.Prelude.{◌≡◌, IfSome};
+ghost use Rattle.cs_events.specs.declared.operation.Operation.TheVariants as operation;
+ghost use Rattle.cs_findings.specs.Operands as specs;
+
+use cs_ast::typed::operator::{BinOp, CmpOp};
+use cs_events::Operation;
+use cs_types::IntType;
+
+/// The two operands of an operation; of an operation with one operand that and 0.
+pub fn operands(operation: &Operation) -> (i128, i128)
+    ensures { result ≡ specs.operands operation.now }
+{
+    match *operation {
+        Operation::Binary(_, _, left, right) => (left, right),
+        Operation::Unary(_, _, operand) => (operand, 0),
+        Operation::Convert(_, number) => (number, 0),
+        Operation::Compare(_, left, right) => (left, right),
+        Operation::Order(first, second) => (first, second),
+        Operation::Product(count, size) => (count, size),
+        Operation::Sum(offset, amount, _) => (offset, amount),
+        Operation::Difference(left, right, _) => (left, right),
+        Operation::Show(_) => (0, 0),
+    }
+}
+
+/// The operands of another operation, if it is the same operation but for them, and one whose result may be guessed.
+pub fn operands_of_same(operation: &Operation, other: &Operation) -> Option<(i128, i128)>
+    ensures { IfSome result (λ pair. other.now ≡ specs.with_operands operation.now pair) }
+{
+    match *operation {
+        Operation::Binary(operator, ty, _, _) => of_binary(operator, ty, other),
+        Operation::Convert(ty, _) => of_conversion(ty, other),
+        Operation::Compare(operator, _, _) => of_comparison(operator, other),
+        Operation::Order(_, _) => of_order_test(other),
+        Operation::Product(_, _) => of_product(other),
+        Operation::Sum(_, _, size) => of_sum(size, other),
+        Operation::Difference(_, _, size) => of_difference(size, other),
+        Operation::Unary(_, _, _) => None,
+        Operation::Show(_) => None,
+    }
+}
+
+fn of_binary(operator: BinOp, ty: IntType, other: &Operation) -> Option<(i128, i128)>
+    ensures { IfSome result (λ pair.
+        other.now ≡ operation.Binary operator ty pair.0 pair.1) }
+{
+    match *other {
+        Operation::Binary(its_operator, its_ty, left, right) => {
+            let same = its_operator == operator && its_ty == ty;
+            if same { Some((left, right)) } else { None }
+        }
+        _ => None,
+    }
+}
+
+fn of_conversion(ty: IntType, other: &Operation) -> Option<(i128, i128)>
+    ensures { IfSome result (λ pair. other.now ≡ operation.Convert ty pair.0) }
+{
+    match *other {
+        Operation::Convert(its_ty, number) => {
+            if its_ty == ty {
+                Some((number, 0))
+            } else {
+                None
+            }
+        }
+        _ => None,
+    }
+}
+
+fn of_comparison(operator: CmpOp, other: &Operation) -> Option<(i128, i128)>
+    ensures { IfSome result (λ pair.
+        other.now ≡ operation.Compare operator pair.0 pair.1) }
+{
+    match *other {
+        Operation::Compare(its_operator, left, right) => {
+            if its_operator == operator {
+                Some((left, right))
+            } else {
+                None
+            }
+        }
+        _ => None,
+    }
+}
+
+fn of_order_test(other: &Operation) -> Option<(i128, i128)>
+    ensures { IfSome result (λ pair. other.now ≡ operation.Order pair.0 pair.1) }
+{
+    match *other {
+        Operation::Order(first, second) => Some((first, second)),
+        _ => None,
+    }
+}
+
+fn of_product(other: &Operation) -> Option<(i128, i128)>
+    ensures { IfSome result (λ pair. other.now ≡ operation.Product pair.0 pair.1) }
+{
+    match *other {
+        Operation::Product(count, size) => Some((count, size)),
+        _ => None,
+    }
+}
+
+fn of_sum(size: u64, other: &Operation) -> Option<(i128, i128)>
+    ensures { IfSome result (λ pair. other.now ≡ operation.Sum pair.0 pair.1 size) }
+{
+    match *other {
+        Operation::Sum(offset, amount, its_size) => {
+            if its_size == size {
+                Some((offset, amount))
+            } else {
+                None
+            }
+        }
+        _ => None,
+    }
+}
+
+fn of_difference(size: u64, other: &Operation) -> Option<(i128, i128)>
+    ensures { IfSome result (λ pair.
+        other.now ≡ operation.Difference pair.0 pair.1 size) }
+{
+    match *other {
+        Operation::Difference(left, right, its_size) => {
+            if its_size == size {
+                Some((left, right))
+            } else {
+                None
+            }
+        }
+        _ => None,
+    }
+}

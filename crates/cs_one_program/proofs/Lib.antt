@@ -1,0 +1,9 @@
+pub mod TypedExpressions
+pub mod TypedInitials
+pub mod TypedDeclarations
+pub mod TypedStatements
+pub mod TypedFiles
+pub mod PlacedExpressions
+pub mod PlacedDeclarations
+pub mod PlacedFiles
+pub mod Laws

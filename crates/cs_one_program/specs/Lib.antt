@@ -1,0 +1,4 @@
+pub mod SameExpressions
+pub mod SameDeclarations
+pub mod SameTrees
+pub mod Laws

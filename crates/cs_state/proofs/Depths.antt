@@ -1,0 +1,30 @@
+-- The list of the frames below a depth: for the contracts of `Callers`.
+use Rattle.std.proofs.Common.{◌≡◌, ◌≢◌, ◌+◌, ◌<◌, ◌≤◌, ℕ, zero, suc, List, ◌∷◌, length, refl, sym, ap, ◌∙◌, subst}
+use Rattle.std.proofs.Common.{arith}
+use Rattle.std.specs.Option.{unwrap_or}
+use Rattle.std.specs.FinMap as finite
+use Rattle.cs_pmap.specs.Keys.{key_cmp}
+use Rattle.cs_store.proofs.Keys.{get_here, get_elsewhere}
+use Rattle.cs_state.specs.declared.frame.Frame.{Frame}
+use Rattle.cs_state.specs.Callers.{no_frame, frame_at, nearest_first}
+
+pub length-nearest_first : (frames : finite.FinMap key_cmp Frame) (depth : ℕ) → depth ≡ length (nearest_first frames depth)
+length-nearest_first frames zero = refl
+length-nearest_first frames (suc depth) = ap suc (length-nearest_first frames depth)
+
+-- a frame at a depth isn't seen below that depth
+unseen : (frames : finite.FinMap key_cmp Frame) (depth at : ℕ) (frame : Frame) → depth ≤ at
+    → nearest_first (finite.insert frames (at, 0) frame) depth ≡ nearest_first frames depth
+unseen frames zero at frame below = refl
+unseen frames (suc depth) at frame below =
+    let other : depth ≢ at = λ same. omega (arith, same, below) in
+    let here : frame_at (finite.insert frames (at, 0) frame) depth ≡ frame_at frames depth
+    = ap (λ found. unwrap_or found no_frame) (get_elsewhere frames at depth frame other) in
+    rw (here, unseen frames depth at frame (omega (arith, below))) refl
+
+pub pushed : (frames : finite.FinMap key_cmp Frame) (depth : ℕ) (frame : Frame)
+    → nearest_first (finite.insert frames (depth, 0) frame) (depth + 1) ≡ frame ∷ nearest_first frames depth
+pushed frames depth frame =
+    let next : depth + 1 ≡ suc depth = omega arith in
+    let here : frame_at (finite.insert frames (depth, 0) frame) depth ≡ frame = ap (λ found. unwrap_or found no_frame) (get_here frames depth frame) in
+    rw (next, here, unseen frames depth depth frame (omega arith)) refl

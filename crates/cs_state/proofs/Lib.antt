@@ -1,0 +1,9 @@
+pub mod Depths
+pub mod Reading
+pub mod Places
+pub mod Inhabited
+pub mod Received
+pub mod ReceivedMore
+pub mod Started
+pub mod WritesMean
+pub mod Numbers

@@ -1,0 +1,12 @@
+use Rattle.cs_state.proofs.Reading.{added_here, added_elsewhere}
+use Rattle.cs_state.proofs.read_cells.ReadCells.add.Goals as goal
+
+pub returns-clause-here : goal.returns-clause-here
+returns-clause-here c =
+    rw (c.in_ok-insert-2.ensures.ok, c.in_ok-insert.ensures.ok, c.cells-2.view_is, c.in_ok-cells.ensures, ← c.self.view_is)
+    (added_here c.self.inside.bases c.args.base c.args.offset c.args.sym)
+
+pub returns-clause-elsewhere : goal.returns-clause-elsewhere
+returns-clause-elsewhere c =
+    rw (c.in_ok-insert-2.ensures.ok, c.in_ok-insert.ensures.ok, c.cells-2.view_is, c.in_ok-cells.ensures, ← c.self.view_is)
+    (added_elsewhere c.self.inside.bases c.args.base c.args.offset c.args.sym)

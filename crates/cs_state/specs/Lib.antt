@@ -1,0 +1,13 @@
+pub mod Callers
+pub mod TypeCodes
+pub mod ReadCells
+pub mod Naming
+pub mod Valuations
+pub mod Cells
+pub mod Objects
+pub mod Writes
+pub mod Meaning
+pub mod MeaningOfWrites
+pub mod Terms
+pub mod Starting
+pub mod Laws

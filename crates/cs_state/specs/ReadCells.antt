@@ -1,0 +1,33 @@
+-- The cells that were read from inputs, by base region and offset.
+use Rattle.std.specs.Prelude.{ℕ, Option}
+use Rattle.std.specs.Coded.{Coded, coded×, coded_ℕ, code_by}
+use Rattle.std.specs.Prelude.{refl}
+use Rattle.std.specs.FinMap as finite
+use Rattle.std.specs.Option.{unwrap_or}
+use Rattle.cs_pmap.specs.Keys.{key_cmp}
+use Rattle.cs_terms.specs.declared.symbol.Sym.{Sym}
+
+-- symbols, keyed by an offset beside a zero
+abbrev pub SymMap : Type 0
+SymMap = finite.FinMap key_cmp Sym
+
+-- such maps, keyed by a base region's number beside a zero
+abbrev pub ReadMap : Type 0
+ReadMap = finite.FinMap key_cmp SymMap
+
+abbrev pub sym_code : Coded Sym
+sym_code = code_by ℕ coded_ℕ (λ s. s.0) (λ n. record { 0 = n }) (λ _. refl)
+
+abbrev pub sym_map_code : Coded SymMap
+sym_map_code = finite.code (coded× coded_ℕ coded_ℕ) sym_code
+
+abbrev pub read_map_code : Coded ReadMap
+read_map_code = finite.code (coded× coded_ℕ coded_ℕ) sym_map_code
+
+-- the cells of a base region
+abbrev pub cells_of : ReadMap → ℕ → SymMap
+cells_of read base = unwrap_or (finite.get read (base, 0)) finite.empty
+
+-- the symbol that was read at an offset of a base region
+abbrev pub read_at : ReadMap → ℕ → ℕ → Option Sym
+read_at read base offset = finite.get (cells_of read base) (offset, 0)

@@ -1,0 +1,53 @@
+//! What the guesses of a path were asked for.
+
+use cs_ast::typed::operator::{BinOp, CmpOp};
+use cs_ranges::Interval;
+use cs_terms::{Lin, Lin2, Sym};
+use cs_types::IntType;
+
+/// An operation that isn't followed exactly.
+#[derive(Clone, Copy)]
+pub enum Asks {
+    /// An integer operator, in a type.
+    Binary(BinOp, IntType),
+    /// A conversion to a type.
+    Convert(IntType),
+    Compare(CmpOp),
+    /// An order test other than that of `calloc`.
+    Order,
+    /// The order test of `calloc`.
+    Product,
+    /// A pointer sum.
+    Sum,
+    /// A pointer difference.
+    Difference,
+}
+
+/// What a guessed comparison or order test says: its own result is 1 exactly where the term compares so with 0.
+#[derive(Clone, Copy)]
+pub struct Fact {
+    pub op: CmpOp,
+    pub term: Lin2,
+}
+
+/// The numbers that the symbols of both operands may have directly before the event, each from the least to the greatest; 0 to 0 where an
+/// operand has no symbol.
+#[derive(Clone, Copy)]
+pub struct Ends {
+    pub left: Interval,
+    pub right: Interval,
+}
+
+/// A guess: its event, its symbol, and the operation whose result it stands for.
+#[derive(Clone, Copy)]
+pub struct Asked {
+    pub event: u64,
+    pub guess: Sym,
+    pub asks: Asks,
+    /// The operands, as terms before the event.
+    pub left: Lin,
+    pub right: Lin,
+    pub ends: Ends,
+    /// There for a guessed comparison, and for an order test other than that of `calloc`.
+    pub fact: Option<Fact>,
+}

@@ -1,0 +1,132 @@
+//! The frames that wait for a call to end.
+ghost use Rattle.std.specs.Prelude.{◌≡◌, [], ◌∷◌, length, drop, slice_get, Some, IfSome, IfOk, OnOk, OnErr};
+
+use crate::frame::Frame;
+use cs_pmap::PMap;
+use std::alloc::{AllocError, Global};
+use std::marker::Model;
+use std::rc::Rc;
+
+/// A frame that several states share.
+#[derive(Drop)]
+pub struct SharedFrame {
+    frame: Rc<Frame>,
+}
+
+impl Model for SharedFrame {
+    ghost use Rattle.cs_state.specs.declared.frame.Frame.{Frame};
+
+    ghost Value = { Frame };
+
+    ghost view = { λ s. s.frame.value };
+}
+
+impl SharedFrame {
+    /// Shares a frame.
+    pub fn new(alloc: Global, frame: Frame) -> Result<SharedFrame, AllocError>
+        ensures { IfOk result (λ shared. shared ≡ frame) }
+    {
+        Ok(SharedFrame {
+            frame: Rc::new(alloc, frame)?,
+        })
+    }
+
+    /// The frame.
+    pub fn frame(&self) -> &Frame
+        ensures { result.now ≡ self.now }
+    {
+        self.frame.as_ref()
+    }
+}
+
+impl Clone for SharedFrame {
+    ghost is_clone = { λ shared copy. copy ≡ shared };
+
+    fn clone(&self) -> Result<SharedFrame, AllocError> {
+        Ok(SharedFrame {
+            frame: self.frame.clone()?,
+        })
+    }
+}
+
+/// The frames that called the one that runs. A contract sees a list, the nearest first. Copies share the frames.
+#[derive(Drop)]
+pub struct Callers {
+    // By depth beside a zero, the entry's at 0.
+    frames: PMap<SharedFrame>,
+    depth: u64,
+}
+
+impl Model for Callers {
+    ghost use Rattle.std.specs.Prelude.{List};
+    ghost use Rattle.cs_state.specs.declared.frame.Frame.{Frame};
+
+    ghost Value = { List Frame };
+
+    ghost use Rattle.cs_state.specs.Callers.{nearest_first};
+
+    ghost view = { λ c. nearest_first c.frames c.depth };
+}
+
+impl Callers {
+    /// No frame waits.
+    pub fn new(alloc: Global) -> Callers
+        ensures { result ≡ [] }
+    {
+        Callers {
+            frames: PMap::new(alloc),
+            depth: 0,
+        }
+    }
+
+    /// How many frames wait.
+    pub fn depth(&self) -> u64
+        ensures { result ≡ length self.now }
+    {
+        self.depth
+    }
+
+    /// The frame that made the call that runs, where one did.
+    pub fn nearest(&self) -> Option<&Frame>
+        ensures { IfSome result (λ frame. slice_get self.now 0 ≡ Some frame.now) }
+    {
+        let depth = self.depth.checked_sub(1)?;
+        match self.frames.get((depth, 0)) {
+            Some(shared) => Some(shared.frame()),
+            None => None,
+        }
+    }
+
+    /// A frame waits for the call that it makes.
+    pub fn push(&mut self, frame: SharedFrame) -> Result<(), AllocError>
+        ensures ok { OnOk result (self.new ≡ frame ∷ self.old) }
+        ensures err { OnErr result (self.new ≡ self.old) }
+    {
+        let Some(depth) = self.depth.checked_add(1) else {
+            return Err(AllocError);
+        };
+        self.frames.insert((self.depth, 0), frame)?;
+        self.depth = depth;
+        Ok(())
+    }
+
+    /// The nearest frame waits no longer, where one waits.
+    pub fn drop_nearest(&mut self)
+        ensures { self.new ≡ drop 1 self.old }
+    {
+        if self.depth > 0 {
+            self.depth -= 1;
+        }
+    }
+}
+
+impl Clone for Callers {
+    ghost is_clone = { λ callers copy. copy ≡ callers };
+
+    fn clone(&self) -> Result<Callers, AllocError> {
+        Ok(Callers {
+            frames: self.frames.copy()?,
+            depth: self.depth,
+        })
+    }
+}

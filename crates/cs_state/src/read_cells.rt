@@ -1,0 +1,173 @@
+//! The cells that were read from inputs.
+ghost use Rattle.std.specs.Prelude.{◌≡◌, ◌≢◌, ◌⊎◌, ℕ, nat_eq, if◌then◌else◌, None, Some, IfOk, OnOk, OnErr};
+ghost use Rattle.std.specs.FinMap.{get};
+ghost use Rattle.std.specs.List.{Contains, list_any};
+ghost use Rattle.cs_state.specs.ReadCells.{cells_of, read_at};
+
+use cs_pmap::PMap;
+use cs_terms::Sym;
+use std::alloc::{AllocError, Global};
+use std::marker::Model;
+
+// The cells of one base region.
+#[derive(Drop)]
+pub(crate) struct Cells {
+    // By offset beside a zero.
+    syms: PMap<Sym>,
+}
+
+impl Model for Cells {
+    ghost use Rattle.cs_state.specs.ReadCells.{SymMap, sym_map_code};
+
+    ghost Value = { SymMap };
+
+    ghost coded = { sym_map_code };
+
+    ghost view = { λ c. c.syms };
+}
+
+impl Clone for Cells {
+    ghost is_clone = { λ cells copy. copy ≡ cells };
+
+    fn clone(&self) -> Result<Cells, AllocError> {
+        Ok(Cells {
+            syms: self.syms.copy()?,
+        })
+    }
+}
+
+/// The cells of base regions that were read from inputs and not written since, each with the symbol of its input. Copies share what they
+/// have in common.
+#[derive(Drop)]
+pub struct ReadCells {
+    alloc: Global,
+    // By base region beside a zero. Each region has a map of its own, so that all its cells go at once.
+    bases: PMap<Cells>,
+}
+
+impl Model for ReadCells {
+    ghost use Rattle.cs_state.specs.ReadCells.{ReadMap, read_map_code};
+
+    ghost Value = { ReadMap };
+
+    ghost coded = { read_map_code };
+
+    ghost view = { λ r. r.bases };
+}
+
+impl ReadCells {
+    /// No cell was read.
+    pub fn new(alloc: Global) -> ReadCells
+        ensures { (base offset : ℕ) → read_at result base offset ≡ None }
+    {
+        ReadCells {
+            alloc,
+            bases: PMap::new(alloc),
+        }
+    }
+
+    /// The symbol that was read at an offset of a base region.
+    pub fn at(&self, base: u64, offset: u64) -> Option<Sym>
+        ensures { result ≡ read_at self.now base offset }
+    {
+        match self.bases.get((base, 0)) {
+            Some(cells) => cells.at(offset),
+            None => None,
+        }
+    }
+
+    /// A cell was read.
+    pub fn add(&mut self, base: u64, offset: u64, sym: Sym) -> Result<(), AllocError>
+        ensures here { OnOk result (read_at self.new base offset ≡ Some sym) }
+        ensures elsewhere { OnOk result ((b o : ℕ) → (b ≢ base) ⊎ (o ≢ offset)
+            → read_at self.new b o ≡ read_at self.old b o) }
+        ensures err { OnErr result (self.new ≡ self.old) }
+    {
+        let mut cells = self.cells(base)?;
+        cells.syms.insert((offset, 0), sym)?;
+        self.bases.insert((base, 0), cells)?;
+        Ok(())
+    }
+
+    /// A cell was written.
+    pub fn forget(&mut self, base: u64, offset: u64) -> Result<(), AllocError>
+        ensures here { OnOk result (read_at self.new base offset ≡ None) }
+        ensures elsewhere { OnOk result ((b o : ℕ) → (b ≢ base) ⊎ (o ≢ offset)
+            → read_at self.new b o ≡ read_at self.old b o) }
+        ensures err { OnErr result (self.new ≡ self.old) }
+    {
+        let mut cells = self.cells(base)?;
+        cells.syms.remove((offset, 0))?;
+        self.bases.insert((base, 0), cells)?;
+        Ok(())
+    }
+
+    /// All cells of a base region were written.
+    pub fn forget_all(&mut self, base: u64) -> Result<(), AllocError>
+        ensures here { OnOk result ((o : ℕ) → read_at self.new base o ≡ None) }
+        ensures elsewhere { OnOk result ((b o : ℕ) → b ≢ base
+            → read_at self.new b o ≡ read_at self.old b o) }
+        ensures err { OnErr result (self.new ≡ self.old) }
+    {
+        self.bases.remove((base, 0))?;
+        Ok(())
+    }
+
+    /// All cells of these base regions were written.
+    pub fn forget_regions(&mut self, bases: &[u64]) -> Result<(), AllocError>
+        ensures gone { OnOk result ((b o : ℕ) → Contains bases.now b
+            → read_at self.new b o ≡ None) }
+        ensures others { OnOk result ((b o : ℕ) → (Contains bases.now b → ⊥)
+            → read_at self.new b o ≡ read_at self.old b o) }
+        ensures err { OnErr result (self.new ≡ self.old) }
+    {
+        self.bases = without(&self.bases, bases)?;
+        Ok(())
+    }
+
+    /// The same cells.
+    pub fn copy(&self) -> Result<ReadCells, AllocError>
+        ensures { IfOk result (λ copy. copy ≡ self.now) }
+    {
+        Ok(ReadCells {
+            alloc: self.alloc,
+            bases: self.bases.copy()?,
+        })
+    }
+
+    // Those of a base region.
+    fn cells(&self, base: u64) -> Result<Cells, AllocError>
+        ensures { IfOk result (λ cells. cells ≡ cells_of self.now base) }
+    {
+        match self.bases.get((base, 0)) {
+            Some(cells) => cells.clone(),
+            None => Ok(Cells {
+                syms: PMap::new(self.alloc),
+            }),
+        }
+    }
+}
+
+// The cells of other base regions.
+fn without(cells: &PMap<Cells>, bases: &[u64]) -> Result<PMap<Cells>, AllocError>
+    ensures { IfOk result (λ others.
+        (b : ℕ) → get others (b, 0)
+        ≡ (if list_any (λ x. nat_eq b x) bases.now then None else get cells.now (b, 0))) }
+{
+    let mut others = cells.copy()?;
+    for base in bases {
+        others.remove((*base, 0))?;
+    }
+    Ok(others)
+}
+
+impl Cells {
+    fn at(&self, offset: u64) -> Option<Sym>
+        ensures { result ≡ get self.now (offset, 0) }
+    {
+        match self.syms.get((offset, 0)) {
+            Some(sym) => Some(*sym),
+            None => None,
+        }
+    }
+}

@@ -1,0 +1,183 @@
+//! The state of an exploration at one position of its runs.
+ghost use Rattle.std.specs.Prelude.{◌≡◌, ◌++◌, [], ◌∷◌, IfOk, OnOk, OnErr};
+
+use crate::asked::Asked;
+use crate::block::Block;
+use crate::callers::Callers;
+use crate::frame::Frame;
+use crate::read_cells::ReadCells;
+use cs_constraints::Constraints;
+use cs_pmap::PMap;
+use cs_store::{Store, Value};
+use cs_terms::Lin;
+use cs_types::DataModel;
+use std::alloc::{AllocError, Global};
+use std::marker::Model;
+
+/// The answers that the events of the operation in progress have had so far, in order. A contract sees a list of terms.
+#[derive(Drop)]
+pub struct Answers {
+    list: Vec<Lin>,
+}
+
+impl Model for Answers {
+    ghost use Rattle.std.specs.Prelude.{List};
+    ghost use Rattle.cs_terms.specs.declared.term.Lin.{Lin};
+
+    ghost Value = { List Lin };
+
+    ghost view = { λ a. a.list.items };
+}
+
+impl Answers {
+    /// None.
+    pub fn new(alloc: Global) -> Answers
+        ensures { result ≡ [] }
+    {
+        Answers {
+            list: Vec::new(alloc),
+        }
+    }
+
+    /// The answers in order.
+    pub fn as_slice(&self) -> &[Lin]
+        ensures { result.now ≡ self.now }
+    {
+        self.list.as_slice()
+    }
+
+    /// One more answer.
+    pub fn push(&mut self, answer: Lin) -> Result<(), AllocError>
+        ensures ok { OnOk result (self.new ≡ self.old ++ answer ∷ []) }
+        ensures err { OnErr result (self.new ≡ self.old) }
+    {
+        self.list.push(answer)?;
+        Ok(())
+    }
+
+    /// The operation is done.
+    pub fn clear(&mut self)
+        ensures { self.new ≡ [] }
+    {
+        self.list.clear();
+    }
+}
+
+impl Clone for Answers {
+    ghost is_clone = { λ answers copy. copy ≡ answers };
+
+    fn clone(&self) -> Result<Answers, AllocError> {
+        Ok(Answers {
+            list: Vec::from_slice(*self.list.allocator(), self.list.as_slice())?,
+        })
+    }
+}
+
+/// How many of each a run has had: frames, allocations, calls of functions without a body, and events.
+#[derive(Clone, Copy)]
+pub struct Counters {
+    pub frames: u64,
+    pub allocations: u64,
+    pub calls: u64,
+    pub events: u64,
+}
+
+/// What is known of the runs that have come to one position: the state of the run of the code before the operation in progress, in terms
+/// over symbols, and the answers that this operation's events have had so far.
+///
+/// The fields are there to be read. Each write is a method.
+#[derive(Drop)]
+pub struct State {
+    pub model: DataModel,
+    /// The frame that runs.
+    pub frame: Frame,
+    pub callers: Callers,
+    /// What was written to objects.
+    pub store: Store,
+    /// The start blocks and heap blocks, by the numbers of their base regions beside a zero.
+    pub blocks: PMap<Block>,
+    /// The cells that were read from inputs and not written since.
+    pub read: ReadCells,
+    /// The numbers that the symbols may have.
+    pub constraints: Constraints,
+    pub answers: Answers,
+    pub counters: Counters,
+    /// The guesses, by their events beside a zero.
+    pub asked: PMap<Asked>,
+    /// Where a watched protocol stands.
+    pub phase: u32,
+    /// What the entry has returned, none for nothing.
+    pub result: Option<Value>,
+}
+
+// The parts of a state that say where a run stands.
+#[derive(Drop)]
+struct Position {
+    frame: Frame,
+    callers: Callers,
+    answers: Answers,
+}
+
+// The parts of a state that say what memory holds.
+#[derive(Drop)]
+struct Held {
+    store: Store,
+    blocks: PMap<Block>,
+    read: ReadCells,
+}
+
+impl State {
+    /// The same state.
+    pub fn copy(&self) -> Result<State, AllocError>
+        ensures { IfOk result (λ copy. copy ≡ self.now) }
+    {
+        let position = self.position()?;
+        let memory = self.held()?;
+        let constraints = self.constraints.copy()?;
+        let asked = self.asked.copy()?;
+        Ok(State {
+            model: self.model,
+            frame: position.frame,
+            callers: position.callers,
+            store: memory.store,
+            blocks: memory.blocks,
+            read: memory.read,
+            constraints,
+            answers: position.answers,
+            counters: self.counters,
+            asked,
+            phase: self.phase,
+            result: self.result,
+        })
+    }
+
+    fn position(&self) -> Result<Position, AllocError>
+        ensures frame { IfOk result (λ p. p.frame ≡ self.now.frame) }
+        ensures callers { IfOk result (λ p. p.callers ≡ self.now.callers) }
+        ensures answers { IfOk result (λ p. p.answers ≡ self.now.answers) }
+    {
+        let frame = self.frame.clone()?;
+        let callers = self.callers.clone()?;
+        let answers = self.answers.clone()?;
+        Ok(Position {
+            frame,
+            callers,
+            answers,
+        })
+    }
+
+    fn held(&self) -> Result<Held, AllocError>
+        ensures store { IfOk result (λ h. h.store ≡ self.now.store) }
+        ensures blocks { IfOk result (λ h. h.blocks ≡ self.now.blocks) }
+        ensures read { IfOk result (λ h. h.read ≡ self.now.read) }
+    {
+        let store = self.store.copy()?;
+        let blocks = self.blocks.copy()?;
+        let read = self.read.copy()?;
+        Ok(Held {
+            store,
+            blocks,
+            read,
+        })
+    }
+}

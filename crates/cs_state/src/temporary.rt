@@ -1,0 +1,142 @@
+//! Temporaries: what evaluated expressions leave in a frame until they are used.
+ghost use Rattle.std.specs.Prelude.{◌≡◌, ◌++◌, [], ◌∷◌, ℕ, List, take, None, Some, IfOk, OnOk, OnErr, MatchOption};
+ghost use Rattle.std.specs.Option.{option_to_list};
+
+use cs_store::Value;
+use std::alloc::{AllocError, Global};
+use std::marker::Model;
+use std::rc::RcSlice;
+
+/// The values of a struct's scalars, in order. Copies share them, and a contract sees a list.
+#[derive(Drop)]
+pub struct Scalars {
+    values: RcSlice<Value>,
+}
+
+impl Model for Scalars {
+    ghost use Rattle.std.specs.Prelude.{List};
+    ghost use Rattle.std.specs.Rc.{rc_slice_items};
+    ghost use Rattle.cs_store.specs.declared.value.Value.{Value as CellValue};
+
+    ghost Value = { List CellValue };
+
+    ghost view = { λ s. rc_slice_items s.values };
+}
+
+impl Scalars {
+    /// Of these values.
+    pub fn of(values: Vec<Value>) -> Result<Scalars, AllocError>
+        ensures { IfOk result (λ scalars. scalars ≡ values.items) }
+    {
+        Ok(Scalars {
+            values: RcSlice::from_vec(values)?,
+        })
+    }
+
+    /// The values in order.
+    pub fn as_slice(&self) -> &[Value]
+        ensures { result.now ≡ self.now }
+    {
+        self.values.as_slice()
+    }
+}
+
+impl Clone for Scalars {
+    ghost is_clone = { λ scalars copy. copy ≡ scalars };
+
+    fn clone(&self) -> Result<Scalars, AllocError> {
+        Ok(Scalars {
+            values: self.values.clone()?,
+        })
+    }
+}
+
+/// What an evaluated expression leaves.
+#[derive(Drop)]
+pub enum Temporary {
+    /// A scalar.
+    Scalar(Value),
+    /// The scalars of a struct.
+    Whole(Scalars),
+    /// Nothing, as a call of a void function.
+    Nothing,
+}
+
+impl Clone for Temporary {
+    ghost is_clone = { λ temporary copy. copy ≡ temporary };
+
+    fn clone(&self) -> Result<Temporary, AllocError> {
+        match self {
+            Temporary::Scalar(value) => Ok(Temporary::Scalar(*value)),
+            Temporary::Whole(scalars) => Ok(Temporary::Whole(scalars.clone()?)),
+            Temporary::Nothing => Ok(Temporary::Nothing),
+        }
+    }
+}
+
+/// The temporaries of a frame, by their numbers: the newest is the last. A contract sees a list.
+#[derive(Drop)]
+pub struct Temporaries {
+    list: Vec<Temporary>,
+}
+
+impl Model for Temporaries {
+    ghost use Rattle.std.specs.Prelude.{List};
+    ghost use Rattle.cs_state.specs.declared.temporary.Temporary.{Temporary};
+
+    ghost Value = { List Temporary };
+
+    ghost view = { λ t. t.list.items };
+}
+
+impl Temporaries {
+    /// No temporary is in use.
+    pub fn new(alloc: Global) -> Temporaries
+        ensures { result ≡ [] }
+    {
+        Temporaries {
+            list: Vec::new(alloc),
+        }
+    }
+
+    /// The temporaries in order of number.
+    pub fn as_slice(&self) -> &[Temporary]
+        ensures { result.now ≡ self.now }
+    {
+        self.list.as_slice()
+    }
+
+    /// Adds one, which takes the next number.
+    pub fn push(&mut self, temporary: Temporary) -> Result<(), AllocError>
+        ensures ok { OnOk result (self.new ≡ self.old ++ temporary ∷ []) }
+        ensures err { OnErr result (self.new ≡ self.old) }
+    {
+        self.list.push(temporary)?;
+        Ok(())
+    }
+
+    /// Takes the newest one out, where there is one.
+    pub fn pop(&mut self) -> Option<Temporary>
+        ensures taken { self.old ≡ self.new ++ option_to_list result }
+        ensures none { result ≡ None → self.old ≡ [] }
+    {
+        self.list.pop()
+    }
+
+    /// Drops those with this number or a greater one.
+    pub fn cut(&mut self, number: usize)
+        ensures { self.new ≡ take number self.old }
+    {
+        self.list.truncate(number);
+    }
+}
+
+impl Clone for Temporaries {
+    ghost is_clone = { λ temporaries copy. copy ≡ temporaries };
+
+    fn clone(&self) -> Result<Temporaries, AllocError> {
+        Ok(Temporaries {
+            list: Vec::from_clones(*self.list.allocator(), self.list.as_slice())?,
+        })
+    }
+}
