@@ -11,6 +11,7 @@ use cs_run_state::prepared::Prepared;
 use cs_run_state::{Log, Object, Setting, Stop};
 use cs_types::{DataModel, IntType, StructTable, Structs};
 use std::alloc::Global;
+use std::process::Abort;
 use std::test::Fail;
 
 const HERE: Place = Place {
@@ -52,20 +53,38 @@ fn answered(
     right: i128,
 ) -> (Result<i128, Stop>, Log) {
     let program = program(alloc);
-    let inputs = Inputs::new(alloc);
     let prepared = prepared(alloc);
+    let budgets = RunBudgets {
+        visits: 1,
+        depth: 1,
+        events,
+    };
+    let operands = (left, right);
+    answered_in(
+        alloc, &program, &prepared, guesses, budgets, operator, operands,
+    )
+}
+
+// The same in a program, with what its runs share.
+fn answered_in(
+    alloc: Global,
+    program: &Program,
+    prepared: &Prepared,
+    guesses: &[Guess],
+    budgets: RunBudgets,
+    operator: BinOp,
+    operands: (i128, i128),
+) -> (Result<i128, Stop>, Log) {
+    let inputs = Inputs::new(alloc);
     let setting = Setting {
-        program: &program,
-        prepared: &prepared,
+        program,
+        prepared,
         inputs: &inputs,
         guesses,
-        budgets: RunBudgets {
-            visits: 1,
-            depth: 1,
-            events,
-        },
+        budgets,
     };
     let mut log = Log::new(alloc);
+    let (left, right) = operands;
     let answer = log.operate(&setting, HERE, operator, IntType::Int, &left, &right);
     (answer, log)
 }
@@ -147,7 +166,12 @@ fn an_operator_gives_what_it_gives_in_c(rt: HostRuntime) -> Result<(), Fail> {
 fn memory_keeps_what_was_freed(rt: HostRuntime) -> Result<(), Fail> {
     let alloc = rt.alloc();
     let prepared = prepared(alloc);
-    let mut memory = Memory::new(alloc, &prepared);
+    frees_for_good(&rt, alloc, &prepared)
+}
+
+// The same with what the runs of a program share.
+fn frees_for_good(rt: &impl Abort, alloc: Global, prepared: &Prepared) -> Result<(), Fail> {
+    let mut memory = Memory::new(alloc, prepared);
     memory.allocate(Block::new(alloc, BlockType::Integer(IntType::UChar), 4, Fill::Unset))?;
     memory.allocate_none()?;
     memory.allocate(Block::new(alloc, BlockType::Integer(IntType::UChar), 8, Fill::Zero))?;
