@@ -5,7 +5,7 @@ use Rattle.cs_types.specs.declared.int_type.IntType.TheVariants.{Int, ULong}
 use Rattle.cs_ast.specs.declared.typed.operator.BinOp.TheVariants.{Add, Sub, Mul, Rem, And}
 use Rattle.cs_ast.specs.declared.typed.operator.CmpOp.TheVariants as cmp
 use Rattle.cs_events.specs.declared.operation.Operation.TheVariants.{Binary, Compare, Product}
-use Rattle.cs_findings.specs.declared.run.Others.TheVariants.{One, Two}
+use Rattle.cs_results.specs.declared.run.Others.TheVariants.{One, Two}
 use Rattle.cs_findings.specs.Grounds.{has_ground}
 use Rattle.cs_findings.specs.Narrower.{may_be_used, fits_left, fits_right}
 

@@ -1,23 +1,23 @@
--- Good results of entries, and which reports are selected.
-use Rattle.std.specs.Prelude.{◌≡◌, ℕ, Bool, false, ◌||◌, ◌==◌, List, [], ◌∷◌, map, All}
+-- Good results of entries.
+use Rattle.std.specs.Prelude.{◌≡◌, ℕ, List, [], ◌∷◌, map, All}
 use Rattle.std.specs.List.Sorted.{IsStrictlySortedBy}
 use Rattle.std.specs.Ordering.{nat_cmp, ordering_then}
 use Rattle.std.specs.declared.cmp.Ordering.{Ordering}
 use Rattle.cs_ast.specs.declared.place.Place.{Place}
 use Rattle.cs_ast.specs.TypedProgram.{TypedProgram}
-use Rattle.cs_model.specs.declared.kind.Kind.{Kind}
 use Rattle.cs_model.specs.Kinds.{kind_number}
 use Rattle.cs_events.specs.declared.outcome.Outcome.{Outcome}
 use Rattle.cs_events.specs.declared.outcome.Outcome.TheVariants.{Done, Fault, Over}
 use Rattle.cs_events.specs.Budgets.{budget_number}
-use Rattle.cs_findings.specs.declared.budgets.Budgets.{Budgets}
-use Rattle.cs_findings.specs.declared.finding.Finding.{Finding}
-use Rattle.cs_findings.specs.declared.result.EntryResult.{EntryResult}
-use Rattle.cs_findings.specs.declared.result.Cut.{Cut}
-use Rattle.cs_findings.specs.declared.result.Cut.TheVariants.{Nodes, Splits}
-use Rattle.cs_findings.specs.declared.result.Verdict as verdicts
-use Rattle.cs_findings.specs.declared.result.Verdict.TheVariants as verdict
+use Rattle.cs_results.specs.declared.budgets.Budgets.{Budgets}
+use Rattle.cs_results.specs.declared.finding.Finding.{Finding}
+use Rattle.cs_results.specs.declared.result.EntryResult.{EntryResult}
+use Rattle.cs_results.specs.declared.result.Cut.{Cut}
+use Rattle.cs_results.specs.declared.result.Cut.TheVariants.{Nodes, Splits}
+use Rattle.cs_results.specs.declared.result.Verdict as verdicts
+use Rattle.cs_results.specs.declared.result.Verdict.TheVariants as verdict
 use Rattle.cs_findings.specs.Runs.{run_budgets}
+pub use Rattle.cs_results.specs.Selected.{is_kind, is_selected}
 use Rattle.cs_findings.specs.GoodFindings.{IsGoodFinding}
 
 -- places by file, line and column
@@ -75,14 +75,3 @@ pub record IsGoodEntry (program : TypedProgram) (budgets : Budgets) (given : Ent
   pub overs_listed : AreListed given.overs.items
   pub cuts_listed : AreCutsListed given.cuts.items
   pub verdict : given.verdict ≡ verdict_of given.cuts.items given.overs.items
-
--- whether an outcome is a fault of one of these kinds
-abbrev pub is_kind : Kind → Outcome → Bool
-is_kind kind (Fault other at) = kind_number kind == kind_number other
-is_kind kind (Done returned) = false
-is_kind kind (Over budget at) = false
-
--- a report is selected where its kind is one of those asked for
-abbrev pub is_selected : List Kind → Outcome → Bool
-is_selected [] what = false
-is_selected (kind ∷ kinds) what = is_kind kind what || is_selected kinds what

@@ -4,22 +4,20 @@ use Rattle.std.specs.Map.{keys_of}
 use Rattle.std.specs.List.Sorted.{IsStrictlySortedBy}
 use Rattle.std.specs.Ordering.{nat_cmp}
 use Rattle.cs_inputs.specs.declared.path.Path.{Path}
-use Rattle.cs_inputs.specs.declared.path.Root.TheVariants.{Param}
 use Rattle.cs_inputs.specs.Inputs.{IsInOrder}
-use Rattle.cs_ast.specs.TypedProgram.{TypedProgram, Variable}
+use Rattle.cs_ast.specs.TypedProgram.{TypedProgram}
 use Rattle.cs_events.specs.declared.guess.Guess.{Guess}
 use Rattle.cs_events.specs.declared.outcome.RunBudgets.{RunBudgets}
 use Rattle.cs_events.specs.declared.outcome.Outcome.{Outcome}
 use Rattle.cs_events.specs.declared.outcome.Outcome.TheVariants.{Done, Fault, Over}
 use Rattle.cs_events.specs.Runs.{Log}
-use Rattle.cs_meaning.specs.Calls.{root_path}
 use Rattle.cs_meaning.specs.Machine.{routine_of}
-use Rattle.cs_meaning.specs.Steps.{parameters_of}
+use Rattle.cs_meaning.specs.Steps.{parameters_of, parameter_path}
 use Rattle.cs_meaning.specs.ProgramRuns.{ProgramRun, RunGives, RunEnds, RunReads}
-use Rattle.cs_findings.specs.declared.finding.Finding.{Finding}
-use Rattle.cs_findings.specs.declared.finding.Ground.{Ground}
-use Rattle.cs_findings.specs.declared.run.Others.{Others}
-use Rattle.cs_findings.specs.declared.run.Others.TheVariants.{One, Two}
+use Rattle.cs_results.specs.declared.finding.Finding.{Finding}
+use Rattle.cs_results.specs.declared.finding.Ground.{Ground}
+use Rattle.cs_results.specs.declared.run.Others.{Others}
+use Rattle.cs_results.specs.declared.run.Others.TheVariants.{One, Two}
 use Rattle.cs_findings.specs.Runs.{run_of, each_other}
 use Rattle.cs_findings.specs.RealGuesses.{IsReal}
 use Rattle.cs_findings.specs.Neighbours.{neighbours}
@@ -29,10 +27,6 @@ abbrev pub IsFinding : Outcome → Type 0
 IsFinding (Done returned) = ⊥
 IsFinding (Fault kind at) = Unit {0}
 IsFinding (Over budget at) = Unit {0}
-
--- the path of a parameter
-abbrev pub parameter_path : Variable → Path
-parameter_path variable = root_path (Param variable.name)
 
 -- both lists are as long, and each item is related to its like
 abbrev pub IsEach : {A B : Type 0} → (A → B → Type 0) → List A → List B → Type 0
@@ -61,9 +55,8 @@ module _ (program : TypedProgram) (entry : ℕ) (budgets : RunBudgets) where
   abbrev pub EndsElsewhere : Outcome → List (Path × ℤ) → Type 0
   EndsElsewhere what inputs = (log : Log) → RunGives program entry (record { inputs = inputs; guesses = [] }) budgets what log → ⊥
 
-  -- a good finding. It is confirmed where its run lists no guess; where it does, no neighbour ends so without guesses
-  pub record IsGoodFinding (finding : Finding) : Type 0 where
-    pub what : IsFinding finding.what
+  -- what a finding shows of its run: it ends so, it lists what it reads, and each number that it guesses is real, with its ground
+  pub record IsShown (finding : Finding) : Type 0 where
     pub ends : RunEnds program entry (run_of finding.run) budgets finding.events.items finding.what
     pub in_order : IsInOrder finding.run.inputs
     pub paths : (path : Path) → Contains (keys_of finding.run.inputs) path
@@ -71,4 +64,9 @@ module _ (program : TypedProgram) (entry : ℕ) (budgets : RunBudgets) where
     pub ascending : Ascend finding.run.guesses.items
     pub passed : All (λ g. g.event ≤ length finding.events.items) finding.run.guesses.items
     pub grounds : IsEach (IsGroundOf (run_of finding.run)) finding.run.guesses.items finding.grounds.items
+
+  -- a good finding. It is confirmed where its run lists no guess; where it does, no neighbour ends so without guesses
+  pub record IsGoodFinding (finding : Finding) : Type 0 where
+    pub what : IsFinding finding.what
+    pub shown : IsShown finding
     pub tried : finding.run.guesses.items ≢ [] → All (EndsElsewhere finding.what) (neighbours program.constants finding.run.inputs)

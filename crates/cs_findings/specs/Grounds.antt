@@ -13,8 +13,8 @@ use Rattle.cs_ast.specs.declared.typed.operator.CmpOp.TheVariants.{Less, AtMost,
 use Rattle.cs_events.specs.declared.operation.Operation.{Operation}
 use Rattle.cs_events.specs.declared.operation.Operation.TheVariants.{Binary, Unary, Convert, Compare, Order, Product, Sum, Difference, Show}
 use Rattle.cs_events.specs.Operations.{exact, compares}
-use Rattle.cs_findings.specs.declared.run.Others.{Others}
-use Rattle.cs_findings.specs.declared.run.Others.TheVariants.{One, Two}
+use Rattle.cs_results.specs.declared.run.Others.{Others}
+use Rattle.cs_results.specs.declared.run.Others.TheVariants.{One, Two}
 use Rattle.cs_findings.specs.Runs.{some_other}
 
 -- the operands of an operation in a run

@@ -8,7 +8,7 @@ use Rattle.cs_events.specs.declared.operation.Operation.{Operation}
 use Rattle.cs_events.specs.declared.outcome.RunBudgets.{RunBudgets}
 use Rattle.cs_events.specs.PendingEvents.{Pending, Operates}
 use Rattle.cs_meaning.specs.ProgramRuns.{ProgramRun, RunPasses, RunIsPending}
-use Rattle.cs_findings.specs.declared.run.Others.{Others}
+use Rattle.cs_results.specs.declared.run.Others.{Others}
 use Rattle.cs_findings.specs.Runs.{before, lists, AllRelated}
 use Rattle.cs_findings.specs.Operands.{operands, with_operands}
 use Rattle.cs_findings.specs.Grounds.{Pair, has_ground}

@@ -1,16 +1,11 @@
--- Runs as plain data, and their budgets.
+-- Runs as plain data.
 use Rattle.std.specs.Prelude.{ℕ, nat_lt, Bool, is_some, filter, ◌||◌}
-use Rattle.cs_events.specs.declared.outcome.RunBudgets.{RunBudgets}
 use Rattle.cs_events.specs.Runs.{guess_at}
 use Rattle.cs_meaning.specs.ProgramRuns.{ProgramRun}
-use Rattle.cs_findings.specs.declared.budgets.Budgets.{Budgets}
-use Rattle.cs_findings.specs.declared.run.Run.{Run}
-use Rattle.cs_findings.specs.declared.run.Others.{Others}
-use Rattle.cs_findings.specs.declared.run.Others.TheVariants.{One, Two}
-
--- the budgets that end a run
-abbrev pub run_budgets : Budgets → RunBudgets
-run_budgets budgets = record { visits = budgets.visits; depth = budgets.depth; events = budgets.events }
+pub use Rattle.cs_results.specs.RunBudgets.{run_budgets}
+use Rattle.cs_results.specs.declared.run.Run.{Run}
+use Rattle.cs_results.specs.declared.run.Others.{Others}
+use Rattle.cs_results.specs.declared.run.Others.TheVariants.{One, Two}
 
 -- what a run begins with
 abbrev pub run_of : Run → ProgramRun

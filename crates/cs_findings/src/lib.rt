@@ -1,15 +1,7 @@
-//! Findings: the types of what an analysis prints, and what makes a finding good.
+//! Findings: what makes the results of an analysis good.
 //!
-//! A finding carries its evidence: the run that ends so, and for each number that the run guesses one or two other runs, which show
-//! that the operation's result can't be followed there. `specs/` says over the reference machine alone when that evidence is good.
+//! `specs/` says over the reference machine alone when the evidence that a finding carries is good. The types are those of
+//! `cs_results`.
 #![tactic(auto)]
 
-pub mod budgets;
-pub mod finding;
-pub mod result;
-pub mod run;
-
-pub use budgets::Budgets;
-pub use finding::{Finding, Ground};
-pub use result::{Cut, EntryResult, Verdict};
-pub use run::{Others, Run};
+pub use cs_results::{Budgets, Cut, EntryResult, Finding, Ground, Others, Run, Verdict};

@@ -11,8 +11,8 @@ use Rattle.cs_events.specs.declared.operation.Operation.{Operation}
 use Rattle.cs_events.specs.declared.outcome.RunBudgets.{RunBudgets}
 use Rattle.cs_events.specs.PendingEvents as pending
 use Rattle.cs_meaning.specs.ProgramRuns.{ProgramRun}
-use Rattle.cs_findings.specs.declared.run.Others.{Others}
-use Rattle.cs_findings.specs.declared.run.Others.TheVariants.{One, Two}
+use Rattle.cs_results.specs.declared.run.Others.{Others}
+use Rattle.cs_results.specs.declared.run.Others.TheVariants.{One, Two}
 use Rattle.cs_findings.specs.Runs.{run_of, before, AllRelated}
 use Rattle.cs_findings.specs.Operands.{with_operands}
 use Rattle.cs_findings.specs.Grounds.{Pair}
@@ -140,7 +140,18 @@ module _ (program : TypedProgram) (entry : ℕ) (budgets : RunBudgets) (pool : L
     each = λ place guess listed.
         let one = judged number mine there place guess listed in
         let it = real_with (AreRealBelow program entry budgets guess.event) (all_real judged guess.event) number mine there place guess one in
-        record { at = one.at; partners = one.partners; named = one.named; others = it.0; they = it.1; real = it.2 };
+        record {
+          at = one.at;
+          passed = one.passed;
+          number = one.spot.number;
+          operation = one.operation;
+          kept = one.spot.kept;
+          partners = one.partners;
+          named = one.named;
+          others = it.0;
+          they = it.1;
+          real = it.2;
+        };
   }
 
 pub shows_real : (model : DataModel) (pool : List Replay) → IsCertificate model pool → ShowsReal model pool

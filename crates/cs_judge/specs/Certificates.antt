@@ -4,7 +4,7 @@ use Rattle.cs_types.specs.declared.data_model.DataModel.{DataModel}
 use Rattle.cs_ast.specs.declared.place.Place.{Place}
 use Rattle.cs_events.specs.declared.guess.Guess.{Guess}
 use Rattle.cs_events.specs.declared.operation.Operation.{Operation}
-use Rattle.cs_findings.specs.declared.run.Others.{Others}
+use Rattle.cs_results.specs.declared.run.Others.{Others}
 use Rattle.cs_findings.specs.Runs.{run_of, lists, AllRelated}
 use Rattle.cs_findings.specs.Operands.{operands, with_operands}
 use Rattle.cs_findings.specs.Grounds.{Pair, has_ground}

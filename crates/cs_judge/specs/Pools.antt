@@ -1,5 +1,5 @@
 -- Pools of replays, and what the judge shows of them.
-use Rattle.std.specs.Prelude.{◌≡◌, ℕ, ◌≤◌, List, length, take, Some, slice_get}
+use Rattle.std.specs.Prelude.{◌≡◌, ℕ, suc, ◌≤◌, List, length, take, Some, slice_get}
 use Rattle.cs_types.specs.declared.data_model.DataModel.{DataModel}
 use Rattle.cs_ast.specs.declared.place.Place.{Place}
 use Rattle.cs_ast.specs.TypedProgram.{TypedProgram}
@@ -8,7 +8,7 @@ use Rattle.cs_events.specs.declared.operation.Operation.{Operation}
 use Rattle.cs_events.specs.declared.outcome.RunBudgets.{RunBudgets}
 use Rattle.cs_events.specs.PendingEvents as pending
 use Rattle.cs_meaning.specs.ProgramRuns.{ProgramRun}
-use Rattle.cs_findings.specs.declared.run.Others.{Others}
+use Rattle.cs_results.specs.declared.run.Others.{Others}
 use Rattle.cs_findings.specs.Runs.{run_of, AllRelated}
 use Rattle.cs_findings.specs.RealGuesses.{Comes, IsReal, AreReal}
 use Rattle.cs_judge.specs.declared.pool.Partners.{Partners}
@@ -31,9 +31,13 @@ module _ (program : TypedProgram) (entry : ℕ) (budgets : RunBudgets) where
   abbrev pub AreKept : List Replay → Type 0
   AreKept pool = (number : ℕ) (replay : Replay) → slice_get pool number ≡ Some replay → IsKept replay
 
-  -- the guess with this number among those of a replay is real with its partners
+  -- the guess with this number among those of a replay is real with its partners, at the place of the operation that was kept there
   pub record IsRealWithPartners (pool : List Replay) (replay : Replay) (place : ℕ) (guess : Guess) : Type 0 where
     pub at : Place
+    pub passed : ℕ
+    pub number : guess.event ≡ suc passed
+    pub operation : Operation
+    pub kept : slice_get replay.kept.items passed ≡ Some (kept.Operates at operation)
     pub partners : Partners
     pub named : slice_get replay.partners.items place ≡ Some partners
     pub others : Others ProgramRun

@@ -1,7 +1,7 @@
 -- Products of more than 128 bits, and operands whose products are computed.
 use Rattle.std.specs.Prelude.{◌≡◌, ◌^◌, ◌≤◌, ℤ, pos, ◌*ℤ◌, ◌+ℤ◌, ◌≤ℤ◌, ◌<ℤ◌, unsigned_abs}
-use Rattle.cs_findings.specs.declared.run.Others.{Others}
-use Rattle.cs_findings.specs.declared.run.Others.TheVariants.{One, Two}
+use Rattle.cs_results.specs.declared.run.Others.{Others}
+use Rattle.cs_results.specs.declared.run.Others.TheVariants.{One, Two}
 use Rattle.cs_findings.specs.Grounds.{Pair}
 use Rattle.cs_judge.specs.declared.lines.Wide.{Wide}
 

@@ -16,7 +16,7 @@ use crate::grounds::has_ground;
 use crate::listing::{are_at_events, are_before};
 use crate::narrower::{fits_left, fits_right, may_be_used};
 use crate::operands::{operands, operands_of_same};
-use crate::pool::{Kept, Partners, Replay};
+use crate::pool::{Kept, Partners, Replay, Stretch};
 use crate::same::same_place;
 use cs_ast::Place;
 use cs_events::{Event, Guess, Operation};
@@ -79,6 +79,25 @@ pub fn partners(
         shares: shares.as_slice(),
     };
     judge.all_partners(alloc)
+}
+
+/// For each guess of the first run of the pool, partners among the runs that these numbers name for it: the first that shows it to be real
+/// alone, or else the first two that do together. Nothing is promised of them, as of `partners`.
+pub fn shown_partners(
+    alloc: Global,
+    model: DataModel,
+    pool: &[Replay],
+    among: &[Stretch],
+) -> Result<Vec<Partners>, AllocError> {
+    let shown = shown_events(pool);
+    let shares = shares(alloc, pool, shown)?;
+    let judge = Judge {
+        model,
+        pool,
+        shown,
+        shares: shares.as_slice(),
+    };
+    judge.partners_among(alloc, among)
 }
 
 // The events of the first run.
@@ -236,27 +255,51 @@ impl<'a> Judge<'a> {
     {
         let mine = &self.pool[number];
         let known = self.known(mine, number);
+        let all_runs = Stretch {
+            from: 0,
+            to: self.pool.len(),
+        };
         let mut all = Vec::new(alloc);
         for place in 0..mine.run.guesses.len() {
-            all.push(self.partners_for(alloc, mine, known, place)?)?;
+            all.push(self.partners_for(alloc, mine, known, place, all_runs)?)?;
         }
         Ok(all)
     }
 
-    // Partners for one guess.
+    // Partners for each guess of the first run, among the runs with these numbers.
+    fn partners_among(
+        &self,
+        alloc: Global,
+        among: &[Stretch],
+    ) -> Result<Vec<Partners>, AllocError>
+        requires { IsSeated self.now }
+    {
+        let mut all = Vec::new(alloc);
+        let Some(mine) = replay_at(self.pool, 0) else {
+            return Ok(all);
+        };
+        let known = self.known(mine, 0);
+        for (place, runs) in among.iter().enumerate() {
+            all.push(self.partners_for(alloc, mine, known, place, *runs)?)?;
+        }
+        Ok(all)
+    }
+
+    // Partners for one guess, among the runs with these numbers.
     fn partners_for(
         &self,
         alloc: Global,
         mine: &Replay,
         known: usize,
         place: usize,
+        among: Stretch,
     ) -> Result<Partners, AllocError>
         requires seated { IsSeated self.now }
         requires known { AgreeTo known mine.now.events.items self.now.shown.now }
     {
         match spot_of(mine, place) {
             Some(spot) => {
-                let candidates = self.candidates(alloc, mine, known, &spot)?;
+                let candidates = self.candidates(alloc, mine, known, &spot, among)?;
                 Ok(chosen(self.model, &spot.operation, candidates.as_slice()))
             }
             None => Ok(Partners {
@@ -274,12 +317,13 @@ impl<'a> Judge<'a> {
         mine: &Replay,
         known: usize,
         spot: &Spot,
+        among: Stretch,
     ) -> Result<Vec<Candidate>, AllocError>
         requires seated { IsSeated self.now }
         requires ready { IsReady self.now.shown.now mine.now known spot.now }
     {
         let mut found = Vec::new(alloc);
-        for number in 0..self.pool.len() {
+        for number in among.from..among.to {
             if let Some(pair) = self.pair_in(mine, known, spot, number) {
                 found.push(Candidate { number, pair })?;
             }

@@ -15,6 +15,6 @@ pub mod pool;
 pub mod same;
 
 pub use grounds::has_ground;
-pub use judging::{are_real, partners};
+pub use judging::{are_real, partners, shown_partners};
 pub use narrower::{fits_left, fits_right, may_be_used};
-pub use pool::{Kept, Partners, Replay};
+pub use pool::{Kept, Partners, Replay, Stretch};

@@ -1,7 +1,7 @@
 //! Pairs of operands on one line. The products that decide it may take more than 128 bits, so they are split.
 ghost use Rattle.std.specs.Prelude.{◌≡◌, ◌^◌, ◌≤◌, ℤ, pos, ◌*ℤ◌, ◌↔◌, IsTrue, int_le, int_lt, unsigned_abs};
 ghost use Rattle.std.specs.Ordering.{int_eq};
-ghost use Rattle.cs_findings.specs.declared.run.Others.TheVariants.{Two};
+ghost use Rattle.cs_results.specs.declared.run.Others.TheVariants.{Two};
 ghost use Rattle.cs_findings.specs.Grounds as grounds;
 ghost use Rattle.cs_judge.specs.Wide.{IsSmall, IsSplit};
 

@@ -11,3 +11,4 @@ pub mod MeaningOfWrites
 pub mod Terms
 pub mod Starting
 pub mod Laws
+pub mod ReadLists

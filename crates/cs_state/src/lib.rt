@@ -21,7 +21,7 @@ pub use asked::{Asked, Asks, Ends, Fact};
 pub use block::{Block, TypeNumber};
 pub use callers::{Callers, SharedFrame};
 pub use frame::Frame;
-pub use read_cells::ReadCells;
+pub use read_cells::{ReadCell, ReadCells};
 pub use state::{Answers, Counters, State};
 pub use tables::{Tables, TypeTable};
 pub use temporary::{Scalars, Temporaries, Temporary};

@@ -1,13 +1,22 @@
 //! The cells that were read from inputs.
-ghost use Rattle.std.specs.Prelude.{◌≡◌, ◌≢◌, ◌⊎◌, ℕ, nat_eq, if◌then◌else◌, None, Some, IfOk, OnOk, OnErr};
+ghost use Rattle.std.specs.Prelude.{◌≡◌, ◌≢◌, ◌⊎◌, ◌++◌, ℕ, nat_eq, if◌then◌else◌, None, Some, IfOk, OnOk, OnErr};
 ghost use Rattle.std.specs.FinMap.{get};
 ghost use Rattle.std.specs.List.{Contains, list_any};
 ghost use Rattle.cs_state.specs.ReadCells.{cells_of, read_at};
+ghost use Rattle.cs_state.specs.ReadLists.{cells_at, cells_in_order};
 
 use cs_pmap::PMap;
 use cs_terms::Sym;
 use std::alloc::{AllocError, Global};
 use std::marker::Model;
+
+/// A cell that was read from an input, which has this symbol.
+#[derive(Clone, Copy)]
+pub struct ReadCell {
+    pub base: u64,
+    pub offset: u64,
+    pub sym: Sym,
+}
 
 // The cells of one base region.
 #[derive(Drop)]
@@ -125,6 +134,17 @@ impl ReadCells {
         Ok(())
     }
 
+    /// The cells in order of base region and offset.
+    pub fn in_order(&self) -> Result<Vec<ReadCell>, AllocError>
+        ensures { IfOk result (λ cells. cells.items ≡ cells_in_order self.now) }
+    {
+        let mut list = Vec::new(self.alloc);
+        for ((base, _), cells) in self.bases.iter()? {
+            cells.append_to(&mut list, base)?;
+        }
+        Ok(list)
+    }
+
     /// The same cells.
     pub fn copy(&self) -> Result<ReadCells, AllocError>
         ensures { IfOk result (λ copy. copy ≡ self.now) }
@@ -162,6 +182,20 @@ fn without(cells: &PMap<Cells>, bases: &[u64]) -> Result<PMap<Cells>, AllocError
 }
 
 impl Cells {
+    // The list with these cells of a base region after it.
+    fn append_to(&self, list: &mut Vec<ReadCell>, base: u64) -> Result<(), AllocError>
+        ensures { OnOk result (list.new.items ≡ list.old.items ++ cells_at base self.now) }
+    {
+        for ((offset, _), sym) in self.syms.iter()? {
+            list.push(ReadCell {
+                base,
+                offset,
+                sym: *sym,
+            })?;
+        }
+        Ok(())
+    }
+
     fn at(&self, offset: u64) -> Option<Sym>
         ensures { result ≡ get self.now (offset, 0) }
     {

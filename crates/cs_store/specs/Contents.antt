@@ -59,6 +59,10 @@ HoldsNothing contents = (offset : ℕ) → held_in contents offset ≡ found.Fil
 abbrev pub by_number : {V : Type 0} → EntryList V → List (ℕ × V)
 by_number entries = map (λ entry. (entry.0.0, entry.1)) entries
 
+-- the values that were bound since the fill, with their offsets
+abbrev pub bindings_of : Contents → List (ℕ × Value)
+bindings_of contents = by_number (finite.entries contents.direct)
+
 -- the list has just the values that were bound since the fill, in rising order of offset
 pub record IsListing (contents : Contents) (bindings : List (ℕ × Value)) : Type 0 where
   pub rising : IsStrictlyIncreasing (map (λ binding. binding.0) bindings)

@@ -1,13 +1,13 @@
 -- What a store holds at the offsets of all base regions.
 use Rattle.std.specs.Prelude.{◌≡◌, ◌↔◌, ℕ, List, map, Some}
-use Rattle.std.specs.FinMap.{FinMap, get}
+use Rattle.std.specs.FinMap.{FinMap, get, entries}
 use Rattle.std.specs.Option.{unwrap_or}
 use Rattle.std.specs.List.{Contains}
 use Rattle.std.specs.List.Sorted.{IsStrictlyIncreasing}
 use Rattle.cs_pmap.specs.Keys.{key_cmp}
 use Rattle.cs_store.specs.declared.value.Fill.TheVariants.{Unset}
 use Rattle.cs_store.specs.declared.value.Found.{Found}
-use Rattle.cs_store.specs.Contents.{Contents, filled, held_in, HoldsNothing}
+use Rattle.cs_store.specs.Contents.{Contents, filled, held_in, by_number, HoldsNothing}
 
 -- the contents of base regions, keyed by the region's number beside a zero
 abbrev pub Regions : Type 0
@@ -24,6 +24,10 @@ held store base offset = held_in (contents_of store base) offset
 -- each region is kept under its number beside a zero, and holds something
 abbrev pub AreInUse : Regions → Type 0
 AreInUse store = (key : ℕ × ℕ) (contents : Contents) → get store key ≡ Some contents → (key.1 ≡ 0) × ¬ HoldsNothing contents
+
+-- the base regions that hold something, with their contents
+abbrev pub regions_of : Regions → List (ℕ × Contents)
+regions_of store = by_number (entries store)
 
 -- the list has just the base regions that hold something, each with all that it holds, in rising order of their numbers
 pub record IsRegionListing (store : Regions) (regions : List (ℕ × Contents)) : Type 0 where

@@ -2,7 +2,7 @@
 //! of Clang's analyzer.
 ghost use Rattle.std.specs.Prelude.{◌≡◌, ℕ, IfOk, OnOk, OnErr};
 ghost use Rattle.std.specs.Iterator.{YieldsFirstBy, item_count};
-ghost use Rattle.cs_store.specs.Contents.{filled, held_in, with_binding, after_leaves, IsListing};
+ghost use Rattle.cs_store.specs.Contents.{filled, held_in, with_binding, after_leaves, bindings_of, IsListing};
 
 use crate::value::{Fill, Found, Value};
 use cs_pmap::{Entries, PMap};
@@ -85,7 +85,8 @@ impl Region {
 
     /// The direct bindings in order of offset. The iterator takes its memory here and none later.
     pub fn bindings(&self) -> Result<Bindings<'_>, AllocError>
-        ensures { IfOk result (IsListing self.now) }
+        ensures listing { IfOk result (IsListing self.now) }
+        ensures entries { IfOk result (λ bindings. bindings ≡ bindings_of self.now) }
     {
         Ok(Bindings {
             entries: self.direct.iter()?,

@@ -4,7 +4,7 @@ ghost use Rattle.std.specs.FinMap.{get};
 ghost use Rattle.std.specs.Iterator.{YieldsFirstBy, item_count};
 ghost use Rattle.std.specs.List.{Contains, list_any};
 ghost use Rattle.cs_store.specs.Contents.{Contents, after_leaves, IsListing};
-ghost use Rattle.cs_store.specs.Held.{contents_of, held, IsRegionListing};
+ghost use Rattle.cs_store.specs.Held.{contents_of, held, regions_of, IsRegionListing};
 
 use crate::region::{Bindings, Region};
 use crate::value::{Fill, Found, Value};
@@ -145,7 +145,8 @@ impl Store {
     /// The base regions that hold something, each with all that it holds, in order of their numbers. The iterator takes its memory here
     /// and none later.
     pub fn regions(&self) -> Result<EachRegion<'_>, AllocError>
-        ensures { IfOk result (IsRegionListing self.now) }
+        ensures listing { IfOk result (IsRegionListing self.now) }
+        ensures entries { IfOk result (λ regions. regions ≡ regions_of self.now) }
     {
         Ok(EachRegion {
             entries: self.regions.iter()?,

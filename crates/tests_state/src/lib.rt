@@ -4,4 +4,6 @@
 #[cfg(test)]
 mod frames;
 #[cfg(test)]
+mod keys;
+#[cfg(test)]
 mod tables;

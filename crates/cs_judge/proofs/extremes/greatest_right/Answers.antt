@@ -2,7 +2,7 @@ use Rattle.std.specs.Prelude.{◌≤◌, ◌^◌, unsigned_abs, FitsSigned}
 use Rattle.std.specs.Int.{w128}
 use Rattle.std.proofs.Common.{arith, subst}
 use Rattle.std.proofs.lemmas.Int.{to_z-of_z}
-use Rattle.cs_findings.specs.declared.run.Others.TheVariants.{Two}
+use Rattle.cs_results.specs.declared.run.Others.TheVariants.{Two}
 use Rattle.cs_judge.specs.Wide.{AreSmall}
 use Rattle.cs_judge.proofs.Products.{fits}
 use Rattle.cs_judge.proofs.extremes.greatest_right.Goals as goal

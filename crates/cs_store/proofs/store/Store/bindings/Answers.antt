@@ -4,4 +4,4 @@ use Rattle.cs_store.specs.Contents.{IsListing}
 use Rattle.cs_store.proofs.store.Store.bindings.Goals as goal
 
 pub returns : goal.returns
-returns c = subst (λ contents. IfOk c.bindings.result (IsListing contents)) c.region.ensures c.bindings.ensures
+returns c = subst (λ contents. IfOk c.bindings.result (IsListing contents)) c.region.ensures c.bindings.ensures.listing

@@ -1,0 +1,4 @@
+pub mod Waiting
+pub mod Contents
+pub mod Sound
+pub mod Adding

@@ -1,0 +1,11 @@
+//! The rows of an exploration: each key has one row, and the rows that still have to be worked on are given by their visits.
+#![tactic(auto)]
+
+mod adding;
+mod graph;
+mod placing;
+mod worklist;
+
+pub use adding::{Added, GraphRefusal};
+pub use graph::Graph;
+pub use worklist::Worklist;

@@ -1,0 +1,3 @@
+mod Reading
+mod Folding
+mod Lines

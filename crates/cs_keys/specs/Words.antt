@@ -1,0 +1,133 @@
+-- Live parts as words. Each part is written after the parts that it is made of: the count of a list after its elements, the number of a
+-- form after what it holds. So the words can be read from the last one, and no two live parts have the same.
+use Rattle.std.specs.Prelude.{ℕ, suc, ◌+◌, ◌-◌, ◌*◌, ◌/◌, ◌%◌, ◌^◌, nat_lt, ℤ, pos, negsuc, List, [], ◌∷◌, ◌++◌, fold, length}
+use Rattle.std.specs.Prelude.{Option, None, Some, if◌then◌else◌}
+use Rattle.cs_types.specs.declared.data_model.DataModel.{DataModel}
+use Rattle.cs_types.specs.declared.data_model.DataModel.TheVariants.{Lp64, Ilp32}
+use Rattle.cs_model.specs.declared.standing.Standing.{Standing}
+use Rattle.cs_model.specs.declared.standing.Standing.TheVariants.{Live, Freed, Ended}
+use Rattle.cs_ranges.specs.declared.range_set.Interval.{Interval}
+use Rattle.cs_cfg.specs.declared.code.Spot.{Spot}
+use Rattle.cs_store.specs.declared.value.Fill.{Fill}
+use Rattle.cs_store.specs.declared.value.Fill.TheVariants as fill
+use Rattle.cs_state.specs.declared.state.Counters.{Counters}
+use Rattle.cs_keys.specs.Live.{LiveSymbol, Line, LiveTerm, Constant, Linear, LiveValue, Number, Null, At, Start, Unset}
+use Rattle.cs_keys.specs.Live.{LiveTemporary, Scalar, Whole, Nothing, LiveFrame, LiveRegion, LiveBlock, LiveRead, LivePart}
+
+-- one more word
+abbrev pub with_word : List ℕ → ℕ → List ℕ
+with_word words word = words ++ word ∷ []
+
+-- the greatest word
+abbrev pub LAST : ℕ
+LAST = 2 ^ 64 - 1
+
+-- a number in one word if it is less than the last one, else in two, with that one after them
+abbrev pub with_natural : List ℕ → ℕ → List ℕ
+with_natural words number =
+    if nat_lt number LAST then with_word words number else with_word (with_word (with_word words (number / 2 ^ 64)) (number % 2 ^ 64)) LAST
+
+-- the integers as natural numbers: 0, -1, 1, -2, 2 and so on
+abbrev pub zigzag : ℤ → ℕ
+zigzag (pos number) = 2 * number
+zigzag (negsuc number) = 2 * number + 1
+
+abbrev pub with_integer : List ℕ → ℤ → List ℕ
+with_integer words number = with_natural words (zigzag number)
+
+-- each element of a list
+abbrev pub with_each : {Item : Type 0} → (List ℕ → Item → List ℕ) → List ℕ → List Item → List ℕ
+with_each with_item words items = fold with_item words items
+
+-- a list: its elements, and how many there are
+abbrev pub with_list : {Item : Type 0} → (List ℕ → Item → List ℕ) → List ℕ → List Item → List ℕ
+with_list with_item words items = with_word (fold with_item words items) (length items)
+
+abbrev pub with_interval : List ℕ → Interval → List ℕ
+with_interval words interval = with_integer (with_integer words interval.low) interval.high
+
+abbrev pub with_set : List ℕ → Option (List Interval) → List ℕ
+with_set words None = with_word words 0
+with_set words (Some set) = with_word (with_list with_interval words set) 1
+
+abbrev pub with_symbol : List ℕ → LiveSymbol → List ℕ
+with_symbol words symbol = with_word (with_set words symbol.set) symbol.number
+
+abbrev pub with_line : List ℕ → Line → List ℕ
+with_line words line = with_symbol (with_integer (with_integer words line.slope) line.origin) line.symbol
+
+abbrev pub with_term : List ℕ → LiveTerm → List ℕ
+with_term words (Constant number) = with_word (with_integer words number) 0
+with_term words (Linear line) = with_word (with_line words line) 1
+
+abbrev pub with_value : List ℕ → LiveValue → List ℕ
+with_value words (Number term) = with_word (with_term words term) 0
+with_value words Null = with_word words 1
+with_value words (At base offset) = with_word (with_word (with_term words offset) base) 2
+with_value words (Start base offset) = with_word (with_word (with_word words offset) base) 3
+with_value words Unset = with_word words 4
+
+abbrev pub with_temporary : List ℕ → LiveTemporary → List ℕ
+with_temporary words (Scalar value) = with_word (with_value words value) 0
+with_temporary words (Whole values) = with_word (with_list with_value words values) 1
+with_temporary words Nothing = with_word words 2
+
+abbrev pub with_spot : List ℕ → Spot → List ℕ
+with_spot words spot = with_word (with_word (with_word words spot.function) spot.block) spot.operation
+
+abbrev pub with_frame : List ℕ → LiveFrame → List ℕ
+with_frame words frame =
+    with_list with_word (with_list with_temporary (with_spot (with_word words frame.number) frame.spot) frame.temporaries) frame.visits
+
+abbrev pub with_returned : List ℕ → Option LiveValue → List ℕ
+with_returned words None = with_word words 0
+with_returned words (Some value) = with_word (with_value words value) 1
+
+abbrev pub with_fill : List ℕ → Fill → List ℕ
+with_fill words fill.Unset = with_word words 0
+with_fill words fill.Zero = with_word words 1
+with_fill words fill.Input = with_word words 2
+with_fill words (fill.Wrote call argument) = with_word (with_word (with_word words call) argument) 3
+
+-- a value that was bound at an offset
+abbrev pub with_binding : List ℕ → ℕ × LiveValue → List ℕ
+with_binding words binding = with_word (with_value words binding.1) binding.0
+
+abbrev pub with_region : List ℕ → LiveRegion → List ℕ
+with_region words region = with_list with_binding (with_fill (with_word words region.base) region.fill) region.bindings
+
+abbrev pub with_standing : List ℕ → Standing → List ℕ
+with_standing words Live = with_word words 0
+with_standing words Freed = with_word words 1
+with_standing words Ended = with_word words 2
+
+abbrev pub with_block : List ℕ → LiveBlock → List ℕ
+with_block words block =
+    with_word (with_symbol (with_word (with_standing (with_term (with_word words block.base) block.extent) block.standing) block.element) block.symbol)
+    block.made_by
+
+abbrev pub with_read : List ℕ → LiveRead → List ℕ
+with_read words cell = with_word (with_word (with_symbol words cell.symbol) cell.base) cell.offset
+
+abbrev pub with_model : List ℕ → DataModel → List ℕ
+with_model words Lp64 = with_word words 0
+with_model words Ilp32 = with_word words 1
+
+abbrev pub with_counters : List ℕ → Counters → List ℕ
+with_counters words counters =
+    with_word (with_word (with_word (with_word words counters.frames) counters.allocations) counters.calls) counters.events
+
+-- where the run stands, what memory holds, and what was counted
+abbrev pub with_position : List ℕ → LivePart → List ℕ
+with_position words live =
+    with_returned (with_list with_term (with_list with_frame (with_frame words live.frame) live.callers) live.answers) live.returned
+
+abbrev pub with_memory : List ℕ → LivePart → List ℕ
+with_memory words live = with_list with_read (with_list with_block (with_list with_region words live.regions) live.blocks) live.read
+
+abbrev pub with_counted : List ℕ → LivePart → List ℕ
+with_counted words live = with_word (with_counters (with_model words live.model) live.counters) live.phase
+
+-- all of it
+abbrev pub words_of : LivePart → List ℕ
+words_of live = with_counted (with_memory (with_position [] live) live) live

@@ -1,0 +1,171 @@
+//! What memory holds, in words.
+ghost use Rattle.std.specs.Prelude.{◌≡◌, map, OnOk};
+ghost use Rattle.cs_store.specs.Contents.{bindings_of};
+ghost use Rattle.cs_keys.specs.Live.{live_binding, live_region, live_regions, live_block, live_blocks, live_read, live_reads};
+ghost use Rattle.cs_keys.specs.Words.{with_list, with_fill, with_binding, with_region, with_standing, with_block, with_read};
+
+use crate::numbers::one_more;
+use crate::word_list::Key;
+use cs_constraints::Constraints;
+use cs_model::Standing;
+use cs_pmap::PMap;
+use cs_state::{Block, ReadCell, ReadCells};
+use cs_store::{Fill, Region, Store, Value};
+use std::alloc::AllocError;
+
+impl Key {
+    fn fill(&mut self, fill: Fill) -> Result<(), AllocError>
+        ensures { OnOk result (self.new ≡ with_fill self.old fill) }
+    {
+        match fill {
+            Fill::Unset => self.word(0),
+            Fill::Zero => self.word(1),
+            Fill::Input => self.word(2),
+            Fill::Wrote(call, argument) => {
+                self.word(call)?;
+                self.word(argument)?;
+                self.word(3)
+            }
+        }
+    }
+
+    // A value that was bound at an offset.
+    fn binding(
+        &mut self,
+        constraints: &Constraints,
+        offset: u64,
+        value: &Value,
+    ) -> Result<(), AllocError>
+        ensures { OnOk result
+            (self.new ≡ with_binding self.old (live_binding constraints.now (offset, value.now))) }
+    {
+        self.value(constraints, value)?;
+        self.word(offset)
+    }
+
+    // The values that were bound in a region.
+    fn bindings(&mut self, constraints: &Constraints, region: &Region) -> Result<(), AllocError>
+        ensures { OnOk result
+            (self.new ≡ with_list with_binding self.old
+            (map (live_binding constraints.now) (bindings_of region.now))) }
+    {
+        let mut count: u64 = 0;
+        for (offset, value) in region.bindings()? {
+            self.binding(constraints, offset, &value)?;
+            count = one_more(count)?;
+        }
+        self.word(count)
+    }
+
+    fn region(
+        &mut self,
+        constraints: &Constraints,
+        base: u64,
+        region: &Region,
+    ) -> Result<(), AllocError>
+        ensures { OnOk result
+            (self.new ≡ with_region self.old (live_region constraints.now (base, region.now))) }
+    {
+        self.word(base)?;
+        self.fill(region.fill())?;
+        self.bindings(constraints, region)
+    }
+
+    /// A store: the base regions that hold something.
+    pub(crate) fn store(
+        &mut self,
+        constraints: &Constraints,
+        store: &Store,
+    ) -> Result<(), AllocError>
+        ensures { OnOk result
+            (self.new ≡ with_list with_region self.old (live_regions constraints.now store.now)) }
+    {
+        let mut count: u64 = 0;
+        for (base, region) in store.regions()? {
+            self.region(constraints, base, region)?;
+            count = one_more(count)?;
+        }
+        self.word(count)
+    }
+
+    fn standing(&mut self, standing: Standing) -> Result<(), AllocError>
+        ensures { OnOk result (self.new ≡ with_standing self.old standing) }
+    {
+        match standing {
+            Standing::Live => self.word(0),
+            Standing::Freed => self.word(1),
+            Standing::Ended => self.word(2),
+        }
+    }
+
+    fn block(
+        &mut self,
+        constraints: &Constraints,
+        base: u64,
+        block: &Block,
+    ) -> Result<(), AllocError>
+        ensures { OnOk result
+            (self.new ≡ with_block self.old (live_block constraints.now base block.now)) }
+    {
+        self.word(base)?;
+        self.term(constraints, &block.extent)?;
+        self.standing(block.standing)?;
+        self.word(block.element.0)?;
+        self.symbol(constraints, block.sym)?;
+        self.word(block.made_by)
+    }
+
+    /// The start blocks and heap blocks.
+    pub(crate) fn blocks(
+        &mut self,
+        constraints: &Constraints,
+        blocks: &PMap<Block>,
+    ) -> Result<(), AllocError>
+        ensures { OnOk result
+            (self.new ≡ with_list with_block self.old (live_blocks constraints.now blocks.now)) }
+    {
+        let mut count: u64 = 0;
+        for ((base, _), block) in blocks.iter()? {
+            self.block(constraints, base, block)?;
+            count = one_more(count)?;
+        }
+        self.word(count)
+    }
+
+    /// The cells that were read from inputs.
+    pub(crate) fn read(
+        &mut self,
+        constraints: &Constraints,
+        read: &ReadCells,
+    ) -> Result<(), AllocError>
+        ensures { OnOk result
+            (self.new ≡ with_list with_read self.old (live_reads constraints.now read.now)) }
+    {
+        let cells = read.in_order()?;
+        self.read_cells(constraints, &cells)
+    }
+
+    fn read_cell(&mut self, constraints: &Constraints, cell: &ReadCell) -> Result<(), AllocError>
+        ensures { OnOk result
+            (self.new ≡ with_read self.old (live_read constraints.now cell.now)) }
+    {
+        self.symbol(constraints, cell.sym)?;
+        self.word(cell.base)?;
+        self.word(cell.offset)
+    }
+
+    fn read_cells(
+        &mut self,
+        constraints: &Constraints,
+        cells: &[ReadCell],
+    ) -> Result<(), AllocError>
+        ensures { OnOk result
+            (self.new ≡ with_list with_read self.old
+            (map (live_read constraints.now) cells.now)) }
+    {
+        for cell in cells {
+            self.read_cell(constraints, cell)?;
+        }
+        self.word(cells.len() as u64)
+    }
+}

@@ -1,0 +1,141 @@
+//! Terms and values in words, each symbol with the numbers that it may have.
+ghost use Rattle.std.specs.Prelude.{◌≡◌, map, OnOk};
+ghost use Rattle.std.specs.Option.{option_copied};
+ghost use Rattle.cs_keys.specs.Live.{origin_of, live_symbol, live_line, live_term, live_value};
+ghost use Rattle.cs_keys.specs.Words.{with_list, with_interval, with_set, with_symbol, with_line, with_term, with_value};
+
+use crate::word_list::Key;
+use cs_constraints::Constraints;
+use cs_ranges::{Interval, RangeSet};
+use cs_store::Value;
+use cs_terms::{Lin, Sym};
+use std::alloc::AllocError;
+
+// The value of a term where its symbol is 0, in the arithmetic of 128 bits.
+fn origin(term: &Lin) -> i128
+    ensures { result ≡ origin_of term.now }
+{
+    term.value.wrapping_sub(term.slope.wrapping_mul(term.at))
+}
+
+impl Key {
+    // The numbers of a symbol, where it is declared.
+    fn set(&mut self, set: Option<&RangeSet>) -> Result<(), AllocError>
+        ensures { OnOk result (self.new ≡ with_set self.old (option_copied set.entry)) }
+    {
+        let Some(set) = set else {
+            return self.word(0);
+        };
+        self.intervals(set)?;
+        self.word(1)
+    }
+
+    fn interval(&mut self, interval: &Interval) -> Result<(), AllocError>
+        ensures { OnOk result (self.new ≡ with_interval self.old interval.now) }
+    {
+        self.integer(interval.low)?;
+        self.integer(interval.high)
+    }
+
+    // The intervals of a set, and how many there are.
+    fn intervals(&mut self, set: &RangeSet) -> Result<(), AllocError>
+        ensures { OnOk result (self.new ≡ with_list with_interval self.old set.now) }
+    {
+        let intervals = set.intervals();
+        for interval in intervals {
+            self.interval(interval)?;
+        }
+        self.word(intervals.len() as u64)
+    }
+
+    /// A symbol with its numbers.
+    pub(crate) fn symbol(&mut self, constraints: &Constraints, sym: Sym) -> Result<(), AllocError>
+        ensures { OnOk result
+            (self.new ≡ with_symbol self.old (live_symbol constraints.now sym)) }
+    {
+        self.set(constraints.range_of(sym))?;
+        self.word(sym.0)
+    }
+
+    // A function of a symbol.
+    fn line(&mut self, constraints: &Constraints, sym: Sym, term: &Lin) -> Result<(), AllocError>
+        ensures { OnOk result
+            (self.new ≡ with_line self.old (live_line constraints.now sym term.now)) }
+    {
+        self.integer(term.slope)?;
+        self.integer(origin(term))?;
+        self.symbol(constraints, sym)
+    }
+
+    /// A term.
+    pub(crate) fn term(&mut self, constraints: &Constraints, term: &Lin) -> Result<(), AllocError>
+        ensures { OnOk result
+            (self.new ≡ with_term self.old (live_term constraints.now term.now)) }
+    {
+        let Some(sym) = term.sym else {
+            self.integer(term.value)?;
+            return self.word(0);
+        };
+        self.line(constraints, sym, term)?;
+        self.word(1)
+    }
+
+    /// Terms in order.
+    pub(crate) fn terms(
+        &mut self,
+        constraints: &Constraints,
+        terms: &[Lin],
+    ) -> Result<(), AllocError>
+        ensures { OnOk result
+            (self.new ≡ with_list with_term self.old (map (live_term constraints.now) terms.now)) }
+    {
+        for term in terms {
+            self.term(constraints, term)?;
+        }
+        self.word(terms.len() as u64)
+    }
+
+    /// A value.
+    pub(crate) fn value(
+        &mut self,
+        constraints: &Constraints,
+        value: &Value,
+    ) -> Result<(), AllocError>
+        ensures { OnOk result
+            (self.new ≡ with_value self.old (live_value constraints.now value.now)) }
+    {
+        match value {
+            Value::Number(term) => {
+                self.term(constraints, term)?;
+                self.word(0)
+            }
+            Value::Null => self.word(1),
+            Value::At(base, offset) => {
+                self.term(constraints, offset)?;
+                self.word(*base)?;
+                self.word(2)
+            }
+            Value::Start(base, offset) => {
+                self.word(*offset)?;
+                self.word(*base)?;
+                self.word(3)
+            }
+            Value::Unset => self.word(4),
+        }
+    }
+
+    /// Values in order.
+    pub(crate) fn values(
+        &mut self,
+        constraints: &Constraints,
+        values: &[Value],
+    ) -> Result<(), AllocError>
+        ensures { OnOk result
+            (self.new ≡ with_list with_value self.old (map (live_value constraints.now) values.now)) }
+    {
+        for value in values {
+            self.value(constraints, value)?;
+        }
+        self.word(values.len() as u64)
+    }
+}

@@ -1,0 +1,2 @@
+pub mod RunBudgets
+pub mod Selected
