@@ -6,8 +6,8 @@ use cs_model::Standing;
 use cs_pmap::PMap;
 use cs_ranges::{Interval, RangeSet};
 use cs_state::{
-    Answers, Asked, Asks, Block, Callers, Counters, Ends, Frame, ReadCells, State, Temporaries, Temporary,
-    TypeNumber, Visits,
+    Answers, Asked, Asks, Block, Callers, Counters, Ends, Frame, ReadCells, State, Temporaries,
+    Temporary, TypeNumber, Visits,
 };
 use cs_store::{Fill, Store, Value};
 use cs_terms::{Lin, Sym};
@@ -126,7 +126,7 @@ fn block(sym: u64, extent: i128) -> Block {
     }
 }
 
-fn change(state: &mut State, alloc: Global, change: Change) -> Result<(), AllocError> {
+fn make(state: &mut State, alloc: Global, change: Change) -> Result<(), AllocError> {
     match change {
         Change::Declare(sym, low, high) => {
             let set = RangeSet::of(alloc, low, high)?;
@@ -199,7 +199,7 @@ fn change_rest(state: &mut State, change: Change) {
 fn after(alloc: Global, changes: &[Change]) -> Result<State, AllocError> {
     let mut state = fresh(alloc)?;
     for step in changes {
-        change(&mut state, alloc, *step)?;
+        make(&mut state, alloc, *step)?;
     }
     Ok(state)
 }
@@ -214,12 +214,14 @@ fn are_merged(alloc: Global, one: &[Change], other: &[Change]) -> Result<bool, A
 }
 
 use Change::{
-    Answer, Bind, Block as MakeBlock, Declare, Enter, Events, Fill as FillWith, GoTo, Guess, Leave, Phase,
-    Pop, Push, PushNothing, Read, Release, Return, Unbind, Visit,
+    Answer, Bind, Block as MakeBlock, Declare, Enter, Events, Fill as FillWith, GoTo, Guess, Leave,
+    Phase, Pop, Push, PushNothing, Read, Release, Return, Unbind, Visit,
 };
 
 const ONE: Value = Value::Number(constant!(1));
+
 const X: Value = Value::Number(line!(0, 1, 0, 0));
+
 const LARGE: i128 = 1 << 64;
 
 // What is live: each pair of states differs in one part, or in how it was written.
@@ -237,8 +239,14 @@ const SAME: [(&[Change], &[Change]); 12] = [
         &[Declare(0, 0, 9), Push(Value::Number(line!(0, 3, 2, 13)))],
     ),
     (
-        &[Declare(0, LARGE - 2, LARGE - 1), Push(Value::Number(line!(0, 1 - LARGE, LARGE - 2, 5)))],
-        &[Declare(0, LARGE - 2, LARGE - 1), Push(Value::Number(line!(0, 1 - LARGE, LARGE - 1, 6 - LARGE)))],
+        &[
+            Declare(0, LARGE - 2, LARGE - 1),
+            Push(Value::Number(line!(0, 1 - LARGE, LARGE - 2, 5))),
+        ],
+        &[
+            Declare(0, LARGE - 2, LARGE - 1),
+            Push(Value::Number(line!(0, 1 - LARGE, LARGE - 1, 6 - LARGE))),
+        ],
     ),
     // a constant that was a symbol's only number
     (
@@ -253,22 +261,45 @@ const SAME: [(&[Change], &[Change]); 12] = [
     // bound in another order
     (
         &[Bind(2, 0, ONE), Bind(1, 8, ONE), Bind(1, 0, Value::Null)],
-        &[Bind(1, 0, Value::Null), Bind(1, 8, Value::Null), Bind(2, 0, ONE), Bind(1, 8, ONE)],
+        &[
+            Bind(1, 0, Value::Null),
+            Bind(1, 8, Value::Null),
+            Bind(2, 0, ONE),
+            Bind(1, 8, ONE),
+        ],
     ),
     // written and gone
     (&[FillWith(1, Fill::Zero), FillWith(1, Fill::Unset)], &[]),
-    (&[Declare(0, 0, 9), Read(1, 0, 0), Bind(1, 0, ONE)], &[Bind(1, 0, ONE)]),
+    (
+        &[Declare(0, 0, 9), Read(1, 0, 0), Bind(1, 0, ONE)],
+        &[Bind(1, 0, ONE)],
+    ),
     (&[Enter(1), Leave], &[]),
 ];
 
 const DIFFERENT: [(&[Change], &[Change]); 24] = [
     // ranges of symbols that are mentioned
     (&[Declare(0, 0, 9), Push(X)], &[Declare(0, 1, 9), Push(X)]),
-    (&[Declare(0, 0, 9), Bind(1, 0, X)], &[Declare(0, 0, 8), Bind(1, 0, X)]),
-    (&[Declare(0, 0, 9), Answer(line!(0, 1, 0, 0))], &[Declare(0, 0, 8), Answer(line!(0, 1, 0, 0))]),
-    (&[Declare(0, 0, 1), MakeBlock(1, 0, 4)], &[Declare(0, 1, 1), MakeBlock(1, 0, 4)]),
-    (&[Declare(0, 0, 9), Read(1, 0, 0)], &[Declare(0, 0, 8), Read(1, 0, 0)]),
-    (&[Declare(0, 0, 9), Return(X)], &[Declare(0, 0, 8), Return(X)]),
+    (
+        &[Declare(0, 0, 9), Bind(1, 0, X)],
+        &[Declare(0, 0, 8), Bind(1, 0, X)],
+    ),
+    (
+        &[Declare(0, 0, 9), Answer(line!(0, 1, 0, 0))],
+        &[Declare(0, 0, 8), Answer(line!(0, 1, 0, 0))],
+    ),
+    (
+        &[Declare(0, 0, 1), MakeBlock(1, 0, 4)],
+        &[Declare(0, 1, 1), MakeBlock(1, 0, 4)],
+    ),
+    (
+        &[Declare(0, 0, 9), Read(1, 0, 0)],
+        &[Declare(0, 0, 8), Read(1, 0, 0)],
+    ),
+    (
+        &[Declare(0, 0, 9), Return(X)],
+        &[Declare(0, 0, 8), Return(X)],
+    ),
     (
         &[Declare(0, 0, 9), Push(X), Enter(1)],
         &[Declare(0, 0, 8), Push(X), Enter(1)],
@@ -280,19 +311,38 @@ const DIFFERENT: [(&[Change], &[Change]); 24] = [
     ),
     (
         &[Declare(0, 0, 9), Declare(1, 0, 9), Push(X)],
-        &[Declare(0, 0, 9), Declare(1, 0, 9), Push(Value::Number(line!(1, 1, 0, 0)))],
+        &[
+            Declare(0, 0, 9),
+            Declare(1, 0, 9),
+            Push(Value::Number(line!(1, 1, 0, 0))),
+        ],
     ),
-    (&[Push(Value::Number(constant!(-1)))], &[Push(Value::Number(constant!(1)))]),
-    (&[Push(Value::Number(constant!(0)))], &[Push(Value::Number(constant!(LARGE)))]),
+    (
+        &[Push(Value::Number(constant!(-1)))],
+        &[Push(Value::Number(constant!(1)))],
+    ),
+    (
+        &[Push(Value::Number(constant!(0)))],
+        &[Push(Value::Number(constant!(LARGE)))],
+    ),
     // values and temporaries
     (&[Push(Value::Null)], &[Push(Value::Unset)]),
     (&[Push(Value::Null)], &[PushNothing]),
-    (&[Push(Value::Start(1, 0))], &[Push(Value::At(1, constant!(0)))]),
-    (&[Push(ONE), Push(Value::Null)], &[Push(Value::Null), Push(ONE)]),
+    (
+        &[Push(Value::Start(1, 0))],
+        &[Push(Value::At(1, constant!(0)))],
+    ),
+    (
+        &[Push(ONE), Push(Value::Null)],
+        &[Push(Value::Null), Push(ONE)],
+    ),
     // memory
     (&[Bind(1, 0, ONE)], &[Bind(1, 4, ONE)]),
     (&[Bind(1, 0, ONE)], &[Bind(2, 0, ONE)]),
-    (&[FillWith(1, Fill::Wrote(1, 0))], &[FillWith(1, Fill::Wrote(1, 1))]),
+    (
+        &[FillWith(1, Fill::Wrote(1, 0))],
+        &[FillWith(1, Fill::Wrote(1, 1))],
+    ),
     (&[MakeBlock(1, 0, 4)], &[MakeBlock(1, 0, 4), Release(1)]),
     // where the run stands
     (&[GoTo(1)], &[GoTo(2)]),
