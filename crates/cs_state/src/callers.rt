@@ -97,6 +97,20 @@ impl Callers {
         }
     }
 
+    /// The frame with a number, where it waits.
+    pub fn numbered(&self, number: u64) -> Option<&Frame>
+        ensures { IfSome result (λ frame. frame.now.number ≡ number) }
+    {
+        for depth in 0..self.depth {
+            if let Some(shared) = self.frames.get((depth, 0))
+                && shared.frame().number == number
+            {
+                return Some(shared.frame());
+            }
+        }
+        None
+    }
+
     /// A frame waits for the call that it makes.
     pub fn push(&mut self, frame: SharedFrame) -> Result<(), AllocError>
         ensures ok { OnOk result (self.new ≡ frame ∷ self.old) }

@@ -1,0 +1,215 @@
+//! Loads and stores (C11 6.3.2.1, 6.5.16).
+ghost use Rattle.cs_run_state.specs.Prepared.{IsReady};
+
+use crate::cells::read;
+use crate::context::Context;
+use crate::objects::object;
+use crate::operands::value_of;
+use crate::pause::Pause;
+use crate::pointers::{look, named, not_null, ordered, resolved};
+use crate::progress::Progress;
+use crate::terms::{constant, scaled, shifted};
+use cs_cfg::Access;
+use cs_checker::Subject;
+use cs_state::{Scalars, State, Tables, Temporary};
+use cs_store::Value;
+use cs_terms::Lin;
+use cs_types::CType;
+
+/// An object that is accessed: its base region, and the offset in it.
+#[derive(Clone, Copy)]
+pub struct Reached {
+    pub base: u64,
+    pub offset: u64,
+}
+
+/// The object that is accessed, whose place has this value.
+pub fn locate(
+    context: &Context,
+    state: &State,
+    tables: &Tables,
+    progress: &mut Progress,
+    access: &Access,
+    place: Value,
+) -> Result<Reached, Pause>
+    requires { IsReady context.now.setting.now }
+{
+    if access.direct {
+        let (base, offset) = named(state, progress, access.place, resolved(state, place)?)?;
+        return Ok(Reached {
+            base,
+            offset: byte(offset)?,
+        });
+    }
+    let pointer = look(state, progress, access.place, place)?;
+    not_null(state, progress, access.place, pointer)?;
+    let (base, offset) = named(state, progress, access.place, pointer)?;
+    reach(context, state, tables, progress, access, (base, offset))
+}
+
+// An object of a type is reached in another: that one stands, the type's bytes lie within it, the offset shows, and such an object begins
+// there.
+fn reach(
+    context: &Context,
+    state: &State,
+    tables: &Tables,
+    progress: &mut Progress,
+    access: &Access,
+    pointer: (u64, Lin),
+) -> Result<Reached, Pause>
+    requires { IsReady context.now.setting.now }
+{
+    let (base, offset) = pointer;
+    let at = access.place;
+    let known = object(context, state, tables, base)?;
+    let standing = known.standing;
+    progress.check(state, at, Subject::Reached { standing })?;
+    let size = context.size_of(&access.ty)?;
+    ordered(state, progress, at, offset, constant(0))?;
+    let room = shifted(known.extent, -i128::from(size))?;
+    ordered(state, progress, at, scaled(offset, -1)?, room)?;
+    let offset = byte(progress.reach(state, at, base, offset)?)?;
+    let fits = known.begins(context, &access.ty, i128::from(offset))?;
+    progress.check(state, at, Subject::Slot { fits })?;
+    Ok(Reached { base, offset })
+}
+
+// An offset that isn't below 0, and is a constant.
+fn byte(offset: Lin) -> Result<u64, Pause> {
+    if offset.sym.is_some() {
+        return Err(Pause::Memory);
+    }
+    u64::try_from(offset.value).map_err(|_| Pause::Memory)
+}
+
+/// What a load gives: a scalar, which was set, or the scalars of a struct, set or not.
+pub fn load(
+    context: &Context,
+    state: &mut State,
+    tables: &mut Tables,
+    progress: &mut Progress,
+    access: &Access,
+    place: Value,
+) -> Result<Temporary, Pause>
+    requires { IsReady context.now.setting.now }
+{
+    let reached = locate(context, state, tables, progress, access, place)?;
+    if let CType::Struct(_) = &access.ty {
+        return Ok(Temporary::Whole(read_all(context, state, tables, &access.ty, reached)?));
+    }
+    let value = read(context, state, tables, reached.base, reached.offset)?;
+    let unset = matches!(value, Value::Unset);
+    progress.check(state, access.place, Subject::Cell { unset })?;
+    Ok(Temporary::Scalar(value))
+}
+
+// The scalars of a struct.
+fn read_all(
+    context: &Context,
+    state: &mut State,
+    tables: &mut Tables,
+    ty: &CType,
+    reached: Reached,
+) -> Result<Scalars, Pause>
+    requires { IsReady context.now.setting.now }
+{
+    let offsets = context.offsets(ty)?;
+    let mut values = Vec::new(context.alloc);
+    for offset in offsets.as_slice() {
+        let at = reached.offset.checked_add(*offset).ok_or(Pause::Memory)?;
+        values.push(read(context, state, tables, reached.base, at)?)?;
+    }
+    Ok(Scalars::of(values)?)
+}
+
+/// What is stored may be stored there.
+pub fn locate_for_store(
+    context: &Context,
+    state: &State,
+    tables: &Tables,
+    progress: &mut Progress,
+    access: &Access,
+    place: Value,
+) -> Result<Reached, Pause>
+    requires { IsReady context.now.setting.now }
+{
+    let reached = locate(context, state, tables, progress, access, place)?;
+    let constant = object(context, state, tables, reached.base)?.constant;
+    progress.check(state, access.place, Subject::Written { constant })?;
+    Ok(reached)
+}
+
+/// A value of a type is written at an offset.
+pub fn write(
+    context: &Context,
+    state: &mut State,
+    ty: &CType,
+    reached: Reached,
+    operand: Temporary,
+) -> Result<(), Pause>
+    requires { IsReady context.now.setting.now }
+{
+    match &operand {
+        Temporary::Nothing => Ok(()),
+        Temporary::Scalar(_) => {
+            state.bind(reached.base, reached.offset, value_of(&operand))?;
+            Ok(())
+        }
+        Temporary::Whole(scalars) => write_all(context, state, ty, reached, scalars),
+    }
+}
+
+// The scalars of a struct are written.
+fn write_all(
+    context: &Context,
+    state: &mut State,
+    ty: &CType,
+    reached: Reached,
+    scalars: &Scalars,
+) -> Result<(), Pause>
+    requires { IsReady context.now.setting.now }
+{
+    let offsets = context.offsets(ty)?;
+    for (offset, value) in offsets.as_slice().iter().zip(scalars.as_slice()) {
+        let at = reached.offset.checked_add(*offset).ok_or(Pause::Memory)?;
+        state.bind(reached.base, at, *value)?;
+    }
+    Ok(())
+}
+
+/// A store at a place (C11 6.5.16.1), after which a value is left in place of some operands.
+pub fn store(
+    context: &Context,
+    state: &mut State,
+    tables: &Tables,
+    progress: &mut Progress,
+    access: &Access,
+    place: Value,
+    operand: Temporary,
+) -> Result<(), Pause>
+    requires { IsReady context.now.setting.now }
+{
+    let reached = locate_for_store(context, state, tables, progress, access, place)?;
+    write(context, state, &access.ty, reached, operand)
+}
+
+/// Bytes of a text are written from an offset on, each in the scalar that begins there (C11 6.7.9, paragraph 14).
+pub fn spell(
+    context: &Context,
+    state: &mut State,
+    tables: &Tables,
+    base: u64,
+    from: u64,
+    bytes: &[u8],
+) -> Result<(), Pause>
+    requires { IsReady context.now.setting.now }
+{
+    let model = context.model();
+    for (number, byte) in bytes.iter().enumerate() {
+        let at = from.checked_add(number as u64).ok_or(Pause::Memory)?;
+        let scalar = object(context, state, tables, base)?.scalar(context, at)?;
+        let cell = cs_run_state::pieces::byte_cell(model, scalar, *byte);
+        state.bind(base, at, Value::Number(constant(cell.number())))?;
+    }
+    Ok(())
+}

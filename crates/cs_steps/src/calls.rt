@@ -1,0 +1,277 @@
+//! Calls of functions (C11 6.5.2.2), with a body and without one.
+ghost use Rattle.cs_run_state.specs.Prepared.{IsReady};
+
+use crate::cells::{kind_of, path_of, received};
+use crate::context::Context;
+use crate::next::Next;
+use crate::objects::{locals_of, object};
+use crate::operands::{drop_newest, replace, value_of};
+use crate::pause::Pause;
+use crate::pointers::{Seen, look};
+use crate::progress::Progress;
+use cs_ast::Place;
+use cs_ast::typed::program::Function;
+use cs_cfg::{Flow, Spot};
+use cs_eval::Question;
+use cs_events::{Budget, Outcome, Returned};
+use cs_inputs::Root;
+use cs_model::Standing;
+use cs_regions::Base;
+use cs_state::{Counters, Frame, State, Tables, Temporaries, Temporary, Visits};
+use cs_store::{Fill, Value};
+use std::alloc::AllocError;
+
+/// A call with so many arguments, after which the caller goes on at a spot.
+pub fn call(
+    context: &Context,
+    state: &mut State,
+    tables: &mut Tables,
+    progress: &mut Progress,
+    at: Place,
+    called: (u32, u32),
+    after: Spot,
+) -> Result<(), Pause>
+    requires { IsReady context.now.setting.now }
+{
+    let (function, count) = called;
+    match context.code.flow_at(function) {
+        Some(flow) => {
+            enter_checked(context, state, progress, at, function)?;
+            enter(context, state, tables, flow, (function, count), after)
+        }
+        None => {
+            outside(context, state, tables, progress, at, (function, count))?;
+            state.go_to(after);
+            Ok(())
+        }
+    }
+}
+
+// A call of a function with a body shows, unless there are as many frames as there may be.
+fn enter_checked(
+    context: &Context,
+    state: &State,
+    progress: &mut Progress,
+    at: Place,
+    function: u32,
+) -> Result<(), Pause>
+    requires { IsReady context.now.setting.now }
+{
+    let frames = state.callers.depth().checked_add(1).ok_or(Pause::Memory)?;
+    if frames >= u64::from(context.setting.budgets.depth) {
+        return Err(Pause::At(Next::Ends(Outcome::Over(Budget::Depth, at))));
+    }
+    progress.ask(state, at, Question::Callee(function))?;
+    Ok(())
+}
+
+// The call's frame runs: its locals are unset, but for the parameters.
+fn enter(
+    context: &Context,
+    state: &mut State,
+    tables: &mut Tables,
+    flow: &Flow,
+    called: (u32, u32),
+    after: Spot,
+) -> Result<(), Pause>
+    requires { IsReady context.now.setting.now }
+{
+    let (function, count) = called;
+    let arguments = newest(context, state, count)?;
+    drop_newest(state, count as usize)?;
+    state.go_to(after);
+    let number = state.counters.frames;
+    let frame = begun(context, flow, function, number)?;
+    state.enter(context.alloc, frame)?;
+    state.set_counters(Counters {
+        frames: number.checked_add(1).ok_or(Pause::Memory)?,
+        ..state.counters
+    });
+    for (declaration, argument) in arguments.iter().enumerate() {
+        receive(state, tables, number, declaration, *argument)?;
+    }
+    Ok(())
+}
+
+// A frame that begins.
+fn begun(context: &Context, flow: &Flow, function: u32, number: u64) -> Result<Frame, Pause>
+    requires { IsReady context.now.setting.now }
+{
+    let begins = Spot {
+        function,
+        block: flow.entry,
+        operation: 0,
+    };
+    Ok(Frame {
+        number,
+        spot: context.code.settled(begins).ok_or(Pause::Memory)?,
+        temporaries: Temporaries::new(context.alloc),
+        visits: Visits::none(context.alloc, flow.counted_points as usize)?,
+    })
+}
+
+// A parameter holds its argument.
+fn receive(
+    state: &mut State,
+    tables: &mut Tables,
+    frame: u64,
+    declaration: usize,
+    argument: Value,
+) -> Result<(), AllocError> {
+    if matches!(argument, Value::Unset) {
+        return Ok(());
+    }
+    let decl = u32::try_from(declaration).map_err(|_| AllocError)?;
+    let base = tables.base(Base::Local { frame, decl })?;
+    state.bind(base, 0, argument)?;
+    Ok(())
+}
+
+// The newest operands as scalars, the oldest of them first.
+fn newest(context: &Context, state: &State, count: u32) -> Result<Vec<Value>, AllocError>
+    requires { IsReady context.now.setting.now }
+{
+    let list = state.frame.temporaries.as_slice();
+    let first = list.len().checked_sub(count as usize).ok_or(AllocError)?;
+    let mut values = Vec::new(context.alloc);
+    for temporary in &list[first..] {
+        values.push(value_of(temporary))?;
+    }
+    Ok(values)
+}
+
+// A call of a function without a body: it shows, its result is an input, and it writes what its arguments name.
+fn outside(
+    context: &Context,
+    state: &mut State,
+    tables: &mut Tables,
+    progress: &mut Progress,
+    at: Place,
+    called: (u32, u32),
+) -> Result<(), Pause>
+    requires { IsReady context.now.setting.now }
+{
+    let (number, count) = called;
+    progress.ask(state, at, Question::Callee(number))?;
+    let program = context.program();
+    let function = program.functions.get(number as usize).ok_or(Pause::Memory)?;
+    let call = state.counters.calls.checked_add(1).ok_or(Pause::Memory)?;
+    let arguments = newest(context, state, count)?;
+    let written = written(context, state, progress, at, function, &arguments)?;
+    let result = result(context, state, tables, function, call)?;
+    for (argument, base) in &written {
+        overwrite(context, state, tables, *base, Fill::Wrote(call, *argument))?;
+    }
+    state.set_counters(Counters {
+        calls: call,
+        ..state.counters
+    });
+    replace(state, count as usize, result)
+}
+
+// The base regions that such a call writes, each with the number of its argument: each pointer that may be written through shows whether
+// it is null.
+fn written(
+    context: &Context,
+    state: &State,
+    progress: &mut Progress,
+    at: Place,
+    function: &Function,
+    arguments: &[Value],
+) -> Result<Vec<(u64, u64)>, Pause>
+    requires { IsReady context.now.setting.now }
+{
+    let mut written = Vec::new(context.alloc);
+    for (number, argument) in arguments.iter().enumerate() {
+        if function.written.get(number) != Some(&true) {
+            continue;
+        }
+        if let Seen::At(base, _) = look(state, progress, at, *argument)? {
+            written.push((number as u64, base))?;
+        }
+    }
+    Ok(written)
+}
+
+// What such a call gives.
+fn result(
+    context: &Context,
+    state: &mut State,
+    tables: &mut Tables,
+    function: &Function,
+    call: u64,
+) -> Result<Temporary, Pause>
+    requires { IsReady context.now.setting.now }
+{
+    if matches!(function.result, cs_types::CType::Void) {
+        return Ok(Temporary::Nothing);
+    }
+    let path = path_of(context.alloc, Root::Call(call));
+    let kind = kind_of(context, &function.result)?;
+    let (_, value) = received(context, state, tables, path, kind)?;
+    Ok(Temporary::Scalar(value))
+}
+
+// An object as such a call leaves it, if it may be written.
+fn overwrite(
+    context: &Context,
+    state: &mut State,
+    tables: &Tables,
+    base: u64,
+    fill: Fill,
+) -> Result<(), AllocError>
+    requires { IsReady context.now.setting.now }
+{
+    let known = object(context, state, tables, base)?;
+    let is_live = matches!(known.standing, Standing::Live);
+    if is_live && !known.constant {
+        state.fill(base, fill)?;
+    }
+    Ok(())
+}
+
+/// The frame that runs ends, and gives a value to the one that called it; the run is done where none did.
+pub fn leave(
+    context: &Context,
+    state: &mut State,
+    tables: &mut Tables,
+    given: Temporary,
+) -> Result<(), Pause>
+    requires { IsReady context.now.setting.now }
+{
+    if state.callers.depth() == 0 {
+        let returned = match &given {
+            Temporary::Nothing => None,
+            Temporary::Scalar(_) | Temporary::Whole(_) => Some(value_of(&given)),
+        };
+        state.set_result(returned);
+        return Err(Pause::At(Next::Ends(Outcome::Done(Returned::Nothing))));
+    }
+    let bases = local_bases(context, state, tables)?;
+    state.unbind(&bases)?;
+    if !state.leave()? {
+        return Err(Pause::Memory);
+    }
+    state.push(given)?;
+    Ok(())
+}
+
+// The base regions of the locals of the frame that runs.
+fn local_bases(
+    context: &Context,
+    state: &State,
+    tables: &mut Tables,
+) -> Result<Vec<u64>, AllocError>
+    requires { IsReady context.now.setting.now }
+{
+    let locals = locals_of(context, state.frame.spot.function).ok_or(AllocError)?;
+    let mut bases = Vec::new(context.alloc);
+    for declaration in 0..locals.len() {
+        let decl = u32::try_from(declaration).map_err(|_| AllocError)?;
+        bases.push(tables.base(Base::Local {
+            frame: state.frame.number,
+            decl,
+        })?)?;
+    }
+    Ok(bases)
+}

@@ -1,0 +1,308 @@
+//! What cells hold: what was bound, else what fills their object.
+ghost use Rattle.cs_run_state.specs.Prepared.{IsReady};
+ghost use Rattle.std.specs.Prelude.{IfOk};
+ghost use Rattle.cs_ranges.specs.RangeSet.{IsInhabited};
+
+use crate::context::Context;
+use crate::objects::{Known, object};
+use crate::pause::Pause;
+use crate::terms::{constant, own};
+use cs_events::numbers_of;
+use cs_inputs::{Cells, Path, Root};
+use cs_model::Standing;
+use cs_ranges::{GREATEST, LEAST, RangeSet};
+use cs_regions::Base;
+use cs_run_state::blocks::{self, BlockType};
+use cs_run_state::pieces::zero_of;
+use cs_run_state::{Cell, Object};
+use cs_state::{Block, State, Tables};
+use cs_store::{Fill, Found, Value};
+use cs_terms::{Sym, SymName};
+use cs_types::{CType, IntType, start_extent};
+use std::alloc::{AllocError, Global};
+
+// What a cell is found to hold: a value, or an input that isn't looked up yet, by its path.
+enum Contents {
+    Here(Value),
+    /// What a constant initializer gives.
+    First(Cell),
+    Input(Path),
+}
+
+/// The value of the scalar that begins at an offset of an object.
+pub fn read(
+    context: &Context,
+    state: &mut State,
+    tables: &mut Tables,
+    base: u64,
+    offset: u64,
+) -> Result<Value, Pause>
+    requires { IsReady context.now.setting.now }
+{
+    let found = found(context, state, tables, base, offset)?;
+    match found {
+        Contents::Here(value) => Ok(value),
+        Contents::First(cell) => Ok(static_value(tables, cell)?),
+        Contents::Input(path) => {
+            let kind = scalar_kind(context, state, tables, base, offset)?;
+            let (sym, value) = received(context, state, tables, path, kind)?;
+            if let Some(sym) = sym {
+                state.read_cell(base, offset, sym)?;
+            }
+            Ok(value)
+        }
+    }
+}
+
+// What is found at an offset of an object.
+fn found(
+    context: &Context,
+    state: &State,
+    tables: &Tables,
+    base: u64,
+    offset: u64,
+) -> Result<Contents, AllocError>
+    requires { IsReady context.now.setting.now }
+{
+    match state.store.load(base, offset) {
+        Found::Direct(value) => Ok(Contents::Here(value)),
+        Found::Fill(Fill::Zero) => {
+            let known = object(context, state, tables, base)?;
+            let scalar = known.scalar(context, offset)?;
+            Ok(Contents::Here(zero(scalar)))
+        }
+        Found::Fill(Fill::Wrote(call, argument)) => {
+            let root = Root::Wrote(call, argument);
+            Ok(Contents::Input(cell_path(path_of(context.alloc, root), offset)?))
+        }
+        Found::Fill(Fill::Unset | Fill::Input) => unwritten(context, state, tables, base, offset),
+    }
+}
+
+// What an object holds to which nothing was written.
+fn unwritten(
+    context: &Context,
+    state: &State,
+    tables: &Tables,
+    base: u64,
+    offset: u64,
+) -> Result<Contents, AllocError>
+    requires { IsReady context.now.setting.now }
+{
+    match tables.bases.base(base).ok_or(AllocError)? {
+        Base::Entry(path) => Ok(Contents::Input(cell_path(path.copy()?, offset)?)),
+        Base::Global(global) => {
+            let block = context
+                .setting
+                .prepared
+                .globals
+                .get(*global as usize)
+                .ok_or(AllocError)?;
+            filled(context, state, tables, base, offset, block)
+        }
+        Base::Literal(literal) => {
+            let block = context
+                .setting
+                .prepared
+                .literals
+                .get(*literal as usize)
+                .ok_or(AllocError)?;
+            filled(context, state, tables, base, offset, block)
+        }
+        Base::Local { .. } => Ok(Contents::Here(Value::Unset)),
+        Base::Heap(_) => Ok(Contents::Here(Value::Unset)),
+    }
+}
+
+// What a static object holds at first.
+fn filled(
+    context: &Context,
+    state: &State,
+    tables: &Tables,
+    base: u64,
+    offset: u64,
+    block: &blocks::Block,
+) -> Result<Contents, AllocError>
+    requires { IsReady context.now.setting.now }
+{
+    match &block.fill {
+        blocks::Fill::Unset => Ok(Contents::Here(Value::Unset)),
+        blocks::Fill::Input(root) => Ok(Contents::Input(cell_path(root.copy()?, offset)?)),
+        blocks::Fill::Zero => {
+            let known = object(context, state, tables, base)?;
+            Ok(Contents::Here(zero(known.scalar(context, offset)?)))
+        }
+        blocks::Fill::Initial(first) => {
+            let known = object(context, state, tables, base)?;
+            let scalar = known.scalar(context, offset)?;
+            Ok(Contents::First(context.first_cell(first, scalar, offset)?))
+        }
+    }
+}
+
+// The value of a cell of a static object.
+fn static_value(tables: &mut Tables, cell: Cell) -> Result<Value, AllocError> {
+    match cell {
+        Cell::Number(number) => Ok(Value::Number(constant(number))),
+        Cell::Null => Ok(Value::Null),
+        Cell::Unset => Ok(Value::Unset),
+        Cell::Pointer(object, offset) => {
+            let base = tables.base(base_of(object)?)?;
+            Ok(Value::At(base, constant(offset)))
+        }
+    }
+}
+
+// The base region that an object is.
+fn base_of(object: Object) -> Result<Base, AllocError> {
+    match object {
+        Object::Start(path) => Ok(Base::Entry(path)),
+        Object::Global(global) => Ok(Base::Global(global)),
+        Object::Literal(literal) => Ok(Base::Literal(literal)),
+        Object::Local(frame, decl) => Ok(Base::Local { frame, decl }),
+        Object::Heap(allocation) => Ok(Base::Heap(allocation)),
+    }
+}
+
+// The zero of a scalar.
+fn zero(scalar: BlockType) -> Value {
+    match zero_of(scalar) {
+        Cell::Null => Value::Null,
+        _ => Value::Number(constant(0)),
+    }
+}
+
+// The path of a cell after another path.
+fn cell_path(mut path: Path, offset: u64) -> Result<Path, AllocError> {
+    path.cells.push(offset)?;
+    Ok(path)
+}
+
+/// A path without cells.
+pub fn path_of(alloc: Global, root: Root) -> Path {
+    Path {
+        root,
+        cells: Cells::new(alloc),
+    }
+}
+
+/// What the input of a scalar gives.
+pub enum Kind {
+    Integer(IntType),
+    /// A pointer, to elements of a type, which each have so many bytes.
+    Pointer(CType, u64),
+    Nothing,
+}
+
+// What the input of the scalar at an offset gives.
+fn scalar_kind(
+    context: &Context,
+    state: &State,
+    tables: &Tables,
+    base: u64,
+    offset: u64,
+) -> Result<Kind, AllocError>
+    requires { IsReady context.now.setting.now }
+{
+    let known: Known = object(context, state, tables, base)?;
+    match known.scalar(context, offset)? {
+        BlockType::Integer(ty) => Ok(Kind::Integer(ty)),
+        BlockType::Of(ty) => kind_of(context, ty),
+        BlockType::Text(_) | BlockType::Void => Ok(Kind::Nothing),
+    }
+}
+
+/// What the input of a type gives.
+pub fn kind_of(context: &Context, ty: &CType) -> Result<Kind, AllocError>
+    requires { IsReady context.now.setting.now }
+{
+    match ty {
+        CType::Int(ty) => Ok(Kind::Integer(*ty)),
+        CType::Pointer(target) => {
+            let size = context.element_size(target)?;
+            Ok(Kind::Pointer(target.copy(context.alloc)?, size))
+        }
+        CType::Void | CType::Array(_, _) | CType::Struct(_) => Ok(Kind::Nothing),
+    }
+}
+
+/// The value that the input at a path gives, and its symbol: an integer is any number of its type; a pointer is null, or names a block of
+/// its own. Anything else is never set.
+pub fn received(
+    context: &Context,
+    state: &mut State,
+    tables: &mut Tables,
+    path: Path,
+    kind: Kind,
+) -> Result<(Option<Sym>, Value), Pause>
+    requires { IsReady context.now.setting.now }
+{
+    match kind {
+        Kind::Nothing => Ok((None, Value::Unset)),
+        Kind::Integer(ty) => {
+            let sym = tables.sym(SymName::Input(path))?;
+            let (least, greatest) = numbers_of(context.model(), ty);
+            declare(context.alloc, state, sym, least, greatest)?;
+            Ok((Some(sym), Value::Number(own(sym))))
+        }
+        Kind::Pointer(target, size) => {
+            let sym = tables.sym(SymName::Input(path.copy()?))?;
+            declare(context.alloc, state, sym, 0, 1)?;
+            let base = tables.base(Base::Entry(path))?;
+            if state.blocks.get((base, 0)).is_none() {
+                let block = start_block(context, tables, &target, size, sym)?;
+                state.set_block(base, block)?;
+            }
+            Ok((Some(sym), Value::Start(base, 0)))
+        }
+    }
+}
+
+// A symbol may have the numbers from one to another, if nothing is known of it yet.
+pub fn declare(
+    alloc: Global,
+    state: &mut State,
+    sym: Sym,
+    least: i128,
+    greatest: i128,
+) -> Result<(), AllocError> {
+    if state.constraints.range_of(sym).is_some() {
+        return Ok(());
+    }
+    let numbers = interval(alloc, least, greatest)?;
+    state.declare(sym, numbers)?;
+    Ok(())
+}
+
+// The numbers from one to another. There are some, and they lie inside the bounds of sets.
+fn interval(alloc: Global, least: i128, greatest: i128) -> Result<RangeSet, AllocError>
+    ensures { IfOk result (λ set. IsInhabited set) }
+{
+    if least < LEAST || greatest > GREATEST || least > greatest {
+        return Err(AllocError);
+    }
+    RangeSet::of(alloc, least, greatest)
+}
+
+// The block after an unknown pointer.
+fn start_block(
+    context: &Context,
+    tables: &mut Tables,
+    target: &CType,
+    size: u64,
+    sym: Sym,
+) -> Result<Block, AllocError>
+    requires { IsReady context.now.setting.now }
+{
+    if size > 1 << 20 {
+        return Err(AllocError);
+    }
+    let bytes = start_extent(context.model(), size);
+    Ok(Block {
+        extent: constant(i128::from(bytes)),
+        standing: Standing::Live,
+        element: tables.element(target)?,
+        sym,
+        made_by: 0,
+    })
+}

@@ -1,0 +1,212 @@
+//! What is known of the object that a base region is.
+ghost use Rattle.cs_run_state.specs.Prepared.{IsReady};
+
+use crate::context::Context;
+use crate::terms::constant;
+use cs_ast::typed::program::Local;
+use cs_model::{Freeable, Standing};
+use cs_regions::Base;
+use cs_run_state::blocks::BlockType;
+use cs_state::{Block, Frame, State, Tables};
+use cs_terms::Lin;
+use cs_types::CType;
+use std::alloc::AllocError;
+
+/// An object: whether it may be accessed, how many bytes it has, and its type.
+#[derive(Clone, Copy)]
+pub struct Known<'a> {
+    pub standing: Standing,
+    pub extent: Lin,
+    /// The type of the object; of the elements, one after the other without an end, in a start block or a heap block.
+    pub ty: BlockType<'a>,
+    /// Whether it is a row of elements.
+    pub is_row: bool,
+    /// Whether a store to it is a fault: a const file-scope object or a string literal (C11 6.4.5, 6.7.3).
+    pub constant: bool,
+    /// Whether it can be freed.
+    pub freeable: Freeable,
+}
+
+/// What is known of the object of a base region.
+pub fn object<'t>(
+    context: &Context<'t>,
+    state: &State,
+    tables: &'t Tables,
+    base: u64,
+) -> Result<Known<'t>, AllocError>
+    requires { IsReady context.now.setting.now }
+{
+    match tables.bases.base(base).ok_or(AllocError)? {
+        Base::Entry(_) => in_block(state, tables, base),
+        Base::Heap(_) => in_block(state, tables, base),
+        Base::Global(global) => file_object(context, *global),
+        Base::Literal(literal) => text(context, *literal),
+        Base::Local { frame, decl } => local(context, state, *frame, *decl),
+    }
+}
+
+// A start block or a heap block.
+fn in_block<'t>(state: &State, tables: &'t Tables, base: u64) -> Result<Known<'t>, AllocError> {
+    let block: &Block = state.blocks.get((base, 0)).ok_or(AllocError)?;
+    let element = tables.types.ty(block.element).ok_or(AllocError)?;
+    let freeable = match block.standing {
+        Standing::Live => Freeable::Live,
+        Standing::Freed => Freeable::Freed,
+        Standing::Ended => Freeable::Fixed,
+    };
+    Ok(Known {
+        standing: block.standing,
+        extent: block.extent,
+        ty: BlockType::Of(element),
+        is_row: true,
+        constant: false,
+        freeable,
+    })
+}
+
+// A file-scope object.
+fn file_object<'t>(context: &Context<'t>, number: u32) -> Result<Known<'t>, AllocError>
+    requires { IsReady context.now.setting.now }
+{
+    let block = context
+        .setting
+        .prepared
+        .globals
+        .get(number as usize)
+        .ok_or(AllocError)?;
+    let object = context
+        .program()
+        .globals
+        .get(number as usize)
+        .ok_or(AllocError)?;
+    Ok(Known {
+        standing: Standing::Live,
+        extent: constant(i128::from(block.extent)),
+        ty: block.ty,
+        is_row: false,
+        constant: object.constant,
+        freeable: Freeable::Fixed,
+    })
+}
+
+// A string literal.
+fn text<'t>(context: &Context<'t>, number: u32) -> Result<Known<'t>, AllocError>
+    requires { IsReady context.now.setting.now }
+{
+    let block = context
+        .setting
+        .prepared
+        .literals
+        .get(number as usize)
+        .ok_or(AllocError)?;
+    Ok(Known {
+        standing: Standing::Live,
+        extent: constant(i128::from(block.extent)),
+        ty: block.ty,
+        is_row: false,
+        constant: true,
+        freeable: Freeable::Fixed,
+    })
+}
+
+// A local, which is there while its frame is.
+fn local<'t>(
+    context: &Context<'t>,
+    state: &State,
+    frame: u64,
+    declaration: u32,
+) -> Result<Known<'t>, AllocError>
+    requires { IsReady context.now.setting.now }
+{
+    let Some(ty) = local_type(context, state, frame, declaration) else {
+        return Ok(Known {
+            standing: Standing::Ended,
+            extent: constant(0),
+            ty: BlockType::Void,
+            is_row: false,
+            constant: false,
+            freeable: Freeable::Fixed,
+        });
+    };
+    Ok(Known {
+        standing: Standing::Live,
+        extent: constant(i128::from(context.size_of(ty)?)),
+        ty: BlockType::Of(ty),
+        is_row: false,
+        constant: false,
+        freeable: Freeable::Fixed,
+    })
+}
+
+// The type of a local of a frame that hasn't ended.
+fn local_type<'t>(
+    context: &Context<'t>,
+    state: &State,
+    frame: u64,
+    declaration: u32,
+) -> Option<&'t CType>
+    requires { IsReady context.now.setting.now }
+{
+    let frame = frame_numbered(state, frame)?;
+    let locals = locals_of(context, frame.spot.function)?;
+    let local = locals.get(declaration as usize)?;
+    Some(&local.ty)
+}
+
+/// The locals of a function, its parameters first.
+pub fn locals_of<'t>(context: &Context<'t>, function: u32) -> Option<&'t [Local]>
+    requires { IsReady context.now.setting.now }
+{
+    let function = context.program().functions.get(function as usize)?;
+    Some(function.locals.as_slice())
+}
+
+// The frame with a number, where it hasn't ended.
+fn frame_numbered(state: &State, number: u64) -> Option<&Frame> {
+    if state.frame.number == number {
+        return Some(&state.frame);
+    }
+    state.callers.numbered(number)
+}
+
+impl<'a> Known<'a> {
+    /// Whether an object of a type begins at an offset: a scalar of that very type, or that struct.
+    pub fn begins(
+        &self,
+        context: &Context<'a>,
+        ty: &CType,
+        offset: i128,
+    ) -> Result<bool, AllocError>
+        requires { IsReady context.now.setting.now }
+    {
+        let Ok(offset) = u64::try_from(offset) else {
+            return Ok(false);
+        };
+        match self.position(context, offset)? {
+            Some(position) => context.begins(self.ty, ty, position),
+            None => Ok(false),
+        }
+    }
+
+    /// The scalar that begins at an offset; `Void` where none does.
+    pub fn scalar(&self, context: &Context<'a>, offset: u64) -> Result<BlockType<'a>, AllocError>
+        requires { IsReady context.now.setting.now }
+    {
+        let Some(position) = self.position(context, offset)? else {
+            return Ok(BlockType::Void);
+        };
+        let found = context.scalar(self.ty, position)?;
+        Ok(found.unwrap_or(BlockType::Void))
+    }
+
+    // Where an offset lies in the type; nowhere in a row of elements without bytes.
+    fn position(&self, context: &Context<'a>, offset: u64) -> Result<Option<u64>, AllocError>
+        requires { IsReady context.now.setting.now }
+    {
+        if !self.is_row {
+            return Ok(Some(offset));
+        }
+        let size = context.bytes(self.ty)?;
+        Ok(offset.checked_rem(size))
+    }
+}

@@ -1,0 +1,258 @@
+//! What operators do with their operands (C11 6.3, 6.5.3 to 6.5.10).
+ghost use Rattle.cs_run_state.specs.Prepared.{IsReady};
+
+use crate::context::Context;
+use crate::operands::number_in;
+use crate::pause::Pause;
+use crate::pointers::{Seen, look, ordered, truth};
+use crate::progress::Progress;
+use crate::terms::{constant, is_zero, known, scaled, shifted};
+use cs_ast::Place;
+use cs_ast::typed::operator::{BinOp, CmpOp, Direction};
+use cs_checker::Subject;
+use cs_eval::{Question, Tested};
+use cs_events::numbers_of;
+use cs_state::State;
+use cs_store::Value;
+use cs_terms::Lin;
+use cs_types::{CType, DataModel, IntType, bytes, offset_bound};
+
+/// Whether a value counts as true (C11 6.8.4.1, paragraph 2), which shows in a way; a pointer is looked at first.
+pub fn test(
+    state: &State,
+    progress: &mut Progress,
+    at: Place,
+    value: Value,
+    tested: Tested,
+) -> Result<bool, Pause> {
+    if let Value::Number(term) = value {
+        let term = known(state, term)?;
+        progress.ask(state, at, Question::Test(tested, term))?;
+        return match is_zero(state, term)? {
+            Some(zero) => Ok(!zero),
+            None => Err(Pause::Memory),
+        };
+    }
+    let holds = matches!(look(state, progress, at, value)?, Seen::At(_, _));
+    progress.ask(state, at, Question::Test(tested, number_of(holds)))?;
+    Ok(holds)
+}
+
+/// The number of a truth (C11 6.5.8, paragraph 6).
+pub fn number_of(holds: bool) -> Lin {
+    constant(if holds { 1 } else { 0 })
+}
+
+/// An operator of two integers: what it checks, and then its result.
+pub fn operate(
+    model: DataModel,
+    state: &State,
+    progress: &mut Progress,
+    at: Place,
+    operator: BinOp,
+    ty: IntType,
+    operands: (Lin, Lin),
+) -> Result<Lin, Pause> {
+    let (left, right) = operands;
+    match operator {
+        BinOp::Div | BinOp::Rem => {
+            progress.check(state, at, Subject::Divisor { term: right })?;
+        }
+        BinOp::Shl | BinOp::Shr => {
+            let width = 8 * bytes(model, ty) as u32;
+            let subject = Subject::Shift {
+                count: right,
+                width,
+            };
+            progress.check(state, at, subject)?;
+        }
+        _ => {}
+    }
+    progress.ask(state, at, Question::Binary(operator, ty, left, right))
+}
+
+/// A conversion of a number of a type. It shows where the new type doesn't hold every number of the old one (C11 6.3.1.3).
+pub fn convert_number(
+    model: DataModel,
+    state: &State,
+    progress: &mut Progress,
+    at: Place,
+    types: (&CType, IntType),
+    number: Lin,
+) -> Result<Lin, Pause> {
+    let (from, to) = types;
+    if takes_all(model, from, to) {
+        return Ok(number);
+    }
+    progress.ask(state, at, Question::Convert(to, number))
+}
+
+// Whether a type holds every number of another.
+fn takes_all(model: DataModel, from: &CType, to: IntType) -> bool {
+    let CType::Int(from) = from else {
+        return false;
+    };
+    let (least, greatest) = numbers_of(model, *from);
+    let (low, high) = numbers_of(model, to);
+    low <= least && greatest <= high
+}
+
+/// A number with the sign of a direction.
+pub fn directed(direction: Direction, number: Lin) -> Result<Lin, Pause> {
+    match direction {
+        Direction::Forward => Ok(number),
+        Direction::Back => scaled(number, -1),
+    }
+}
+
+/// A pointer moved by an amount of elements of so many bytes: its offset stays within its bounds (C11 6.5.6, paragraph 8).
+pub fn sum(
+    context: &Context,
+    state: &State,
+    progress: &mut Progress,
+    at: Place,
+    pointer: Value,
+    amount: Lin,
+    size: u64,
+) -> Result<Value, Pause>
+    requires { IsReady context.now.setting.now }
+{
+    let seen = look(state, progress, at, pointer)?;
+    match seen {
+        Seen::Null => {
+            let subject = Subject::Move { null: true, amount };
+            progress.check(state, at, subject)?;
+            Ok(Value::Null)
+        }
+        Seen::At(base, offset) => {
+            let subject = Subject::Move {
+                null: false,
+                amount,
+            };
+            progress.check(state, at, subject)?;
+            let moved = moved(context, state, progress, at, offset, amount, size)?;
+            Ok(Value::At(base, moved))
+        }
+        Seen::Other => Ok(Value::Unset),
+    }
+}
+
+// The offset of a pointer that is moved.
+fn moved(
+    context: &Context,
+    state: &State,
+    progress: &mut Progress,
+    at: Place,
+    offset: Lin,
+    amount: Lin,
+    size: u64,
+) -> Result<Lin, Pause>
+    requires { IsReady context.now.setting.now }
+{
+    let bound = offset_bound(context.model());
+    let bytes = scaled(amount, i128::from(size))?;
+    let back = scaled(bytes, -1)?;
+    ordered(state, progress, at, shifted(offset, bound)?, bytes)?;
+    let left = shifted(scaled(offset, -1)?, bound)?;
+    ordered(state, progress, at, left, back)?;
+    progress.ask(state, at, Question::Sum(offset, amount, size))
+}
+
+/// A comparison of two numbers or two pointers (C11 6.5.8, 6.5.9).
+pub fn compare(
+    state: &State,
+    progress: &mut Progress,
+    at: Place,
+    operator: CmpOp,
+    left: Value,
+    right: Value,
+) -> Result<Lin, Pause> {
+    if !is_pointer(left) && !is_pointer(right) {
+        let question = Question::Compare(
+            operator,
+            number_in(state, left)?,
+            number_in(state, right)?,
+        );
+        return progress.ask(state, at, question);
+    }
+    let left = look(state, progress, at, left)?;
+    let right = look(state, progress, at, right)?;
+    match operator {
+        CmpOp::Equal | CmpOp::Differs => equality(state, progress, at, operator, left, right),
+        CmpOp::Less | CmpOp::AtMost | CmpOp::More | CmpOp::AtLeast => {
+            let (one, other) = related(state, progress, at, left, right)?;
+            progress.ask(state, at, Question::Compare(operator, one, other))
+        }
+    }
+}
+
+// Two pointers compared for equality: offsets are compared where they point into one object (C11 6.5.9, paragraph 6).
+fn equality(
+    state: &State,
+    progress: &mut Progress,
+    at: Place,
+    operator: CmpOp,
+    left: Seen,
+    right: Seen,
+) -> Result<Lin, Pause> {
+    if let Some((one, other)) = in_one_object(left, right) {
+        return progress.ask(state, at, Question::Compare(operator, one, other));
+    }
+    let same = matches!((left, right), (Seen::Null, Seen::Null));
+    let holds = same == matches!(operator, CmpOp::Equal);
+    progress.ask(state, at, Question::Test(Tested::Truth, number_of(holds)))?;
+    Ok(number_of(holds))
+}
+
+// The offsets of two pointers into one object.
+fn in_one_object(left: Seen, right: Seen) -> Option<(Lin, Lin)> {
+    let Seen::At(base, one) = left else {
+        return None;
+    };
+    let Seen::At(other_base, other) = right else {
+        return None;
+    };
+    if base == other_base {
+        Some((one, other))
+    } else {
+        None
+    }
+}
+
+// The same, null being an object of its own; else it is a fault (C11 6.5.6, paragraph 9; 6.5.8, paragraph 5).
+fn related(
+    state: &State,
+    progress: &mut Progress,
+    at: Place,
+    left: Seen,
+    right: Seen,
+) -> Result<(Lin, Lin), Pause> {
+    let found = match (left, right) {
+        (Seen::Null, Seen::Null) => Some((constant(0), constant(0))),
+        _ => in_one_object(left, right),
+    };
+    let same = found.is_some();
+    progress.check(state, at, Subject::Pair { same })?;
+    found.ok_or(Pause::Memory)
+}
+
+/// How many elements of so many bytes lie between two pointers (C11 6.5.6, paragraph 9).
+pub fn difference(
+    state: &State,
+    progress: &mut Progress,
+    at: Place,
+    pointers: (Value, Value),
+    size: u64,
+) -> Result<Lin, Pause> {
+    let left = look(state, progress, at, pointers.0)?;
+    let right = look(state, progress, at, pointers.1)?;
+    let (one, other) = related(state, progress, at, left, right)?;
+    progress.ask(state, at, Question::Difference(one, other, size))
+}
+
+fn is_pointer(value: Value) -> bool {
+    match value {
+        Value::Null | Value::At(_, _) | Value::Start(_, _) => true,
+        Value::Number(_) | Value::Unset => false,
+    }
+}

@@ -1,0 +1,141 @@
+//! Conversions, and updates of objects in place (C11 6.3, 6.5.2.4, 6.5.16.2).
+ghost use Rattle.cs_run_state.specs.Prepared.{IsReady};
+
+use crate::access::{load, store};
+use crate::context::Context;
+use crate::operands::{number, number_in, operand, replace, value, value_of};
+use crate::operators::{convert_number, directed, operate, sum};
+use crate::pause::Pause;
+use crate::progress::Progress;
+use cs_ast::Place;
+use cs_ast::typed::operator::{BinOp, Direction, Gives};
+use cs_cfg::Access;
+use cs_state::{State, Tables, Temporary};
+use cs_store::Value;
+use cs_types::{CType, IntType};
+
+/// A conversion of a value of a type: only that of a number to an integer type changes it; of a void value nothing is left (C11 6.3.2.2).
+pub fn convert(
+    context: &Context,
+    state: &mut State,
+    progress: &mut Progress,
+    at: Place,
+    from: &CType,
+    to: &CType,
+) -> Result<(), Pause>
+    requires { IsReady context.now.setting.now }
+{
+    let model = context.model();
+    match to {
+        CType::Void => replace(state, 1, Temporary::Nothing),
+        CType::Int(ty) => {
+            let Temporary::Scalar(Value::Number(_)) = operand(state, 0)? else {
+                return Ok(());
+            };
+            let before = number(state, 0)?;
+            let after = convert_number(model, state, progress, at, (from, *ty), before)?;
+            replace(state, 1, Temporary::Scalar(Value::Number(after)))
+        }
+        CType::Pointer(_) | CType::Array(_, _) | CType::Struct(_) => Ok(()),
+    }
+}
+
+/// The load of an update of a number, which is converted to the type of the operator.
+pub fn fetch_number(
+    context: &Context,
+    state: &mut State,
+    tables: &mut Tables,
+    progress: &mut Progress,
+    how: (Place, IntType),
+    access: &Access,
+) -> Result<(), Pause>
+    requires { IsReady context.now.setting.now }
+{
+    let (at, ty) = how;
+    let model = context.model();
+    let place = value(state, 0)?;
+    let loaded = load(context, state, tables, progress, access, place)?;
+    let before = number_in(state, value_of(&loaded))?;
+    let after = convert_number(model, state, progress, at, (&access.ty, ty), before)?;
+    state.push(loaded)?;
+    state.push(Temporary::Scalar(Value::Number(after)))?;
+    Ok(())
+}
+
+/// An update of a number: the operands are the place, the value before, the same in the type of the operator, and the right operand.
+pub fn update(
+    context: &Context,
+    state: &mut State,
+    tables: &mut Tables,
+    progress: &mut Progress,
+    at: Place,
+    access: &Access,
+    how: (BinOp, IntType, Gives),
+) -> Result<(), Pause>
+    requires { IsReady context.now.setting.now }
+{
+    let (operator, ty, gives) = how;
+    let model = context.model();
+    let operands = (number(state, 1)?, number(state, 0)?);
+    let result = operate(model, state, progress, at, operator, ty, operands)?;
+    let to = integer_of(&access.ty);
+    let stored = convert_number(model, state, progress, at, (&CType::Int(ty), to), result)?;
+    let stored = Value::Number(stored);
+    let left = given(gives, value(state, 2)?, stored);
+    let place = value(state, 3)?;
+    store(
+        context,
+        state,
+        tables,
+        progress,
+        access,
+        place,
+        Temporary::Scalar(stored),
+    )?;
+    replace(state, 4, Temporary::Scalar(left))
+}
+
+/// A pointer that has moved is stored: the operands are the place, the value before, and the amount of elements of so many bytes.
+pub fn move_pointer(
+    context: &Context,
+    state: &mut State,
+    tables: &mut Tables,
+    progress: &mut Progress,
+    at: Place,
+    access: &Access,
+    how: (u64, Direction, Gives),
+) -> Result<(), Pause>
+    requires { IsReady context.now.setting.now }
+{
+    let (bytes, direction, gives) = how;
+    let amount = directed(direction, number(state, 0)?)?;
+    let before = value(state, 1)?;
+    let moved = sum(context, state, progress, at, before, amount, bytes)?;
+    let place = value(state, 2)?;
+    store(
+        context,
+        state,
+        tables,
+        progress,
+        access,
+        place,
+        Temporary::Scalar(moved),
+    )?;
+    replace(state, 3, Temporary::Scalar(given(gives, before, moved)))
+}
+
+// The value that an update gives.
+fn given(gives: Gives, before: Value, after: Value) -> Value {
+    match gives {
+        Gives::Old => before,
+        Gives::New => after,
+    }
+}
+
+// The integer type that a type is.
+fn integer_of(ty: &CType) -> IntType {
+    match ty {
+        CType::Int(ty) => *ty,
+        _ => IntType::Int,
+    }
+}
