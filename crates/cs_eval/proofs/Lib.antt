@@ -1,0 +1,11 @@
+pub mod Assumed
+pub mod CheckedTerms
+pub mod Comparisons
+pub mod Ends
+pub mod Negated
+pub mod OperandValues
+pub mod Signs
+pub mod TestPieces
+pub mod TruthPieces
+pub mod TruthShapes
+pub mod TwoWays

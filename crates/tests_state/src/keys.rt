@@ -1,10 +1,13 @@
 //! Pairs of states: their keys are equal where their live parts are, and different elsewhere.
+ghost use Rattle.std.specs.Prelude.{IfOk};
+ghost use Rattle.cs_ranges.specs.RangeSet.{IsInhabited};
+
 use cs_cfg::Spot;
 use cs_constraints::Constraints;
 use cs_keys::key;
 use cs_model::Standing;
 use cs_pmap::PMap;
-use cs_ranges::{Interval, RangeSet};
+use cs_ranges::{GREATEST, Interval, LEAST, RangeSet};
 use cs_state::{
     Answers, Asked, Asks, Block, Callers, Counters, Ends, Frame, ReadCells, State, Temporaries,
     Temporary, TypeNumber, Visits,
@@ -126,10 +129,20 @@ fn block(sym: u64, extent: i128) -> Block {
     }
 }
 
+// The numbers from one to another. There are some, and they lie inside the bounds of sets.
+fn numbers(alloc: Global, low: i128, high: i128) -> Result<RangeSet, AllocError>
+    ensures { IfOk result (λ set. IsInhabited set) }
+{
+    if low < LEAST || high > GREATEST || low > high {
+        return Err(AllocError);
+    }
+    RangeSet::of(alloc, low, high)
+}
+
 fn make(state: &mut State, alloc: Global, change: Change) -> Result<(), AllocError> {
     match change {
         Change::Declare(sym, low, high) => {
-            let set = RangeSet::of(alloc, low, high)?;
+            let set = numbers(alloc, low, high)?;
             state.constraints.declare(Sym(sym), set)
         }
         Change::Push(value) => state.push(Temporary::Scalar(value)),

@@ -1,0 +1,102 @@
+//! What an operation may show, and under which numbers of the symbols.
+ghost use Rattle.std.specs.Prelude.{◌≡◌, None};
+ghost use Rattle.cs_constraints.specs.Constraints.{set_of};
+ghost use Rattle.cs_eval.specs.Ready.{HasReadyOperands};
+
+use crate::checked::check_adds;
+use crate::integers::{binary, conversion, unary};
+use crate::operands::{constant, constant_operation, prepared};
+use crate::piece::Piece;
+use crate::pieces::{Shown, one_piece};
+use crate::pointers::{pointer_difference, pointer_sum};
+use crate::question::Question;
+use crate::setting::Setting;
+use crate::tested::test;
+use crate::truths::{comparison, order_test, product_test};
+use cs_constraints::Constraints;
+use cs_events::{Label, Operation};
+use cs_run_state::arithmetic::{Computed, compute, is_true};
+use cs_terms::Sym;
+use cs_types::DataModel;
+use std::alloc::{AllocError, Global};
+
+/// What the operation may show, a piece for each label, no two alike. A number that is guessed is that of the given symbol, which isn't
+/// declared yet. The values of terms are integers of C, those of the parts of an order test from -2^100 to 2^100.
+pub fn answers(
+    alloc: Global,
+    model: DataModel,
+    constraints: &Constraints,
+    question: &Question,
+    guess: Sym,
+) -> Result<Vec<Piece>, AllocError> {
+    if constraints.range_of(guess).is_some() {
+        return Err(AllocError);
+    }
+    let setting = Setting {
+        alloc,
+        model,
+        constraints,
+        guess,
+    };
+    let question = prepared(constraints, question)?;
+    match constant_operation(&question) {
+        Some(operation) => computed(&setting, operation),
+        None => followed(&setting, question),
+    }
+}
+
+// An operation on constants.
+fn computed(setting: &Setting, operation: Operation) -> Result<Vec<Piece>, AllocError> {
+    let Some(own) = compute(setting.model, operation) else {
+        return Err(AllocError);
+    };
+    one_piece(
+        setting,
+        Shown {
+            label: shown(operation, own),
+            answer: constant(own.number),
+        },
+    )
+}
+
+// What an operation on constants shows.
+fn shown(operation: Operation, own: Computed) -> Label {
+    match operation {
+        Operation::Compare(_, _, _) | Operation::Order(_, _) | Operation::Product(_, _) => {
+            Label::Truth(is_true(own.number))
+        }
+        _ => Label::Wrap(own.wrap),
+    }
+}
+
+// A question with prepared operands, not all of which are constants.
+fn followed(setting: &Setting, question: Question) -> Result<Vec<Piece>, AllocError>
+    requires ready { HasReadyOperands setting.now.constraints.now question }
+    requires fresh { set_of setting.now.constraints.now setting.now.guess.0 ≡ None }
+{
+    match question {
+        Question::Binary(op, ty, left, right) => binary(setting, op, ty, left, right),
+        Question::Unary(op, ty, term) => unary(setting, op, ty, term),
+        Question::Convert(ty, term) => conversion(setting, ty, term),
+        Question::Compare(op, left, right) => {
+            let _inhabited = setting.constraints.copy()?;
+            comparison(setting, op, left, right)
+        }
+        Question::Order(first, second) => {
+            let _inhabited = setting.constraints.copy()?;
+            check_adds(first, second)?;
+            order_test(setting, first, second)
+        }
+        Question::Product(count, size) => product_test(setting, count, size),
+        Question::Sum(offset, amount, size) => pointer_sum(setting, offset, amount, size),
+        Question::Difference(left, right, size) => pointer_difference(setting, left, right, size),
+        Question::Test(tested, term) => test(setting, tested, term),
+        Question::Callee(function) => one_piece(
+            setting,
+            Shown {
+                label: Label::Callee(function),
+                answer: constant(0),
+            },
+        ),
+    }
+}

@@ -1,0 +1,313 @@
+//! Operations that show a truth: comparisons, order tests, the order test of `calloc`.
+ghost use Rattle.std.specs.Prelude.{◌≡◌, ℤ, IsTrue, None, IfOk};
+ghost use Rattle.cs_ranges.specs.RangeSet.{contains, IsInhabited};
+ghost use Rattle.cs_terms.specs.Conditions.{CanAdd};
+ghost use Rattle.cs_terms.specs.Term.{value_at, IsTerm};
+ghost use Rattle.cs_constraints.specs.Constraints.{set_of, AreInhabited};
+ghost use Rattle.cs_eval.specs.declared.question.Question.{Question};
+ghost use Rattle.cs_eval.specs.Followed.{AreAnswers};
+ghost use Rattle.cs_eval.specs.Operands.{IsBetween, IsTermBetween, LOWEST, HIGHEST};
+ghost use Rattle.cs_eval.specs.Operands.{HasEnds, HasEndsOver, IsEndsOfSum, IsReadyOperand, IsSeveral};
+ghost use Rattle.cs_eval.specs.Truths as truths;
+ghost use Rattle.cs_events.specs.Operations.{truth_number};
+ghost use Rattle.cs_eval.specs.Truths.{IsReady, ArePiecesOf, AreOfGuess, IsGuessOf, IsSignBetween, IsFollowedBySign};
+
+use crate::checked::{check_inside_values, check_wide, moved};
+use crate::guesses::Inexact;
+use crate::halves::{opposite, split_by_sign};
+use crate::operands::number;
+use crate::piece::Piece;
+use crate::pieces::{guessed_piece, halves_pieces, one_piece, truth};
+use crate::setting::Setting;
+use cs_ast::typed::operator::CmpOp;
+use cs_constraints::Constraints;
+use cs_events::Label;
+use cs_ranges::{Interval, RangeSet, affine_value};
+use cs_state::{Asks, Fact};
+use cs_terms::{Lin, Lin2, diff, merged};
+use cs_types::product_bound;
+use std::alloc::AllocError;
+
+/// How far a truth is followed.
+enum Followed {
+    /// It holds exactly where the term compares so with 0.
+    Where(CmpOp, Lin),
+    /// It holds, or it doesn't, whatever the numbers of the symbols are.
+    Always(bool),
+    /// Not exactly.
+    No,
+}
+
+/// A comparison of two numbers that aren't both constants.
+pub(crate) fn comparison(
+    setting: &Setting,
+    op: CmpOp,
+    left: Lin,
+    right: Lin,
+) -> Result<Vec<Piece>, AllocError>
+    requires left { IsReadyOperand setting.now.constraints.now left }
+    requires right { IsReadyOperand setting.now.constraints.now right }
+    requires fresh { set_of setting.now.constraints.now setting.now.guess.0 ≡ None }
+    requires inhabited { AreInhabited setting.now.constraints.now }
+    ensures { IfOk result (λ pieces. AreAnswers setting.now.model setting.now.constraints.now
+        setting.now.guess.0 (Question.Compare op left right) pieces.items) }
+{
+    let term = diff(left, right);
+    let followed = followed_by_sign(setting.constraints, op, term);
+    let inexact = Inexact {
+        asks: Asks::Compare(op),
+        left,
+        right,
+        fact: Some(Fact { op, term }),
+    };
+    truth_split(setting, followed, &inexact)
+}
+
+/// An order test: whether the sum of two parts that aren't both constants isn't below 0.
+pub(crate) fn order_test(
+    setting: &Setting,
+    first: Lin,
+    second: Lin,
+) -> Result<Vec<Piece>, AllocError>
+    requires first { IsTermBetween setting.now.constraints.now LOWEST HIGHEST first }
+    requires second { IsTermBetween setting.now.constraints.now LOWEST HIGHEST second }
+    requires adds { CanAdd first second }
+    requires several { IsSeveral setting.now.constraints.now first
+        × IsSeveral setting.now.constraints.now second }
+    requires fresh { set_of setting.now.constraints.now setting.now.guess.0 ≡ None }
+    requires inhabited { AreInhabited setting.now.constraints.now }
+    ensures { IfOk result (λ pieces. AreAnswers setting.now.model setting.now.constraints.now
+        setting.now.guess.0 (Question.Order first second) pieces.items) }
+{
+    let term = Lin2 { first, second };
+    let followed = followed_by_sign(setting.constraints, CmpOp::AtLeast, term);
+    let inexact = Inexact {
+        asks: Asks::Order,
+        left: first,
+        right: second,
+        fact: Some(Fact {
+            op: CmpOp::AtLeast,
+            term,
+        }),
+    };
+    truth_split(setting, followed, &inexact)
+}
+
+/// The order test of `calloc`, of two numbers that aren't both constants.
+pub(crate) fn product_test(
+    setting: &Setting,
+    count: Lin,
+    size: Lin,
+) -> Result<Vec<Piece>, AllocError> {
+    let followed = followed_by_product(setting, count, size)?;
+    let inexact = Inexact::new(Asks::Product, count, size);
+    truth_split(setting, followed, &inexact)
+}
+
+// A piece for each truth: exact where the truth is followed, else both with a guess.
+fn truth_split(
+    setting: &Setting,
+    followed: Followed,
+    inexact: &Inexact,
+) -> Result<Vec<Piece>, AllocError>
+    requires { IsReady setting.now.constraints.now followed }
+    ensures { IfOk result (λ pieces.
+        ArePiecesOf setting.now.constraints.now setting.now.guess.0 followed pieces.items) }
+{
+    match followed {
+        Followed::Where(op, term) => {
+            let halves = split_by_sign(setting.alloc, setting.constraints, op, term)?;
+            let yes = truth(true);
+            let no = truth(false);
+            halves_pieces(setting.alloc, halves, yes, no)
+        }
+        Followed::Always(holds) => one_piece(setting, truth(holds)),
+        Followed::No => guessed_truths(setting, inexact),
+    }
+}
+
+// A piece for each truth, with the guess of it.
+fn guessed_truths(setting: &Setting, inexact: &Inexact) -> Result<Vec<Piece>, AllocError>
+    ensures { IfOk result (λ pieces.
+        AreOfGuess setting.now.constraints.now setting.now.guess.0 pieces.items) }
+{
+    let yes = guessed_truth(setting, true, inexact)?;
+    let no = guessed_truth(setting, false, inexact)?;
+    let mut pieces = Vec::new(setting.alloc);
+    pieces.push(yes)?;
+    pieces.push(no)?;
+    Ok(pieces)
+}
+
+fn guessed_truth(setting: &Setting, holds: bool, inexact: &Inexact) -> Result<Piece, AllocError>
+    ensures { IfOk result
+        (IsGuessOf setting.now.constraints.now setting.now.guess.0 holds) }
+{
+    let numbers = only(holds);
+    let constraints = setting.constraints.copy()?;
+    let guessed = inexact.guessed(setting.constraints);
+    guessed_piece(setting, constraints, Label::Truth(holds), numbers, guessed)
+}
+
+// The number of a truth alone.
+fn only(holds: bool) -> Interval
+    ensures low { result.low ≡ truth_number holds }
+    ensures high { result.high ≡ truth_number holds }
+{
+    let number = i128::from(holds);
+    Interval {
+        low: number,
+        high: number,
+    }
+}
+
+// How far it is followed whether a sum compares so with 0: over one symbol at most, or as far as the ends decide.
+fn followed_by_sign(constraints: &Constraints, op: CmpOp, term: Lin2) -> Followed
+    requires first { IsTermBetween constraints.now LOWEST HIGHEST term.first }
+    requires second { IsTermBetween constraints.now LOWEST HIGHEST term.second }
+    requires adds { CanAdd term.first term.second }
+    requires inhabited { AreInhabited constraints.now }
+    ensures { IsFollowedBySign constraints.now op term result }
+{
+    if let Some(sum) = merged(term) {
+        return Followed::Where(op, sum);
+    }
+    let ends = ends_of_sum(constraints, term);
+    match sign_between(op, ends) {
+        Some(true) => Followed::Always(true),
+        Some(false) => Followed::Always(false),
+        None => Followed::No,
+    }
+}
+
+// The values of a sum of two terms, from the least to the greatest.
+fn ends_of_sum(constraints: &Constraints, term: Lin2) -> Interval
+    requires first { IsTermBetween constraints.now LOWEST HIGHEST term.first }
+    requires second { IsTermBetween constraints.now LOWEST HIGHEST term.second }
+    ensures { IsEndsOfSum constraints.now term result }
+{
+    let first = values_of(constraints, term.first);
+    let second = values_of(constraints, term.second);
+    Interval {
+        low: first.low + second.low,
+        high: first.high + second.high,
+    }
+}
+
+// Whether the numbers between the ends all compare so with 0, or none does.
+fn sign_between(op: CmpOp, ends: Interval) -> Option<bool>
+    ensures { IsSignBetween op ends result }
+{
+    if holds_between(op, ends) {
+        return Some(true);
+    }
+    if holds_between(opposite(op), ends) {
+        return Some(false);
+    }
+    None
+}
+
+// Whether the ends say that the numbers between them all compare so with 0. They don't say it of an equation.
+fn holds_between(op: CmpOp, ends: Interval) -> bool
+    ensures { result ≡ truths.holds_between op ends }
+{
+    match op {
+        CmpOp::Less => ends.high < 0,
+        CmpOp::AtMost => ends.high <= 0,
+        CmpOp::More => 0 < ends.low,
+        CmpOp::AtLeast => 0 <= ends.low,
+        CmpOp::Equal => false,
+        CmpOp::Differs => 0 < ends.low || ends.high < 0,
+    }
+}
+
+// How far it is followed whether a product is at most the bound of one allocation.
+fn followed_by_product(setting: &Setting, count: Lin, size: Lin) -> Result<Followed, AllocError>
+    ensures { IfOk result (IsReady setting.now.constraints.now) }
+{
+    if let Some(factor) = number(size) {
+        return followed_by_factor(setting, count, factor);
+    }
+    if let Some(factor) = number(count) {
+        return followed_by_factor(setting, size, factor);
+    }
+    check_wide(setting.constraints, count)?;
+    check_wide(setting.constraints, size)?;
+    let count = values_of(setting.constraints, count);
+    let size = values_of(setting.constraints, size);
+    let bound = i128::from(product_bound(setting.model));
+    if is_product_within(bound, count.high, size.high) {
+        Ok(Followed::Always(true))
+    } else if is_product_within(bound, count.low, size.low) {
+        Ok(Followed::No)
+    } else {
+        Ok(Followed::Always(false))
+    }
+}
+
+// A term times a constant factor is within the bound exactly where the term is at most their quotient.
+fn followed_by_factor(setting: &Setting, term: Lin, factor: i128) -> Result<Followed, AllocError>
+    ensures { IfOk result (IsReady setting.now.constraints.now) }
+{
+    if factor <= 0 {
+        return Ok(Followed::Always(true));
+    }
+    let bound = i128::from(product_bound(setting.model));
+    let greatest = bound.checked_div(factor).ok_or(AllocError)?;
+    let below = greatest.checked_neg().ok_or(AllocError)?;
+    let above = moved(term, below)?;
+    check_inside_values(setting.constraints, above)?;
+    Ok(Followed::Where(CmpOp::AtMost, above))
+}
+
+// Whether the product of two numbers that aren't below 0 is within the bound. The product itself may need more than 128 bits.
+fn is_product_within(bound: i128, count: i128, size: i128) -> bool {
+    match bound.checked_div(count) {
+        Some(greatest) if 0 < count => size <= greatest,
+        _ => true,
+    }
+}
+
+// The values of a term, from the least to the greatest: a term rises or falls all along the numbers of its symbol.
+fn values_of(constraints: &Constraints, term: Lin) -> Interval
+    requires { IsTermBetween constraints.now LOWEST HIGHEST term }
+    ensures ends { HasEnds constraints.now term result }
+    ensures low { IsBetween LOWEST HIGHEST result.low }
+    ensures high { IsBetween LOWEST HIGHEST result.high }
+{
+    let Some(sym) = term.sym else {
+        return Interval {
+            low: term.value,
+            high: term.value,
+        };
+    };
+    let Some(range) = constraints.range_of(sym) else {
+        unreachable!()
+    };
+    values_over(term, range)
+}
+
+// The values of a term over the numbers of its symbol, from the least to the greatest.
+fn values_over(term: Lin, range: &RangeSet) -> Interval
+    requires term { IsTerm term }
+    requires inhabited { IsInhabited range.now }
+    requires values { (x : ℤ) → IsTrue (contains range.now x)
+        → IsBetween LOWEST HIGHEST (value_at term x) }
+    ensures { HasEndsOver term range.now result }
+{
+    let (Some(least), Some(greatest)) = (range.least(), range.greatest()) else {
+        unreachable!()
+    };
+    let first = affine_value(term.slope, term.at, term.value, least);
+    let last = affine_value(term.slope, term.at, term.value, greatest);
+    if first <= last {
+        return Interval {
+            low: first,
+            high: last,
+        };
+    }
+    Interval {
+        low: last,
+        high: first,
+    }
+}

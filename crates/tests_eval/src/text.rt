@@ -1,0 +1,146 @@
+//! Pieces as text.
+use cs_constraints::Constraints;
+use cs_eval::{Guessed, Piece, Question, answers};
+use cs_ranges::{Interval, RangeSet};
+use cs_terms::{Lin, Sym};
+use cs_types::DataModel;
+use std::alloc::{AllocError, Global};
+use std::process::Abort;
+
+/// A question over the symbols x and y, which stand for the numbers from the first to the second.
+#[derive(Drop)]
+pub struct Row<'a> {
+    pub question: Question,
+    pub x: (i128, i128),
+    pub y: (i128, i128),
+    /// A line for each piece.
+    pub pieces: &'a str,
+}
+
+/// The number.
+pub fn number(value: i128) -> Lin {
+    Lin {
+        sym: None,
+        slope: 0,
+        at: 0,
+        value,
+    }
+}
+
+/// The symbol x times a factor, and a number.
+pub fn x(slope: i128, value: i128) -> Lin {
+    Lin {
+        sym: Some(Sym(0)),
+        slope,
+        at: 0,
+        value,
+    }
+}
+
+/// The symbol y times a factor, and a number.
+pub fn y(slope: i128, value: i128) -> Lin {
+    Lin {
+        sym: Some(Sym(1)),
+        slope,
+        at: 0,
+        value,
+    }
+}
+
+/// Each row has the pieces that are written.
+pub fn assert_rows(rt: &impl Abort, alloc: Global, rows: &[Row]) -> Result<(), AllocError> {
+    for (place, row) in rows.iter().enumerate() {
+        let constraints = constraints(alloc, row.x, row.y)?;
+        let pieces = answers(alloc, DataModel::Lp64, &constraints, &row.question, Sym(2))?;
+        let found = text(alloc, &pieces)?;
+        assert_eq!(rt; found.as_str(), row.pieces, "row {place}");
+    }
+    Ok(())
+}
+
+/// Each of the two symbols stands for the numbers from the first to the second.
+pub fn constraints(
+    alloc: Global,
+    x: (i128, i128),
+    y: (i128, i128),
+) -> Result<Constraints, AllocError> {
+    let mut constraints = Constraints::new(alloc);
+    constraints.declare(Sym(0), RangeSet::of(alloc, x.0, x.1)?)?;
+    constraints.declare(Sym(1), RangeSet::of(alloc, y.0, y.1)?)?;
+    Ok(constraints)
+}
+
+/// A line for each piece.
+pub fn text(alloc: Global, pieces: &[Piece]) -> Result<String, AllocError> {
+    let mut text = String::new(alloc);
+    for piece in pieces {
+        let line = format!(in alloc; "{:?}", piece.label)?;
+        text.push_str(&line)?;
+        push_ranges(alloc, &mut text, &piece.constraints)?;
+        text.push_str(" gives ")?;
+        push_term(alloc, &mut text, piece.answer)?;
+        if let Some(guessed) = &piece.guessed {
+            push_guessed(alloc, &mut text, guessed)?;
+        }
+        text.push_str("\n")?;
+    }
+    Ok(text)
+}
+
+fn push_ranges(
+    alloc: Global,
+    text: &mut String,
+    constraints: &Constraints,
+) -> Result<(), AllocError> {
+    for (sym, name) in [(Sym(0), " x"), (Sym(1), " y"), (Sym(2), " guess")] {
+        if let Some(range) = constraints.range_of(sym) {
+            text.push_str(name)?;
+            push_intervals(alloc, text, range.intervals())?;
+        }
+    }
+    Ok(())
+}
+
+fn push_intervals(
+    alloc: Global,
+    text: &mut String,
+    intervals: &[Interval],
+) -> Result<(), AllocError> {
+    for interval in intervals {
+        let shown = format!(in alloc; " {}..{}", interval.low, interval.high)?;
+        text.push_str(&shown)?;
+    }
+    Ok(())
+}
+
+fn push_term(alloc: Global, text: &mut String, term: Lin) -> Result<(), AllocError> {
+    let name = match term.sym {
+        None => "",
+        Some(Sym(0)) => "*x",
+        Some(Sym(1)) => "*y",
+        Some(_) => "*guess",
+    };
+    let at_zero = term.value - term.slope * term.at;
+    let shown = match term.sym {
+        None => format!(in alloc; "{}", term.value)?,
+        Some(_) => format!(in alloc; "{}{name}+{at_zero}", term.slope)?,
+    };
+    text.push_str(&shown)?;
+    Ok(())
+}
+
+fn push_guessed(alloc: Global, text: &mut String, guessed: &Guessed) -> Result<(), AllocError> {
+    text.push_str(" of ")?;
+    push_term(alloc, text, guessed.left)?;
+    push_intervals(alloc, text, &[guessed.ends.left])?;
+    text.push_str(" and ")?;
+    push_term(alloc, text, guessed.right)?;
+    push_intervals(alloc, text, &[guessed.ends.right])?;
+    if let Some(fact) = &guessed.fact {
+        text.push_str(" fact ")?;
+        push_term(alloc, text, fact.term.first)?;
+        text.push_str(" + ")?;
+        push_term(alloc, text, fact.term.second)?;
+    }
+    Ok(())
+}
