@@ -2,7 +2,9 @@
 ghost use Rattle.cs_terms.specs.Term.{IsTerm};
 ghost use Rattle.cs_eval.specs.Operands.{IsReadyOperand};
 
-use crate::checked::{check_adds, check_inside, check_integer, check_integers, check_scales, moved};
+use crate::checked::{
+    check_adds, check_inside, check_integer, check_integers, check_scales, moved,
+};
 use crate::guesses::Inexact;
 use crate::operands::{constant, number};
 use crate::piece::Piece;

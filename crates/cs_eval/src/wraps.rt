@@ -12,7 +12,9 @@ use crate::pieces::{Shown, exact_piece, guessed_piece, narrowed, one_piece};
 use crate::setting::Setting;
 use cs_events::{Label, Wrap};
 use cs_ranges::RangeSet;
-use cs_terms::{Lin, Piece as Part, Pieces, ProductPieces as Parts, Sym, stays_within, wrap_pieces};
+use cs_terms::{
+    Lin, Piece as Part, Pieces, ProductPieces as Parts, Sym, stays_within, wrap_pieces,
+};
 use cs_types::{DataModel, IntType, bytes, quotient, wrap};
 use std::alloc::AllocError;
 

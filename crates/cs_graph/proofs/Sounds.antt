@@ -1,5 +1,6 @@
 -- Graphs stay sound: for the contracts of `Graph`.
-use Rattle.std.proofs.Common.{◌≡◌, ◌⊎◌, ◌<◌, ◌+◌, ℕ, zero, suc, Bool, true, false, List, [], ◌∷◌, ◌++◌, Option, None, Some, length, slice_get}
+use Rattle.std.proofs.Common.{◌≡◌, ◌⊎◌, ◌<◌, ◌+◌, ℕ, zero, suc, Bool, true, false, List, [], ◌∷◌, ◌++◌, Option, None, Some}
+use Rattle.std.proofs.Common.{length, slice_get}
 use Rattle.std.proofs.Common.{refl, sym, ap, ◌∙◌, inl, inr, subst, arith, length-append, IfSome, IfNone}
 use Rattle.std.specs.Map.{keys_of, lookup}
 use Rattle.cs_graph.specs.Waiting.{IsWaiting, HasJoined, IsGiven}
@@ -52,7 +53,8 @@ module _ {K : Type 0} (test : K → Bool) where
           record { place = suc rest.place; entry = rest.entry; at = rest.at; passes = rest.passes; is = rest.is }
 
   -- no key passes the test
-  pub none_passes : (es : List (K × ℕ)) → lookup test es ≡ None → (place : ℕ) (other : K) → slice_get (keys_of es) place ≡ Some other → test other ≡ false
+  pub none_passes : (es : List (K × ℕ)) → lookup test es ≡ None → (place : ℕ) (other : K) → slice_get (keys_of es) place ≡ Some other
+      → test other ≡ false
   none_passes [] e place other at = absurd (none-some other at)
   none_passes (x ∷ es) e place other at = by (test x.0) refl (λ rest. none_passes es rest) e place at
     where
@@ -62,7 +64,8 @@ module _ {K : Type 0} (test : K → Bool) where
       by false t further h zero a = subst (λ k. test k ≡ false) (same_Some x.0 other a) t
       by false t further h (suc p) a = further h p other a
 
-  pub passes_none : (es : List (K × ℕ)) → ((place : ℕ) (other : K) → slice_get (keys_of es) place ≡ Some other → test other ≡ false) → lookup test es ≡ None
+  pub passes_none : (es : List (K × ℕ)) → ((place : ℕ) (other : K) → slice_get (keys_of es) place ≡ Some other → test other ≡ false)
+      → lookup test es ≡ None
   passes_none [] none = refl
   passes_none (x ∷ es) none = simp (none 0 x.0 refl) (passes_none es (λ place other at. none (suc place) other at))
 
@@ -92,7 +95,8 @@ get_last (z ∷ xs) x y (suc place) at = elim (get_last xs x y place at) [
 module _ {K R : Type 0} where
   -- one was added
   pub sound_added : (key : K) (visits number : ℕ) (row : R) (es fs : List (K × ℕ)) (rows more : List R) (work waiting : List (ℕ × ℕ)) (nodes : ℕ)
-      → fs ≡ es ++ (key, number) ∷ [] → more ≡ rows ++ row ∷ [] → HasJoined visits number work waiting → number ≡ length rows → length rows < nodes
+      → fs ≡ es ++ (key, number) ∷ [] → more ≡ rows ++ row ∷ [] → HasJoined visits number work waiting → number ≡ length rows
+      → length rows < nodes
       → IsSound es rows work nodes → IsSound fs more waiting nodes
   sound_added key visits number row es fs rows more work waiting nodes entries grown joins next few sound =
       let longer : length more ≡ length rows + 1 = ap length grown ∙ length-append rows (row ∷ []) in

@@ -80,7 +80,8 @@ inserted_is : (ks : List Pair) (k y : Pair) → Contains (insert_key pair_cmp ks
 inserted_is [] k y there = contains_cases k y [] there
 inserted_is (x ∷ xs) k y there = by (pair_cmp k x) (λ rest. inserted_is xs k y rest) there
   where
-    by : (r : Ordering) → (Contains (insert_key pair_cmp xs k) y → (k ≡ y) ⊎ Contains xs y) → Contains (match_ordering r (k ∷ x ∷ xs) (x ∷ xs) (x ∷ insert_key pair_cmp xs k)) y → (k ≡ y) ⊎ Contains (x ∷ xs) y
+    by : (r : Ordering) → (Contains (insert_key pair_cmp xs k) y → (k ≡ y) ⊎ Contains xs y)
+        → Contains (match_ordering r (k ∷ x ∷ xs) (x ∷ xs) (x ∷ insert_key pair_cmp xs k)) y → (k ≡ y) ⊎ Contains (x ∷ xs) y
     by Less further h = contains_cases k y (x ∷ xs) h
     by Equal further h = inr h
     by Greater further h =
@@ -93,7 +94,8 @@ inserted_there : (ks : List Pair) (k : Pair) → Contains (insert_key pair_cmp k
 inserted_there [] k = contains_first k []
 inserted_there (x ∷ xs) k = by (pair_cmp k x) (inserted_there xs k) (same_pair k x)
   where
-    by : (r : Ordering) → Contains (insert_key pair_cmp xs k) k → (r ≡ Equal → k ≡ x) → Contains (match_ordering r (k ∷ x ∷ xs) (x ∷ xs) (x ∷ insert_key pair_cmp xs k)) k
+    by : (r : Ordering) → Contains (insert_key pair_cmp xs k) k → (r ≡ Equal → k ≡ x)
+        → Contains (match_ordering r (k ∷ x ∷ xs) (x ∷ xs) (x ∷ insert_key pair_cmp xs k)) k
     by Less further same = contains_first k (x ∷ xs)
     by Equal further same = subst (Contains (x ∷ xs)) (sym (same refl)) (contains_first x xs)
     by Greater further same = contains_rest x k (insert_key pair_cmp xs k) further
@@ -102,7 +104,8 @@ inserted_keeps : (ks : List Pair) (k y : Pair) → Contains ks y → Contains (i
 inserted_keeps [] k y there = absurd (contains_none y there)
 inserted_keeps (x ∷ xs) k y there = by (pair_cmp k x) (λ rest. inserted_keeps xs k y rest)
   where
-    by : (r : Ordering) → (Contains xs y → Contains (insert_key pair_cmp xs k) y) → Contains (match_ordering r (k ∷ x ∷ xs) (x ∷ xs) (x ∷ insert_key pair_cmp xs k)) y
+    by : (r : Ordering) → (Contains xs y → Contains (insert_key pair_cmp xs k) y)
+        → Contains (match_ordering r (k ∷ x ∷ xs) (x ∷ xs) (x ∷ insert_key pair_cmp xs k)) y
     by Less further = contains_rest k y (x ∷ xs) there
     by Equal further = there
     by Greater further =
@@ -149,7 +152,8 @@ left_once k before after e once v w r one other =
     once v w r (in_before v one) (in_before w other)
 
 -- a row that is taken
-pub given : (k : Pair) (before after : List Pair) → before ≡ k ∷ after → All (IsLtBy pair_cmp k) after → HasRowsOnce before → IsGiven k.1 before after
+pub given : (k : Pair) (before after : List Pair) → before ≡ k ∷ after → All (IsLtBy pair_cmp k) after → HasRowsOnce before
+    → IsGiven k.1 before after
 given k before after e above once =
     let in_before : (y : Pair) → Contains after y → Contains before y =
     λ y there. subst (λ l. Contains l y) (sym e) (contains_rest k y after there) in

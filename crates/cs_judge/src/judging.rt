@@ -267,11 +267,7 @@ impl<'a> Judge<'a> {
     }
 
     // Partners for each guess of the first run, among the runs with these numbers.
-    fn partners_among(
-        &self,
-        alloc: Global,
-        among: &[Stretch],
-    ) -> Result<Vec<Partners>, AllocError>
+    fn partners_among(&self, alloc: Global, among: &[Stretch]) -> Result<Vec<Partners>, AllocError>
         requires { IsSeated self.now }
     {
         let mut all = Vec::new(alloc);

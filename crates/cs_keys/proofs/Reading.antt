@@ -1,6 +1,7 @@
 -- Words can be read from the last one: words that end with a part determine the part and the words before it. So equal keys have equal live
 -- parts, for `keys_are_exact`.
-use Rattle.std.proofs.Common.{◌≡◌, ℕ, suc, ◌+◌, ◌*◌, ◌/◌, ◌%◌, ◌^◌, ◌-◌, List, [], ◌∷◌, ◌++◌, length, refl, sym, ap, ◌∙◌, subst, arith, rules}
+use Rattle.std.proofs.Common.{◌≡◌, ℕ, suc, ◌+◌, ◌*◌, ◌/◌, ◌%◌, ◌^◌, ◌-◌, List, [], ◌∷◌, ◌++◌, length, refl, sym, ap}
+use Rattle.std.proofs.Common.{◌∙◌, subst, arith, rules}
 use Rattle.std.proofs.Common.{Bool, true, false, cond, ℤ, pos, negsuc}
 use Rattle.std.specs.Prelude.{Option, None, Some, nat_lt, fold}
 use Rattle.std.proofs.lemmas.List.{same_from_push}

@@ -78,7 +78,8 @@ impl Key {
         callers: &Callers,
     ) -> Result<(), AllocError>
         ensures { OnOk result
-            (self.new ≡ with_list with_frame self.old (map (live_frame constraints.now) callers.now)) }
+            (self.new ≡ with_list with_frame self.old
+            (map (live_frame constraints.now) callers.now)) }
     {
         let mut rest = callers.clone()?;
         while rest.depth() > 0 {

@@ -37,7 +37,8 @@ impl Key {
         value: &Value,
     ) -> Result<(), AllocError>
         ensures { OnOk result
-            (self.new ≡ with_binding self.old (live_binding constraints.now (offset, value.now))) }
+            (self.new ≡ with_binding self.old
+            (live_binding constraints.now (offset, value.now))) }
     {
         self.value(constraints, value)?;
         self.word(offset)

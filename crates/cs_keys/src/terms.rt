@@ -87,7 +87,8 @@ impl Key {
         terms: &[Lin],
     ) -> Result<(), AllocError>
         ensures { OnOk result
-            (self.new ≡ with_list with_term self.old (map (live_term constraints.now) terms.now)) }
+            (self.new ≡ with_list with_term self.old
+            (map (live_term constraints.now) terms.now)) }
     {
         for term in terms {
             self.term(constraints, term)?;
@@ -131,7 +132,8 @@ impl Key {
         values: &[Value],
     ) -> Result<(), AllocError>
         ensures { OnOk result
-            (self.new ≡ with_list with_value self.old (map (live_value constraints.now) values.now)) }
+            (self.new ≡ with_list with_value self.old
+            (map (live_value constraints.now) values.now)) }
     {
         for value in values {
             self.value(constraints, value)?;

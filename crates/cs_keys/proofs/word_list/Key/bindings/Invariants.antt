@@ -7,5 +7,6 @@ use Rattle.cs_keys.proofs.word_list.Key.bindings.Given as goal
 
 abbrev pub invariant-loop-offset : goal.invariant-loop-offset
 invariant-loop-offset l =
-    (fold with_binding l.self (map (live_binding l.constraints) l.offset-iterator) ≡ fold with_binding l.initial.self (map (live_binding l.constraints) (bindings_of l.region)))
+    (fold with_binding l.self (map (live_binding l.constraints) l.offset-iterator)
+    ≡ fold with_binding l.initial.self (map (live_binding l.constraints) (bindings_of l.region)))
     × (l.count + length l.offset-iterator ≡ length (bindings_of l.region))

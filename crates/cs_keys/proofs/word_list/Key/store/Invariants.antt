@@ -7,5 +7,6 @@ use Rattle.cs_keys.proofs.word_list.Key.store.Given as goal
 
 abbrev pub invariant-loop-base : goal.invariant-loop-base
 invariant-loop-base l =
-    (fold with_region l.self (map (live_region l.constraints) l.base-iterator) ≡ fold with_region l.initial.self (map (live_region l.constraints) (regions_of l.store)))
+    (fold with_region l.self (map (live_region l.constraints) l.base-iterator)
+    ≡ fold with_region l.initial.self (map (live_region l.constraints) (regions_of l.store)))
     × (l.count + length l.base-iterator ≡ length (regions_of l.store))
