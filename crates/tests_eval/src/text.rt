@@ -1,7 +1,10 @@
 //! Pieces as text.
+ghost use Rattle.std.specs.Prelude.{IfOk};
+ghost use Rattle.cs_ranges.specs.RangeSet.{IsInhabited};
+
 use cs_constraints::Constraints;
 use cs_eval::{Guessed, Piece, Question, answers};
-use cs_ranges::{Interval, RangeSet};
+use cs_ranges::{GREATEST, Interval, LEAST, RangeSet};
 use cs_terms::{Lin, Sym};
 use cs_types::DataModel;
 use std::alloc::{AllocError, Global};
@@ -65,9 +68,19 @@ pub fn constraints(
     y: (i128, i128),
 ) -> Result<Constraints, AllocError> {
     let mut constraints = Constraints::new(alloc);
-    constraints.declare(Sym(0), RangeSet::of(alloc, x.0, x.1)?)?;
-    constraints.declare(Sym(1), RangeSet::of(alloc, y.0, y.1)?)?;
+    constraints.declare(Sym(0), numbers(alloc, x.0, x.1)?)?;
+    constraints.declare(Sym(1), numbers(alloc, y.0, y.1)?)?;
     Ok(constraints)
+}
+
+/// The numbers from one to another. There are some, and they lie inside the bounds of sets.
+fn numbers(alloc: Global, low: i128, high: i128) -> Result<RangeSet, AllocError>
+    ensures { IfOk result (λ set. IsInhabited set) }
+{
+    if low < LEAST || high > GREATEST || low > high {
+        return Err(AllocError);
+    }
+    RangeSet::of(alloc, low, high)
 }
 
 /// A line for each piece.
@@ -120,7 +133,8 @@ fn push_term(alloc: Global, text: &mut String, term: Lin) -> Result<(), AllocErr
         Some(Sym(1)) => "*y",
         Some(_) => "*guess",
     };
-    let at_zero = term.value - term.slope * term.at;
+    let moved = term.slope.checked_mul(term.at).ok_or(AllocError)?;
+    let at_zero = term.value.checked_sub(moved).ok_or(AllocError)?;
     let shown = match term.sym {
         None => format!(in alloc; "{}", term.value)?,
         Some(_) => format!(in alloc; "{}{name}+{at_zero}", term.slope)?,
