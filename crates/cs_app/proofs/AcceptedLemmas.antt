@@ -80,7 +80,7 @@ accepted_is_answered command file lexed tree program status text h suits a =
     let same = one_program (typed_tree (model_of command) a.lexed a.tree) program a.program (again ∙ h.typed) a.accepted.typed in
     program_is_answered command a.lexed.files.items a.program status text (subst (Suits command) same suits) a.answer
 
--- a file whose tokens are a tree is refused by no check but that of types, which tells what typing says of the tree
+-- a file whose tokens are a tree is refused by no check but that of types, which says what typing says of the tree
 pub trees_are_refused_by_types : TreesAreRefusedByTypes
 trees_are_refused_by_types model file lexed tree text h (too_long long line) = absurd (omega (arith, long, h.short))
 trees_are_refused_by_types model file lexed tree text h (by_lexing short refusal refused line) =

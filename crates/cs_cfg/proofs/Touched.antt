@@ -1,4 +1,4 @@
--- Each step of the code's run touches what is told of the point from which it comes: for the law `steps_touch_as_reported`.
+-- Each step of the code's run touches what is said of the point from which it comes: for the law `steps_touch_as_reported`.
 use Rattle.std.proofs.Common.{◌≡◌, ℕ, nat_lt, ℤ, Bool, true, false, List, [], ◌∷◌, ◌++◌, inl, inr, Option, Some, None, slice_get}
 use Rattle.std.proofs.Common.{if◌then◌else◌, refl, sym, ap, ◌∙◌, subst}
 use Rattle.std.specs.Prelude.{option_map}
@@ -95,7 +95,7 @@ module _ {S : Type 0} where
       in_room (has_room setting log) at log what _ (touched setting (with_access log at object offset) h)
   touched setting log (touches {one = one} h) = one_touch log.touches one _ (touched setting (with_touch log one) h)
 
-  -- what is told of a local of a frame
+  -- what is said of a local of a frame
   touches_local : (frame : ℕ) (yields : ℕ → reported.Touch) (local : Option ℕ) {a : Act S} → TouchesJust None a →
       TouchesJust (option_map (in_frame frame) (option_map yields local)) (touches_then (λ declaration. in_frame frame (yields declaration)) local a)
   touches_local frame yields None h = h
@@ -138,7 +138,7 @@ touches_call program budgets at function routine (Some flow) arguments m =
     keeps_enter silent (λ m. goes) program budgets (code_frame function flow) at function routine arguments m
 
 module _ (code : Code) (program : TypedProgram) (budgets : RunBudgets) where
-  -- what an operation does touches what is told of it, as a touch of the frame that runs
+  -- what an operation does touches what is said of it, as a touch of the frame that runs
   abbrev AsReported : Place → Work → CodeState → Type 0
   AsReported at work m = TouchesJust (option_map (in_frame m.frame.number) (touch_of_work at work)) (do_work code program budgets at work m)
 
@@ -210,7 +210,7 @@ module _ (code : Code) (program : TypedProgram) (budgets : RunBudgets) where
   first_touches (operation ∷ operations) end m =
       work_touches operation.at operation.work (cut _ (to_do (record { operations = operations; end = end }) m))
 
-  -- a step touches what is told of what stands first at the point from which it comes
+  -- a step touches what is said of what stands first at the point from which it comes
   pub steps_touch : (setting : Setting) (m : CodeState) (log : Log)
       → HasTouched log.touches (option_map (in_frame m.frame.number) (touch_first m.frame.todo.operations m.frame.todo.end))
       (perform setting log (code_step code program budgets m))

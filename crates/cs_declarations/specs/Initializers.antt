@@ -184,7 +184,7 @@ value_judged model storage at ty v = lift (value_held model storage at) (convert
 abbrev pub item_judged : DataModel → Storage → Place → Shape → Typed → Verdict Initial
 item_judged model storage at ty v = if is_braceless ty (type_of v) then Fault Initializer at else value_judged model storage at ty v
 
--- an item before others: of two codes at the `=` the lesser is told
+-- an item before others: of two codes at the `=` the lesser is reported
 abbrev pub before_others : Place → Verdict Initial → Verdict Initials → Verdict Initials
 before_others at (Fine first) (Fine others) = Fine (Part first others)
 before_others at (Fine first) (Fault code place) = Fault code at

@@ -83,7 +83,7 @@ fn part_judged(
     }
 }
 
-// The same of each item: where several are wrong, the least code is told.
+// The same of each item: where several are wrong, the least code is reported.
 #[cycle(judging)]
 fn parts_judged(
     alloc: Global,

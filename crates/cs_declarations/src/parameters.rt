@@ -132,7 +132,7 @@ fn may_write(parameter: &RawParameter, ty: &CType) -> bool
     is_pointer && !points_to_const(&parameter.specs, &parameter.pointers, &parameter.bounds)
 }
 
-// What is told of a refusal after such a name: the name counts.
+// What is reported of a refusal after such a name: the name counts.
 fn refused_after(twice: Option<Place>, refusal: TypeRefusal) -> TypeRefusal
     ensures { result ≡ refused_after twice refusal }
 {

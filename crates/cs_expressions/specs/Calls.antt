@@ -69,7 +69,7 @@ abbrev pub least : TypeCode → Option TypeCode → TypeCode
 least code (Some other) = lesser code other
 least code None = code
 
--- an argument before others: of two codes at the call the lesser is told
+-- an argument before others: of two codes at the call the lesser is reported
 abbrev pub before_others : Place → Verdict Typed → Verdict TypedList → Verdict TypedList
 before_others at (Fine e) (Fine others) = Fine (Further e others)
 before_others at (Fine e) (Fault code place) = Fault code at

@@ -101,7 +101,7 @@ pub fn least(code: TypeCode, other: Option<TypeCode>) -> TypeCode
     }
 }
 
-/// The values of arguments, each converted to the type of its parameter. Of those that can't be, the least code is told.
+/// The values of arguments, each converted to the type of its parameter. Of those that can't be, the least code is reported.
 pub fn converted_list(
     alloc: Global,
     model: DataModel,

@@ -1,4 +1,4 @@
-//! Files in which several rules fail, or nearly do: of the failing places the first in the file is told, and of one place the least
+//! Files in which several rules fail, or nearly do: of the failing places the first in the file is reported, and of one place the least
 //! code. Each file stands beside like ones that are accepted or refused otherwise.
 
 use crate::asked::answered_otherwise;
@@ -55,7 +55,7 @@ const ADDRESSES: [(&str, &str); 22] = [
     ("int*p[2]={0,(int*)0};", NO_FUNCTION),
 ];
 
-/// What holds no values isn't an object either: it is told at its own place.
+/// What holds no values isn't an object either: it is reported at its own place.
 const VOIDS: [(&str, &str); 13] = [
     (
         "struct s{int a;};void v(void);int f(void){return v().a;}",
