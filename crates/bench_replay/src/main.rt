@@ -21,7 +21,7 @@ use cs_run_state::prepared::Prepared;
 use cs_types::DataModel;
 use std::alloc::Global;
 use std::{env, io};
-use tests_csa::front::program;
+use tests_files::front::program;
 
 // How far each replay goes.
 const BUDGETS: RunBudgets = RunBudgets {

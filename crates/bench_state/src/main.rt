@@ -73,7 +73,7 @@ fn with_table(alloc: Global, cells: u32) -> Result<State, AllocError> {
 fn keys(alloc: Global, state: &State, count: u32) -> Result<usize, AllocError> {
     let mut words = 0usize;
     for _ in 0..count {
-        words = words.wrapping_add(key(alloc, state)?.as_slice().len());
+        words = words.wrapping_add(key(alloc, state)?.len());
     }
     Ok(words)
 }

@@ -1,6 +1,7 @@
 -- What is accepted has no other whole text than that of an answer: for the clause of the top call that says which files are
 -- answered.
-use Rattle.std.proofs.Common.{◌≡◌, ℕ, List, Option, Some, None, inl, inr, sym, ap, ◌∙◌, subst, arith}
+use Rattle.std.proofs.Common.{◌≡◌, ℕ, Bool, true, false, cond, List, [], ◌∷◌, Option, Some, None, inl, inr, sym, ap, ◌∙◌, subst, arith}
+use Rattle.std.specs.Prelude.{option_map}
 use Rattle.std.specs.Io.KnownBytes.{Appends}
 use Rattle.cs_types.specs.declared.data_model.DataModel.{DataModel}
 use Rattle.std.specs.List.{list_any}
@@ -12,20 +13,25 @@ use Rattle.cs_lexer.proofs.OneLexing.{lexed_once, lexed_or_refused}
 use Rattle.cs_decl_parser.specs.Files.{parts_of, IsTheFile}
 use Rattle.cs_scopes.specs.declared.refusal.TypeCode.{TypeCode}
 use Rattle.cs_scopes.specs.Verdicts.{Verdict, Fine, Fault}
+use Rattle.cs_events.specs.declared.outcome.Outcome.{Outcome}
+use Rattle.cs_events.specs.declared.outcome.Outcome.TheVariants as ends
+use Rattle.cs_results.specs.Selected.{every_kind, lists_report}
 use Rattle.cs_words.specs.declared.command.Command.{Command}
-use Rattle.cs_words.specs.declared.command.Command.TheVariants.{Analyze, Flow, Replay}
-use Rattle.cs_app.specs.Trees.{Parses, HasProgram, typed_tree}
+use Rattle.cs_words.specs.declared.command.AnalyzeWords.{AnalyzeWords}
+use Rattle.cs_words.specs.declared.command.ReplayWords.{ReplayWords}
+use Rattle.cs_words.specs.declared.command.Command.TheVariants.{Analyze, Flow, Replay, Generate}
+use Rattle.cs_app.specs.Trees.{Parses, HasProgram, typed_tree, entry_of}
 use Rattle.cs_app.specs.Refusals.{IsLexLine, IsSyntaxLine, type_line, IsRefusal, too_long, by_lexing, by_syntax, by_type}
 use Rattle.cs_app.specs.declared.status.Status.{Status}
 use Rattle.cs_app.specs.declared.status.Status.TheVariants.{Clean, Found, BadWords, BadFile, ReadFault, WriteFault, Memory, NoEntry}
 use Rattle.cs_app.specs.Entries.{has_report}
-use Rattle.cs_app.specs.Answers.{IsProgramAnswer, Accepts, IsAnswer, IsLeft, IsFileAnswer, IsAnswered, Suits, IsAcceptable, model_of}
+use Rattle.cs_app.specs.Analyses.{LacksEntry, IsExploredAnswer, entries_named}
+use Rattle.cs_app.specs.Answers.{IsProgramAnswer, IsReplayAnswer, Accepts, IsAnswer, IsLeft, IsFileAnswer, IsAnswered, Suits, IsAcceptable, model_of}
+use Rattle.cs_app.specs.Answers.{outcome_status}
 use Rattle.cs_app.specs.Answers.{IsTypeRefused, refused_line, IsRefusedWith}
 use Rattle.cs_app.specs.Laws.{RefusedIsNotAccepted, TreesAreRefusedByTypes}
 use Rattle.cs_decl_parser.proofs.WholeFiles.{file_or_refused}
-use Rattle.cs_app.proofs.ReplayLemmas.{no_outcome}
 use Rattle.cs_app.proofs.TypingLemmas.{one_typing}
-use Rattle.cs_app.proofs.AnswerLemmas.{no_analysis}
 
 -- what has a program has no fault
 not_both : (verdict : Verdict TypedProgram) (program : TypedProgram) (code : TypeCode) (place : Place) → verdict ≡ Fine program
@@ -40,36 +46,49 @@ one_fault : (verdict : Verdict TypedProgram) (code code' : TypeCode) (place plac
     → verdict ≡ Fault code' place' → (code' ≡ code) × (place' ≡ place)
 one_fault verdict code code' place place' is also = (cc, cc)
 
+-- a status that says whether something was found is an answer
+yields_answer : (status : Status) (found : Bool) → status ≡ cond found Found Clean → IsAnswered status
+yields_answer status true is = subst IsAnswered (sym is) tt
+yields_answer status false is = subst IsAnswered (sym is) tt
+
+outcome_answers : (status : Status) (outcome : Outcome) → status ≡ outcome_status outcome → IsAnswered status
+outcome_answers status (ends.Done returned) is = subst IsAnswered (sym is) tt
+outcome_answers status (ends.Fault kind at) is = subst IsAnswered (sym is) tt
+outcome_answers status (ends.Over budget at) is = subst IsAnswered (sym is) tt
+
+-- the function that is asked for isn't both there and missing
+not_lacking : {A : Type 0} (entry : Option (List ℕ)) (program : TypedProgram) (text : List ℕ) (entries : List ℕ) → LacksEntry entry program text
+    → entries_named entry program ≡ Some entries → A
+not_lacking None program text entries lacks named = absurd lacks
+not_lacking (Some name) program text entries lacks named =
+    let both : None ≡ Some entries = sym (ap (option_map (λ (n : ℕ). n ∷ [])) lacks.0) ∙ named in
+    absurd cc
+
+explored_is_answered : (words : AnalyzeWords) (program : TypedProgram) (status : Status) (text : List ℕ) (entries : List ℕ)
+    → entries_named words.entry program ≡ Some entries → IsExploredAnswer words program status text → IsAnswered status
+explored_is_answered words program NoEntry text entries named lacks = not_lacking words.entry program text entries lacks named
+explored_is_answered words program status text entries named answer =
+    yields_answer status (lists_report words.kinds answer.results) answer.answer.yields
+
+replay_is_answered : (files : List (List ℕ)) (program : TypedProgram) (words : ReplayWords) (status : Status) (text : List ℕ) (entry : ℕ)
+    → entry_of words.entry program ≡ Some entry → IsReplayAnswer files program words status text → IsAnswered status
+replay_is_answered files program words NoEntry text entry found answer =
+    let both : None ≡ Some entry = sym answer.0 ∙ found in
+    absurd cc
+replay_is_answered files program words status text entry found answer = outcome_answers status answer.2.outcome answer.2.yields
+
 -- a program that suits the command is answered
 program_is_answered : (command : Command) (files : List (List ℕ)) (program : TypedProgram) (status : Status) (text : List ℕ) → Suits command program
     → IsProgramAnswer command files program status text → IsAnswered status
-program_is_answered command files program Clean text suits answer = tt
-program_is_answered command files program Found text suits answer = tt
-program_is_answered (Analyze words) files program BadFile text suits answer = answer.0 suits.0 suits.1
-program_is_answered (Analyze words) files program BadWords text suits answer =
-    no_analysis BadWords (list_any has_report answer.2.results) (λ e. cc) (λ e. cc) answer.2.found
-program_is_answered (Analyze words) files program ReadFault text suits answer =
-    no_analysis ReadFault (list_any has_report answer.2.results) (λ e. cc) (λ e. cc) answer.2.found
-program_is_answered (Analyze words) files program WriteFault text suits answer =
-    no_analysis WriteFault (list_any has_report answer.2.results) (λ e. cc) (λ e. cc) answer.2.found
-program_is_answered (Analyze words) files program Memory text suits answer =
-    no_analysis Memory (list_any has_report answer.2.results) (λ e. cc) (λ e. cc) answer.2.found
-program_is_answered (Analyze words) files program NoEntry text suits answer =
-    no_analysis NoEntry (list_any has_report answer.2.results) (λ e. cc) (λ e. cc) answer.2.found
-program_is_answered (Flow words) files program BadFile text suits answer = absurd (let is = answer.0 in cc)
-program_is_answered (Flow words) files program BadWords text suits answer = absurd (let is = answer.0 in cc)
-program_is_answered (Flow words) files program ReadFault text suits answer = absurd (let is = answer.0 in cc)
-program_is_answered (Flow words) files program WriteFault text suits answer = absurd (let is = answer.0 in cc)
-program_is_answered (Flow words) files program Memory text suits answer = absurd (let is = answer.0 in cc)
-program_is_answered (Flow words) files program NoEntry text suits answer = absurd (let is = answer.0 in cc)
-program_is_answered (Replay words) files program NoEntry text suits answer =
-    let both : None ≡ Some suits.0 = sym answer.0 ∙ suits.1 in
-    absurd cc
-program_is_answered (Replay words) files program BadWords text suits answer = no_outcome BadWords answer.2.outcome (λ e. cc) (λ e. cc) answer.2.yields
-program_is_answered (Replay words) files program BadFile text suits answer = no_outcome BadFile answer.2.outcome (λ e. cc) (λ e. cc) answer.2.yields
-program_is_answered (Replay words) files program ReadFault text suits answer = no_outcome ReadFault answer.2.outcome (λ e. cc) (λ e. cc) answer.2.yields
-program_is_answered (Replay words) files program WriteFault text suits answer = no_outcome WriteFault answer.2.outcome (λ e. cc) (λ e. cc) answer.2.yields
-program_is_answered (Replay words) files program Memory text suits answer = no_outcome Memory answer.2.outcome (λ e. cc) (λ e. cc) answer.2.yields
+program_is_answered (Analyze words) files program status text suits (inl small) =
+    yields_answer status (list_any has_report small.3.results) small.3.found
+program_is_answered (Analyze words) files program status text suits (inr other) =
+    explored_is_answered words program status text suits.0 suits.1 other.1
+program_is_answered (Flow words) files program status text suits answer = subst IsAnswered (sym answer.0) tt
+program_is_answered (Replay words) files program status text suits answer =
+    replay_is_answered files program words status text suits.0 suits.1 answer
+program_is_answered (Generate words) files program status text suits answer =
+    yields_answer status (lists_report every_kind answer.results) answer.yields
 
 -- the file's program is the one that suits the command, whichever tree it was made of
 accepted_is_answered : (command : Command) (file : List ℕ) (lexed : Lexed) (tree : List RawExternal) (program : TypedProgram) (status : Status)

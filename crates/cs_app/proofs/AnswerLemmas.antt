@@ -17,7 +17,7 @@ use Rattle.cs_scopes.specs.declared.refusal.TypeRefusal.TheVariants as types
 use Rattle.cs_scopes.specs.Verdicts as verdicts
 use Rattle.cs_scopes.specs.Verdicts.{Fine}
 use Rattle.cs_words.specs.declared.command.Command.{Command}
-use Rattle.cs_words.specs.declared.command.Command.TheVariants.{Analyze, Flow, Replay}
+use Rattle.cs_words.specs.declared.command.Command.TheVariants.{Analyze, Flow, Replay, Generate}
 use Rattle.cs_words.specs.declared.refusal.WordsRefusal.{WordsRefusal}
 use Rattle.cs_words.specs.declared.refusal.WordsRefusal.TheVariants as words_refusal
 use Rattle.cs_words.specs.Meaning.{WordsMean}
@@ -29,8 +29,9 @@ use Rattle.cs_app.specs.declared.status.Status.{Status}
 use Rattle.cs_app.specs.declared.status.Status.TheVariants.{Clean, Found, BadWords, BadFile}
 use Rattle.cs_app.specs.declared.answer.Answer.{Answer}
 use Rattle.cs_app.specs.declared.answer.Failure.{Failure}
+use Rattle.cs_results.specs.Selected.{every_kind, lists_report}
 use Rattle.cs_app.specs.Entries.{has_report}
-use Rattle.cs_app.specs.Answers.{IsProgramAnswer, IsAnswer, IsFileAnswer, IsWhole, model_of}
+use Rattle.cs_app.specs.Answers.{IsProgramAnswer, IsAnswer, IsLeft, IsFileAnswer, IsWhole, Reads, file_of, model_of}
 use Rattle.cs_app.proofs.ReplayLemmas.{no_outcome}
 
 -- ---- a program
@@ -52,9 +53,14 @@ answers_program command file lexed parsed program _ text h typed answer =
 -- a program has no answer of words
 no_answer_of_words : {A : Type 0} (command : Command) (files : List (List ℕ)) (program : TypedProgram) (text : List ℕ)
     → IsProgramAnswer command files program BadWords text → A
-no_answer_of_words (Analyze words) files program text answer = no_analysis BadWords (list_any has_report answer.2.results) (λ e. cc) (λ e. cc) answer.2.found
+no_answer_of_words (Analyze words) files program text (inl small) =
+    no_analysis BadWords (list_any has_report small.3.results) (λ e. cc) (λ e. cc) small.3.found
+no_answer_of_words (Analyze words) files program text (inr other) =
+    no_analysis BadWords (lists_report words.kinds other.1.results) (λ e. cc) (λ e. cc) other.1.answer.yields
 no_answer_of_words (Flow words) files program text answer = absurd (let is = answer.0 in cc)
 no_answer_of_words (Replay words) files program text answer = no_outcome BadWords answer.2.outcome (λ e. cc) (λ e. cc) answer.2.yields
+no_answer_of_words (Generate words) files program text answer =
+    no_analysis BadWords (lists_report every_kind answer.results) (λ e. cc) (λ e. cc) answer.yields
 
 -- ---- a file
 -- the line that refuses a tree that is no program answers the file that has it
@@ -86,19 +92,29 @@ long_answer : (command : Command) (file : List ℕ) (status : Status) (text : Li
     → MOST_BYTES < length file → IsAnswer command file status text
 long_answer command file status text is line long = subst (λ s. IsAnswer command file s text) (sym is) (inl (too_long long line))
 
+-- the file of a command that reads is what the source has left
+file_of_source : (command : Command) (left : Option (List ℕ)) → Reads command → file_of command left ≡ left
+file_of_source (Analyze words) left reads = refl
+file_of_source (Flow words) left reads = refl
+file_of_source (Replay words) left reads = refl
+file_of_source (Generate words) left reads = absurd reads
+
 -- the line that refuses a file that is too long answers it
-pub refuses_length : (command : Command) (left : Option (List ℕ)) (status : Status) (text : List ℕ) → status ≡ BadFile
+pub refuses_length : (command : Command) (left : Option (List ℕ)) (status : Status) (text : List ℕ) → Reads command → status ≡ BadFile
     → text ≡ codes "refused too-long 4194305\n" → IfSome left (λ file. MOST_BYTES < length file) → IsFileAnswer command left status text
-refuses_length command (Some file) status text is line long = (file, refl, long_answer command file status text is line long)
-refuses_length command None status text is line long =
+refuses_length command (Some file) status text reads is line long =
+    (file, subst (λ l. IsLeft l file) (sym (file_of_source command (Some file) reads)) refl, long_answer command file status text is line long)
+refuses_length command None status text reads is line long =
     let some = some_longer MOST_BYTES in
-    (some.0, tt, long_answer command some.0 status text is line some.1)
+    (some.0, subst (λ l. IsLeft l some.0) (sym (file_of_source command None reads)) tt, long_answer command some.0 status text is line some.1)
 
 -- an answer to the bytes that were read is one to the file, where the source tells what it is
-pub answers_left : (command : Command) (left : Option (List ℕ)) (file : List ℕ) (status : Status) (text : List ℕ)
+pub answers_left : (command : Command) (left : Option (List ℕ)) (file : List ℕ) (status : Status) (text : List ℕ) → Reads command
     → IfSome left (λ bytes. file ≡ bytes) → IsAnswer command file status text → IsFileAnswer command left status text
-answers_left command (Some bytes) file status text same answer = (file, same, answer)
-answers_left command None file status text same answer = (file, tt, answer)
+answers_left command (Some bytes) file status text reads same answer =
+    (file, subst (λ l. IsLeft l file) (sym (file_of_source command (Some bytes) reads)) same, answer)
+answers_left command None file status text reads same answer =
+    (file, subst (λ l. IsLeft l file) (sym (file_of_source command None reads)) tt, answer)
 
 -- ---- words
 -- an answer to the file answers the words, too, where they mean the command

@@ -1,18 +1,18 @@
 -- What a run of the program answers.
-use Rattle.std.specs.Prelude.{◌≡◌, ◌⊎◌, ℕ, List, [], ◌++◌, Option, Some, None, codes}
+use Rattle.std.specs.Prelude.{◌≡◌, ◌⊎◌, ℕ, List, [], ◌++◌, length, Option, Some, None, codes}
 use Rattle.std.specs.Fmt.{decimal}
 use Rattle.std.specs.Io.KnownBytes.{Appends}
 use Rattle.cs_io.specs.Count.{Rose}
 use Rattle.cs_io.specs.Reported.{AppendsPart}
 use Rattle.cs_types.specs.declared.data_model.DataModel.{DataModel}
+use Rattle.cs_types.specs.declared.data_model.DataModel.TheVariants.{Lp64}
 use Rattle.cs_ast.specs.declared.place.Place.{Place}
 use Rattle.cs_ast.specs.declared.raw.external.RawExternal.{RawExternal}
-use Rattle.cs_small_meaning.specs.Tree.{Definition}
 use Rattle.cs_ast.specs.TypedProgram.{TypedProgram}
 use Rattle.cs_lexer.specs.declared.lexer.Lexed.{Lexed}
 use Rattle.cs_scopes.specs.declared.refusal.TypeCode.{TypeCode}
 use Rattle.cs_scopes.specs.Verdicts.{Fine, Fault}
-use Rattle.cs_small_form.specs.Reading.{IsOfForm}
+use Rattle.cs_generate.specs.GeneratedFile.{generated_file}
 use Rattle.cs_events.specs.declared.outcome.Outcome.{Outcome}
 use Rattle.cs_events.specs.declared.outcome.Outcome.TheVariants.{Done, Fault, Over}
 use Rattle.cs_events.specs.Runs.{Log}
@@ -20,19 +20,14 @@ use Rattle.cs_meaning.specs.ProgramRuns.{RunGives}
 use Rattle.cs_cfg.specs.FlowText.{program_flow}
 use Rattle.cs_report.specs.ReplayLines.{replay_line}
 use Rattle.cs_words.specs.declared.command.Command.{Command}
-use Rattle.cs_words.specs.declared.command.Command.TheVariants.{Analyze, Flow, Replay}
+use Rattle.cs_words.specs.declared.command.Command.TheVariants.{Analyze, Flow, Replay, Generate}
 use Rattle.cs_words.specs.declared.command.ReplayWords.{ReplayWords}
 use Rattle.cs_words.specs.Meaning.{WordsMean, AreRefusedAt}
-use Rattle.cs_app.specs.Trees.{Parses, HasProgram, IsOfNoForm, typed_tree, entry_of}
+use Rattle.cs_app.specs.Trees.{Parses, HasProgram, typed_tree, entry_of}
 use Rattle.cs_app.specs.Refusals.{IsRefusal, type_line}
-use Rattle.cs_app.specs.Entries.{IsAnalysisOf}
+use Rattle.cs_app.specs.Analyses.{IsAnalysisAnswer, IsSummary, entries_named}
 use Rattle.cs_app.specs.declared.status.Status.{Status}
 use Rattle.cs_app.specs.declared.status.Status.TheVariants.{Clean, Found, BadWords, BadFile, NoEntry}
-
--- the text is the analysis of the program's functions, or says that they aren't of the form that is analyzed so far
-abbrev pub IsAnalysisAnswer : List (List ℕ) → TypedProgram → Status → List ℕ → Type 0
-IsAnalysisAnswer files program BadFile text = IsOfNoForm program × (text ≡ codes "refused form\n")
-IsAnalysisAnswer files program status text = (functions : List Definition) × IsOfForm program functions × IsAnalysisOf files functions status text
 
 -- found where a run ends in a fault
 abbrev pub outcome_status : Outcome → Status
@@ -63,12 +58,28 @@ abbrev pub model_of : Command → DataModel
 model_of (Analyze words) = words.model
 model_of (Flow words) = words.model
 model_of (Replay words) = words.model
+model_of (Generate words) = Lp64
+
+-- the file of a command: what the source has left, or the generated one
+abbrev pub file_of : Command → Option (List ℕ) → Option (List ℕ)
+file_of (Analyze words) left = left
+file_of (Flow words) left = left
+file_of (Replay words) left = left
+file_of (Generate words) left = Some (generated_file words.seed words.size)
+
+-- the command reads its file from the source
+abbrev pub Reads : Command → Type 0
+Reads (Analyze words) = Unit {0}
+Reads (Flow words) = Unit {0}
+Reads (Replay words) = Unit {0}
+Reads (Generate words) = ⊥
 
 -- the answer of a command to a program, whose places are in these files
 abbrev pub IsProgramAnswer : Command → List (List ℕ) → TypedProgram → Status → List ℕ → Type 0
-IsProgramAnswer (Analyze words) files program status text = IsAnalysisAnswer files program status text
+IsProgramAnswer (Analyze words) files program status text = IsAnalysisAnswer words files program status text
 IsProgramAnswer (Flow words) files program status text = IsFlowAnswer program status text
 IsProgramAnswer (Replay words) files program status text = IsReplayAnswer files program words status text
+IsProgramAnswer (Generate words) files program status text = IsSummary (length (generated_file words.seed words.size)) program status text
 
 -- the file is a program, and the command answers it so
 pub record Accepts (command : Command) (file : List ℕ) (status : Status) (text : List ℕ) : Type 0 where
@@ -88,9 +99,9 @@ abbrev pub IsLeft : Option (List ℕ) → List ℕ → Type 0
 IsLeft (Some left) file = file ≡ left
 IsLeft None file = Unit {0}
 
--- the same of a file that the source has left
+-- the same of the command's file
 abbrev pub IsFileAnswer : Command → Option (List ℕ) → Status → List ℕ → Type 0
-IsFileAnswer command left status text = (file : List ℕ) × IsLeft left file × IsAnswer command file status text
+IsFileAnswer command left status text = (file : List ℕ) × IsLeft (file_of command left) file × IsAnswer command file status text
 
 -- the whole text that belongs to a status, for these words and this file
 abbrev pub IsWhole : List (List ℕ) → Option (List ℕ) → Status → List ℕ → Type 0
@@ -132,10 +143,11 @@ IsPartWritten words file before now =
 abbrev pub SinkRose : (faults faults' empty_takes empty_takes' : ℕ) → Type 0
 SinkRose faults faults' empty_takes empty_takes' = Rose faults faults' ⊎ Rose empty_takes empty_takes'
 
--- what a command asks of a program: that it is of the form; nothing; that it has the entry
+-- what a command asks of a program: that it has the function that the words name, if they name one
 abbrev pub Suits : Command → TypedProgram → Type 0
-Suits (Analyze words) program = (functions : List Definition) × IsOfForm program functions
+Suits (Analyze words) program = (entries : List ℕ) × (entries_named words.entry program ≡ Some entries)
 Suits (Flow words) program = Unit {0}
+Suits (Generate words) program = Unit {0}
 Suits (Replay words) program = (entry : ℕ) × (entry_of words.entry program ≡ Some entry)
 
 -- the words mean one command, and the file has a tree that is a program which suits it
@@ -143,7 +155,7 @@ pub record IsAcceptable (words : List (List ℕ)) (file : Option (List ℕ)) : T
   pub command : Command
   pub meant : WordsMean words command
   pub bytes : List ℕ
-  pub reported : file ≡ Some bytes
+  pub reported : file_of command file ≡ Some bytes
   pub lexed : Lexed
   pub tree : List RawExternal
   pub program : TypedProgram
@@ -155,7 +167,7 @@ pub record IsTypeRefused (words : List (List ℕ)) (file : Option (List ℕ)) : 
   pub command : Command
   pub meant : WordsMean words command
   pub bytes : List ℕ
-  pub reported : file ≡ Some bytes
+  pub reported : file_of command file ≡ Some bytes
   pub lexed : Lexed
   pub tree : List RawExternal
   pub parsed : Parses bytes lexed tree

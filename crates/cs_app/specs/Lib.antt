@@ -2,5 +2,7 @@ pub mod Statuses
 pub mod Trees
 pub mod Refusals
 pub mod Entries
+pub mod Results
+pub mod Analyses
 pub mod Answers
 pub mod Laws

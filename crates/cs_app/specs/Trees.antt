@@ -15,10 +15,6 @@ use Rattle.cs_scopes.specs.Verdicts.{Verdict, Fine}
 use Rattle.cs_typing.specs.Programs.{typed}
 use Rattle.cs_small_form.specs.Reading.{IsOfForm}
 
--- these are the tokens of a file that isn't too long
-abbrev pub IsOfFile : Lexed → Type 0
-IsOfFile lexed = (file : List ℕ) × (length file ≤ MOST_BYTES) × Lexes file lexed
-
 -- the file isn't too long, has these tokens, and they are this tree, the only one, of height at most 200, with the places of its tokens
 pub record Parses (file : List ℕ) (lexed : Lexed) (tree : List RawExternal) : Type 0 where
   pub short : length file ≤ MOST_BYTES

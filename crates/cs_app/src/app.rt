@@ -2,33 +2,42 @@
 ghost use Rattle.std.specs.Prelude.{◌≡◌, ℕ};
 ghost use Rattle.std.specs.Io.KnownBytes.{IsAtEnd, Keeps};
 ghost use Rattle.cs_io.specs.Count.{Rose};
-ghost use Rattle.cs_words.specs.Meaning.{words_text, AreRefusedAt};
-ghost use Rattle.cs_app.specs.Answers.{IsWritten, IsPartWritten, IsDone, IsRead, IsAnswered, IsAcceptable, IsTypeRefused, refused_line, IsRefusedWith, SinkRose};
+ghost use Rattle.cs_words.specs.Meaning.{words_text, WordsMean, AreRefusedAt};
+ghost use Rattle.cs_words.specs.declared.command.Command.{Command};
+ghost use Rattle.cs_words.specs.declared.command.Command.TheVariants.{Generate};
+ghost use Rattle.cs_words.specs.declared.command.GenerateWords.{GenerateWords};
+ghost use Rattle.cs_app.specs.Answers.{IsWritten, IsPartWritten, IsDone, IsRead, Reads, IsAnswered, IsAcceptable, IsTypeRefused, refused_line, IsRefusedWith, SinkRose};
 
 use crate::answer::Failure;
 use crate::command::answer_for;
 use crate::status::Status;
+use cs_checker::Checker;
 use cs_io::{Sink, Source, write_all_of};
 use std::alloc::Global;
 
 /// Runs the program: these words, the file that the source has left, and the text into the sink.
+/// The checkers are asked about each operation that the analysis comes to.
 ///
-/// The checks come in this order: words, reading, length, lexing, syntax, types, form or entry,
-/// analysis or run, writing. The whole text is made before the first write, so that nothing is
+/// The checks come in this order: words, reading, length, lexing, syntax, types, entry, analysis
+/// or run, writing. The whole text is made before the first write, so that nothing is
 /// written where the source fails or memory is short.
 pub fn csa<S: Source, K: Sink>(
     alloc: Global,
     words: &[String],
     source: &mut S,
     sink: &mut K,
+    checkers: &mut Vec<Box<dyn Checker>>,
 ) -> Status
     // The whole text is written that belongs to the words, the file and the status.
     ensures written { IsDone result
         → IsWritten (words_text words.now) (S.left source.old) result (K.written sink.old)
         (K.written sink.new) }
-    ensures read_to_the_end { IsRead result → IsAtEnd (S.left source.new) }
+    ensures read_to_the_end { (command : Command) → WordsMean (words_text words.now) command
+        → Reads command → IsRead result → IsAtEnd (S.left source.new) }
     ensures unread { (n : ℕ) → AreRefusedAt (words_text words.now) n
         → source.new ≡ source.old }
+    ensures generated { (generation : GenerateWords)
+        → WordsMean (words_text words.now) (Generate generation) → source.new ≡ source.old }
 
     // Every other status has its cause, and leaves the sink as it was or with a part of such a text.
     ensures read_fault { result ≡ Status.ReadFault
@@ -59,7 +68,7 @@ pub fn csa<S: Source, K: Sink>(
         → (result ≡ Status.Memory → ⊥)
         → IsRefusedWith (refused_line r) result (K.written sink.old) (K.written sink.new) }
 {
-    match answer_for(alloc, words, source) {
+    match answer_for(alloc, words, source, checkers) {
         Ok(answer) => match write_all_of(sink, answer.text.as_slice()) {
             Ok(()) => answer.status,
             Err(_) => Status::WriteFault,

@@ -5,12 +5,16 @@ ghost use Rattle.std.specs.Fmt.{decimal};
 ghost use Rattle.cs_io.specs.Count.{Rose};
 ghost use Rattle.cs_words.specs.declared.command.Command.{Command};
 ghost use Rattle.cs_words.specs.Meaning.{words_text, WordsMean, AreRefusedAt};
-ghost use Rattle.cs_app.specs.Answers.{IsWhole, IsFileAnswer, IsRead};
+ghost use Rattle.cs_words.specs.declared.command.Command.TheVariants.{Generate};
+ghost use Rattle.cs_words.specs.declared.command.GenerateWords.{GenerateWords};
+ghost use Rattle.cs_app.specs.Answers.{IsWhole, IsFileAnswer, IsRead, Reads};
 
 use crate::answer::{Answer, Failure};
 use crate::file::answer_to;
+use crate::generated::generated;
 use crate::refused::refused_length;
 use crate::status::Status;
+use cs_checker::Checker;
 use cs_io::{ReadRefusal, Source, read_all};
 use cs_words::{Command, WordsRefusal, words_of};
 use std::alloc::{AllocError, Global};
@@ -21,20 +25,25 @@ pub fn answer_for<S: Source>(
     alloc: Global,
     words: &[String],
     source: &mut S,
+    checkers: &mut Vec<Box<dyn Checker>>,
 ) -> Result<Answer, Failure>
     ensures whole { IfOk result (λ answer.
         IsWhole (words_text words.now) (S.left source.old) answer.status answer.text.items) }
     ensures only { (command : Command) → WordsMean (words_text words.now) command
         → IfOk result (λ answer.
         IsFileAnswer command (S.left source.old) answer.status answer.text.items) }
-    ensures read { IfOk result (λ answer. IsRead answer.status → IsAtEnd (S.left source.new)) }
+    ensures read { (command : Command) → WordsMean (words_text words.now) command
+        → Reads command → IfOk result (λ answer.
+        IsRead answer.status → IsAtEnd (S.left source.new)) }
     ensures unread { (n : ℕ) → AreRefusedAt (words_text words.now) n
         → source.new ≡ source.old }
+    ensures generated { (generation : GenerateWords)
+        → WordsMean (words_text words.now) (Generate generation) → source.new ≡ source.old }
     ensures fault { result ≡ Err Failure.Read
         → Rose (S.faults source.old) (S.faults source.new) }
 {
     match words_of(alloc, words) {
-        Ok(command) => answer_from(alloc, &command, source),
+        Ok(command) => answer_of(alloc, &command, source, checkers),
         Err(WordsRefusal::Words(number)) => {
             let answer = refused_words(alloc, number)?;
             Ok(answer)
@@ -56,12 +65,40 @@ fn refused_words(alloc: Global, number: u64) -> Result<Answer, AllocError>
     })
 }
 
+/// The answer of a command to its file: what the source has left, or a generated one, for which nothing is read.
+fn answer_of<S: Source>(
+    alloc: Global,
+    command: &Command,
+    source: &mut S,
+    checkers: &mut Vec<Box<dyn Checker>>,
+) -> Result<Answer, Failure>
+    ensures whole { IfOk result (λ answer.
+        IsFileAnswer command.now (S.left source.old) answer.status answer.text.items) }
+    ensures read { Reads command.now → IfOk result (λ answer.
+        IsRead answer.status → IsAtEnd (S.left source.new)) }
+    ensures unread { (Reads command.now → ⊥) → source.new ≡ source.old }
+    ensures fault { result ≡ Err Failure.Read
+        → Rose (S.faults source.old) (S.faults source.new) }
+{
+    match command {
+        Command::Generate(words) => {
+            let answer = generated(alloc, command, words, checkers)?;
+            Ok(answer)
+        }
+        Command::Analyze(_) | Command::Flow(_) | Command::Replay(_) => {
+            answer_from(alloc, command, source, checkers)
+        }
+    }
+}
+
 /// The answer of a command to the file that the source has left.
 fn answer_from<S: Source>(
     alloc: Global,
     command: &Command,
     source: &mut S,
+    checkers: &mut Vec<Box<dyn Checker>>,
 ) -> Result<Answer, Failure>
+    requires { Reads command.now }
     ensures whole { IfOk result (λ answer.
         IsFileAnswer command.now (S.left source.old) answer.status answer.text.items) }
     ensures read { IfOk result (λ answer. IsRead answer.status → IsAtEnd (S.left source.new)) }
@@ -70,7 +107,7 @@ fn answer_from<S: Source>(
 {
     match read_all(alloc, source) {
         Ok(file) => {
-            let answer = answer_to(alloc, command, file.as_slice())?;
+            let answer = answer_to(alloc, command, file.as_slice(), checkers)?;
             Ok(answer)
         }
         Err(ReadRefusal::TooLong) => {

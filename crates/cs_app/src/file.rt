@@ -4,35 +4,42 @@ ghost use Rattle.cs_ast.specs.TypedProgram.{typed_program};
 ghost use Rattle.cs_lexer.specs.Lexing.{Lexes};
 ghost use Rattle.cs_well_formed.specs.Files.{IsFileTree};
 ghost use Rattle.cs_well_formed.specs.Programs.{IsWellFormed};
-ghost use Rattle.cs_app.specs.Trees.{IsOfFile, Parses};
-ghost use Rattle.cs_app.specs.Answers.{IsAnalysisAnswer, IsProgramAnswer, IsAnswer, model_of};
+ghost use Rattle.cs_parsed_files.specs.Trees.{IsOfFile};
+ghost use Rattle.cs_app.specs.Trees.{Parses};
+ghost use Rattle.cs_app.specs.Answers.{IsProgramAnswer, IsAnswer, model_of};
 
+use crate::analysis::analysis;
 use crate::answer::Answer;
-use crate::entries::analyzed;
+use crate::exploration::summarized;
 use crate::flow::flow;
-use crate::refused::{refused_form, refused_syntax, refused_tokens, refused_type};
+use crate::refused::{refused_syntax, refused_tokens, refused_type};
 use crate::replay::replayed;
 use cs_ast::raw::external::RawExternal;
 use cs_ast::typed::program::Program;
+use cs_checker::Checker;
 use cs_decl_parser::parse;
 use cs_lexer::{Lexed, tokens};
 use cs_limits::{MOST_BYTES, MOST_TOKENS};
 use cs_names::Name;
-use cs_small_form::{FormRefusal, functions_of};
 use cs_types::DataModel;
 use cs_typing::typed;
 use cs_words::Command;
 use std::alloc::{AllocError, Global};
 
 /// The answer of a command to a file.
-pub fn answer_to(alloc: Global, command: &Command, file: &[u8]) -> Result<Answer, AllocError>
+pub fn answer_to(
+    alloc: Global,
+    command: &Command,
+    file: &[u8],
+    checkers: &mut Vec<Box<dyn Checker>>,
+) -> Result<Answer, AllocError>
     requires { length file.now ≤ MOST_BYTES }
     ensures { IfOk result (λ answer.
         IsAnswer command.now file.now answer.status answer.text.items) }
 {
     match tokens(alloc, file) {
         Ok(lexed) => {
-            let answer = answer_by_syntax(alloc, command, &lexed)?;
+            let answer = answer_by_syntax(alloc, command, &lexed, checkers)?;
             Ok(answer)
         }
         Err(refusal) => {
@@ -43,7 +50,12 @@ pub fn answer_to(alloc: Global, command: &Command, file: &[u8]) -> Result<Answer
 }
 
 /// The answer to a file with these tokens.
-fn answer_by_syntax(alloc: Global, command: &Command, lexed: &Lexed) -> Result<Answer, AllocError>
+fn answer_by_syntax(
+    alloc: Global,
+    command: &Command,
+    lexed: &Lexed,
+    checkers: &mut Vec<Box<dyn Checker>>,
+) -> Result<Answer, AllocError>
     requires few { length lexed.now.list.items ≤ MOST_TOKENS }
     requires lexed { IsOfFile lexed.now }
     ensures { IfOk result (λ answer.
@@ -52,7 +64,7 @@ fn answer_by_syntax(alloc: Global, command: &Command, lexed: &Lexed) -> Result<A
 {
     match parse(alloc, lexed.list.as_slice(), lexed.end) {
         Ok(tree) => {
-            let answer = answer_by_type(alloc, command, lexed, &tree.externals)?;
+            let answer = answer_by_type(alloc, command, lexed, &tree.externals, checkers)?;
             Ok(answer)
         }
         Err(refusal) => {
@@ -70,6 +82,7 @@ fn model_of(command: &Command) -> DataModel
         Command::Analyze(words) => words.model,
         Command::Flow(words) => words.model,
         Command::Replay(words) => words.model,
+        Command::Generate(_) => DataModel::Lp64,
     }
 }
 
@@ -79,6 +92,7 @@ fn answer_by_type(
     command: &Command,
     lexed: &Lexed,
     tree: &[RawExternal],
+    checkers: &mut Vec<Box<dyn Checker>>,
 ) -> Result<Answer, AllocError>
     requires { IsFileTree lexed.now.files.items lexed.now.list.items tree.now }
     ensures { IfOk result (λ answer. (file : List ℕ) → Parses file lexed.now tree.now
@@ -86,7 +100,7 @@ fn answer_by_type(
 {
     match typed(alloc, model_of(command), &lexed.files, &lexed.list, tree) {
         Ok(program) => {
-            let answer = answer_of(alloc, command, &lexed.files, &program)?;
+            let answer = answer_of(alloc, command, &lexed.files, &program, checkers)?;
             Ok(answer)
         }
         Err(refusal) => {
@@ -102,6 +116,7 @@ fn answer_of(
     command: &Command,
     files: &[Name],
     program: &Program,
+    checkers: &mut Vec<Box<dyn Checker>>,
 ) -> Result<Answer, AllocError>
     requires { IsWellFormed (typed_program program.now) }
     ensures { IfOk result (λ answer.
@@ -109,8 +124,8 @@ fn answer_of(
         answer.text.items) }
 {
     match command {
-        Command::Analyze(_) => {
-            let answer = analysis(alloc, files, program)?;
+        Command::Analyze(words) => {
+            let answer = analysis(alloc, words, files, program, checkers)?;
             Ok(answer)
         }
         Command::Flow(_) => {
@@ -121,23 +136,9 @@ fn answer_of(
             let answer = replayed(alloc, files, program, words)?;
             Ok(answer)
         }
-    }
-}
-
-/// The analysis of a program, whose places are in these files.
-fn analysis(alloc: Global, files: &[Name], program: &Program) -> Result<Answer, AllocError>
-    ensures { IfOk result (λ answer.
-        IsAnalysisAnswer files.now (typed_program program.now) answer.status answer.text.items) }
-{
-    match functions_of(alloc, program) {
-        Ok(functions) => {
-            let answer = analyzed(alloc, files, &functions)?;
+        Command::Generate(words) => {
+            let answer = summarized(alloc, words, program, checkers)?;
             Ok(answer)
         }
-        Err(FormRefusal::NotOfForm) => {
-            let answer = refused_form(alloc)?;
-            Ok(answer)
-        }
-        Err(FormRefusal::Memory) => Err(AllocError),
     }
 }

@@ -1,15 +1,19 @@
 //! The analyzer as one call: words and bytes in, a text and a status out.
 #![tactic(auto)]
 
+mod analysis;
 mod answer;
 mod app;
 mod command;
 mod entries;
+mod exploration;
 mod file;
 mod flow;
+mod generated;
 mod laws;
 mod refused;
 mod replay;
+mod results;
 mod status;
 
 pub use app::csa;

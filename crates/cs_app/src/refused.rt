@@ -72,14 +72,6 @@ pub fn refused_type(
     }
 }
 
-/// The answer to a file that isn't of the form.
-pub fn refused_form(alloc: Global) -> Result<Answer, AllocError>
-    ensures status { IfOk result (λ answer. answer.status ≡ Status.BadFile) }
-    ensures text { IfOk result (λ answer. answer.text.items ≡ codes "refused form\n") }
-{
-    refused_line(alloc, b"refused form\n")
-}
-
 /// The answer to a file in which this word or mark is left out at a place of one of these files.
 fn refused_word(
     alloc: Global,

@@ -154,7 +154,7 @@ fn outcome_of(alloc: Global, files: &[Name], outcome: Outcome) -> Result<Answer,
 }
 
 /// The answer where the program has no function with this name and a body.
-fn refused_entry(alloc: Global, name: &Name) -> Result<Answer, AllocError>
+pub fn refused_entry(alloc: Global, name: &Name) -> Result<Answer, AllocError>
     ensures status { IfOk result (λ answer. answer.status ≡ Status.NoEntry) }
     ensures text { IfOk result (λ answer.
         answer.text.items ≡ codes "refused entry " ++ (name.now ++ codes "\n")) }

@@ -2,5 +2,4 @@ pub mod Productions
 pub mod ProductionRows
 pub mod RowsSoFar
 pub mod SingleParts
-pub mod Admitting
 pub mod Heights

@@ -1,11 +1,16 @@
 -- What the rule of each production comes to where its parts are known, or where one of them is refused: for the cycle of typing.
-use Rattle.std.proofs.Common.{◌≡◌, ℕ, List, true, false, Option, Some, None, length, refl, sym, ap}
-use Rattle.std.proofs.Common.{◌∙◌, Result}
-use Rattle.cs_types.specs.Shape.{Shape}
+use Rattle.std.proofs.Common.{◌≡◌, ℕ, List, true, false, cond, eqb, Option, Some, None, length, refl, sym, ap, arith}
+use Rattle.std.proofs.lemmas.Bool.Decides.{nat_tests}
+use Rattle.std.proofs.Common.{◌∙◌, Result, subst, map}
+use Rattle.std.specs.Prelude.{vec_len}
+use Rattle.std.proofs.lemmas.List.{length-map}
+use Rattle.cs_types.specs.declared.ctype.CType.{CType}
+use Rattle.cs_types.specs.Shape.{Shape, shape_of}
 use Rattle.cs_ast.specs.declared.place.Place.{Place}
 use Rattle.cs_ast.specs.declared.raw.expression.RawExpr.{RawExpr}
 use Rattle.cs_ast.specs.declared.raw.operator.AssignOp.{AssignOp}
 use Rattle.cs_ast.specs.declared.raw.operator.InfixOp.{InfixOp}
+use Rattle.cs_ast.specs.declared.raw.operator.InfixOp.TheVariants as infix_op
 use Rattle.cs_ast.specs.declared.raw.written_type.WrittenType.{WrittenType}
 use Rattle.cs_ast.specs.declared.typed.expression.Expr.{Expr}
 use Rattle.cs_ast.specs.TypedTree.{Typed, TypedList}
@@ -13,21 +18,25 @@ use Rattle.cs_scopes.specs.declared.context.Context.{Context}
 use Rattle.cs_consts.specs.declared.purpose.Purpose.{Purpose}
 use Rattle.cs_scopes.specs.declared.refusal.TypeRefusal.{TypeRefusal}
 use Rattle.cs_scopes.specs.declared.refusal.TypeRefusal.TheVariants as refusal
+use Rattle.cs_scopes.specs.declared.refusal.TypeCode.{TypeCode}
 use Rattle.cs_scopes.specs.declared.refusal.TypeCode.TheVariants as code
-use Rattle.cs_scopes.specs.Meanings.{Signature}
-use Rattle.cs_scopes.specs.Verdicts.{Verdict, Fine, lift, lift2, lift3, IsRefused, Yields}
+use Rattle.cs_scopes.specs.declared.scope.Function.{Function}
+use Rattle.cs_scopes.specs.Meanings.{Signature, signature_of}
+use Rattle.cs_scopes.specs.Verdicts.{Verdict, Fine, Fault, lift, lift2, lift3, IsRefused, Yields}
+use Rattle.cs_scopes.specs.Faults.{least_code, unless_fault}
 use Rattle.cs_folding.specs.TypedParts.{type_of}
 use Rattle.cs_expressions.specs.Objects.{valued, operand}
 use Rattle.cs_expressions.specs.Stores.{led}
 use Rattle.cs_consts.specs.Constants.{finished}
+use Rattle.cs_consts.specs.Operands.{left_operand_fault}
 use Rattle.cs_expressions.specs.Operators.{combined, tested}
-use Rattle.cs_expressions.specs.Calls.{called, parameters_of, admitted}
+use Rattle.cs_expressions.specs.Calls.{called, parameters_of, call_fault}
 use Rattle.cs_expressions.specs.Primary.{Literals}
 use Rattle.cs_consts.specs.Typing.{literals_after, formed, done, value_in, operand_in, purpose_after, purpose_if, right_target, left_side}
-use Rattle.cs_consts.specs.Typing.{left_fault}
+use Rattle.cs_consts.specs.Typing.{left_fault, between, indexed_values, subscript_formed}
 use Rattle.cs_consts.specs.Typing.{stored, stored_to, infix_formed, choice_formed, chosen_values, store_formed, cast_formed, cast_to, cast_type, base_in}
 use Rattle.cs_consts.specs.Typing.{given_shape}
-use Rattle.cs_consts.specs.Typing.{call_formed, call_or_not, call_with, no_function, arguments_listed}
+use Rattle.cs_consts.specs.Typing.{call_formed, call_or_not, call_with, no_function, arguments_listed, arguments_listed_fault}
 use Rattle.cs_scopes.proofs.Lifting.{lift-fine, lift2-fine, lift3-fine, lift-refused, lift2-refused-first, lift2-refused-second, lift3-refused-first}
 use Rattle.cs_scopes.proofs.Lifting.{lift3-refused-second, lift3-refused-third, yields_as, refused_as}
 
@@ -57,18 +66,46 @@ unfolding operand_in
 operand_is c p v e h = ap (lift (operand c.table.list)) h ∙ lift-fine (operand c.table.list) e
 
 -- an operator between two operands
+between-fine : (at : Place) (asks : Shape → Option TypeCode) (rule : Typed → Typed → Verdict Typed) (l : Typed) (w : Verdict Typed)
+    → between at asks rule (Fine l) w ≡ lift (rule l) (led at (asks (type_of l)) w)
+unfolding between
+between-fine at asks rule l w = refl
+
+between-fault : (at : Place) (asks : Shape → Option TypeCode) (rule : Typed → Typed → Verdict Typed) (c : TypeCode) (place : Place) (w : Verdict Typed)
+    → between at asks rule (Fault c place) w ≡ Fault c place
+unfolding between
+between-fault at asks rule c place w = refl
+
+between_left_stops : (at : Place) (asks : Shape → Option TypeCode) (rule : Typed → Typed → Verdict Typed) (v w : Verdict Typed) (r : TypeRefusal)
+    → IsRefused v r → IsRefused (between at asks rule v w) r
+between_left_stops at asks rule v w (refusal.Code c place) e = ap (λ x. between at asks rule x w) e ∙ between-fault at asks rule c place w
+between_left_stops at asks rule v w refusal.Memory e = tt
+
+between_right_stops : (at : Place) (asks : Shape → Option TypeCode) (rule : Typed → Typed → Verdict Typed) (l : Typed) (w : Verdict Typed)
+    (fault : Option TypeCode) (r : TypeRefusal) → fault ≡ asks (type_of l) → IsRefused (led at fault w) r
+    → IsRefused (between at asks rule (Fine l) w) r
+between_right_stops at asks rule l w fault r is h =
+    refused_as r (between-fine at asks rule l w)
+    (lift-refused (rule l) (led at (asks (type_of l)) w) r (subst (λ f. IsRefused (led at f w) r) is h))
+
+between_is : (at : Place) (asks : Shape → Option TypeCode) (rule : Typed → Typed → Verdict Typed) (l s : Typed) (w : Verdict Typed)
+    (fault : Option TypeCode) → fault ≡ asks (type_of l) → led at fault w ≡ Fine s → between at asks rule (Fine l) w ≡ rule l s
+between_is at asks rule l s w fault is h =
+    between-fine at asks rule l w ∙ ap (lift (rule l)) (subst (λ f. led at f w ≡ Fine s) is h) ∙ lift-fine (rule l) s
+
 pub infix_left_stops : (c : Context) (p : Purpose) (ls : Literals) (at : Place) (op : InfixOp) (left right : RawExpr) (r : TypeRefusal)
     → IsRefused (operand_in c p (formed c p ls None left.place left.kind.value)) r → IsRefused (infix_formed c p ls at op left right) r
-infix_left_stops c p ls at op left right r h = lift2-refused-first (combined c.model c.table.list op at) _ _ r h
+infix_left_stops c p ls at op left right r h =
+    between_left_stops at (left_operand_fault c.table.list op) (combined c.model c.table.list op at) _ _ r h
 
 infix_left_is : (c : Context) (p : Purpose) (ls : Literals) (at : Place) (op : InfixOp) (left right : RawExpr) (one : Verdict Typed) (l : Typed)
-    → one ≡ Fine l → lift2 (combined c.model c.table.list op at) one
+    → one ≡ Fine l → between at (left_operand_fault c.table.list op) (combined c.model c.table.list op at) one
     (operand_in c (purpose_after op p one) (formed c (purpose_after op p one) (literals_after ls left.kind.value) None right.place right.kind.value))
-    ≡ lift2 (combined c.model c.table.list op at) (Fine l)
+    ≡ between at (left_operand_fault c.table.list op) (combined c.model c.table.list op at) (Fine l)
     (operand_in c (purpose_after op p (Fine l)) (formed c (purpose_after op p (Fine l)) (literals_after ls left.kind.value) None right.place right.kind.value))
 infix_left_is c p ls at op left right one l e =
     ap (λ x.
-    lift2 (combined c.model c.table.list op at) x
+    between at (left_operand_fault c.table.list op) (combined c.model c.table.list op at) x
     (operand_in c (purpose_after op p x) (formed c (purpose_after op p x) (literals_after ls left.kind.value) None right.place right.kind.value))) e
 
 right_operand : (c : Context) (right : RawExpr) (x y : Purpose) (ls ms : Literals) → x ≡ y → ls ≡ ms
@@ -77,23 +114,67 @@ right_operand c right x y ls ms e f =
     sym (ap (λ z. operand_in c z (formed c z ls None right.place right.kind.value)) e
     ∙ ap (λ z. operand_in c y (formed c y z None right.place right.kind.value)) f)
 
+-- the right operand, after literals and for a purpose that are known
+abbrev right_in : Context → RawExpr → Literals → Purpose → Verdict Typed
+right_in c right ms following = operand_in c following (formed c following ms None right.place right.kind.value)
+
+infix_is : (c : Context) (p : Purpose) (ls ms : Literals) (at : Place) (op : InfixOp) (left right : RawExpr) (l : Typed) (following : Purpose)
+    → operand_in c p (formed c p ls None left.place left.kind.value) ≡ Fine l → following ≡ purpose_after op p (Fine l)
+    → ms ≡ literals_after ls left.kind.value → infix_formed c p ls at op left right
+    ≡ between at (left_operand_fault c.table.list op) (combined c.model c.table.list op at) (Fine l) (right_in c right ms following)
+infix_is c p ls ms at op left right l following e f g =
+    infix_left_is c p ls at op left right _ l e
+    ∙ ap (between at (left_operand_fault c.table.list op) (combined c.model c.table.list op at) (Fine l)) (right_operand c right following _ ms _ f g)
+
 pub infix_right_stops : (c : Context) (p : Purpose) (ls ms : Literals) (at : Place) (op : InfixOp) (left right : RawExpr) (l : Typed) (following : Purpose)
-    (r : TypeRefusal) → operand_in c p (formed c p ls None left.place left.kind.value) ≡ Fine l → following ≡ purpose_after op p (Fine l)
-    → ms ≡ literals_after ls left.kind.value → IsRefused (operand_in c following (formed c following ms None right.place right.kind.value)) r
+    (fault : Option TypeCode) (r : TypeRefusal) → operand_in c p (formed c p ls None left.place left.kind.value) ≡ Fine l
+    → following ≡ purpose_after op p (Fine l) → ms ≡ literals_after ls left.kind.value → fault ≡ left_operand_fault c.table.list op (type_of l)
+    → IsRefused (led at fault (operand_in c following (formed c following ms None right.place right.kind.value))) r
     → IsRefused (infix_formed c p ls at op left right) r
-infix_right_stops c p ls ms at op left right l following r e f g h =
-    refused_as r (infix_left_is c p ls at op left right _ l e)
-    (lift2-refused-second (combined c.model c.table.list op at) l _ r (refused_as r (right_operand c right following _ ms _ f g) h))
+infix_right_stops c p ls ms at op left right l following fault r e f g is h =
+    refused_as r (infix_is c p ls ms at op left right l following e f g)
+    (between_right_stops at (left_operand_fault c.table.list op) (combined c.model c.table.list op at) l (right_in c right ms following) fault r is h)
 
 pub infix_taken : (c : Context) (p : Purpose) (ls ms : Literals) (at : Place) (op : InfixOp) (left right : RawExpr) (l s : Typed) (following : Purpose)
+    (fault : Option TypeCode) (result : Result Expr TypeRefusal) → operand_in c p (formed c p ls None left.place left.kind.value) ≡ Fine l
+    → following ≡ purpose_after op p (Fine l) → ms ≡ literals_after ls left.kind.value → fault ≡ left_operand_fault c.table.list op (type_of l)
+    → led at fault (operand_in c following (formed c following ms None right.place right.kind.value)) ≡ Fine s
+    → Yields (combined c.model c.table.list op at l s) result → Yields (infix_formed c p ls at op left right) result
+infix_taken c p ls ms at op left right l s following fault result e f g is h k =
+    yields_as result (infix_is c p ls ms at op left right l following e f g
+    ∙ between_is at (left_operand_fault c.table.list op) (combined c.model c.table.list op at) l s (right_in c right ms following) fault is h) k
+
+-- a subscript
+pub subscript_left_stops : (c : Context) (p : Purpose) (ls : Literals) (at : Place) (left right : RawExpr) (r : TypeRefusal)
+    → IsRefused (operand_in c p (formed c p ls None left.place left.kind.value)) r → IsRefused (subscript_formed c p ls at left right) r
+subscript_left_stops c p ls at left right r h =
+    between_left_stops at (left_operand_fault c.table.list infix_op.Add) (indexed_values c at) _ _ r h
+
+subscript_is : (c : Context) (p : Purpose) (ls ms : Literals) (at : Place) (left right : RawExpr) (l : Typed)
+    → operand_in c p (formed c p ls None left.place left.kind.value) ≡ Fine l → ms ≡ literals_after ls left.kind.value
+    → subscript_formed c p ls at left right
+    ≡ between at (left_operand_fault c.table.list infix_op.Add) (indexed_values c at) (Fine l) (right_in c right ms p)
+subscript_is c p ls ms at left right l e g =
+    ap (λ x. between at (left_operand_fault c.table.list infix_op.Add) (indexed_values c at) x (right_in c right (literals_after ls left.kind.value) p)) e
+    ∙ ap (between at (left_operand_fault c.table.list infix_op.Add) (indexed_values c at) (Fine l)) (right_operand c right p p ms _ refl g)
+
+pub subscript_right_stops : (c : Context) (p : Purpose) (ls ms : Literals) (at : Place) (left right : RawExpr) (l : Typed) (fault : Option TypeCode)
+    (r : TypeRefusal) → operand_in c p (formed c p ls None left.place left.kind.value) ≡ Fine l → ms ≡ literals_after ls left.kind.value
+    → fault ≡ left_operand_fault c.table.list infix_op.Add (type_of l)
+    → IsRefused (led at fault (operand_in c p (formed c p ms None right.place right.kind.value))) r
+    → IsRefused (subscript_formed c p ls at left right) r
+subscript_right_stops c p ls ms at left right l fault r e g is h =
+    refused_as r (subscript_is c p ls ms at left right l e g)
+    (between_right_stops at (left_operand_fault c.table.list infix_op.Add) (indexed_values c at) l (right_in c right ms p) fault r is h)
+
+pub subscript_taken : (c : Context) (p : Purpose) (ls ms : Literals) (at : Place) (left right : RawExpr) (l s : Typed) (fault : Option TypeCode)
     (result : Result Expr TypeRefusal) → operand_in c p (formed c p ls None left.place left.kind.value) ≡ Fine l
-    → following ≡ purpose_after op p (Fine l) → ms ≡ literals_after ls left.kind.value
-    → operand_in c following (formed c following ms None right.place right.kind.value) ≡ Fine s → Yields (combined c.model c.table.list op at l s) result
-    → Yields (infix_formed c p ls at op left right) result
-infix_taken c p ls ms at op left right l s following result e f g h k =
-    yields_as result (infix_left_is c p ls at op left right _ l e
-    ∙ ap (lift2 (combined c.model c.table.list op at) (Fine l)) (right_operand c right following _ ms _ f g ∙ h)
-    ∙ lift2-fine (combined c.model c.table.list op at) l s) k
+    → ms ≡ literals_after ls left.kind.value → fault ≡ left_operand_fault c.table.list infix_op.Add (type_of l)
+    → led at fault (operand_in c p (formed c p ms None right.place right.kind.value)) ≡ Fine s → Yields (indexed_values c at l s) result
+    → Yields (subscript_formed c p ls at left right) result
+subscript_taken c p ls ms at left right l s fault result e g is h k =
+    yields_as result (subscript_is c p ls ms at left right l e g
+    ∙ between_is at (left_operand_fault c.table.list infix_op.Add) (indexed_values c at) l s (right_in c right ms p) fault is h) k
 
 -- a choice
 choice_is : (c : Context) (p : Purpose) (ls : Literals) (at : Place) (test one other : RawExpr) (yields : Verdict Typed) (t : Typed) → yields ≡ Fine t
@@ -242,58 +323,91 @@ cast_taken c p ls at ty bounds e target v result f g h =
     yields_as result (cast_is c p ls at e _ target f ∙ ap (lift2 (cast_to c at) (Fine target)) g ∙ lift2-fine (cast_to c at) target v) h
 
 -- a call
-call_none : (c : Context) (at : Place) (target : Option Shape) (found : Option Signature) (count : ℕ) (v : Verdict Typed) (values : Verdict TypedList)
-    → found ≡ None → call_or_not c at target found count v values ≡ lift (no_function at) v
+call_none : (c : Context) (at : Place) (target : Option Shape) (found : Option Signature) (count : ℕ) (v : Verdict Typed) (fault : Option TypeCode)
+    (values : Verdict TypedList) → found ≡ None → call_or_not c at target found count v fault values ≡ lift (no_function at) v
 unfolding call_or_not
-call_none c at target found count v values e = ap (λ x. call_or_not c at target x count v values) e
+call_none c at target found count v fault values e = ap (λ x. call_or_not c at target x count v fault values) e
 
-call_some : (c : Context) (at : Place) (target : Option Shape) (f : Signature) (count : ℕ) (v : Verdict Typed) (values : Verdict TypedList)
-    → call_or_not c at target (Some f) count v values ≡ lift2 (call_with c at target) (admitted at target count f) values
+call_some : (c : Context) (at : Place) (target : Option Shape) (f : Signature) (count : ℕ) (v : Verdict Typed) (fault : Option TypeCode)
+    (values : Verdict TypedList) → call_or_not c at target (Some f) count v fault values
+    ≡ unless_fault at (least_code (call_fault target count f) fault) (lift (call_with c at target f) values)
 unfolding call_or_not
-call_some c at target f count v values = refl
+call_some c at target f count v fault values = refl
 
-call_is : (c : Context) (p : Purpose) (ls : Literals) (target : Option Shape) (at : Place) (function : RawExpr) (arguments : List RawExpr)
-    (found : Option Signature) (f : Signature) → found ≡ Some f
-    → call_or_not c at target found (length arguments) (operand_in c p (formed c p ls None function.place function.kind.value))
-    (arguments_listed c p ls (parameters_of found) arguments)
-    ≡ lift2 (call_with c at target) (admitted at target (length arguments) f) (arguments_listed c p ls (parameters_of (Some f)) arguments)
-call_is c p ls target at function arguments found f e =
-    ap (λ x.
-    call_or_not c at target x (length arguments) (operand_in c p (formed c p ls None function.place function.kind.value))
-    (arguments_listed c p ls (parameters_of x) arguments)) e
-    ∙ call_some c at target f (length arguments) _ _
+-- the refusal of a verdict on something else
+abbrev refused_alike : {A B : Type 0} → Verdict B → Verdict A → Verdict B
+refused_alike otherwise (Fine value) = otherwise
+refused_alike otherwise (Fault code place) = Fault code place
 
-pub call_other_stops : (c : Context) (p : Purpose) (ls : Literals) (target : Option Shape) (at : Place) (function : RawExpr) (arguments : List RawExpr)
-    (r : TypeRefusal) → called c.scope.declarations function.kind.value ≡ None
-    → IsRefused (operand_in c p (formed c p ls None function.place function.kind.value)) r → IsRefused (call_formed c p ls target at function arguments) r
-call_other_stops c p ls target at function arguments r e h =
-    refused_as r (call_none c at target _ (length arguments) _ _ e) (lift-refused (no_function at) _ r h)
+-- of a verdict on what comes after a place, where a code may hold
+fault_refused : {A B : Type 0} (at : Place) (fault : Option TypeCode) (rule : A → Verdict B) (v : Verdict A) (r : TypeRefusal)
+    → IsRefused (unless_fault at fault v) r → IsRefused (unless_fault at fault (lift rule v)) r
+fault_refused at None rule v r h = lift-refused rule v r h
+fault_refused at (Some code) rule v (refusal.Code other place) h = ap (refused_alike (Fault code at)) h
+fault_refused at (Some code) rule v refusal.Memory h = tt
 
-pub call_other : (c : Context) (p : Purpose) (ls : Literals) (target : Option Shape) (at : Place) (function : RawExpr) (arguments : List RawExpr) (v : Typed)
-    → called c.scope.declarations function.kind.value ≡ None → operand_in c p (formed c p ls None function.place function.kind.value) ≡ Fine v
-    → IsRefused (call_formed c p ls target at function arguments) (refusal.Code code.OperandTypes at)
-call_other c p ls target at function arguments v e f = call_none c at target _ (length arguments) _ _ e ∙ ap (lift (no_function at)) f
-    ∙ lift-fine (no_function at) v
+fault_fine : {A B : Type 0} (at : Place) (fault : Option TypeCode) (rule : A → Verdict B) (v : Verdict A) (a : A) → unless_fault at fault v ≡ Fine a
+    → unless_fault at fault (lift rule v) ≡ rule a
+fault_fine at None rule v a h = ap (lift rule) h ∙ lift-fine rule a
+fault_fine at (Some code) rule v a h = absurd cc
 
-pub call_admitted_stops : (c : Context) (p : Purpose) (ls : Literals) (target : Option Shape) (at : Place) (function : RawExpr) (arguments : List RawExpr)
-    (f : Signature) (r : TypeRefusal) → called c.scope.declarations function.kind.value ≡ Some f → IsRefused (admitted at target (length arguments) f) r
-    → IsRefused (call_formed c p ls target at function arguments) r
-call_admitted_stops c p ls target at function arguments f r e h =
-    refused_as r (call_is c p ls target at function arguments _ f e) (lift2-refused-first (call_with c at target) _ _ r h)
+no_fault : {A : Type 0} (at : Place) (fault : Option TypeCode) (v : Verdict A) (a : A) → unless_fault at fault v ≡ Fine a → fault ≡ None
+no_fault at None v a h = refl
+no_fault at (Some code) v a h = absurd cc
 
-pub call_arguments_stop : (c : Context) (p : Purpose) (ls : Literals) (target : Option Shape) (at : Place) (function : RawExpr) (arguments : List RawExpr)
-    (f : Signature) (r : TypeRefusal) → called c.scope.declarations function.kind.value ≡ Some f → admitted at target (length arguments) f ≡ Fine f
-    → IsRefused (arguments_listed c p ls (parameters_of (Some f)) arguments) r → IsRefused (call_formed c p ls target at function arguments) r
-call_arguments_stop c p ls target at function arguments f r e g h =
-    refused_as r (call_is c p ls target at function arguments _ f e
-    ∙ ap (λ x. lift2 (call_with c at target) x (arguments_listed c p ls (parameters_of (Some f)) arguments)) g)
-    (lift2-refused-second (call_with c at target) f _ r h)
+first_none : (a b : Option TypeCode) → least_code a b ≡ None → a ≡ None
+first_none None b h = refl
+first_none (Some code) b h = absurd cc
 
-pub call_taken : (c : Context) (p : Purpose) (ls : Literals) (target : Option Shape) (at : Place) (function : RawExpr) (arguments : List RawExpr)
-    (f : Signature) (values : TypedList) (result : Result Expr TypeRefusal) → called c.scope.declarations function.kind.value ≡ Some f
-    → admitted at target (length arguments) f ≡ Fine f → arguments_listed c p ls (parameters_of (Some f)) arguments ≡ Fine values
-    → Yields (call_with c at target f values) result → Yields (call_formed c p ls target at function arguments) result
-call_taken c p ls target at function arguments f values result e g h k =
-    yields_as result (call_is c p ls target at function arguments _ f e
-    ∙ ap (λ x. lift2 (call_with c at target) x (arguments_listed c p ls (parameters_of (Some f)) arguments)) g
-    ∙ ap (lift2 (call_with c at target) (Fine f)) h ∙ lift2-fine (call_with c at target) f values) k
+counted : (n count : ℕ) (other : Option TypeCode) → cond (eqb n count) other (Some code.ArgumentCount) ≡ None → n ≡ count
+counted n count other h = elim (eqb n count) as (λ t. eqb n count ≡ t → cond t other (Some code.ArgumentCount) ≡ None → n ≡ count) [
+  | true ↦ λ e _. grind (arith, nat_tests)
+  | false ↦ λ _ p. absurd cc
+] refl h
+
+-- a call of which nothing is refused at its place has an argument for each parameter
+pub call_counts : {A : Type 0} (at : Place) (target : Option Shape) (count : ℕ) (f : Signature) (fault : Option TypeCode) (v : Verdict A) (a : A)
+    → unless_fault at (least_code (call_fault target count f) fault) v ≡ Fine a → length f.parameters ≡ count
+unfolding call_fault
+call_counts at target count f fault v a h =
+    counted (length f.parameters) count _ (first_none (call_fault target count f) fault (no_fault at (least_code (call_fault target count f) fault) v a h))
+
+-- the same of a function itself
+pub call_passes : {A : Type 0} (at : Place) (target : Option Shape) (count : ℕ) (f : Function) (said : Option TypeCode) (fault : Option TypeCode)
+    (v : Verdict A) (a : A) → said ≡ call_fault target count (signature_of f) → unless_fault at (least_code said fault) v ≡ Fine a
+    → count ≡ vec_len f.parameters
+call_passes at target count f said fault v a is h =
+    let counts = call_counts at target count (signature_of f) fault v a (subst (λ s. unless_fault at (least_code s fault) v ≡ Fine a) is h) in
+    omega (arith, counts, f.parameters.ok.0, length-map f.parameters.items (λ (ty : CType). shape_of ty))
+
+module _ (c : Context) (p : Purpose) (ls : Literals) (target : Option Shape) (at : Place) (function : RawExpr) (arguments : List RawExpr) where
+  pub call_other_stops : (r : TypeRefusal) → called c.scope.declarations function.kind.value ≡ None
+      → IsRefused (operand_in c p (formed c p ls None function.place function.kind.value)) r → IsRefused (call_formed c p ls target at function arguments) r
+  call_other_stops r e h = refused_as r (call_none c at target _ (length arguments) _ _ _ e) (lift-refused (no_function at) _ r h)
+
+  pub call_other : (v : Typed) → called c.scope.declarations function.kind.value ≡ None
+      → operand_in c p (formed c p ls None function.place function.kind.value) ≡ Fine v
+      → IsRefused (call_formed c p ls target at function arguments) (refusal.Code code.OperandTypes at)
+  call_other v e f = call_none c at target _ (length arguments) _ _ _ e ∙ ap (lift (no_function at)) f ∙ lift-fine (no_function at) v
+
+  module _ (f : Signature) (is_function : called c.scope.declarations function.kind.value ≡ Some f) where
+    -- the values of the arguments, unless the call's place says something of them
+    abbrev passed : Verdict TypedList
+    passed = unless_fault at (least_code (call_fault target (length arguments) f) (arguments_listed_fault c p ls at f.parameters arguments))
+        (arguments_listed c p ls f.parameters arguments)
+
+    call_is : call_formed c p ls target at function arguments
+        ≡ unless_fault at (least_code (call_fault target (length arguments) f) (arguments_listed_fault c p ls at f.parameters arguments))
+        (lift (call_with c at target f) (arguments_listed c p ls f.parameters arguments))
+    call_is =
+        ap (λ x.
+        call_or_not c at target x (length arguments) (operand_in c p (formed c p ls None function.place function.kind.value))
+        (arguments_listed_fault c p ls at (parameters_of x) arguments) (arguments_listed c p ls (parameters_of x) arguments)) is_function
+        ∙ call_some c at target f (length arguments) _ _ _
+
+    pub call_arguments_stop : (r : TypeRefusal) → IsRefused passed r → IsRefused (call_formed c p ls target at function arguments) r
+    call_arguments_stop r h = refused_as r call_is (fault_refused at _ (call_with c at target f) _ r h)
+
+    pub call_taken : (values : TypedList) (result : Result Expr TypeRefusal) → passed ≡ Fine values → Yields (call_with c at target f values) result
+        → Yields (call_formed c p ls target at function arguments) result
+    call_taken values result e h = yields_as result (call_is ∙ fault_fine at _ (call_with c at target f) _ values e) h

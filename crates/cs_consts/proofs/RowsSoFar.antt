@@ -1,8 +1,12 @@
 -- What the loops over arguments and bounds have made so far, before what is left: for the cycle of typing.
 use Rattle.std.proofs.Common.{◌≡◌, ℕ, ◌+◌, ◌<◌, suc, length, get_or, drop, drop-cons, add-one, ℤ, List, [], ◌∷◌, ◌++◌, append_assoc}
-use Rattle.std.proofs.Common.{refl, sym, ap, ◌∙◌, Some, None}
-use Rattle.std.proofs.lemmas.List.{append-nil}
+use Rattle.std.proofs.Common.{refl, sym, ap, ◌∙◌, Option, Some, None, map, inl, inr, arith}
+use Rattle.std.specs.Prelude.{◌⊎◌, Bool, true, false, nat_le, ◌≤◌, min}
+use Rattle.std.proofs.lemmas.Bool.{leb-true, leb-false}
+use Rattle.std.proofs.lemmas.List.{drop_all}
+use Rattle.std.specs.Option.{option_or}
 use Rattle.cs_types.specs.Shape.{Shape}
+use Rattle.cs_ast.specs.declared.place.Place.{Place}
 use Rattle.cs_ast.specs.declared.raw.expression.RawExpr.{RawExpr}
 use Rattle.cs_ast.specs.declared.typed.expression.Expr.{Expr}
 use Rattle.cs_ast.specs.TypedTree.{Typed, TypedList, NoMore, Further}
@@ -10,13 +14,16 @@ use Rattle.cs_ast.specs.TypedView.{typed, typed_list}
 use Rattle.cs_scopes.specs.declared.context.Context.{Context}
 use Rattle.cs_consts.specs.declared.purpose.Purpose.{Purpose}
 use Rattle.cs_consts.specs.declared.purpose.Purpose.TheVariants.{Constant}
-use Rattle.cs_scopes.specs.declared.refusal.TypeRefusal.{TypeRefusal}
-use Rattle.cs_scopes.specs.Verdicts.{Verdict, Fine, Fault, lift, lift2, IsRefused}
-use Rattle.cs_folding.specs.TypedParts.{form_of}
+use Rattle.cs_scopes.specs.declared.refusal.TypeCode.{TypeCode}
+use Rattle.cs_scopes.specs.Verdicts.{Verdict, Fine, Fault, lift, lift2}
+use Rattle.cs_scopes.specs.Faults.{least_code, unless_stopped}
+use Rattle.cs_expressions.specs.Conversions.{conversion_fault}
 use Rattle.cs_expressions.specs.Primary.{Literals}
-use Rattle.cs_consts.specs.Typing.{literals_after, formed, done, operand_in, further, arguments_listed, number_at, number_before, numbers_listed}
-use Rattle.cs_consts.specs.Rows.{put_before, expressions_before, numbers_before}
-use Rattle.cs_scopes.proofs.Lifting.{lift-fine, lift-fault, lift2-fine, lift2-second, lift-refused, lift2-refused-first, refused_as}
+use Rattle.cs_consts.specs.Typing.{literals_after, literals_past, formed, done, operand_in, further, arguments_listed, passing_fault}
+use Rattle.cs_consts.specs.Typing.{arguments_listed_fault, bound_number, bound_taken, numbers_listed, bounds_listed}
+use Rattle.cs_consts.specs.Rows.{put_before, expressions_before}
+use Rattle.cs_scopes.proofs.Lifting.{lift-fine, lift-fault, lift2-fine, lift2-second, lift2-first}
+use Rattle.cs_scopes.proofs.LesserCodes.{least_code-assoc, least_code-none}
 
 put_before-push : (made : List Expr) (e : Expr) (rest : TypedList) → put_before (made ++ e ∷ []) rest ≡ put_before made (Further (typed e) rest)
 put_before-push [] e rest = refl
@@ -36,78 +43,159 @@ argument_more made e (Fault code place) =
     ap (lift (expressions_before made)) (lift2-second further (typed e) code place) ∙ lift-fault (expressions_before made) code place
     ∙ sym (lift-fault (expressions_before (made ++ e ∷ [])) code place)
 
-module _ (c : Context) (p : Purpose) where
-  pub arguments_turn : (made : List Expr) (e : Expr) (whole : Verdict TypedList) (ty : Shape) (types following : List Shape) (a : RawExpr)
-      (arguments rest : List RawExpr) (ls ms : Literals) → types ≡ ty ∷ following → arguments ≡ a ∷ rest
-      → operand_in c p (formed c p ls (Some ty) a.place a.kind.value) ≡ Fine (typed e) → ms ≡ literals_after ls a.kind.value
-      → lift (expressions_before made) (arguments_listed c p ls types arguments) ≡ whole
-      → lift (expressions_before (made ++ e ∷ [])) (arguments_listed c p ms following rest) ≡ whole
-  arguments_turn made e whole ty types following a arguments rest ls ms is_types is_arguments is_value is_literals so_far =
-      ap (λ l. lift (expressions_before (made ++ e ∷ [])) (arguments_listed c p l following rest)) is_literals
-      ∙ sym (argument_more made e (arguments_listed c p (literals_after ls a.kind.value) following rest))
-      ∙ ap (λ v. lift (expressions_before made) (lift2 further v (arguments_listed c p (literals_after ls a.kind.value) following rest))) (sym is_value)
-      ∙ ap (λ t. lift (expressions_before made) (arguments_listed c p ls t (a ∷ rest))) (sym is_types)
-      ∙ ap (λ l. lift (expressions_before made) (arguments_listed c p ls types l)) (sym is_arguments)
-      ∙ so_far
+-- two parts at once
+pub both : {A B : Type 0} {a b : A} {x y : B} → a ≡ b → x ≡ y → ◌≡◌ {A = A × B} (a, x) (b, y)
+both {A} {B} {a} {b} {x} {y} e f = ap (λ z. (z, x)) e ∙ ap (λ z. (b, z)) f
 
-  pub arguments_stop : (made : List Expr) (whole : Verdict TypedList) (ty : Shape) (types following : List Shape) (a : RawExpr) (arguments rest : List RawExpr)
-      (ls : Literals) (r : TypeRefusal) → types ≡ ty ∷ following → arguments ≡ a ∷ rest
-      → IsRefused (operand_in c p (formed c p ls (Some ty) a.place a.kind.value)) r
-      → lift (expressions_before made) (arguments_listed c p ls types arguments) ≡ whole → IsRefused whole r
-  arguments_stop made whole ty types following a arguments rest ls r is_types is_arguments h so_far =
-      refused_as r (sym so_far ∙ ap (λ t. lift (expressions_before made) (arguments_listed c p ls t arguments)) is_types
-      ∙ ap (λ l. lift (expressions_before made) (arguments_listed c p ls (ty ∷ following) l)) is_arguments)
-      (lift-refused (expressions_before made) _ r (lift2-refused-first further _ _ r h))
+-- something is refused so far
+pub some_refused : {A P : Type 0} (refused : Option A) (refusal : A) → option_or refused (Some refusal) ≡ None → P
+some_refused None refusal e = absurd cc
+some_refused (Some earlier) refusal e = absurd cc
 
-  pub arguments_end : (made : List Expr) (whole : Verdict TypedList) (types : List Shape) (arguments : List RawExpr) (ls : Literals) → arguments ≡ []
-      → lift (expressions_before made) (arguments_listed c p ls types arguments) ≡ whole → whole ≡ Fine (typed_list made)
-  arguments_end made whole types arguments ls none so_far =
-      sym so_far ∙ ap (λ l. lift (expressions_before made) (arguments_listed c p ls types l)) none ∙ lift-fine (expressions_before made) NoMore
-      ∙ ap Fine (put_before-all made)
+-- one more of the values, unless an earlier argument is refused
+unless_more : (refused : Option (TypeCode × Place)) (made : List Expr) (e : Expr) (v w whole : Verdict TypedList) → v ≡ lift2 further (Fine (typed e)) w
+    → unless_stopped refused (lift (expressions_before made) v) ≡ whole
+    → unless_stopped refused (lift (expressions_before (made ++ e ∷ [])) w) ≡ whole
+unless_more None made e v w whole is so_far = sym (argument_more made e w) ∙ ap (lift (expressions_before made)) (sym is) ∙ so_far
+unless_more (Some refusal) made e v w whole is so_far = so_far
 
--- one more number
-number_more : (made : List ℤ) (e : Typed) (n : ℤ) (rest : Verdict (List ℤ)) → number_at (form_of e) ≡ Fine n
-    → lift (numbers_before made) (lift2 number_before (Fine e) rest) ≡ lift (numbers_before (made ++ n ∷ [])) rest
-number_more made e n (Fine rest) h =
-    ap (lift (numbers_before made)) (lift2-fine number_before e rest ∙ ap (lift (λ m. Fine (m ∷ rest))) h ∙ lift-fine (λ m. Fine (m ∷ rest)) n)
-    ∙ lift-fine (numbers_before made) (n ∷ rest)
-    ∙ ap Fine (sym (append_assoc made (n ∷ []) rest)) ∙ sym (lift-fine (numbers_before (made ++ n ∷ [])) rest)
-number_more made e n (Fault code place) h =
-    ap (lift (numbers_before made)) (lift2-second number_before e code place) ∙ lift-fault (numbers_before made) code place
-    ∙ sym (lift-fault (numbers_before (made ++ n ∷ [])) code place)
+-- the first that is refused
+unless_refused : (refused : Option (TypeCode × Place)) (made : List Expr) (code : TypeCode) (place : Place) (v w rest whole : Verdict TypedList)
+    (more : List Expr) → v ≡ lift2 further (Fault code place) w → unless_stopped refused (lift (expressions_before made) v) ≡ whole
+    → unless_stopped (option_or refused (Some (code, place))) (lift (expressions_before more) rest) ≡ whole
+unless_refused None made code place v w rest whole more is so_far =
+    sym (ap (lift (expressions_before made)) (is ∙ lift2-first further code place w) ∙ lift-fault (expressions_before made) code place) ∙ so_far
+unless_refused (Some refusal) made code place v w rest whole more is so_far = so_far
 
-module _ (c : Context) where
-  pub numbers_turn : (made : List ℤ) (e : Typed) (n : ℤ) (whole : Verdict (List ℤ)) (a : RawExpr) (bounds rest : List RawExpr) (ls ms : Literals)
-      → bounds ≡ a ∷ rest → done c Constant (formed c Constant ls None a.place a.kind.value) ≡ Fine e → number_at (form_of e) ≡ Fine n
-      → ms ≡ literals_after ls a.kind.value → lift (numbers_before made) (numbers_listed c ls bounds) ≡ whole
-      → lift (numbers_before (made ++ n ∷ [])) (numbers_listed c ms rest) ≡ whole
-  numbers_turn made e n whole a bounds rest ls ms is_bounds is_value is_number is_literals so_far =
-      ap (λ l. lift (numbers_before (made ++ n ∷ [])) (numbers_listed c l rest)) is_literals
-      ∙ sym (number_more made e n (numbers_listed c (literals_after ls a.kind.value) rest) is_number)
-      ∙ ap (λ v. lift (numbers_before made) (lift2 number_before v (numbers_listed c (literals_after ls a.kind.value) rest))) (sym is_value)
-      ∙ ap (λ l. lift (numbers_before made) (numbers_listed c ls l)) (sym is_bounds)
-      ∙ so_far
+module _ (c : Context) (p : Purpose) (at : Place) (ty : Shape) (types following : List Shape) (a : RawExpr) (arguments rest : List RawExpr) (ls ms : Literals)
+    (is_types : types ≡ ty ∷ following) (is_arguments : arguments ≡ a ∷ rest) where
+  -- the argument
+  abbrev value : Verdict Typed
+  value = operand_in c p (formed c p ls (Some ty) a.place a.kind.value)
 
-  pub numbers_stop : (made : List ℤ) (whole : Verdict (List ℤ)) (a : RawExpr) (bounds rest : List RawExpr) (ls : Literals) (r : TypeRefusal)
-      → bounds ≡ a ∷ rest → IsRefused (done c Constant (formed c Constant ls None a.place a.kind.value)) r
-      → lift (numbers_before made) (numbers_listed c ls bounds) ≡ whole → IsRefused whole r
-  numbers_stop made whole a bounds rest ls r is_bounds h so_far =
-      refused_as r (sym so_far ∙ ap (λ l. lift (numbers_before made) (numbers_listed c ls l)) is_bounds)
-      (lift-refused (numbers_before made) _ r (lift2-refused-first number_before _ _ r h))
+  values_are : (v : Verdict Typed) → value ≡ v
+      → arguments_listed c p ls types arguments ≡ lift2 further v (arguments_listed c p (literals_after ls a.kind.value) following rest)
+  values_are v is_value =
+      ap (λ t. arguments_listed c p ls t arguments) is_types ∙ ap (arguments_listed c p ls (ty ∷ following)) is_arguments
+      ∙ ap (λ v. lift2 further v (arguments_listed c p (literals_after ls a.kind.value) following rest)) is_value
 
-  pub numbers_end : (made : List ℤ) (whole : Verdict (List ℤ)) (bounds : List RawExpr) (ls : Literals) → bounds ≡ []
-      → lift (numbers_before made) (numbers_listed c ls bounds) ≡ whole → whole ≡ Fine made
-  numbers_end made whole bounds ls none so_far =
-      sym so_far ∙ ap (λ l. lift (numbers_before made) (numbers_listed c ls l)) none ∙ lift-fine (numbers_before made) [] ∙ ap Fine (append-nil made)
+  codes_are : (v : Verdict Typed) → value ≡ v → arguments_listed_fault c p ls at types arguments
+      ≡ least_code (passing_fault c at ty v) (arguments_listed_fault c p (literals_past v (literals_after ls a.kind.value)) at following rest)
+  codes_are v is_value =
+      ap (λ t. arguments_listed_fault c p ls at t arguments) is_types ∙ ap (arguments_listed_fault c p ls at (ty ∷ following)) is_arguments
+      ∙ ap (λ v. least_code (passing_fault c at ty v) (arguments_listed_fault c p (literals_past v (literals_after ls a.kind.value)) at following rest)) is_value
+
+  pub argument_taken : (refused : Option (TypeCode × Place)) (made : List Expr) (e : Expr) (whole : Verdict TypedList) → value ≡ Fine (typed e)
+      → ms ≡ literals_after ls a.kind.value → unless_stopped refused (lift (expressions_before made) (arguments_listed c p ls types arguments)) ≡ whole
+      → unless_stopped refused (lift (expressions_before (made ++ e ∷ [])) (arguments_listed c p ms following rest)) ≡ whole
+  argument_taken refused made e whole is_value is_literals so_far =
+      unless_more refused made e _ _ whole
+      (values_are (Fine (typed e)) is_value ∙ ap (λ l. lift2 further (Fine (typed e)) (arguments_listed c p l following rest)) (sym is_literals)) so_far
+
+  pub argument_stopped : (refused : Option (TypeCode × Place)) (made more : List Expr) (code : TypeCode) (place : Place) (whole : Verdict TypedList)
+      → value ≡ Fault code place → unless_stopped refused (lift (expressions_before made) (arguments_listed c p ls types arguments)) ≡ whole
+      → unless_stopped (option_or refused (Some (code, place))) (lift (expressions_before more) (arguments_listed c p ms following rest)) ≡ whole
+  argument_stopped refused made more code place whole is_value so_far =
+      unless_refused refused made code place _ _ _ whole more (values_are (Fault code place) is_value) so_far
+
+  pub code_taken : (least : Option TypeCode) (e : Typed) (whole : Option TypeCode) → value ≡ Fine e → ms ≡ literals_after ls a.kind.value
+      → least_code least (arguments_listed_fault c p ls at types arguments) ≡ whole
+      → least_code (least_code least (conversion_fault c.model at ty e)) (arguments_listed_fault c p ms at following rest) ≡ whole
+  code_taken least e whole is_value is_literals so_far =
+      least_code-assoc least (conversion_fault c.model at ty e) (arguments_listed_fault c p ms at following rest)
+      ∙ ap (λ l. least_code least (least_code (conversion_fault c.model at ty e) (arguments_listed_fault c p l at following rest))) is_literals
+      ∙ ap (least_code least) (sym (codes_are (Fine e) is_value)) ∙ so_far
+
+  pub code_stopped : (least : Option TypeCode) (code : TypeCode) (place : Place) (whole : Option TypeCode) → value ≡ Fault code place → ms ≡ []
+      → least_code least (arguments_listed_fault c p ls at types arguments) ≡ whole
+      → least_code least (arguments_listed_fault c p ms at following rest) ≡ whole
+  code_stopped least code place whole is_value is_literals so_far =
+      ap (λ l. least_code least (arguments_listed_fault c p l at following rest)) is_literals
+      ∙ ap (least_code least) (sym (codes_are (Fault code place) is_value)) ∙ so_far
+
+-- no argument or no parameter is left
+module _ (c : Context) (p : Purpose) (at : Place) (types : List Shape) (arguments : List RawExpr) (ls : Literals) (over : (types ≡ []) ⊎ (arguments ≡ [])) where
+  values_over : (types : List Shape) (arguments : List RawExpr) → (types ≡ []) ⊎ (arguments ≡ []) → arguments_listed c p ls types arguments ≡ Fine NoMore
+  values_over types [] h = refl
+  values_over [] (a ∷ rest) h = refl
+  values_over (ty ∷ types) (a ∷ rest) (inl e) = absurd cc
+  values_over (ty ∷ types) (a ∷ rest) (inr e) = absurd cc
+
+  codes_over : (types : List Shape) (arguments : List RawExpr) → (types ≡ []) ⊎ (arguments ≡ []) → arguments_listed_fault c p ls at types arguments ≡ None
+  codes_over types [] h = refl
+  codes_over [] (a ∷ rest) h = refl
+  codes_over (ty ∷ types) (a ∷ rest) (inl e) = absurd cc
+  codes_over (ty ∷ types) (a ∷ rest) (inr e) = absurd cc
+
+  pub arguments_end : (refused : Option (TypeCode × Place)) (made : List Expr) (whole : Verdict TypedList)
+      → unless_stopped refused (lift (expressions_before made) (arguments_listed c p ls types arguments)) ≡ whole
+      → unless_stopped refused (Fine (typed_list made)) ≡ whole
+  arguments_end refused made whole so_far =
+      ap (unless_stopped refused) (ap Fine (sym (put_before-all made)) ∙ sym (lift-fine (expressions_before made) NoMore)
+      ∙ ap (lift (expressions_before made)) (sym (values_over types arguments over))) ∙ so_far
+
+  pub codes_end : (least whole : Option TypeCode) → least_code least (arguments_listed_fault c p ls at types arguments) ≡ whole → least ≡ whole
+  codes_end least whole so_far = sym (least_code-none least) ∙ ap (least_code least) (sym (codes_over types arguments over)) ∙ so_far
+
+-- one of two lists is over at a place
+split_min : (a b i : ℕ) → min a b ≤ i → (a ≤ i) ⊎ (b ≤ i)
+split_min a b i h = by_test (nat_le a i) refl
+  where
+    by_test : (t : Bool) → nat_le a i ≡ t → (a ≤ i) ⊎ (b ≤ i)
+    by_test true e = inl (leb-true a i e)
+    by_test false e = let above = leb-false a i e in inr (omega (arith, h, above))
+
+pub one_over : {A B C : Type 0} (i : ℕ) (xs : List A) (ys : List B) (f : B → C) → min (length xs) (length ys) ≤ i
+    → (map f (drop i ys) ≡ []) ⊎ (drop i xs ≡ [])
+one_over i xs ys f h = by_end (split_min (length xs) (length ys) i h)
+  where
+    by_end : (length xs ≤ i) ⊎ (length ys ≤ i) → (map f (drop i ys) ≡ []) ⊎ (drop i xs ≡ [])
+    by_end (inl past) = inr (drop_all i xs past)
+    by_end (inr past) = inl (ap (map f) (drop_all i ys past))
+
+-- one more bound
+bound_passes : (e : Typed) (w : Verdict (Unit {0})) → lift2 bound_taken (Fine e) w ≡ w
+unfolding lift2
+bound_passes e (Fine tt) = refl
+bound_passes e (Fault code place) = refl
+
+bounds_stopped : (refused : Option (TypeCode × Place)) (code : TypeCode) (place : Place) (v w rest whole : Verdict (Unit {0}))
+    → v ≡ lift2 bound_taken (Fault code place) w → unless_stopped refused v ≡ whole → unless_stopped (option_or refused (Some (code, place))) rest ≡ whole
+bounds_stopped None code place v w rest whole is so_far = sym (is ∙ lift2-first bound_taken code place w) ∙ so_far
+bounds_stopped (Some refusal) code place v w rest whole is so_far = so_far
+
+module _ (c : Context) (a : RawExpr) (bounds rest : List RawExpr) (ls ms : Literals) (is_bounds : bounds ≡ a ∷ rest) where
+  abbrev bound : Verdict Typed
+  bound = done c Constant (formed c Constant ls None a.place a.kind.value)
+
+  bounds_are : (v : Verdict Typed) → bound ≡ v → bounds_listed c ls bounds ≡ lift2 bound_taken v (bounds_listed c (literals_after ls a.kind.value) rest)
+  bounds_are v is_value = ap (bounds_listed c ls) is_bounds
+      ∙ ap (λ v. lift2 bound_taken v (bounds_listed c (literals_after ls a.kind.value) rest)) is_value
+
+  pub number_taken : (made : List ℤ) (n : ℤ) (v : Verdict Typed) (whole : List ℤ) → bound ≡ v → bound_number v ≡ n → ms ≡ literals_past v (literals_after ls a.kind.value)
+      → whole ≡ made ++ numbers_listed c ls bounds → whole ≡ (made ++ n ∷ []) ++ numbers_listed c ms rest
+  number_taken made n v whole is_value is_number is_literals so_far =
+      so_far ∙ ap (λ l. made ++ numbers_listed c ls l) is_bounds
+      ∙ ap (λ v. made ++ (bound_number v ∷ numbers_listed c (literals_past v (literals_after ls a.kind.value)) rest)) is_value
+      ∙ ap (λ m. made ++ (m ∷ numbers_listed c (literals_past v (literals_after ls a.kind.value)) rest)) is_number
+      ∙ ap (λ l. made ++ (n ∷ numbers_listed c l rest)) (sym is_literals) ∙ sym (append_assoc made (n ∷ []) (numbers_listed c ms rest))
+
+  pub bound_passed : (refused : Option (TypeCode × Place)) (e : Typed) (whole : Verdict (Unit {0})) → bound ≡ Fine e → ms ≡ literals_after ls a.kind.value
+      → unless_stopped refused (bounds_listed c ls bounds) ≡ whole → unless_stopped refused (bounds_listed c ms rest) ≡ whole
+  bound_passed refused e whole is_value is_literals so_far =
+      ap (λ l. unless_stopped refused (bounds_listed c l rest)) is_literals
+      ∙ ap (unless_stopped refused) (sym (bounds_are (Fine e) is_value ∙ bound_passes e (bounds_listed c (literals_after ls a.kind.value) rest))) ∙ so_far
+
+  pub bound_stops : (refused : Option (TypeCode × Place)) (code : TypeCode) (place : Place) (whole : Verdict (Unit {0})) → bound ≡ Fault code place
+      → unless_stopped refused (bounds_listed c ls bounds) ≡ whole
+      → unless_stopped (option_or refused (Some (code, place))) (bounds_listed c ms rest) ≡ whole
+  bound_stops refused code place whole is_value so_far =
+      bounds_stopped refused code place _ _ _ whole (bounds_are (Fault code place) is_value) so_far
 
 -- nothing made so far
 pub none_before : (v : Verdict TypedList) → lift (expressions_before []) v ≡ v
 none_before (Fine rest) = lift-fine (expressions_before []) rest
 none_before (Fault code place) = lift-fault (expressions_before []) code place
-
-pub no_numbers_before : (v : Verdict (List ℤ)) → lift (numbers_before []) v ≡ v
-no_numbers_before (Fine rest) = lift-fine (numbers_before []) rest
-no_numbers_before (Fault code place) = lift-fault (numbers_before []) code place
 
 -- what stands at a place of a list, before what is after it
 pub at_place : {A : Type 0} (i : ℕ) (xs : List A) (x : A) → i < length xs → x ≡ get_or xs i x → drop i xs ≡ x ∷ drop (i + 1) xs

@@ -9,11 +9,13 @@ use Rattle.cs_ast.specs.declared.typed.operator.Gives.{Gives}
 use Rattle.cs_ast.specs.TypedTree.{Typed}
 use Rattle.cs_scopes.specs.declared.context.Context.{Context}
 use Rattle.cs_scopes.specs.declared.refusal.TypeRefusal.{TypeRefusal}
-use Rattle.cs_scopes.specs.Verdicts.{Verdict, Fine, lift, lift2, IsRefused, Yields}
+use Rattle.cs_scopes.specs.declared.refusal.TypeCode.{TypeCode}
+use Rattle.cs_scopes.specs.Verdicts.{Verdict, Fine, Fault, lift, lift2, IsRefused, Yields}
 use Rattle.cs_expressions.specs.Stores.{steppable}
 use Rattle.cs_scopes.specs.TypeNames.{complete_at}
-use Rattle.cs_consts.specs.Typing.{stepped_object, measured_arrays}
-use Rattle.cs_scopes.proofs.Lifting.{lift-fine, lift2-fine, lift-refused, lift2-refused-first, lift2-refused-second, yields_as, refused_as}
+use Rattle.cs_consts.specs.Typing.{stepped_object, size_alone, measured_arrays, measured_type_name}
+use Rattle.cs_scopes.proofs.Lifting.{lift-fine, lift2-fine, lift2-second, lift-refused, lift2-refused-first, lift2-refused-second, yields_as}
+use Rattle.cs_scopes.proofs.Lifting.{refused_as}
 
 pub lift_is : {A B : Type 0} (rule : A → Verdict B) (v : Verdict A) (a : A) → v ≡ Fine a → lift rule v ≡ rule a
 lift_is rule v a e = ap (lift rule) e ∙ lift-fine rule a
@@ -55,27 +57,32 @@ step_taken c at op by gives v e o result same f g h =
     (yields_as result (lift_is (stepped_object c by gives at) _ o (lift_is (steppable c.table.list by at) v e f ∙ g)) h)
 
 -- `sizeof` of a type
-pub size_base_stops : (c : Context) (at : Place) (base : Verdict Shape) (numbers : Verdict (List ℤ)) (r : TypeRefusal) → IsRefused base r
-    → IsRefused (lift2 (measured_arrays c at) (lift (complete_at c.table.list at) base) numbers) r
-size_base_stops c at base numbers r h = lift2-refused-first (measured_arrays c at) _ numbers r (lift-refused (complete_at c.table.list at) base r h)
+module _ (c : Context) (at : Place) (base : Verdict Shape) (ns : List ℤ) (bounds : Verdict (Unit {0})) where
+  pub size_base_stops : (r : TypeRefusal) → IsRefused base r → IsRefused (measured_type_name c at base ns bounds) r
+  size_base_stops r h =
+      lift2-refused-first size_alone _ bounds r (lift-refused (measured_arrays c at ns) _ r (lift-refused (complete_at c.table.list at) base r h))
 
-pub size_complete_stops : (c : Context) (at : Place) (base : Verdict Shape) (numbers : Verdict (List ℤ)) (ty : Shape) (r : TypeRefusal) → base ≡ Fine ty
-    → IsRefused (complete_at c.table.list at ty) r → IsRefused (lift2 (measured_arrays c at) (lift (complete_at c.table.list at) base) numbers) r
-size_complete_stops c at base numbers ty r f h =
-    lift2-refused-first (measured_arrays c at) _ numbers r (refused_as r (lift_is (complete_at c.table.list at) base ty f) h)
+  module _ (ty : Shape) (is_base : base ≡ Fine ty) where
+    pub size_complete_stops : (r : TypeRefusal) → IsRefused (complete_at c.table.list at ty) r → IsRefused (measured_type_name c at base ns bounds) r
+    size_complete_stops r h =
+        lift2-refused-first size_alone _ bounds r
+        (lift-refused (measured_arrays c at ns) _ r (refused_as r (lift_is (complete_at c.table.list at) base ty is_base) h))
 
-pub size_numbers_stop : (c : Context) (at : Place) (base : Verdict Shape) (numbers : Verdict (List ℤ)) (ty whole : Shape) (r : TypeRefusal)
-    → base ≡ Fine ty → complete_at c.table.list at ty ≡ Fine whole → IsRefused numbers r
-    → IsRefused (lift2 (measured_arrays c at) (lift (complete_at c.table.list at) base) numbers) r
-size_numbers_stop c at base numbers ty whole r f g h =
-    refused_as r (ap (λ x. lift2 (measured_arrays c at) x numbers) (lift_is (complete_at c.table.list at) base ty f ∙ g))
-    (lift2-refused-second (measured_arrays c at) whole numbers r h)
+    module _ (whole : Shape) (is_whole : complete_at c.table.list at ty ≡ Fine whole) where
+      measured_is : lift (measured_arrays c at ns) (lift (complete_at c.table.list at) base) ≡ measured_arrays c at ns whole
+      measured_is = lift_is (measured_arrays c at ns) _ whole (lift_is (complete_at c.table.list at) base ty is_base ∙ is_whole)
 
-pub size_taken : (c : Context) (at : Place) (base : Verdict Shape) (numbers : Verdict (List ℤ)) (ty whole : Shape) (ns : List ℤ)
-    (result : Result Expr TypeRefusal) → base ≡ Fine ty → complete_at c.table.list at ty ≡ Fine whole → numbers ≡ Fine ns
-    → Yields (measured_arrays c at whole ns) result → Yields (lift2 (measured_arrays c at) (lift (complete_at c.table.list at) base) numbers) result
-size_taken c at base numbers ty whole ns result f g h k =
-    yields_as result (lift2_is (measured_arrays c at) _ numbers whole ns (lift_is (complete_at c.table.list at) base ty f ∙ g) h) k
+      pub size_stops : (r : TypeRefusal) → IsRefused (measured_arrays c at ns whole) r → IsRefused (measured_type_name c at base ns bounds) r
+      size_stops r h = lift2-refused-first size_alone _ bounds r (refused_as r measured_is h)
+
+      pub size_taken : (size : Typed) → measured_arrays c at ns whole ≡ Fine size → bounds ≡ Fine tt → measured_type_name c at base ns bounds ≡ Fine size
+      size_taken size is_size none =
+          ap (λ x. lift2 size_alone x bounds) (measured_is ∙ is_size) ∙ ap (lift2 size_alone (Fine size)) none ∙ lift2-fine size_alone size tt
+
+      pub size_bounds_stop : (size : Typed) (code : TypeCode) (place : Place) → measured_arrays c at ns whole ≡ Fine size → bounds ≡ Fault code place
+          → measured_type_name c at base ns bounds ≡ Fault code place
+      size_bounds_stop size code place is_size refused =
+          ap (λ x. lift2 size_alone x bounds) (measured_is ∙ is_size) ∙ ap (lift2 size_alone (Fine size)) refused ∙ lift2-second size_alone size code place
 
 -- what holds whatever a call gives holds where it gives something
 pub on_ok : {A E P : Type 0} (result : Result A E) → P → OnOk result P

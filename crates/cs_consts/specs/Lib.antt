@@ -1,4 +1,5 @@
 pub mod Constants
+pub mod Operands
 pub mod Typing
 pub mod Roles
 pub mod Rows

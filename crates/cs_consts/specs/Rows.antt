@@ -1,13 +1,9 @@
--- What loops over arguments and bounds have made so far, before what is left.
-use Rattle.std.specs.Prelude.{ℤ, List, [], ◌∷◌, ◌++◌}
+-- What the loop over arguments has made so far, before what is left.
+use Rattle.std.specs.Prelude.{List, [], ◌∷◌}
 use Rattle.cs_ast.specs.declared.typed.expression.Expr.{Expr}
 use Rattle.cs_ast.specs.TypedTree.{TypedList, Further}
 use Rattle.cs_ast.specs.TypedView.{typed}
 use Rattle.cs_scopes.specs.Verdicts.{Verdict, Fine}
-
--- numbers before the rest
-abbrev pub numbers_before : List ℤ → List ℤ → Verdict (List ℤ)
-numbers_before made rest = Fine (made ++ rest)
 
 -- expressions of the program before the rest
 abbrev pub put_before : List Expr → TypedList → TypedList

@@ -33,7 +33,8 @@ use Rattle.cs_expressions.specs.Integers.{raised, turned}
 use Rattle.cs_types.specs.Kinds.{is_void}
 use Rattle.cs_expressions.specs.Objects.{valued, operand, measured}
 use Rattle.cs_consts.specs.Constants.{finished}
-use Rattle.cs_expressions.specs.Conversions.{converted, recast}
+use Rattle.cs_consts.specs.Operands.{left_operand_fault}
+use Rattle.cs_expressions.specs.Conversions.{converted, conversion_fault, recast}
 use Rattle.cs_expressions.specs.Operators.{combined, tested, denied, chosen, followed}
 use Rattle.cs_expressions.specs.Places.{address_of, through, indexed, selected, selected_through}
 use Rattle.cs_expressions.specs.Stores.{assignable, assigned_fault, assigned, updatable, updated_fault, updated, weighed, led, step_operator}
@@ -41,7 +42,8 @@ use Rattle.cs_expressions.specs.Stores.{steppable, stepped}
 use Rattle.cs_expressions.specs.Primary.{Literals, constant_type, named, text_at}
 use Rattle.cs_scopes.specs.Scopes.{newest}
 use Rattle.cs_scopes.specs.TypeNames.{type_named, arrayed, complete_at}
-use Rattle.cs_expressions.specs.Calls.{called, parameters_of, admitted, converted_list, call_of}
+use Rattle.cs_expressions.specs.Calls.{called, parameters_of, call_fault, converted_list, call_of}
+use Rattle.cs_scopes.specs.Faults.{least_code, unless_fault}
 
 abbrev mutual
   -- the literals after those of an expression
@@ -71,6 +73,11 @@ abbrev mutual
   pub literals_after_row : Literals → {n : _} → Row_of-RawExpr n → Literals
   literals_after_row literals end_of-RawExpr = literals
   literals_after_row literals (more_of-RawExpr place p k rest) = literals_after_row (literals_after literals k) rest
+
+-- the literals after a part that is judged: where it is refused no literal counts any longer, since the file is refused
+abbrev pub literals_past : {A : Type 0} → Verdict A → Literals → Literals
+literals_past (Fine value) literals = literals
+literals_past (Fault code place) literals = []
 
 -- how many expressions stand in a row
 abbrev pub row_length : {n : _} → Row_of-RawExpr n → ℕ
@@ -125,6 +132,12 @@ prefixed_value c prefix_op.Not at v = denied at v
 -- an operator before one operand (C11 6.5.3)
 unfoldable pub prefixed : Context → PrefixOp → Place → Typed → Verdict Typed
 prefixed c op at e = if is_address op then address_of at e else lift (prefixed_value c op at) (operand c.table.list e)
+
+-- an operator between two operands: what it asks of the left one alone counts where the right one is refused, since the operator comes
+-- before that
+unfoldable pub between : Place → (Shape → Option TypeCode) → (Typed → Typed → Verdict Typed) → Verdict Typed → Verdict Typed → Verdict Typed
+between at asks rule (Fine left) right = lift (rule left) (led at (asks (type_of left)) right)
+between at asks rule (Fault code place) right = Fault code place
 
 -- a subscript of two values
 abbrev pub indexed_values : Context → Place → Typed → Typed → Verdict Typed
@@ -229,28 +242,47 @@ further e others = Fine (Further e others)
 abbrev pub no_function : Place → Typed → Verdict Typed
 no_function at e = Fault code.OperandTypes at
 
--- a call of a function with the values of its arguments: once all are typed, the call's place judges how each comes to its
--- parameter (C11 6.5.2.2, paragraph 2)
+-- a call of a function with the values of its arguments, each converted to the type of its parameter (C11 6.5.2.2, paragraph 7)
 unfoldable pub call_with : Context → Place → Option Shape → Signature → TypedList → Verdict Typed
 call_with c at target f values = lift (call_of at target f) (converted_list c.model at (parameters_of (Some f)) values)
 
--- a call of a function with its arguments, or of something else
-unfoldable pub call_or_not : Context → Place → Option Shape → Option Signature → ℕ → Verdict Typed → Verdict TypedList → Verdict Typed
-call_or_not c at target None count v values = lift (no_function at) v
-call_or_not c at target (Some f) count v values = lift2 (call_with c at target) (admitted at target count f) values
+-- what a call's place says of an argument, if the argument has a type
+abbrev pub passing_fault : Context → Place → Shape → Verdict Typed → Option TypeCode
+passing_fault c at ty (Fine e) = conversion_fault c.model at ty e
+passing_fault c at ty (Fault code place) = None
+
+-- a call of a function with its arguments, or of something else: of what the call's place says of their number, of the result's
+-- target and of each argument that has a type, the least code counts, and it counts before an argument that is refused itself
+unfoldable pub call_or_not : Context → Place → Option Shape → Option Signature → ℕ → Verdict Typed → Option TypeCode → Verdict TypedList → Verdict Typed
+call_or_not c at target None count v fault values = lift (no_function at) v
+call_or_not c at target (Some f) count v fault values =
+    unless_fault at (least_code (call_fault target count f) fault) (lift (call_with c at target f) values)
 
 -- the number of a constant
-abbrev pub number_at : Form → Verdict ℤ
-number_at (Number n) = Fine n
-number_at other = Fine (pos 0)
+abbrev pub number_at : Form → ℤ
+number_at (Number n) = n
+number_at other = pos 0
 
--- a number before others
-abbrev pub number_before : Typed → List ℤ → Verdict (List ℤ)
-number_before e ns = lift (λ n. Fine (n ∷ ns)) (number_at (form_of e))
+-- the number with which a bound counts: one that is refused counts with 1, so that its array is as small as can be
+abbrev pub bound_number : Verdict Typed → ℤ
+bound_number (Fine e) = number_at (form_of e)
+bound_number (Fault code place) = pos 1
+
+-- a bound before others, none of which is refused
+abbrev pub bound_taken : Typed → Unit {0} → Verdict (Unit {0})
+bound_taken e others = Fine tt
 
 -- `sizeof` of a type with bounds
-unfoldable pub measured_arrays : Context → Place → Shape → List ℤ → Verdict Typed
-measured_arrays c at base ns = lift (measured c.model c.table.list at) (arrayed c.model c.table.list at base ns)
+unfoldable pub measured_arrays : Context → Place → List ℤ → Shape → Verdict Typed
+measured_arrays c at ns base = lift (measured c.model c.table.list at) (arrayed c.model c.table.list at base ns)
+
+-- a size before bounds, none of which is refused
+abbrev pub size_alone : Typed → Unit {0} → Verdict Typed
+size_alone size bounds = Fine size
+
+-- the same, whose bounds may be refused: what the `sizeof` says of the type and of the numbers of its bounds counts before that
+abbrev pub measured_type_name : Context → Place → Verdict Shape → List ℤ → Verdict (Unit {0}) → Verdict Typed
+measured_type_name c at base ns bounds = lift2 size_alone (lift (measured_arrays c at ns) (lift (complete_at c.table.list at) base)) bounds
 
 -- a written type between parentheses, without its arrays
 abbrev pub base_in : Context → Place → WrittenType → Verdict Shape
@@ -267,13 +299,14 @@ abbrev mutual
   formed c purpose literals target at (kind.Parenthesis' place p inner) = done c purpose (formed c purpose literals target place inner)
   -- C11 6.5.2.1
   formed c purpose literals target at (kind.Index' place p left place' q right) =
-      lift2 (indexed_values c at)
+      between at (left_operand_fault c.table.list infix_op.Add) (indexed_values c at)
       (operand_in c purpose (formed c purpose literals None place left))
       (operand_in c purpose (formed c purpose (literals_after literals left) None place' right))
   -- C11 6.5.2.2
   formed c purpose literals target at (kind.Call' place p function shape row) =
       call_or_not c at target (called c.scope.declarations function) (row_length row)
       (operand_in c purpose (formed c purpose literals None place function))
+      (arguments_fault c purpose literals at (parameters_of (called c.scope.declarations function)) row)
       (arguments_formed c purpose literals (parameters_of (called c.scope.declarations function)) row)
   -- C11 6.5.2.3
   formed c purpose literals target at (kind.Member' place p object name) =
@@ -295,7 +328,7 @@ abbrev mutual
   formed c purpose literals target at (kind.SizeOf' place p e) =
       lift (measured_type c at) (done c Run (formed c Run literals None place e))
   formed c purpose literals target at (kind.SizeOfType' ty shape row) =
-      lift2 (measured_arrays c at) (lift (complete_at c.table.list at) (base_in c at ty)) (numbers_formed c literals row)
+      measured_type_name c at (base_in c at ty) (numbers_formed c literals row) (bounds_formed c literals row)
   -- C11 6.5.4
   formed c purpose literals target at (kind.Cast' ty shape row place p e) =
       lift2 (cast_to c at) (cast_type at (row_length row) (base_in c at ty))
@@ -304,7 +337,7 @@ abbrev mutual
   formed c purpose literals target at (kind.Infix' operator place p left place' q right) =
       let one = operand_in c purpose (formed c purpose literals None place left) in
       let following = purpose_after operator purpose one in
-      lift2 (combined c.model c.table.list operator at) one
+      between at (left_operand_fault c.table.list operator) (combined c.model c.table.list operator at) one
       (operand_in c following (formed c following (literals_after literals left) None place' right))
   -- C11 6.5.15
   formed c purpose literals target at (kind.Choice' place p test place' q one place'' r other) =
@@ -333,21 +366,42 @@ abbrev mutual
       (operand_in c purpose (formed c purpose literals (Some ty) place k))
       (arguments_formed c purpose (literals_after literals k) types rest)
 
-  -- the numbers of bounds, which are constant
-  pub numbers_formed : Context → Literals → {n : _} → Row_of-RawExpr n → Verdict (List ℤ)
-  numbers_formed c literals end_of-RawExpr = Fine []
+  -- the least code that the place of a call says of the arguments that have types
+  pub arguments_fault : Context → Purpose → Literals → Place → List Shape → {n : _} → Row_of-RawExpr n → Option TypeCode
+  arguments_fault c purpose literals at types end_of-RawExpr = None
+  arguments_fault c purpose literals at [] (more_of-RawExpr place p k rest) = None
+  arguments_fault c purpose literals at (ty ∷ types) (more_of-RawExpr place p k rest) =
+      let value = operand_in c purpose (formed c purpose literals (Some ty) place k) in
+      least_code (passing_fault c at ty value) (arguments_fault c purpose (literals_past value (literals_after literals k)) at types rest)
+
+  -- the numbers with which bounds count, which are constant
+  pub numbers_formed : Context → Literals → {n : _} → Row_of-RawExpr n → List ℤ
+  numbers_formed c literals end_of-RawExpr = []
   numbers_formed c literals (more_of-RawExpr place p k rest) =
-      lift2 number_before
+      let bound = done c Constant (formed c Constant literals None place k) in
+      bound_number bound ∷ numbers_formed c (literals_past bound (literals_after literals k)) rest
+
+  -- the bounds themselves, of which one may be refused
+  pub bounds_formed : Context → Literals → {n : _} → Row_of-RawExpr n → Verdict (Unit {0})
+  bounds_formed c literals end_of-RawExpr = Fine tt
+  bounds_formed c literals (more_of-RawExpr place p k rest) =
+      lift2 bound_taken
       (done c Constant (formed c Constant literals None place k))
-      (numbers_formed c (literals_after literals k) rest)
+      (bounds_formed c (literals_after literals k) rest)
 
 -- the rules of the productions with more than one part, each on the parts themselves: what the functions for them promise
 abbrev pub infix_formed : Context → Purpose → Literals → Place → InfixOp → RawExpr → RawExpr → Verdict Typed
 infix_formed c purpose literals at operator left right =
     let one = operand_in c purpose (formed c purpose literals None left.place left.kind.value) in
     let following = purpose_after operator purpose one in
-    lift2 (combined c.model c.table.list operator at) one
+    between at (left_operand_fault c.table.list operator) (combined c.model c.table.list operator at) one
     (operand_in c following (formed c following (literals_after literals left.kind.value) None right.place right.kind.value))
+
+abbrev pub subscript_formed : Context → Purpose → Literals → Place → RawExpr → RawExpr → Verdict Typed
+subscript_formed c purpose literals at left right =
+    between at (left_operand_fault c.table.list infix_op.Add) (indexed_values c at)
+    (operand_in c purpose (formed c purpose literals None left.place left.kind.value))
+    (operand_in c purpose (formed c purpose (literals_after literals left.kind.value) None right.place right.kind.value))
 
 abbrev pub choice_formed : Context → Purpose → Literals → Place → RawExpr → RawExpr → RawExpr → Verdict Typed
 choice_formed c purpose literals at test one other =
@@ -383,17 +437,31 @@ arguments_listed c purpose literals (ty ∷ types) (e ∷ rest) =
     (operand_in c purpose (formed c purpose literals (Some ty) e.place e.kind.value))
     (arguments_listed c purpose (literals_after literals e.kind.value) types rest)
 
-abbrev pub numbers_listed : Context → Literals → List RawExpr → Verdict (List ℤ)
-numbers_listed c literals [] = Fine []
+abbrev pub arguments_listed_fault : Context → Purpose → Literals → Place → List Shape → List RawExpr → Option TypeCode
+arguments_listed_fault c purpose literals at types [] = None
+arguments_listed_fault c purpose literals at [] (e ∷ rest) = None
+arguments_listed_fault c purpose literals at (ty ∷ types) (e ∷ rest) =
+    let value = operand_in c purpose (formed c purpose literals (Some ty) e.place e.kind.value) in
+    least_code (passing_fault c at ty value) (arguments_listed_fault c purpose (literals_past value (literals_after literals e.kind.value)) at types rest)
+
+abbrev pub numbers_listed : Context → Literals → List RawExpr → List ℤ
+numbers_listed c literals [] = []
 numbers_listed c literals (e ∷ rest) =
-    lift2 number_before
+    let bound = done c Constant (formed c Constant literals None e.place e.kind.value) in
+    bound_number bound ∷ numbers_listed c (literals_past bound (literals_after literals e.kind.value)) rest
+
+abbrev pub bounds_listed : Context → Literals → List RawExpr → Verdict (Unit {0})
+bounds_listed c literals [] = Fine tt
+bounds_listed c literals (e ∷ rest) =
+    lift2 bound_taken
     (done c Constant (formed c Constant literals None e.place e.kind.value))
-    (numbers_listed c (literals_after literals e.kind.value) rest)
+    (bounds_listed c (literals_after literals e.kind.value) rest)
 
 abbrev pub call_formed : Context → Purpose → Literals → Option Shape → Place → RawExpr → List RawExpr → Verdict Typed
 call_formed c purpose literals target at function arguments =
     call_or_not c at target (called c.scope.declarations function.kind.value) (length arguments)
     (operand_in c purpose (formed c purpose literals None function.place function.kind.value))
+    (arguments_listed_fault c purpose literals at (parameters_of (called c.scope.declarations function.kind.value)) arguments)
     (arguments_listed c purpose literals (parameters_of (called c.scope.declarations function.kind.value)) arguments)
 
 -- the typing of an expression

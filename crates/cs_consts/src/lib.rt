@@ -2,6 +2,7 @@
 #![tactic(auto)]
 
 mod constants;
+mod operands;
 mod purpose;
 mod roles;
 mod typing;

@@ -2,14 +2,16 @@
 ghost use Rattle.std.specs.Prelude.{◌≡◌, OnOk, IfOk, None, Some, length, vec_len, if◌then◌else◌};
 ghost use Rattle.cs_types.specs.Shape.{shape_of};
 ghost use Rattle.cs_ast.specs.TypedView.{typed, form, typed_list};
-ghost use Rattle.cs_scopes.specs.Verdicts.{Fine, lift, lift2, lift3, Yields, Answers};
+ghost use Rattle.cs_scopes.specs.Faults.{least_code, unless_fault, unless_stopped};
+ghost use Rattle.cs_scopes.specs.Verdicts.{Fine, lift, Yields, Answers};
 ghost use Rattle.cs_expressions.specs.Stores.{steppable, step_operator};
 ghost use Rattle.cs_scopes.specs.TypeNames.{complete_at};
 ghost use Rattle.cs_scopes.specs.Meanings.{signature_of};
 ghost use Rattle.cs_expressions.specs.Calls.{shape_in};
-ghost use Rattle.cs_consts.specs.Typing.{literals_after, literals_after_list, formed, judged, value_in, operand_in, done, stepped_object, is_address, prefixed, prefixed_value, purpose_after, purpose_if, is_zero_number, is_plain, operator_of, left_side, left_fault, stored_by, stored, arguments_listed, numbers_listed, measured_arrays, base_in, number_at, call_with, cast_type, castable, cast_operand, cast_to, infix_formed, choice_formed, store_formed, call_formed, cast_formed};
+ghost use Rattle.cs_consts.specs.Typing.{literals_after, literals_after_list, formed, judged, value_in, operand_in, done, stepped_object, is_address, prefixed, prefixed_value, purpose_after, purpose_if, is_zero_number, is_plain, operator_of, left_side, left_fault, stored_by, stored, arguments_listed, arguments_listed_fault, numbers_listed, bounds_listed, measured_arrays, measured_type_name, base_in, number_at, call_with, cast_type, castable, cast_operand, cast_to, infix_formed, subscript_formed, choice_formed, store_formed, call_formed, cast_formed};
 
 use crate::constants::finished;
+use crate::operands::left_operand_fault;
 use crate::purpose::Purpose;
 use cs_ast::Place;
 use cs_ast::raw::expression::{RawExpr, RawExprKind};
@@ -18,15 +20,18 @@ use cs_ast::raw::written_type::WrittenType;
 use cs_ast::typed::expression::{Expr, ExprKind};
 use cs_ast::typed::operator::{BinOp, Gives, UnOp};
 use cs_expressions::{
-    address_of, admitted, assignable, assigned, assigned_fault, call_of, called, chosen, combined,
-    constant_type, converted, converted_list, denied, followed, indexed, led, measured, named,
-    number, operand, raised, recast, selected, selected_through, step_operator, steppable, stepped,
-    tested, text, through, turned, updatable, updated, updated_fault, valued, weighed,
+    address_of, assignable, assigned, assigned_fault, call_fault, call_of, called, chosen,
+    combined, constant_type, conversion_fault, converted, converted_list, denied, followed,
+    indexed, led, measured, named, number, operand, raised, recast, selected, selected_through,
+    step_operator, steppable, stepped, tested, text, through, turned, updatable, updated,
+    updated_fault, valued, weighed,
 };
 use cs_names::Bytes;
-use cs_scopes::{Context, Function, TypeCode, TypeRefusal, arrayed, complete_at, type_named};
+use cs_scopes::{
+    Context, Function, TypeCode, TypeRefusal, arrayed, complete_at, least_code, type_named,
+};
 use cs_types::{CType, IntType, is_void};
-use std::alloc::Global;
+use std::alloc::{AllocError, Global};
 
 /// The typing of an expression for its purpose. String literals are put after those that are there; the value goes to a type
 /// where what stands around the expression asks for one.
@@ -121,10 +126,8 @@ fn formed(
         RawExprKind::Parenthesis(inner) => {
             judged(alloc, context, purpose, literals, target, inner)
         }
-        RawExprKind::Index(array, number) => {
-            let array = operand_in(alloc, context, purpose, literals, None, array)?;
-            let number = operand_in(alloc, context, purpose, literals, None, number)?;
-            indexed(alloc, &context.table, place, array, number)
+        RawExprKind::Index(left, right) => {
+            subscript(alloc, context, purpose, literals, place, left, right)
         }
         RawExprKind::Call(function, arguments) => call(
             alloc, context, purpose, literals, target, place, function, arguments,
@@ -275,7 +278,9 @@ fn infix(
 {
     let left = operand_in(alloc, context, purpose, literals, None, left)?;
     let following = purpose_after(operator, purpose, &left);
-    let right = operand_in(alloc, context, following, literals, None, right)?;
+    let fault = left_operand_fault(&context.table, operator, &left.ty);
+    let other = operand_in(alloc, context, following, literals, None, right);
+    let right = led(place, fault, other)?;
     combined(
         alloc,
         context.model,
@@ -285,6 +290,30 @@ fn infix(
         left,
         right,
     )
+}
+
+// A subscript, which asks of its left operand what `+` does (C11 6.5.2.1, paragraph 2).
+#[cycle(typing)]
+fn subscript(
+    alloc: Global,
+    context: &Context,
+    purpose: Purpose,
+    literals: &mut Vec<Bytes>,
+    place: Place,
+    left: &RawExpr,
+    right: &RawExpr,
+) -> Result<Expr, TypeRefusal>
+    ensures reported { Yields
+        (subscript_formed context.now purpose literals.old.items place left.now right.now) result }
+    ensures texts { OnOk result (literals.new.items
+        ≡ literals_after (literals_after literals.old.items left.now.kind.value)
+        right.now.kind.value) }
+{
+    let left = operand_in(alloc, context, purpose, literals, None, left)?;
+    let fault = left_operand_fault(&context.table, InfixOp::Add, &left.ty);
+    let other = operand_in(alloc, context, purpose, literals, None, right);
+    let right = led(place, fault, other)?;
+    indexed(alloc, &context.table, place, left, right)
 }
 
 // What the operand after an operator is typed for.
@@ -493,8 +522,10 @@ fn call(
         operand_in(alloc, context, purpose, literals, None, function)?;
         return Err(TypeRefusal::Code(TypeCode::OperandTypes, place));
     };
-    admitted(place, target, arguments.len(), called)?;
-    let values = arguments_of(alloc, context, purpose, literals, called, arguments)?;
+    let fault = call_fault(target, arguments.len(), called);
+    let values = arguments_of(
+        alloc, context, purpose, literals, place, fault, called, arguments,
+    )?;
     call_with(alloc, context, place, target, called, values)
 }
 
@@ -516,32 +547,69 @@ fn call_with(
     call_of(alloc, place, target, function, list)
 }
 
-// The values of the arguments of a call, each for a parameter.
+// The values of the arguments of a call, each for a parameter. What the call's place says, of each that has a type too, counts
+// before one that is refused.
 #[cycle(typing)]
 fn arguments_of(
     alloc: Global,
     context: &Context,
     purpose: Purpose,
     literals: &mut Vec<Bytes>,
+    place: Place,
+    fault: Option<TypeCode>,
     function: &Function,
     arguments: &[RawExpr],
 ) -> Result<Vec<Expr>, TypeRefusal>
-    requires { length arguments.now ≡ vec_len function.now.parameters }
     ensures reported { Answers (λ list. typed_list list.items)
+        (unless_fault place
+        (least_code fault (arguments_listed_fault context.now purpose literals.old.items place
+        (signature_of function.now).parameters arguments.now))
         (arguments_listed context.now purpose literals.old.items
-        (signature_of function.now).parameters arguments.now) result }
-    ensures texts { OnOk result (literals.new.items
-        ≡ literals_after_list literals.old.items arguments.now) }
-    ensures count { IfOk result (λ list. vec_len list ≡ length arguments.now) }
+        (signature_of function.now).parameters arguments.now)) result }
+    ensures texts { OnOk result (length arguments.now ≡ vec_len function.now.parameters
+        → literals.new.items ≡ literals_after_list literals.old.items arguments.now) }
+    ensures count { IfOk result (λ list. length arguments.now ≡ vec_len function.now.parameters
+        → vec_len list ≡ length arguments.now) }
 {
     let types = function.parameters.as_slice();
+    let mut least = fault;
+    let mut refused = None;
     let mut list = Vec::new(alloc);
-    for i in 0..arguments.len() {
+    for i in 0..arguments.len().min(types.len()) {
         let ty = &types[i];
-        let value = operand_in(alloc, context, purpose, literals, Some(ty), &arguments[i])?;
-        list.push(value)?;
+        match operand_in(alloc, context, purpose, literals, Some(ty), &arguments[i]) {
+            Ok(value) => {
+                least = least_code(least, conversion_fault(context.model, &value, ty));
+                list.push(value)?;
+            }
+            Err(TypeRefusal::Code(code, at)) => {
+                refused = refused.or(Some((code, at)));
+                literals.clear();
+            }
+            Err(TypeRefusal::Memory) => return Err(TypeRefusal::Memory),
+        }
     }
-    Ok(list)
+    unless_refused(place, least, refused, list)
+}
+
+// What is found, unless a code holds at a place before it, or something after the place is refused.
+fn unless_refused(
+    place: Place,
+    fault: Option<TypeCode>,
+    refused: Option<(TypeCode, Place)>,
+    list: Vec<Expr>,
+) -> Result<Vec<Expr>, TypeRefusal>
+    ensures values { Answers (λ found. typed_list found.items)
+        (unless_fault place fault (unless_stopped refused (Fine (typed_list list.items)))) result }
+    ensures count { IfOk result (λ found. found ≡ list × (refused ≡ None)) }
+{
+    if let Some(code) = fault {
+        return Err(TypeRefusal::Code(code, place));
+    }
+    match refused {
+        Some((code, at)) => Err(TypeRefusal::Code(code, at)),
+        None => Ok(list),
+    }
 }
 
 // `sizeof` of a type with bounds.
@@ -555,16 +623,20 @@ fn size_of_type(
     bounds: &[RawExpr],
 ) -> Result<Expr, TypeRefusal>
     ensures reported { Yields
-        (lift2 (measured_arrays context.now place)
-        (lift (complete_at context.now.table.list place) (base_in context.now place ty.now))
-        (numbers_listed context.now literals.old.items bounds.now)) result }
+        (measured_type_name context.now place (base_in context.now place ty.now)
+        (numbers_listed context.now literals.old.items bounds.now)
+        (bounds_listed context.now literals.old.items bounds.now)) result }
     ensures texts { OnOk result (literals.new.items
         ≡ literals_after_list literals.old.items bounds.now) }
 {
     let base = type_named(alloc, &context.scope, place, ty)?;
     let base = complete_at(&context.table, place, base)?;
-    let numbers = numbers_of(alloc, context, literals, bounds)?;
-    measured_arrays(alloc, context, place, base, &numbers)
+    let bounds = bounds_of(alloc, context, literals, bounds)?;
+    let size = measured_arrays(alloc, context, place, base, &bounds.numbers)?;
+    match bounds.refused {
+        Some((code, at)) => Err(TypeRefusal::Code(code, at)),
+        None => Ok(size),
+    }
 }
 
 // `sizeof` of arrays of these sizes.
@@ -576,36 +648,53 @@ fn measured_arrays(
     base: CType,
     numbers: &[i128],
 ) -> Result<Expr, TypeRefusal>
-    ensures { Yields (measured_arrays context.now place (shape_of base) numbers.now) result }
+    ensures { Yields (measured_arrays context.now place numbers.now (shape_of base)) result }
 {
     let ty = arrayed(alloc, context.model, &context.table, place, base, numbers)?;
     measured(alloc, context.model, &context.table, place, &ty)
 }
 
-// The numbers of bounds, which are constant.
+// The numbers with which bounds count, which are constant, and what is wrong with the first one that is refused, which counts with 1.
+#[derive(Drop)]
+struct Bounds {
+    numbers: Vec<i128>,
+    refused: Option<(TypeCode, Place)>,
+}
+
+// The bounds of a type.
 #[cycle(typing)]
-fn numbers_of(
+fn bounds_of(
     alloc: Global,
     context: &Context,
     literals: &mut Vec<Bytes>,
     bounds: &[RawExpr],
-) -> Result<Vec<i128>, TypeRefusal>
-    ensures reported { Answers (λ numbers. numbers.items)
-        (numbers_listed context.now literals.old.items bounds.now) result }
-    ensures texts { OnOk result (literals.new.items
+) -> Result<Bounds, AllocError>
+    ensures numbers { IfOk result (λ found. found.numbers.items
+        ≡ numbers_listed context.now literals.old.items bounds.now) }
+    ensures refused { IfOk result (λ found. unless_stopped found.refused (Fine tt)
+        ≡ bounds_listed context.now literals.old.items bounds.now) }
+    ensures texts { IfOk result (λ found. found.refused ≡ None → literals.new.items
         ≡ literals_after_list literals.old.items bounds.now) }
 {
     let mut numbers = Vec::new(alloc);
+    let mut refused = None;
     for bound in bounds {
-        let value = judged(alloc, context, Purpose::Constant, literals, None, bound)?;
-        numbers.push(number_at(&*value.kind))?;
+        match judged(alloc, context, Purpose::Constant, literals, None, bound) {
+            Ok(value) => numbers.push(number_at(&*value.kind))?,
+            Err(TypeRefusal::Code(code, at)) => {
+                numbers.push(1)?;
+                refused = refused.or(Some((code, at)));
+                literals.clear();
+            }
+            Err(TypeRefusal::Memory) => return Err(AllocError),
+        }
     }
-    Ok(numbers)
+    Ok(Bounds { numbers, refused })
 }
 
 // The number of a constant.
 fn number_at(kind: &ExprKind) -> i128
-    ensures { number_at (form kind.now) ≡ Fine result }
+    ensures { result ≡ number_at (form kind.now) }
 {
     match kind {
         ExprKind::Number(number) => *number,

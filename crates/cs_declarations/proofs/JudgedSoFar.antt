@@ -14,7 +14,7 @@ use Rattle.cs_scopes.specs.declared.context.Context.{Context}
 use Rattle.cs_scopes.specs.declared.refusal.TypeCode.{TypeCode}
 use Rattle.cs_scopes.specs.declared.refusal.TypeCode.TheVariants as code_of
 use Rattle.cs_scopes.specs.declared.refusal.TypeRefusal.{TypeRefusal}
-use Rattle.cs_expressions.specs.Calls.{lesser, least}
+use Rattle.cs_scopes.specs.Faults.{lesser, least}
 use Rattle.cs_expressions.specs.Conversions.{converted}
 use Rattle.cs_folding.specs.TypedParts.{type_of}
 use Rattle.cs_scopes.specs.Verdicts.{Verdict, Fine, Fault, lift, IsRefused}
@@ -24,7 +24,7 @@ use Rattle.cs_scopes.proofs.Lifting.{refused_as}
 use Rattle.cs_declarations.specs.Initializers.{Storage, part_types, types_or_none, is_admitted, value_held, value_judged, part_judged, parts_judged}
 use Rattle.cs_declarations.specs.Initializers.{before_others}
 use Rattle.cs_declarations.proofs.PartTypes.{types_from, types_past}
-use Rattle.cs_declarations.proofs.LesserCodes.{lesser-comm, lesser-assoc}
+use Rattle.cs_scopes.proofs.LesserCodes.{lesser-comm, lesser-assoc}
 use Rattle.cs_declarations.proofs.ValuesSoFar.{before, before-push, before-all}
 
 -- a value

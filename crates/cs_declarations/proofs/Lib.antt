@@ -12,7 +12,6 @@ pub mod InitialsInTurn
 pub mod InnerNames
 pub mod JudgedSoFar
 pub mod LastStars
-pub mod LesserCodes
 pub mod PartTypes
 pub mod PassedArrays
 pub mod PlainWords
@@ -27,3 +26,5 @@ pub mod StoredSoFar
 pub mod TypeSizes
 pub mod ValuesSoFar
 pub mod WrittenLists
+pub mod FaultsSoFar
+pub mod KeptConstants

@@ -1,6 +1,7 @@
 -- The values of the items so far before those of the items that are left: for the loops over items.
 use Rattle.std.proofs.Common.{◌≡◌, ℕ, suc, ◌≤◌, List, [], ◌∷◌, ◌++◌, drop, length, Some, None, refl, sym, ap, ◌∙◌, Vec, Global}
-use Rattle.std.proofs.Common.{Bool}
+use Rattle.std.proofs.Common.{Bool, Option}
+use Rattle.std.specs.Option.{option_or}
 use Rattle.std.proofs.Math.ListN.{drop_of_length-le}
 use Rattle.std.specs.Prelude.{slice_get}
 use Rattle.cs_types.specs.Shape.{Shape}
@@ -12,7 +13,10 @@ use Rattle.cs_ast.specs.declared.typed.statement.Initial.{Initial as Held}
 use Rattle.cs_ast.specs.TypedTree.{Initials, Value, NoPart, Part, Parts}
 use Rattle.cs_ast.specs.TypedView.{typed, initial, initial_list}
 use Rattle.cs_scopes.specs.declared.context.Context.{Context}
+use Rattle.cs_ast.specs.declared.place.Place.{Place}
+use Rattle.cs_scopes.specs.declared.refusal.TypeCode.{TypeCode}
 use Rattle.cs_scopes.specs.declared.refusal.TypeRefusal.{TypeRefusal}
+use Rattle.cs_scopes.specs.Faults.{unless_stopped}
 use Rattle.cs_consts.specs.Roles.{operand_of}
 use Rattle.cs_expressions.specs.Primary.{Literals}
 use Rattle.cs_consts.specs.Typing.{literals_after}
@@ -115,34 +119,47 @@ none_yet : (v : Verdict Readings) → lift (following []) v ≡ v
 none_yet (Fine r) = lift-fine (following []) r
 none_yet (Fault code place) = lift-fault (following []) code place
 
+-- the first part that is refused
+stopped : {A : Type 0} (refused : Option (TypeCode × Place)) {code : TypeCode} {place : Place} (v w whole : Verdict A) → unless_stopped refused v ≡ whole
+    → v ≡ Fault code place → unless_stopped (option_or refused (Some (code, place))) w ≡ whole
+stopped None v w whole so_far is = sym is ∙ so_far
+stopped (Some refusal) v w whole so_far is = so_far
+
 pub nothing_read : (list : List Held) (v : Verdict Readings) → list ≡ [] → lift (following list) v ≡ v
 nothing_read list v empty = ap (λ xs. lift (following xs) v) empty ∙ none_yet v
 
-module _ (c : Context) (types : List Shape) (items : List RawInitial) (literals : Literals) (i : ℕ) (list : List Held) (whole : Verdict Readings)
-    (so_far : lift (following list) (list_read c literals (drop i types) (drop i items)) ≡ whole) where
-  all_read : list_read c literals (drop i types) (drop i items) ≡ Fine (NoPart, literals) → whole ≡ Fine (initial_list list, literals)
-  all_read e = sym so_far ∙ lift_is (following list) _ (NoPart, literals) e ∙ ap (λ all. Fine (all, literals)) (before-all list)
+module _ (c : Context) (types : List Shape) (items : List RawInitial) (literals : Literals) (i : ℕ) (refused : Option (TypeCode × Place)) (list : List Held)
+    (whole : Verdict Readings)
+    (so_far : unless_stopped refused (lift (following list) (list_read c literals (drop i types) (drop i items))) ≡ whole) where
+  all_read : list_read c literals (drop i types) (drop i items) ≡ Fine (NoPart, literals) → unless_stopped refused (Fine (initial_list list, literals)) ≡ whole
+  all_read e =
+      ap (unless_stopped refused) (ap (λ all. Fine (all, literals)) (sym (before-all list)) ∙ sym (lift_is (following list) _ (NoPart, literals) e)) ∙ so_far
 
-  pub read_over : slice_get types i ≡ None → whole ≡ Fine (initial_list list, literals)
+  pub read_over : slice_get types i ≡ None → unless_stopped refused (Fine (initial_list list, literals)) ≡ whole
   read_over part = all_read (ap (λ ts. list_read c literals ts (drop i items)) (types_past types i part) ∙ no_types c literals (drop i items))
 
-  pub read_end : length items ≤ i → whole ≡ Fine (initial_list list, literals)
+  pub read_end : length items ≤ i → unless_stopped refused (Fine (initial_list list, literals)) ≡ whole
   read_end past = all_read (ap (list_read c literals (drop i types)) (drop_of_length-le items past) ∙ no_items c literals (drop i types))
 
   module _ (item : RawInitial) (there : drop i items ≡ item ∷ drop (suc i) items) (ty : Shape) (part : slice_get types i ≡ Some ty) where
     abbrev further : Reading → Verdict Readings
     further r = lift (one_more r.0) (list_read c r.1 (drop (suc i) types) (drop (suc i) items))
 
-    next : lift (following list) (lift further (initial_read c literals ty item)) ≡ whole
-    next = sym (ap (λ ts. lift (following list) (list_read c literals ts (drop i items))) (types_from types i ty part)
-        ∙ ap (λ xs. lift (following list) (list_read c literals (ty ∷ drop (suc i) types) xs)) there) ∙ so_far
+    next : list_read c literals (drop i types) (drop i items) ≡ lift further (initial_read c literals ty item)
+    next = ap (λ ts. list_read c literals ts (drop i items)) (types_from types i ty part) ∙ ap (list_read c literals (ty ∷ drop (suc i) types)) there
 
-    pub read_stops : (r : TypeRefusal) → IsRefused (initial_read c literals ty item) r → IsRefused whole r
-    read_stops r h = refused_as r (sym next) (lift-refused (following list) _ r (lift-refused further _ r h))
+    pub read_stops : (code : TypeCode) (place : Place) (then_literals : Literals) (more : List Held) → initial_read c literals ty item ≡ Fault code place
+        → unless_stopped (option_or refused (Some (code, place)))
+        (lift (following more) (list_read c then_literals (drop (suc i) types) (drop (suc i) items))) ≡ whole
+    read_stops code place then_literals more h = stopped refused _ _ whole so_far
+        (ap (lift (following list)) (next ∙ ap (lift further) h ∙ lift-fault further code place) ∙ lift-fault (following list) code place)
 
     pub read_more : (v : Held) (then_literals : Literals) (more : List Held) → initial_read c literals ty item ≡ Fine (initial v, then_literals)
-        → more ≡ list ++ v ∷ [] → lift (following more) (list_read c then_literals (drop (suc i) types) (drop (suc i) items)) ≡ whole
+        → more ≡ list ++ v ∷ []
+        → unless_stopped refused (lift (following more) (list_read c then_literals (drop (suc i) types) (drop (suc i) items))) ≡ whole
     read_more v then_literals more h pushed =
-        ap (λ xs. lift (following xs) (list_read c then_literals (drop (suc i) types) (drop (suc i) items))) pushed
+        ap (unless_stopped refused)
+        (ap (λ xs. lift (following xs) (list_read c then_literals (drop (suc i) types) (drop (suc i) items))) pushed
         ∙ sym (regrouped list v (list_read c then_literals (drop (suc i) types) (drop (suc i) items)))
-        ∙ ap (lift (following list)) (sym (lift_is further _ (initial v, then_literals) h)) ∙ next
+        ∙ ap (lift (following list)) (sym (next ∙ lift_is further _ (initial v, then_literals) h)))
+        ∙ so_far

@@ -1,6 +1,7 @@
 -- How functions that change what they are given tell the verdicts of rules.
 use Rattle.std.specs.Prelude.{◌≡◌, Result, Ok, Err}
 use Rattle.cs_scopes.specs.declared.refusal.TypeRefusal.{TypeRefusal}
+use Rattle.cs_scopes.specs.declared.refusal.TypeRefusal.TheVariants.{Code, Memory}
 use Rattle.cs_scopes.specs.Verdicts.{Verdict, Fine, IsRefused}
 
 -- the answer, seen in some way, and what was changed are together what the verdict has
@@ -12,3 +13,9 @@ AnswersWith view verdict (Err refusal) changed = IsRefused verdict refusal
 abbrev pub Leaves : {A B : Type 0} → Verdict B → Result A TypeRefusal → B → Type 0
 Leaves verdict (Ok answer) changed = verdict ≡ Fine changed
 Leaves verdict (Err refusal) changed = IsRefused verdict refusal
+
+-- what holds unless memory ran out, whether something is given or refused
+abbrev pub UnlessMemory : {A : Type 0} → Result A TypeRefusal → Type 0 → Type 0
+UnlessMemory (Ok answer) P = P
+UnlessMemory (Err (Code code place)) P = P
+UnlessMemory (Err Memory) P = Unit {0}

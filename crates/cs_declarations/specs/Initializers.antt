@@ -16,13 +16,14 @@ use Rattle.cs_types.specs.Layout.{members_of}
 use Rattle.cs_types.specs.Members.{Member}
 use Rattle.cs_types.specs.declared.structs.StructType.{StructType}
 use Rattle.cs_scopes.specs.declared.context.Context.{Context}
+use Rattle.cs_scopes.specs.declared.refusal.TypeCode.{TypeCode}
 use Rattle.cs_scopes.specs.declared.refusal.TypeCode.TheVariants.{Initializer, TooManyScalars}
 use Rattle.cs_scopes.specs.Verdicts.{Verdict, Fine, Fault, lift}
 use Rattle.cs_folding.specs.TypedParts.{type_of}
 use Rattle.cs_folding.specs.Folding.{number_in}
-use Rattle.cs_scopes.specs.Scalars.{few, scalars_in}
+use Rattle.cs_scopes.specs.Scalars.{few, has_few_scalars, scalars_in}
 use Rattle.cs_expressions.specs.Conversions.{converted}
-use Rattle.cs_expressions.specs.Calls.{lesser}
+use Rattle.cs_scopes.specs.Faults.{lesser, least, least_code, code_in, unless_fault}
 use Rattle.cs_expressions.specs.Primary.{Literals}
 use Rattle.cs_consts.specs.Typing.{literals_after}
 use Rattle.cs_consts.specs.Roles.{operand_of}
@@ -210,6 +211,63 @@ abbrev pub initial_judged : Context → Storage → Place → Shape → Initial 
 initial_judged c storage at ty (Value v) = value_judged c.model storage at ty v
 initial_judged c storage at ty other = part_judged c storage at ty other
 
+-- the literals after an item that is read: after one that is refused none counts, since the file is refused
+abbrev pub literals_read : Verdict Reading → Literals
+literals_read (Fine r) = r.1
+literals_read (Fault code place) = []
+
+-- what the `=` says of an item, if its value has a type
+abbrev pub reading_fault : Context → Storage → Place → Shape → Verdict Reading → Option TypeCode
+reading_fault c storage at ty (Fine r) = code_in (part_judged c storage at ty r.0)
+reading_fault c storage at ty (Fault code place) = None
+
+abbrev mutual
+  -- the least code that the `=` says of the items of a list whose values have types
+  pub item_fault : Context → Literals → Storage → Place → Shape → RawInitial → Option TypeCode
+  item_fault c literals storage at ty (first_value.TheVariants.Value e) = reading_fault c storage at ty (expression_read c literals ty e)
+  item_fault c literals storage at ty (first_value.TheVariants.List' shape row comma) =
+      items_fault c literals storage at (types_or_none (part_types c.table.list ty)) row
+
+  pub items_fault : {n : _} → Context → Literals → Storage → Place → List Shape → first_value.Row_of-RawInitial n → Option TypeCode
+  items_fault c literals storage at types first_value.end_of-RawInitial = None
+  items_fault c literals storage at [] (first_value.more_of-RawInitial first others) = None
+  items_fault c literals storage at (ty ∷ types) (first_value.more_of-RawInitial first others) =
+      least_code (item_fault c literals storage at ty first)
+      (items_fault c (literals_read (initial_read c literals ty first)) storage at types others)
+
+abbrev pub list_fault : Context → Literals → Storage → Place → List Shape → List RawInitial → Option TypeCode
+list_fault c literals storage at types [] = None
+list_fault c literals storage at [] (first ∷ others) = None
+list_fault c literals storage at (ty ∷ types) (first ∷ others) =
+    least_code (item_fault c literals storage at ty first) (list_fault c (literals_read (initial_read c literals ty first)) storage at types others)
+
+-- what the `=` says of the items of a whole initializer; a single value is judged once it is read
+abbrev pub initial_fault : Context → Literals → Storage → Place → Shape → RawInitial → Option TypeCode
+initial_fault c literals storage at ty (first_value.TheVariants.Value e) = None
+initial_fault c literals storage at ty (first_value.TheVariants.List' shape row comma) =
+    items_fault c literals storage at (types_or_none (part_types c.table.list ty)) row
+
+-- what it says of a single value whatever that is: a local that takes one has few scalars
+abbrev pub scalar_limit : List StructType → Storage → Shape → Option TypeCode
+scalar_limit table InFile ty = None
+scalar_limit table InFunction ty = if has_few_scalars table ty then None else Some TooManyScalars
+
+abbrev pub value_limit : List StructType → Storage → Shape → RawInitial → Option TypeCode
+value_limit table storage ty (first_value.TheVariants.Value e) = scalar_limit table storage ty
+value_limit table storage ty (first_value.TheVariants.List' shape row comma) = None
+
+-- that counts before a value that is refused itself
+abbrev pub after_limit : Place → Option TypeCode → Verdict Reading → Verdict Reading
+after_limit at None v = v
+after_limit at (Some limit) (Fine read) = Fine read
+after_limit at (Some limit) (Fault code place) = Fault limit at
+
+-- the values of an initializer, unless the `=` says something of an item: that counts before an item that is refused itself
+abbrev pub whole_read : Context → Literals → Storage → Place → Shape → RawInitial → Verdict Reading
+whole_read c literals storage at ty written =
+    unless_fault at (initial_fault c literals storage at ty written)
+    (after_limit at (value_limit c.table.list storage ty written) (initial_read c literals ty written))
+
 -- so many scalars and some more, if they are few
 abbrev pub together : Option ℕ → Option ℕ → Option ℕ
 together (Some n) (Some m) = few (n + m)
@@ -240,13 +298,14 @@ limited table InFunction at ty found = if is_some (stored table ty found) then F
 abbrev pub kept_with : Literals → Initial → Verdict Reading
 kept_with literals found = Fine (found, literals)
 
--- the initializer after an `=`: its form, its values in their order, and then what the `=` asks of them
+-- the initializer after an `=`: its form, its values in their order, and what the `=` asks of them. Where the form is wrong, that of the
+-- items that have types counts as well
 abbrev pub initial_typed : Context → Literals → Storage → Place → Shape → RawInitial → Verdict Reading
 initial_typed c literals storage at ty written =
     if has_form c.table.list storage ty written
     then lift (λ (r : Reading). lift (kept_with r.1) (lift (limited c.table.list storage at ty) (initial_judged c storage at ty r.0)))
-    (initial_read c literals ty written)
-    else Fault Initializer at
+    (whole_read c literals storage at ty written)
+    else Fault (least Initializer (initial_fault c literals storage at ty written)) at
 
 -- how many elements a written initializer gives an array whose size isn't said: those of its list, or its text with the zero byte;
 -- one where it is another expression, which has the wrong form for every array, so that its size doesn't matter

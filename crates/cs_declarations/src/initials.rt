@@ -1,13 +1,19 @@
 //! What objects hold at first (C11 6.7.9).
-ghost use Rattle.std.specs.Prelude.{◌≡◌, IfOk};
+ghost use Rattle.std.specs.Prelude.{◌≡◌, IfOk, Err};
 ghost use Rattle.cs_types.specs.Shape.{shape_of};
-ghost use Rattle.cs_declarations.specs.Answered.{AnswersWith};
-ghost use Rattle.cs_declarations.specs.Initializers.{text_of, expression_read, initial_read, list_read, initial_typed};
+ghost use Rattle.cs_ast.specs.declared.place.Place.{Place as AnyPlace};
+ghost use Rattle.cs_scopes.specs.Faults.{least, least_code, unless_fault, unless_stopped};
+ghost use Rattle.cs_scopes.specs.declared.refusal.TypeRefusal.TheVariants.{Memory};
+ghost use Rattle.cs_scopes.specs.Verdicts.{Verdict, Fine, Fault};
+ghost use Rattle.cs_scopes.specs.declared.refusal.TypeCode.TheVariants.{Initializer};
+ghost use Rattle.cs_expressions.specs.Primary.{Literals};
+ghost use Rattle.cs_declarations.specs.Answered.{AnswersWith, UnlessMemory};
+ghost use Rattle.cs_declarations.specs.Initializers.{Reading, text_of, expression_read, reading_fault, initial_read, item_fault, list_read, list_fault, initial_fault, scalar_limit, after_limit, whole_read, initial_typed};
 ghost use Rattle.cs_declarations.specs.View as view;
 ghost use Rattle.cs_declarations.specs.View.{reading, readings, types_of};
 
 use crate::forms::{Parts, has_form, parts_of};
-use crate::judging::judged;
+use crate::judging::{item_fault, judged};
 use crate::storage::Storage;
 use crate::stored::stores_few;
 use cs_ast::Place;
@@ -16,8 +22,8 @@ use cs_ast::raw::expression::{RawExpr, RawExprKind};
 use cs_ast::typed::statement::Initial;
 use cs_consts::operand;
 use cs_names::Bytes;
-use cs_scopes::{Context, TypeCode, TypeRefusal};
-use cs_types::CType;
+use cs_scopes::{Context, TypeCode, TypeRefusal, has_few_scalars, least, least_code};
+use cs_types::{CType, StructTable};
 use std::alloc::{AllocError, Global};
 
 // An expression for something of a type: the text of an array is no literal of the program.
@@ -50,24 +56,56 @@ fn text_of(alloc: Global, tree: &RawExprKind) -> Result<Bytes, AllocError>
     }
 }
 
-// The values of an initializer of a form that the type asks for, in their order, not converted yet.
-#[cycle(initials)]
-fn initial_read(
+// The same for an item of a list, of which the `=` may say a code: that is joined to those of the items before.
+fn value_read(
     alloc: Global,
     context: &Context,
     literals: &mut Vec<Bytes>,
+    storage: Storage,
+    fault: &mut Option<TypeCode>,
+    ty: &CType,
+    tree: &RawExpr,
+) -> Result<Initial, TypeRefusal>
+    ensures values { AnswersWith reading
+        (expression_read context.now literals.old.items (shape_of ty.now) tree.now) result
+        literals.new.items }
+    ensures codes { (at : AnyPlace) → UnlessMemory result (fault.new ≡ least_code fault.old
+        (reading_fault context.now (view.storage storage) at (shape_of ty.now)
+        (expression_read context.now literals.old.items (shape_of ty.now) tree.now))) }
+{
+    let read = expression_read(alloc, context, literals, ty, tree)?;
+    if let Initial::Value(value) = &read {
+        *fault = least_code(*fault, item_fault(context, storage, ty, value));
+    }
+    Ok(read)
+}
+
+// The values of an item of a form that the type asks for, in their order, not converted yet. The codes that the `=` says of them
+// are joined to those of the items before.
+#[cycle(initials)]
+fn item_read(
+    alloc: Global,
+    context: &Context,
+    literals: &mut Vec<Bytes>,
+    storage: Storage,
+    fault: &mut Option<TypeCode>,
     ty: &CType,
     written: &RawInitial,
 ) -> Result<Initial, TypeRefusal>
-    ensures { AnswersWith reading
+    ensures values { AnswersWith reading
         (initial_read context.now literals.old.items (shape_of ty.now) written.now) result
         literals.new.items }
+    ensures codes { (at : AnyPlace) → UnlessMemory result (fault.new ≡ least_code fault.old
+        (item_fault context.now literals.old.items (view.storage storage) at (shape_of ty.now)
+        written.now)) }
 {
     match written {
-        RawInitial::Value(tree) => expression_read(alloc, context, literals, ty, tree),
+        RawInitial::Value(tree) => value_read(alloc, context, literals, storage, fault, ty, tree),
         RawInitial::List(items, _) => {
             let list = match parts_of(&context.table, ty) {
-                Some(parts) => items_read(alloc, context, literals, parts, items)?,
+                Some(parts) => {
+                    items_read(alloc, context, literals, storage, fault, parts, items)?
+                }
                 None => Vec::new(alloc),
             };
             Ok(Initial::List(list))
@@ -75,30 +113,179 @@ fn initial_read(
     }
 }
 
-// The same of each item of a list.
+// The same of each item of a list. After an item that is refused the others are read for what the `=` says of them.
 #[cycle(initials)]
 fn items_read(
     alloc: Global,
     context: &Context,
     literals: &mut Vec<Bytes>,
+    storage: Storage,
+    fault: &mut Option<TypeCode>,
     parts: Parts,
     items: &[RawInitial],
 ) -> Result<Vec<Initial>, TypeRefusal>
-    ensures { AnswersWith (λ list following. readings list.items following)
+    ensures values { AnswersWith (λ list following. readings list.items following)
         (list_read context.now literals.old.items (types_of parts.entry) items.now) result
         literals.new.items }
+    ensures codes { (at : AnyPlace) → UnlessMemory result (fault.new ≡ least_code fault.old
+        (list_fault context.now literals.old.items (view.storage storage) at (types_of parts.entry)
+        items.now)) }
 {
     let mut list = Vec::new(alloc);
-    for item in items {
-        let Some(ty) = parts.ty(list.len()) else {
-            return Ok(list);
+    let mut refused = None;
+    for i in 0..items.len() {
+        let Some(ty) = parts.ty(i) else {
+            return unless_stopped(refused, list);
         };
-        list.push(initial_read(alloc, context, literals, ty, item)?)?;
+        match item_read(alloc, context, literals, storage, fault, ty, &items[i]) {
+            Ok(read) => list.push(read)?,
+            Err(TypeRefusal::Code(code, at)) => {
+                refused = refused.or(Some((code, at)));
+                literals.clear();
+            }
+            Err(TypeRefusal::Memory) => return Err(TypeRefusal::Memory),
+        }
     }
-    Ok(list)
+    unless_stopped(refused, list)
 }
 
-/// The initializer after an `=`: its form, its values in their order, and then what the `=` asks of them.
+// The items of a list, unless one of them is refused.
+fn unless_stopped(
+    refused: Option<(TypeCode, Place)>,
+    list: Vec<Initial>,
+) -> Result<Vec<Initial>, TypeRefusal>
+    ensures { (following : Literals) → AnswersWith (λ list following. readings list.items following)
+        (unless_stopped refused (Fine (readings list.items following))) result following }
+{
+    match refused {
+        Some((code, at)) => Err(TypeRefusal::Code(code, at)),
+        None => Ok(list),
+    }
+}
+
+// The values of a whole initializer, unless the `=` says something of an item: that counts before an item that is refused itself.
+fn whole_read(
+    alloc: Global,
+    context: &Context,
+    literals: &mut Vec<Bytes>,
+    storage: Storage,
+    place: Place,
+    ty: &CType,
+    written: &RawInitial,
+) -> Result<Initial, TypeRefusal>
+    ensures { AnswersWith reading
+        (whole_read context.now literals.old.items (view.storage storage) place (shape_of ty.now)
+        written.now) result literals.new.items }
+{
+    let RawInitial::Value(tree) = written else {
+        let mut fault = None;
+        let read = item_read(alloc, context, literals, storage, &mut fault, ty, written);
+        return unless_fault(place, fault, read);
+    };
+    single_read(alloc, context, literals, storage, place, ty, tree)
+}
+
+// A single value, unless it is refused and the `=` says something of it whatever it is.
+fn single_read(
+    alloc: Global,
+    context: &Context,
+    literals: &mut Vec<Bytes>,
+    storage: Storage,
+    place: Place,
+    ty: &CType,
+    tree: &RawExpr,
+) -> Result<Initial, TypeRefusal>
+    ensures { AnswersWith reading
+        (after_limit place (scalar_limit context.now.table.list (view.storage storage)
+        (shape_of ty.now))
+        (expression_read context.now literals.old.items (shape_of ty.now) tree.now)) result
+        literals.new.items }
+{
+    let limit = scalar_limit(&context.table, storage, ty);
+    let read = expression_read(alloc, context, literals, ty, tree);
+    after_limit(place, limit, read)
+}
+
+// What the `=` says of a single value whatever that is: a local that takes one has few scalars.
+fn scalar_limit(table: &StructTable, storage: Storage, ty: &CType) -> Option<TypeCode>
+    ensures { result ≡ scalar_limit table.now.list (view.storage storage) (shape_of ty.now) }
+{
+    match storage {
+        Storage::File => None,
+        Storage::Function => {
+            if has_few_scalars(table, ty) {
+                None
+            } else {
+                Some(TypeCode::TooManyScalars)
+            }
+        }
+    }
+}
+
+// What is read after a place, with a code that the place says if that is refused.
+fn after_limit(
+    place: Place,
+    limit: Option<TypeCode>,
+    read: Result<Initial, TypeRefusal>,
+) -> Result<Initial, TypeRefusal>
+    ensures { (v : Verdict Reading) (following : Literals)
+        → AnswersWith reading v read following
+        → AnswersWith reading (after_limit place limit v) result following }
+{
+    let Some(code) = limit else {
+        return read;
+    };
+    match read {
+        Ok(found) => Ok(found),
+        Err(refusal) => match refusal {
+            TypeRefusal::Code(_, _) => Err(TypeRefusal::Code(code, place)),
+            TypeRefusal::Memory => Err(TypeRefusal::Memory),
+        },
+    }
+}
+
+// The refusal of a wrong form: of its code and of what the `=` says of the items of a list that have types the least counts.
+fn form_refused(
+    alloc: Global,
+    context: &Context,
+    literals: &mut Vec<Bytes>,
+    storage: Storage,
+    place: Place,
+    ty: &CType,
+    written: &RawInitial,
+) -> Result<Initial, TypeRefusal>
+    ensures { AnswersWith reading
+        (Fault (least Initializer (initial_fault context.now literals.old.items
+        (view.storage storage) place (shape_of ty.now) written.now)) place) result
+        literals.new.items }
+{
+    let RawInitial::Value(_) = written else {
+        let mut fault = None;
+        let read = item_read(alloc, context, literals, storage, &mut fault, ty, written);
+        return unless_fault(place, Some(least(TypeCode::Initializer, fault)), read);
+    };
+    Err(TypeRefusal::Code(TypeCode::Initializer, place))
+}
+
+// What is read after a place, unless a code holds at the place.
+fn unless_fault(
+    place: Place,
+    fault: Option<TypeCode>,
+    read: Result<Initial, TypeRefusal>,
+) -> Result<Initial, TypeRefusal>
+    ensures answers { (v : Verdict Reading) (following : Literals)
+        → AnswersWith reading v read following
+        → AnswersWith reading (unless_fault place fault v) result following }
+    ensures memory { read ≡ Err Memory → result ≡ Err Memory }
+{
+    match (fault, read) {
+        (_, Err(TypeRefusal::Memory)) => Err(TypeRefusal::Memory),
+        (Some(code), _) => Err(TypeRefusal::Code(code, place)),
+        (None, read) => read,
+    }
+}
+
+/// The initializer after an `=`: its form, its values in their order, and what the `=` asks of them.
 pub fn initial_typed(
     alloc: Global,
     context: &Context,
@@ -113,9 +300,9 @@ pub fn initial_typed(
         written.now) result literals.new.items }
 {
     if !has_form(&context.table, storage, ty, written) {
-        return Err(TypeRefusal::Code(TypeCode::Initializer, place));
+        return form_refused(alloc, context, literals, storage, place, ty, written);
     }
-    let read = initial_read(alloc, context, literals, ty, written)?;
+    let read = whole_read(alloc, context, literals, storage, place, ty, written)?;
     let found = judged(alloc, context, storage, place, ty, read)?;
     if storage == Storage::Function && !stores_few(&context.table, ty, &found) {
         return Err(TypeRefusal::Code(TypeCode::TooManyScalars, place));

@@ -1,9 +1,11 @@
 //! What the `=` of a declaration asks of the values after it (C11 6.7.9, paragraph 11).
 ghost use Rattle.std.specs.Prelude.{◌≡◌};
 ghost use Rattle.cs_types.specs.Shape.{shape_of};
+ghost use Rattle.cs_ast.specs.declared.place.Place.{Place as AnyPlace};
 ghost use Rattle.cs_scopes.specs.Verdicts.{Answers};
+ghost use Rattle.cs_scopes.specs.Faults.{code_in};
 ghost use Rattle.cs_ast.specs.TypedView.{typed, initial, initial_list};
-ghost use Rattle.cs_declarations.specs.Initializers.{is_braceless, value_judged, part_judged, parts_judged, initial_judged};
+ghost use Rattle.cs_declarations.specs.Initializers.{is_braceless, value_judged, item_judged, part_judged, parts_judged, initial_judged};
 ghost use Rattle.cs_declarations.specs.View as view;
 ghost use Rattle.cs_declarations.specs.View.{types_of};
 
@@ -13,8 +15,8 @@ use crate::storage::Storage;
 use cs_ast::Place;
 use cs_ast::typed::expression::Expr;
 use cs_ast::typed::statement::Initial;
-use cs_expressions::{converted, least};
-use cs_scopes::{Context, TypeCode, TypeRefusal};
+use cs_expressions::{conversion_fault, converted};
+use cs_scopes::{Context, TypeCode, TypeRefusal, least};
 use cs_types::CType;
 use std::alloc::Global;
 
@@ -48,6 +50,21 @@ fn is_braceless(ty: &CType, value: &CType) -> bool
         (CType::Struct(_), CType::Struct(_)) => false,
         (CType::Struct(_), _) => true,
         _ => false,
+    }
+}
+
+/// The code that the `=` says of the value of an item of a list, if it says one. A conversion keeps a constant constant.
+pub fn item_fault(context: &Context, storage: Storage, ty: &CType, value: &Expr) -> Option<TypeCode>
+    ensures { (at : AnyPlace) → result ≡ code_in (item_judged context.now.model
+        (view.storage storage) at (shape_of ty.now) (typed value.now)) }
+{
+    if is_braceless(ty, &value.ty) {
+        return Some(TypeCode::Initializer);
+    }
+    match conversion_fault(context.model, value, ty) {
+        Some(code) => Some(code),
+        None if is_admitted(context.model, storage, value) => None,
+        None => Some(TypeCode::Initializer),
     }
 }
 

@@ -15,8 +15,8 @@ use Rattle.cs_scopes.specs.declared.refusal.TypeCode.{TypeCode}
 use Rattle.cs_scopes.specs.Verdicts.{Verdict, Fine, Fault}
 use Rattle.cs_folding.specs.TypedParts.{type_of}
 use Rattle.cs_expressions.specs.Conversions.{converted}
-use Rattle.cs_expressions.specs.Calls.{converted_list, before_others, least, freed}
-use Rattle.cs_expressions.specs.Calls.{outcome}
+use Rattle.cs_expressions.specs.Calls.{converted_list, before_others, freed, outcome}
+use Rattle.cs_scopes.specs.Faults.{least}
 
 converts : (at : Place) (refused : Option TypeCode) (v : Typed) (made : TypedList)
     → before_others at (Fine v) (outcome at refused made) ≡ outcome at refused (Further v made)

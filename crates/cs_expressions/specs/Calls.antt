@@ -1,5 +1,5 @@
 -- Calls (C11 6.5.2.2, 7.22.3).
-use Rattle.std.specs.Prelude.{ℕ, Bool, true, false, not, ◌&&◌, ◌==◌, nat_le, if◌then◌else◌, List, [], ◌∷◌, length, Option, Some, None}
+use Rattle.std.specs.Prelude.{ℕ, Bool, true, false, not, ◌&&◌, ◌==◌, if◌then◌else◌, List, [], ◌∷◌, length, Option, Some, None}
 use Rattle.cs_types.specs.declared.ctype.CType.{CType}
 use Rattle.cs_types.specs.declared.int_type.IntType.TheVariants.{UChar}
 use Rattle.cs_types.specs.Shape.{Shape, void, integer, pointer, array, struct, shape_of}
@@ -16,7 +16,8 @@ use Rattle.cs_scopes.specs.declared.refusal.TypeCode.TheVariants as code
 use Rattle.cs_scopes.specs.declared.scope.Callee.{Callee}
 use Rattle.cs_scopes.specs.declared.scope.Callee.TheVariants as callee
 use Rattle.cs_scopes.specs.Meanings.{Signature, Meaning, Function, Declaration}
-use Rattle.cs_scopes.specs.Verdicts.{Verdict, Fine, Fault, number_of}
+use Rattle.cs_scopes.specs.Verdicts.{Verdict, Fine, Fault}
+use Rattle.cs_scopes.specs.Faults.{lesser}
 use Rattle.cs_folding.specs.TypedParts.{type_of}
 use Rattle.cs_expressions.specs.Conversions.{converted}
 use Rattle.cs_scopes.specs.Scopes.{newest}
@@ -53,21 +54,13 @@ abbrev pub is_pointer_target : Option Shape → Bool
 is_pointer_target (Some (pointer target)) = true
 is_pointer_target other = false
 
--- a function may be called with so many arguments, for a result that goes to a type (C11 6.5.2.2, paragraph 2)
-unfoldable pub admitted : Place → Option Shape → ℕ → Signature → Verdict Signature
-admitted at target count f =
+-- what a call's place says of the number of arguments and of what the result goes to (C11 6.5.2.2, paragraph 2): a block of memory
+-- goes to a pointer
+unfoldable pub call_fault : Option Shape → ℕ → Signature → Option TypeCode
+call_fault target count f =
     if length f.parameters == count
-    then (if allocates f.callee && not (is_pointer_target target) then Fault code.NoTarget at else Fine f)
-    else Fault code.ArgumentCount at
-
--- the lesser of two codes
-abbrev pub lesser : TypeCode → TypeCode → TypeCode
-lesser code other = if nat_le (number_of code) (number_of other) then code else other
-
--- the lesser of a code and one that may be there
-abbrev pub least : TypeCode → Option TypeCode → TypeCode
-least code (Some other) = lesser code other
-least code None = code
+    then (if allocates f.callee && not (is_pointer_target target) then Some code.NoTarget else None)
+    else Some code.ArgumentCount
 
 -- an argument before others: of two codes at the call the lesser is reported
 abbrev pub before_others : Place → Verdict Typed → Verdict TypedList → Verdict TypedList

@@ -1,12 +1,14 @@
 -- Conversions that an operator, a call or a cast asks for (C11 6.3, 6.5.4, 6.5.16.1).
-use Rattle.std.specs.Prelude.{ℕ, Bool, ◌||◌, ◌==◌, if◌then◌else◌}
+use Rattle.std.specs.Prelude.{ℕ, Bool, ◌||◌, ◌==◌, if◌then◌else◌, Option}
 use Rattle.cs_types.specs.declared.data_model.DataModel.{DataModel}
 use Rattle.cs_types.specs.declared.int_type.IntType.{IntType}
 use Rattle.cs_types.specs.Shape.{Shape, void, integer, pointer, array, struct, same_shape}
 use Rattle.cs_ast.specs.declared.place.Place.{Place}
 use Rattle.cs_ast.specs.TypedTree.{Typed, Of, Form, Null, Convert}
 use Rattle.cs_scopes.specs.declared.refusal.TypeCode.TheVariants as code
+use Rattle.cs_scopes.specs.declared.refusal.TypeCode.{TypeCode}
 use Rattle.cs_scopes.specs.Verdicts.{Verdict, Fine, Fault}
+use Rattle.cs_scopes.specs.Faults.{code_in}
 use Rattle.cs_folding.specs.TypedParts.{type_of}
 use Rattle.cs_expressions.specs.Integers.{in_type}
 use Rattle.cs_types.specs.Kinds.{is_void}
@@ -36,6 +38,10 @@ converted model at e (pointer t) (integer s) = pointed_from_integer model at e t
 converted model at e (pointer t) (pointer s) = pointed model at e t s
 converted model at e (struct n) (struct m) = if n == m then Fine e else Fault code.OperandTypes at
 converted model at e target source = Fault code.OperandTypes at
+
+-- the code with which a value doesn't come to a type, for what asks for the conversion
+abbrev pub conversion_fault : DataModel → Place → Shape → Typed → Option TypeCode
+conversion_fault model at ty e = code_in (converted model at e ty (type_of e))
 
 -- a pointer cast to a pointer type: a null pointer constant that is cast to `void *` once more isn't one any longer (C11 6.3.2.3, paragraph 3)
 unfoldable pub pointer_cast : DataModel → Place → Typed → Shape → Shape → Verdict Typed

@@ -25,7 +25,7 @@ use Rattle.cs_expressions.specs.Objects.{is_object, unless_void}
 use Rattle.cs_types.specs.Kinds.{is_array, is_complete}
 use Rattle.cs_scopes.specs.Scalars.{has_few_scalars}
 use Rattle.cs_expressions.specs.Conversions.{converted}
-use Rattle.cs_expressions.specs.Calls.{lesser}
+use Rattle.cs_scopes.specs.Faults.{lesser}
 
 -- an lvalue that can be stored to (C11 6.3.2.1, paragraph 1)
 abbrev pub is_stored_to : Typed → Bool

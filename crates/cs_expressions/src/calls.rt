@@ -5,7 +5,7 @@ ghost use Rattle.cs_types.specs.Shape.{shape_of};
 ghost use Rattle.cs_ast.specs.TypedView.{typed, typed_list};
 ghost use Rattle.cs_scopes.specs.Verdicts.{Yields, Answers};
 ghost use Rattle.cs_scopes.specs.Meanings.{signature_of, meaning_of};
-ghost use Rattle.cs_expressions.specs.Calls.{function_in, called, allocates, is_pointer_target, admitted, block_of, allocated, freed, call_of, lesser, least, converted_list, shape_in};
+ghost use Rattle.cs_expressions.specs.Calls.{function_in, called, allocates, is_pointer_target, call_fault, block_of, allocated, freed, call_of, converted_list, shape_in};
 
 use crate::conversions::converted;
 use crate::nodes::{allocate, call, free};
@@ -13,7 +13,7 @@ use cs_ast::Place;
 use cs_ast::raw::expression::{RawExpr, RawExprKind};
 use cs_ast::typed::expression::Expr;
 use cs_ast::typed::operator::Allocator;
-use cs_scopes::{Callee, Function, Meaning, Scope, TypeCode, TypeRefusal};
+use cs_scopes::{Callee, Function, Meaning, Scope, TypeCode, TypeRefusal, least};
 use cs_types::{CType, DataModel, IntType};
 use std::alloc::{AllocError, Global};
 
@@ -60,45 +60,18 @@ fn is_pointer_target(target: Option<&CType>) -> bool
     }
 }
 
-/// Refuses a call with another number of arguments than parameters, and an allocation whose result goes to no pointer.
-#[tactic(auto, unfolding(crate::specs::Calls::admitted))]
-pub fn admitted(
-    place: Place,
-    target: Option<&CType>,
-    count: usize,
-    function: &Function,
-) -> Result<(), TypeRefusal>
-    ensures { Answers (λ _. signature_of function.now)
-        (admitted place (shape_in target.entry) count (signature_of function.now)) result }
+/// What a call's place says of the number of arguments, and of what the result goes to: an allocation goes to a pointer.
+#[tactic(auto, unfolding(crate::specs::Calls::call_fault))]
+pub fn call_fault(target: Option<&CType>, count: usize, function: &Function) -> Option<TypeCode>
+    ensures { result ≡ call_fault (shape_in target.entry) count (signature_of function.now) }
 {
     if function.parameters.len() != count {
-        return Err(TypeRefusal::Code(TypeCode::ArgumentCount, place));
+        return Some(TypeCode::ArgumentCount);
     }
     if allocates(function.callee) && !is_pointer_target(target) {
-        return Err(TypeRefusal::Code(TypeCode::NoTarget, place));
+        return Some(TypeCode::NoTarget);
     }
-    Ok(())
-}
-
-// The lesser of two codes.
-fn lesser(code: TypeCode, other: TypeCode) -> TypeCode
-    ensures { result ≡ lesser code other }
-{
-    if code.number() <= other.number() {
-        code
-    } else {
-        other
-    }
-}
-
-/// The lesser of a code and one that may be there.
-pub fn least(code: TypeCode, other: Option<TypeCode>) -> TypeCode
-    ensures { result ≡ least code other }
-{
-    match other {
-        Some(other) => lesser(code, other),
-        None => code,
-    }
+    None
 }
 
 /// The values of arguments, each converted to the type of its parameter. Of those that can't be, the least code is reported.

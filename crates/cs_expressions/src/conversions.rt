@@ -4,7 +4,7 @@ ghost use Rattle.cs_types.specs.Shape.{Shape, shape_of, pointer};
 ghost use Rattle.cs_ast.specs.declared.place.Place.{Place as AnyPlace};
 ghost use Rattle.cs_ast.specs.TypedView.{typed};
 ghost use Rattle.cs_scopes.specs.Verdicts.{Yields};
-ghost use Rattle.cs_expressions.specs.Conversions.{pointed, pointed_from_integer, converted, pointer_cast, recast};
+ghost use Rattle.cs_expressions.specs.Conversions.{pointed, pointed_from_integer, converted, conversion_fault, pointer_cast, recast};
 ghost use Rattle.cs_expressions.specs.Ways.{by_way};
 
 use crate::integers::in_type;
@@ -30,6 +30,17 @@ pub fn converted(
 {
     let way = way(model, &value, target);
     go(alloc, place, value, way)
+}
+
+/// The code with which a value doesn't come to a type as if by assignment, if it doesn't.
+pub fn conversion_fault(model: DataModel, value: &Expr, target: &CType) -> Option<TypeCode>
+    ensures { (at : AnyPlace)
+        → result ≡ conversion_fault model at (shape_of target.now) (typed value.now) }
+{
+    match way(model, value, target) {
+        Way::Refused(code) => Some(code),
+        _ => None,
+    }
 }
 
 /// A value cast to a type (C11 6.5.4).

@@ -12,8 +12,8 @@ mod primary;
 mod stores;
 mod ways;
 
-pub use calls::{admitted, call_of, called, converted_list, least};
-pub use conversions::{converted, recast};
+pub use calls::{call_fault, call_of, called, converted_list};
+pub use conversions::{conversion_fault, converted, recast};
 pub use integers::{raised, turned};
 pub use nodes::number;
 pub use objects::{measured, operand, valued};

@@ -9,7 +9,6 @@ ghost use Rattle.cs_ast.specs.TypedView.{typed};
 ghost use Rattle.cs_scopes.specs.Verdicts.{Yields};
 ghost use Rattle.cs_expressions.specs.Stores.{is_stored_to, assignable, assigned_fault, assigned, is_additive, is_shift, way_of, updatable_as, updatable, updated_fault, weighed, led, moved_by_step, steppable, works_in, taken_in, updated, step_operator, stepped};
 
-use crate::calls::least;
 use crate::integers::in_type;
 use crate::nodes::{assign, number, shift, update};
 use crate::objects::is_object;
@@ -17,7 +16,7 @@ use cs_ast::Place;
 use cs_ast::raw::operator::Step;
 use cs_ast::typed::expression::Expr;
 use cs_ast::typed::operator::{BinOp, Direction, Gives};
-use cs_scopes::{TypeCode, TypeRefusal, has_few_scalars};
+use cs_scopes::{TypeCode, TypeRefusal, has_few_scalars, least};
 use cs_types::{
     CType, DataModel, IntType, StructTable, is_array, is_complete, is_void, promote, usual,
 };

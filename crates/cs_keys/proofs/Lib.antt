@@ -1,3 +1,4 @@
 mod Reading
 mod Folding
 mod Lines
+mod Coding

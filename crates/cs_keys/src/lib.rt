@@ -1,6 +1,7 @@
 //! Keys of states: two states have equal keys exactly where their live parts are equal, so that an exploration goes on from one of them.
 #![tactic(auto)]
 
+mod bytes;
 mod frames;
 pub mod laws;
 mod memory;

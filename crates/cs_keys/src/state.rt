@@ -78,7 +78,7 @@ impl Key {
 pub fn key(alloc: Global, state: &State) -> Result<Key, AllocError>
     ensures { IfOk result (λ key. key ≡ words_of (live_part state.now)) }
 {
-    let mut key = Key::new(alloc);
+    let mut key = Key::new(alloc)?;
     key.position(state)?;
     key.memory(state)?;
     key.counted(state)?;

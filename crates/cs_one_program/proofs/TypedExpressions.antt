@@ -4,6 +4,7 @@ use mathlib.Core.Former.{Count}
 use Rattle.cs_types.specs.Shape.{Shape, integer}
 use Rattle.cs_ast.specs.declared.place.Place.{Place}
 use Rattle.cs_ast.specs.declared.raw.expression.RawExprKind.{RawExprKind, Row_of-RawExpr}
+use Rattle.cs_ast.specs.declared.raw.operator.InfixOp.TheVariants as infix_op
 use Rattle.cs_ast.specs.declared.raw.written_type.TypeWord.{TypeWord}
 use Rattle.cs_ast.specs.declared.raw.written_type.TypeWord.TheVariants as word
 use Rattle.cs_ast.specs.declared.raw.written_type.WrittenType.{WrittenType}
@@ -22,9 +23,11 @@ use Rattle.cs_consts.specs.declared.purpose.Purpose.{Purpose}
 use Rattle.cs_consts.specs.declared.purpose.Purpose.TheVariants.{Run, Constant}
 use Rattle.cs_ast.specs.declared.typed.operator.Gives.TheVariants.{Old, New}
 use Rattle.cs_consts.specs.Typing.{literals_after, literals_after_row, row_length, done, value_in, operand_in, purpose_if, purpose_after, prefixed}
-use Rattle.cs_consts.specs.Typing.{indexed_values, arrow_on, stepped_object, left_side, stored_to, right_target, cast_type, given_shape, cast_to}
-use Rattle.cs_consts.specs.Typing.{chosen_values, measured_type, further, call_or_not, number_before, measured_arrays, base_in, formed}
-use Rattle.cs_consts.specs.Typing.{arguments_formed, numbers_formed}
+use Rattle.cs_consts.specs.Operands.{left_operand_fault}
+use Rattle.cs_consts.specs.Typing.{between, indexed_values, arrow_on, stepped_object, left_side, stored_to, right_target, cast_type, given_shape, cast_to}
+use Rattle.cs_consts.specs.Typing.{chosen_values, measured_type, further, call_or_not, bound_number, bound_taken, measured_type_name, base_in, formed}
+use Rattle.cs_consts.specs.Typing.{arguments_formed, passing_fault, arguments_fault, numbers_formed, bounds_formed, literals_past}
+use Rattle.cs_scopes.specs.Faults.{least_code}
 use Rattle.cs_one_program.specs.SameExpressions.{SameType, SameKind, SameRow, End, More}
 use Rattle.cs_one_program.specs.SameExpressions as same
 
@@ -88,12 +91,13 @@ mutual
   formed_same c purpose literals target at same.Text = refl
   formed_same c purpose literals target at (same.Parenthesis place e) = λ i. done c purpose (formed_same c purpose literals target place e i)
   formed_same c purpose literals target at (same.Index place place' l r) = λ i.
-      lift2 (indexed_values c at)
+      between at (left_operand_fault c.table.list infix_op.Add) (indexed_values c at)
       (operand_in c purpose (formed_same c purpose literals None place l i))
       (operand_in c purpose (formed_same c purpose (literals_same literals l i) None place' r i))
   formed_same c purpose literals target at (same.Call place f row) = λ i.
       call_or_not c at target (called_same c.scope.declarations f i) (length_same row i)
       (operand_in c purpose (formed_same c purpose literals None place f i))
+      (argument_faults_same c purpose literals at (parameters_of (called_same c.scope.declarations f i)) row i)
       (arguments_same c purpose literals (parameters_of (called_same c.scope.declarations f i)) row i)
   formed_same c purpose literals target at (same.Member place name e) = λ i.
       lift (selected c.table.list at name.place name.name) (done c purpose (formed_same c purpose literals None place e i))
@@ -110,14 +114,14 @@ mutual
   formed_same c purpose literals target at (same.SizeOf place e) = λ i.
       lift (measured_type c at) (done c Run (formed_same c Run literals None place e i))
   formed_same c purpose literals target at (same.SizeOfType ty row) = λ i.
-      lift2 (measured_arrays c at) (lift (complete_at c.table.list at) (base_same c at ty i)) (numbers_same c literals row i)
+      measured_type_name c at (base_same c at ty i) (numbers_same c literals row i) (bounds_same c literals row i)
   formed_same c purpose literals target at (same.Cast place ty row e) = λ i.
       lift2 (cast_to c at) (cast_type at (length_same row i) (base_same c at ty i))
       (done c purpose (formed_same c purpose literals (given_shape (cast_type at (length_same row i) (base_same c at ty i))) place e i))
   formed_same c purpose literals target at (same.Infix operator place place' l r) = λ i.
       let one = operand_in c purpose (formed_same c purpose literals None place l i) in
       let following = purpose_after operator purpose one in
-      lift2 (combined c.model c.table.list operator at) one
+      between at (left_operand_fault c.table.list operator) (combined c.model c.table.list operator at) one
       (operand_in c following (formed_same c following (literals_same literals l i) None place' r i))
   formed_same c purpose literals target at (same.Choice place place' place'' t l r) = λ i.
       let yields = lift (tested at) (operand_in c purpose (formed_same c purpose literals None place t i)) in
@@ -143,10 +147,26 @@ mutual
       (operand_in c purpose (formed_same c purpose literals (Some ty) place e i))
       (arguments_same c purpose (literals_same literals e i) types others i)
 
+  argument_faults_same : (c : Context) (purpose : Purpose) (literals : Literals) (at : Place) (types : List Shape) {n m : Count} {row : Row_of-RawExpr n}
+      {row' : Row_of-RawExpr m} → SameRow n m row row' → arguments_fault c purpose literals at types row ≡ arguments_fault c purpose literals at types row'
+  argument_faults_same c purpose literals at types End = refl
+  argument_faults_same c purpose literals at [] (More place e others) = refl
+  argument_faults_same c purpose literals at (ty ∷ types) (More place e others) = λ i.
+      let value = operand_in c purpose (formed_same c purpose literals (Some ty) place e i) in
+      least_code (passing_fault c at ty value)
+      (argument_faults_same c purpose (literals_past value (literals_same literals e i)) at types others i)
+
   numbers_same : (c : Context) (literals : Literals) {n m : Count} {row : Row_of-RawExpr n} {row' : Row_of-RawExpr m}
       → SameRow n m row row' → numbers_formed c literals row ≡ numbers_formed c literals row'
   numbers_same c literals End = refl
   numbers_same c literals (More place e others) = λ i.
-      lift2 number_before
+      let bound = done c Constant (formed_same c Constant literals None place e i) in
+      bound_number bound ∷ numbers_same c (literals_past bound (literals_same literals e i)) others i
+
+  bounds_same : (c : Context) (literals : Literals) {n m : Count} {row : Row_of-RawExpr n} {row' : Row_of-RawExpr m}
+      → SameRow n m row row' → bounds_formed c literals row ≡ bounds_formed c literals row'
+  bounds_same c literals End = refl
+  bounds_same c literals (More place e others) = λ i.
+      lift2 bound_taken
       (done c Constant (formed_same c Constant literals None place e i))
-      (numbers_same c (literals_same literals e i) others i)
+      (bounds_same c (literals_same literals e i) others i)

@@ -22,12 +22,14 @@ use Rattle.cs_scopes.specs.Verdicts.{Fine, Fault, lift}
 use Rattle.cs_declarations.specs.Environment.{declaring, meaning_here, entered, left}
 use Rattle.cs_declarations.specs.Bodies.{Typing}
 use Rattle.cs_declarations.specs.Parameters.{Head}
-use Rattle.cs_typing.specs.Objects.{Filed, TypedStatements, changed, with_known}
-use Rattle.cs_typing.specs.Statements.{in_a_row, no_statements, body_typed}
+use Rattle.cs_statements.specs.Locals.{TypedStatements}
+use Rattle.cs_statements.specs.Statements.{in_a_row, no_statements, body_typed}
+use Rattle.cs_typing.specs.Objects.{Filed, changed, with_known}
 use Rattle.cs_typing.specs.Functions.{is_result, same_types, types_of, may_be_function, numbered, number_in, Routed, function_of, declared_inside, at_beginning}
 use Rattle.cs_typing.specs.Functions.{where_in, body_added, completed, outside_of, declared_once, headed, resulted, function_typed, function_added}
 use Rattle.cs_typing.specs.Order.{is_of_library, defines, is_defined, placed, all_placed, order_of}
-use Rattle.cs_typing.specs.Files.{specs_of, external_declared, external_typed, file_typed, beginning}
+use Rattle.cs_typing.specs.Files.{specs_of, external_declared, external_typed, file_typed, beginning, begun}
+use Rattle.cs_typing.specs.Tags.{tags_declared}
 use Rattle.cs_typing.specs.Programs.{program_of, typed}
 use Rattle.cs_one_program.specs.SameExpressions.{none, more, IfBoth, absent, present}
 use Rattle.cs_one_program.specs.SameDeclarations.{SameBefore, SameFunction}
@@ -177,4 +179,7 @@ pub typed_same : (model : DataModel) (files : List (List ℕ)) (tokens : List To
     → typed model files tokens file ≡ typed model files tokens other
 typed_same model files tokens file other h =
     ap (lift (λ (f : Filed). Fine (program_of model files tokens f)))
-    ((λ i. file_typed file (beginning model (order_same h i))) ∙ file_same (beginning model (order_of other)) h)
+    ((λ i. file_typed file (before (order_same h i))) ∙ file_same (begun model tokens other) h)
+  where
+    before : List (List ℕ) → Filed
+    before order = with_known (tags_declared tokens (beginning model order).known) (beginning model order)

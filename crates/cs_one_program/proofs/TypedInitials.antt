@@ -18,6 +18,7 @@ use Rattle.cs_scopes.specs.declared.context.Context.{Context}
 use Rattle.cs_scopes.specs.declared.refusal.TypeCode.TheVariants.{Initializer}
 use Rattle.cs_scopes.specs.TypeNames.{starred, complete_at}
 use Rattle.cs_scopes.specs.Verdicts.{Fine, Fault, lift}
+use Rattle.cs_scopes.specs.Faults.{least, least_code, unless_fault}
 use Rattle.cs_folding.specs.TypedParts.{type_of}
 use Rattle.cs_expressions.specs.Conversions.{converted}
 use Rattle.cs_expressions.specs.Integers.{raised}
@@ -29,7 +30,9 @@ use Rattle.cs_consts.specs.Typing.{done, value_in, operand_in, formed}
 use Rattle.cs_consts.specs.Roles.{number_of_constant, value_of, operand_of, assigned_value, test_of, selector_of, discarded_value}
 use Rattle.cs_declarations.specs.Initializers.{Storage, InFile, InFunction, part_types, text_of, takes_expression, has_form, have_forms, Reading}
 use Rattle.cs_declarations.specs.Initializers.{expression_read, types_or_none, parts_read, one_more, initial_read, items_read, initial_judged, limited}
-use Rattle.cs_declarations.specs.Initializers.{kept_with, initial_typed, row_count, text_count, elements_given}
+use Rattle.cs_declarations.specs.Initializers.{literals_read, reading_fault, item_fault, items_fault, initial_fault, value_limit, after_limit}
+use Rattle.cs_declarations.specs.Initializers.{whole_read, kept_with, initial_typed}
+use Rattle.cs_declarations.specs.Initializers.{row_count, text_count, elements_given}
 use Rattle.cs_declarations.specs.Sizes.{size_said, size_or_one, sizes_said, fault_in, refused_bound, unless_refused, bounded, extent_of, filled}
 use Rattle.cs_declarations.specs.Bodies.{declarator_type}
 use Rattle.cs_declarations.specs.Objects.{count_given, object_type}
@@ -125,14 +128,51 @@ mutual
   items_read_same c literals (ty ∷ types) (MoreItems first others) = λ i.
       lift (λ (r : Reading). lift (one_more r.0) (items_read_same c r.1 types others i)) (initial_read_same c literals ty first i)
 
+-- what the `=` says of items
+mutual
+  item_fault_same : (c : Context) (literals : Literals) (storage : Storage) (at : Place) (ty : Shape) {v v' : RawInitial} → SameInitial v v'
+      → item_fault c literals storage at ty v ≡ item_fault c literals storage at ty v'
+  item_fault_same c literals storage at ty (Value e) = ap (reading_fault c storage at ty) (read_same c literals ty e)
+  item_fault_same c literals storage at ty (Listed row) = items_fault_same c literals storage at (types_or_none (part_types c.table.list ty)) row
+
+  items_fault_same : (c : Context) (literals : Literals) (storage : Storage) (at : Place) (types : List Shape) {n m : Count}
+      {row : first_value.Row_of-RawInitial n} {row' : first_value.Row_of-RawInitial m} → SameInitials n m row row'
+      → items_fault c literals storage at types row ≡ items_fault c literals storage at types row'
+  items_fault_same c literals storage at types NoItem = refl
+  items_fault_same c literals storage at [] (MoreItems first others) = refl
+  items_fault_same c literals storage at (ty ∷ types) (MoreItems first others) = λ i.
+      least_code (item_fault_same c literals storage at ty first i)
+      (items_fault_same c (literals_read (initial_read_same c literals ty first i)) storage at types others i)
+
+fault_same : (c : Context) (literals : Literals) (storage : Storage) (at : Place) (ty : Shape) {v v' : RawInitial} → SameInitial v v'
+    → initial_fault c literals storage at ty v ≡ initial_fault c literals storage at ty v'
+fault_same c literals storage at ty (Value e) = refl
+fault_same c literals storage at ty (Listed row) = items_fault_same c literals storage at (types_or_none (part_types c.table.list ty)) row
+
+limit_same : (table : List StructType) (storage : Storage) (ty : Shape) {v v' : RawInitial} → SameInitial v v'
+    → value_limit table storage ty v ≡ value_limit table storage ty v'
+limit_same table storage ty (Value e) = refl
+limit_same table storage ty (Listed row) = refl
+
+whole_same : (c : Context) (literals : Literals) (storage : Storage) (ty : Shape) {v v' : RawFirstValue} → SameFirstValue v v'
+    → whole_read c literals storage v.place ty v.initial ≡ whole_read c literals storage v'.place ty v'.initial
+whole_same c literals storage ty {v = v} {v' = v'} h =
+    ap (λ at. whole_read c literals storage at ty v.initial) h.at
+    ∙ (λ i.
+    unless_fault v'.place (fault_same c literals storage v'.place ty h.initial i)
+    (after_limit v'.place (limit_same c.table.list storage ty h.initial i) (initial_read_same c literals ty h.initial i)))
+
 -- the initializer after an `=`
 pub initial_same : (c : Context) (literals : Literals) (storage : Storage) (ty : Shape) {v v' : RawFirstValue} → SameFirstValue v v'
     → initial_typed c literals storage v.place ty v.initial ≡ initial_typed c literals storage v'.place ty v'.initial
-initial_same c literals storage ty h = λ i.
+initial_same c literals storage ty {v = v} {v' = v'} h = λ i.
     if form_same c.table.list storage ty h.initial i
     then lift (λ (r : Reading). lift (kept_with r.1) (lift (limited c.table.list storage (h.at i) ty) (initial_judged c storage (h.at i) ty r.0)))
-    (initial_read_same c literals ty h.initial i)
-    else Fault Initializer (h.at i)
+    (whole_same c literals storage ty h i)
+    else Fault (least Initializer (placed_fault i)) (h.at i)
+  where
+    placed_fault : initial_fault c literals storage v.place ty v.initial ≡ initial_fault c literals storage v'.place ty v'.initial
+    placed_fault = ap (λ at. initial_fault c literals storage at ty v.initial) h.at ∙ fault_same c literals storage v'.place ty h.initial
 
 row_count_same : {n m : Count} {row : first_value.Row_of-RawInitial n} {row' : first_value.Row_of-RawInitial m} → SameInitials n m row row'
     → row_count row ≡ row_count row'

@@ -24,15 +24,16 @@ use Rattle.cs_folding.specs.TypedParts.{type_of}
 use Rattle.cs_declarations.specs.Environment.{with_literals, declaring, is_declared_here, meaning_here}
 use Rattle.cs_declarations.specs.Initializers.{InFile, InFunction}
 use Rattle.cs_declarations.specs.Bodies.{Typing}
+use Rattle.cs_statements.specs.Locals.{Inside, knowing, with_local, local_held, local_initialized}
+use Rattle.cs_statements.specs.Locals.{local_added, TypedStatements, after_local, locals_added}
+use Rattle.cs_statements.specs.Statements.{Where, in_loop, in_switch, Part, part, past, tested_in, dropped_in, some_found, tested_if, dropped_if, is_void}
+use Rattle.cs_statements.specs.Statements.{returned, label_number, is_first, meeting, in_block, first_place, declaration_typed, no_statements, telling}
+use Rattle.cs_statements.specs.Statements.{ran_first, first_typed, Switching, with_statements, labels_of, labels_of_item, labels_in, labels_of_switch_item}
+use Rattle.cs_statements.specs.Statements.{labels_in_switch, block_made, run_made, if_made, if_else_made, while_made, do_made, for_made, switch_made}
+use Rattle.cs_statements.specs.Statements.{return_made, label_made, constant_case, selected, statement_typed, item_typed, items_typed, switch_item_typed}
+use Rattle.cs_statements.specs.Statements.{switch_typed, body_typed, labels_of_items}
 use Rattle.cs_typing.specs.Objects.{Filed, may_be_object, Object, with_globals, object_of, changed, made_constant, with_initial}
-use Rattle.cs_typing.specs.Objects.{object_initialized, object_added, objects_added, Inside, knowing, with_local, local_held, local_initialized}
-use Rattle.cs_typing.specs.Objects.{local_added, TypedStatements, after_local, locals_added}
-use Rattle.cs_typing.specs.Statements.{Where, in_loop, in_switch, Part, part, past, tested_in, dropped_in, some_found, tested_if, dropped_if, is_void, returned}
-use Rattle.cs_typing.specs.Statements.{label_number, is_first, meeting, in_block, first_place, declaration_typed, no_statements, telling, ran_first}
-use Rattle.cs_typing.specs.Statements.{first_typed, Switching, with_statements, labels_of, labels_of_item, labels_in, labels_of_switch_item}
-use Rattle.cs_typing.specs.Statements.{labels_in_switch, block_made, run_made, if_made, if_else_made, while_made, do_made, for_made, switch_made}
-use Rattle.cs_typing.specs.Statements.{return_made, label_made, constant_case, selected, statement_typed, item_typed, items_typed, switch_item_typed}
-use Rattle.cs_typing.specs.Statements.{switch_typed, body_typed, labels_of_items}
+use Rattle.cs_typing.specs.Objects.{object_initialized, object_added, objects_added}
 use Rattle.cs_one_program.specs.SameExpressions.{SameExpr, Pairwise, none, more, IfBoth, absent, present}
 use Rattle.cs_one_program.specs.SameDeclarations.{SameBefore, SameDeclarator, SameFirstValue, SameInit}
 use Rattle.cs_one_program.specs.SameTrees.{SameFirst, Nothing, Ran, Declared, SameStatement, Block, Empty, Run, If, IfElse, While, Do, For, Switch, Goto}

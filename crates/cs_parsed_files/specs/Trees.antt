@@ -8,6 +8,10 @@ use Rattle.cs_decl_parser.specs.Files.{parts_of, IsTheFile}
 use Rattle.cs_decl_parser.specs.FilePlaces.{AreFilePlaced}
 use Rattle.cs_well_formed.specs.Files.{IsFileTree}
 
+-- these are the tokens of a file that isn't too long
+abbrev pub IsOfFile : Lexed → Type 0
+IsOfFile lexed = (file : List ℕ) × (length file ≤ MOST_BYTES) × Lexes file lexed
+
 -- where a text of at most `MOST_BYTES` bytes is lexed, and its tokens are a tree that has their places, that is the tree of a file
 abbrev pub LexedFilesHaveTrees : Type 0
 LexedFilesHaveTrees =

@@ -1,15 +1,32 @@
 //! The text of an analysis, of a replayed run, and of a refused file, as the program prints it.
+//!
+//! `text` and `json` print the results of any analysis; `summary` counts them. `append_entry` prints the results of the small form, and
+//! goes with it.
 #![tactic(auto)]
 
+mod counts;
+mod cut;
 mod entry;
 mod finding;
+mod ground;
+mod input;
+mod json_entry;
+mod json_finding;
+mod json_run;
+mod name;
 mod place;
+mod printing;
 mod refusal;
 mod replayed;
-mod text;
+mod small_finding;
+mod small_form;
+mod step;
 
-pub use entry::append_entry;
+pub use counts::summary;
+pub use entry::text;
+pub use json_entry::json;
 pub use place::append_place;
+pub use printing::append;
 pub use refusal::append_refusal;
 pub use replayed::append_replayed;
-pub use text::append;
+pub use small_form::append_entry;

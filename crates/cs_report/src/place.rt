@@ -2,7 +2,7 @@
 ghost use Rattle.std.specs.Prelude.{◌≡◌, ◌++◌, OnOk};
 ghost use Rattle.cs_model.specs.Places.{located, place_text};
 
-use crate::text::append;
+use crate::printing::append;
 use cs_ast::Place;
 use cs_names::Name;
 use std::alloc::AllocError;

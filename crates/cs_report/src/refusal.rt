@@ -3,7 +3,7 @@ ghost use Rattle.std.specs.Prelude.{◌≡◌, ◌++◌, OnOk};
 ghost use Rattle.cs_report.specs.RefusalLines.{refusal_line};
 
 use crate::place::append_located;
-use crate::text::append;
+use crate::printing::append;
 use cs_ast::Place;
 use cs_names::Name;
 use std::alloc::AllocError;

@@ -3,7 +3,7 @@ ghost use Rattle.std.specs.Prelude.{◌≡◌, ◌++◌, OnOk};
 ghost use Rattle.cs_report.specs.ReplayLines.{returned_text, replay_line};
 
 use crate::place::append_place;
-use crate::text::append;
+use crate::printing::append;
 use cs_events::{Outcome, Returned};
 use cs_names::Name;
 use std::alloc::AllocError;

@@ -2,3 +2,4 @@ pub mod Lifting
 pub mod DeclaredNames
 pub mod ScalarCounts
 pub mod ArraySizes
+pub mod LesserCodes

@@ -1,4 +1,5 @@
 pub mod Verdicts
+pub mod Faults
 pub mod Meanings
 pub mod MeaningCodes
 pub mod Scopes

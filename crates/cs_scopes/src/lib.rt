@@ -4,6 +4,7 @@
 mod context;
 mod declarations;
 mod entries;
+mod faults;
 mod integer_words;
 mod refusal;
 mod scalars;
@@ -13,6 +14,7 @@ mod type_names;
 
 pub use context::{Context, Scope};
 pub use declarations::{Declarations, Tags};
+pub use faults::{least, least_code};
 pub use integer_words::{IntegerWords, is_word};
 pub use refusal::{TypeCode, TypeRefusal};
 pub use scalars::{few, has_few_scalars, scalars_in};

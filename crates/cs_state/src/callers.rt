@@ -1,5 +1,5 @@
 //! The frames that wait for a call to end.
-ghost use Rattle.std.specs.Prelude.{◌≡◌, [], ◌∷◌, length, drop, slice_get, Some, IfSome, IfOk, OnOk, OnErr};
+ghost use Rattle.std.specs.Prelude.{◌≡◌, ◌≤◌, [], ◌∷◌, length, drop, reverse, slice_get, None, Some, IfSome, IfOk, OnOk, OnErr};
 
 use crate::frame::Frame;
 use cs_pmap::PMap;
@@ -91,6 +91,21 @@ impl Callers {
         ensures { IfSome result (λ frame. slice_get self.now 0 ≡ Some frame.now) }
     {
         let depth = self.depth.checked_sub(1)?;
+        match self.frames.get((depth, 0)) {
+            Some(shared) => Some(shared.frame()),
+            None => None,
+        }
+    }
+
+    /// The frame at a depth, the entry's at 0, where it waits.
+    pub fn at(&self, depth: u64) -> Option<&Frame>
+        ensures some { IfSome result (λ frame.
+            slice_get (reverse self.now) depth ≡ Some frame.now) }
+        ensures none { length self.now ≤ depth → result ≡ None }
+    {
+        if depth >= self.depth {
+            return None;
+        }
         match self.frames.get((depth, 0)) {
             Some(shared) => Some(shared.frame()),
             None => None,

@@ -1,9 +1,9 @@
 //! Calls of functions (C11 6.5.2.2), with a body and without one.
 ghost use Rattle.cs_run_state.specs.Prepared.{IsReady};
 
-use crate::cells::{kind_of, path_of, received};
+use crate::cells::{kind_of, received};
 use crate::context::Context;
-use crate::next::Next;
+use crate::ends::go_on;
 use crate::objects::{locals_of, object};
 use crate::operands::{drop_newest, replace, value_of};
 use crate::pause::Pause;
@@ -17,11 +17,12 @@ use cs_events::{Budget, Outcome, Returned};
 use cs_inputs::Root;
 use cs_model::Standing;
 use cs_regions::Base;
+use cs_run_state::paths::root_path;
 use cs_state::{Counters, Frame, State, Tables, Temporaries, Temporary, Visits};
 use cs_store::{Fill, Value};
 use std::alloc::AllocError;
 
-/// A call with so many arguments, after which the caller goes on at a spot.
+/// A call with so many arguments, after which the caller goes on.
 pub fn call(
     context: &Context,
     state: &mut State,
@@ -29,7 +30,6 @@ pub fn call(
     progress: &mut Progress,
     at: Place,
     called: (u32, u32),
-    after: Spot,
 ) -> Result<(), Pause>
     requires { IsReady context.now.setting.now }
 {
@@ -37,12 +37,11 @@ pub fn call(
     match context.code.flow_at(function) {
         Some(flow) => {
             enter_checked(context, state, progress, at, function)?;
-            enter(context, state, tables, flow, (function, count), after)
+            enter(context, state, tables, flow, (function, count))
         }
         None => {
             outside(context, state, tables, progress, at, (function, count))?;
-            state.go_to(after);
-            Ok(())
+            go_on(context, state)
         }
     }
 }
@@ -59,7 +58,7 @@ fn enter_checked(
 {
     let frames = state.callers.depth().checked_add(1).ok_or(Pause::Memory)?;
     if frames >= u64::from(context.setting.budgets.depth) {
-        return Err(Pause::At(Next::Ends(Outcome::Over(Budget::Depth, at))));
+        return Err(progress.finish(Outcome::Over(Budget::Depth, at)));
     }
     progress.ask(state, at, Question::Callee(function))?;
     Ok(())
@@ -72,14 +71,13 @@ fn enter(
     tables: &mut Tables,
     flow: &Flow,
     called: (u32, u32),
-    after: Spot,
 ) -> Result<(), Pause>
     requires { IsReady context.now.setting.now }
 {
     let (function, count) = called;
     let arguments = newest(context, state, count)?;
     drop_newest(state, count as usize)?;
-    state.go_to(after);
+    go_on(context, state)?;
     let number = state.counters.frames;
     let frame = begun(context, flow, function, number)?;
     state.enter(context.alloc, frame)?;
@@ -206,7 +204,7 @@ fn result(
     if matches!(function.result, cs_types::CType::Void) {
         return Ok(Temporary::Nothing);
     }
-    let path = path_of(context.alloc, Root::Call(call));
+    let path = root_path(context.alloc, Root::Call(call));
     let kind = kind_of(context, &function.result)?;
     let (_, value) = received(context, state, tables, path, kind)?;
     Ok(Temporary::Scalar(value))
@@ -235,6 +233,7 @@ pub fn leave(
     context: &Context,
     state: &mut State,
     tables: &mut Tables,
+    progress: &mut Progress,
     given: Temporary,
 ) -> Result<(), Pause>
     requires { IsReady context.now.setting.now }
@@ -245,7 +244,7 @@ pub fn leave(
             Temporary::Scalar(_) | Temporary::Whole(_) => Some(value_of(&given)),
         };
         state.set_result(returned);
-        return Err(Pause::At(Next::Ends(Outcome::Done(Returned::Nothing))));
+        return Err(progress.finish(Outcome::Done(Returned::Nothing)));
     }
     let bases = local_bases(context, state, tables)?;
     state.unbind(&bases)?;

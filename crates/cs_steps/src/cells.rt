@@ -8,11 +8,12 @@ use crate::objects::{Known, object};
 use crate::pause::Pause;
 use crate::terms::{constant, own};
 use cs_events::numbers_of;
-use cs_inputs::{Cells, Path, Root};
+use cs_inputs::{Path, Root};
 use cs_model::Standing;
 use cs_ranges::{GREATEST, LEAST, RangeSet};
 use cs_regions::Base;
 use cs_run_state::blocks::{self, BlockType};
+use cs_run_state::paths::root_path;
 use cs_run_state::pieces::zero_of;
 use cs_run_state::{Cell, Object};
 use cs_state::{Block, State, Tables};
@@ -73,7 +74,7 @@ fn found(
         }
         Found::Fill(Fill::Wrote(call, argument)) => {
             let root = Root::Wrote(call, argument);
-            Ok(Contents::Input(cell_path(path_of(context.alloc, root), offset)?))
+            Ok(Contents::Input(cell_path(root_path(context.alloc, root), offset)?))
         }
         Found::Fill(Fill::Unset | Fill::Input) => unwritten(context, state, tables, base, offset),
     }
@@ -176,14 +177,6 @@ fn zero(scalar: BlockType) -> Value {
 fn cell_path(mut path: Path, offset: u64) -> Result<Path, AllocError> {
     path.cells.push(offset)?;
     Ok(path)
-}
-
-/// A path without cells.
-pub fn path_of(alloc: Global, root: Root) -> Path {
-    Path {
-        root,
-        cells: Cells::new(alloc),
-    }
 }
 
 /// What the input of a scalar gives.

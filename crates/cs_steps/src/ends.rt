@@ -3,7 +3,6 @@ ghost use Rattle.cs_run_state.specs.Prepared.{IsReady};
 
 use crate::calls::leave;
 use crate::context::Context;
-use crate::next::Next;
 use crate::operands::{drop_newest, number, operand, value};
 use crate::operators::test;
 use crate::pause::Pause;
@@ -42,9 +41,12 @@ pub fn end(
         }
         BlockEnd::Return(_) => {
             let given = operand(state, 0)?.clone()?;
-            leave(context, state, tables, given)
+            leave(context, state, tables, progress, given)
         }
-        BlockEnd::Finish => leave(context, state, tables, Temporary::Scalar(Value::Unset)),
+        BlockEnd::Finish => {
+            let given = Temporary::Scalar(Value::Unset);
+            leave(context, state, tables, progress, given)
+        }
     }
 }
 
@@ -73,25 +75,31 @@ fn go(context: &Context, state: &mut State, block: u32) -> Result<(), Pause>
     Ok(())
 }
 
+/// The frame goes on after what stands at its spot.
+pub fn go_on(context: &Context, state: &mut State) -> Result<(), Pause> {
+    let next = context.code.next_at(state.frame.spot);
+    state.go_to(next.ok_or(Pause::Memory)?);
+    Ok(())
+}
+
 /// A loop head or a label is reached, unless it was as often as it may be.
 pub fn reach_counted_point(
     context: &Context,
     state: &mut State,
+    progress: &mut Progress,
     point: CountedPoint,
-    after: Spot,
 ) -> Result<(), Pause>
     requires { IsReady context.now.setting.now }
 {
     let over = Outcome::Over(Budget::Visits, point.place);
     let number = point.number as usize;
     let Some(count) = state.frame.visits.as_slice().get(number) else {
-        return Err(Pause::At(Next::Ends(over)));
+        return Err(progress.finish(over));
     };
     if *count >= context.setting.budgets.visits {
-        return Err(Pause::At(Next::Ends(over)));
+        return Err(progress.finish(over));
     }
     let count = count.checked_add(1).ok_or(Pause::Memory)?;
     state.count_visit(context.alloc, number, count)?;
-    state.go_to(after);
-    Ok(())
+    go_on(context, state)
 }

@@ -1,7 +1,7 @@
 //! Allocations and releases (C11 7.22.3).
 ghost use Rattle.cs_run_state.specs.Prepared.{IsReady};
 
-use crate::cells::{declare, path_of};
+use crate::cells::declare;
 use crate::context::Context;
 use crate::objects::object;
 use crate::operands::{number, replace, replace_with, value};
@@ -17,6 +17,7 @@ use cs_eval::{Question, Tested};
 use cs_inputs::Root;
 use cs_model::Standing;
 use cs_regions::Base;
+use cs_run_state::paths::root_path;
 use cs_state::{Block, Counters, State, Tables, Temporary};
 use cs_store::{Fill, Value};
 use cs_terms::{Lin, Sym, SymName};
@@ -106,7 +107,7 @@ fn allocated(
         .allocations
         .checked_add(1)
         .ok_or(Pause::Memory)?;
-    let path = path_of(context.alloc, Root::Malloc(allocation));
+    let path = root_path(context.alloc, Root::Malloc(allocation));
     let sym = tables.sym(SymName::Input(path))?;
     declare(context.alloc, state, sym, 0, 1)?;
     let given = progress.ask(state, at, Question::Test(Tested::Alloc, own(sym)))?;

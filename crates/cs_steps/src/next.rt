@@ -1,6 +1,7 @@
 //! What stands first in what is left of an operation.
 ghost use Rattle.cs_run_state.specs.Prepared.{IsReady};
 
+use crate::calls::leave;
 use crate::context::Context;
 use crate::ends::{end, reach_counted_point};
 use crate::pause::Pause;
@@ -17,7 +18,7 @@ use cs_terms::Lin;
 use std::alloc::AllocError;
 
 /// What an operation does next, under every valuation that fits the state.
-#[derive(Drop)]
+#[derive(Clone, Copy)]
 pub enum Next {
     /// The operation is done: the state is as it left it, without answers, and nothing shows.
     Done,
@@ -51,7 +52,7 @@ pub fn proceed(
             state.finish_operation();
             Ok(Next::Done)
         }
-        Err(Pause::At(next)) => Ok(next),
+        Err(Pause::Waits) => Ok(progress.first()),
         Err(Pause::Memory) => Err(AllocError),
     }
 }
@@ -65,23 +66,19 @@ fn step(
 ) -> Result<(), Pause>
     requires { IsReady context.now.setting.now }
 {
-    let spot = state.frame.spot;
-    match context.code.instruction_at(spot) {
-        Instruction::CountedPoint(point) => {
-            let after = context.code.next_at(spot).ok_or(Pause::Memory)?;
-            reach_counted_point(context, state, *point, after)
-        }
+    match context.code.instruction_at(state.frame.spot) {
+        Instruction::CountedPoint(point) => reach_counted_point(context, state, progress, *point),
         Instruction::Operation(operation) => {
-            let after = context.code.next_at(spot).ok_or(Pause::Memory)?;
             keep(state, operation)?;
-            work(context, state, tables, progress, operation, after)
+            work(context, state, tables, progress, operation)
         }
         Instruction::End(block_end) => {
             keep_for_end(state, block_end)?;
             end(context, state, tables, progress, block_end)
         }
         Instruction::Nowhere => {
-            crate::calls::leave(context, state, tables, Temporary::Scalar(Value::Unset))
+            let given = Temporary::Scalar(Value::Unset);
+            leave(context, state, tables, progress, given)
         }
     }
 }

@@ -2,12 +2,13 @@
 ghost use Rattle.cs_run_state.specs.Prepared.{IsReady};
 
 use crate::context::Context;
+use crate::pointers::block;
 use crate::terms::constant;
 use cs_ast::typed::program::Local;
 use cs_model::{Freeable, Standing};
 use cs_regions::Base;
 use cs_run_state::blocks::BlockType;
-use cs_state::{Block, Frame, State, Tables};
+use cs_state::{Frame, State, Tables};
 use cs_terms::Lin;
 use cs_types::CType;
 use std::alloc::AllocError;
@@ -47,7 +48,7 @@ pub fn object<'t>(
 
 // A start block or a heap block.
 fn in_block<'t>(state: &State, tables: &'t Tables, base: u64) -> Result<Known<'t>, AllocError> {
-    let block: &Block = state.blocks.get((base, 0)).ok_or(AllocError)?;
+    let block = block(state, base)?;
     let element = tables.types.ty(block.element).ok_or(AllocError)?;
     let freeable = match block.standing {
         Standing::Live => Freeable::Live,

@@ -1,13 +1,12 @@
 //! Why an operation doesn't go on by itself.
 
-use crate::next::Next;
 use std::alloc::{AllocError, AllocFailed};
 
 /// What an operation comes to before it is done.
-#[derive(Drop)]
+#[derive(Clone, Copy)]
 pub enum Pause {
-    /// This stands first.
-    At(Next),
+    /// Something stands first, which its progress names.
+    Waits,
     Memory,
 }
 

@@ -6,6 +6,7 @@ use crate::terms::known;
 use cs_ast::Place;
 use cs_checker::Subject;
 use cs_eval::Question;
+use cs_events::Outcome;
 use cs_state::State;
 use cs_terms::Lin;
 
@@ -16,6 +17,7 @@ pub struct Progress {
     used: usize,
     met: u32,
     passed: u32,
+    first: Next,
 }
 
 impl Progress {
@@ -25,14 +27,31 @@ impl Progress {
             used: 0,
             met: 0,
             passed,
+            first: Next::Done,
         }
+    }
+
+    /// What stands first, where the operation waits.
+    pub fn first(&self) -> Next {
+        self.first
+    }
+
+    /// The operation waits, since this stands first.
+    pub fn wait(&mut self, first: Next) -> Pause {
+        self.first = first;
+        Pause::Waits
+    }
+
+    /// The run ends.
+    pub fn finish(&mut self, outcome: Outcome) -> Pause {
+        self.wait(Next::Ends(outcome))
     }
 
     /// The number that leads on at an event, which shows the answer to a question.
     pub fn ask(&mut self, state: &State, at: Place, question: Question) -> Result<Lin, Pause> {
         match self.answer(state) {
             Some(answer) => known(state, answer),
-            None => Err(Pause::At(Next::Asks(at, question))),
+            None => Err(self.wait(Next::Asks(at, question))),
         }
     }
 
@@ -40,7 +59,7 @@ impl Progress {
     pub fn select(&mut self, state: &State, at: Place, term: Lin) -> Result<(), Pause> {
         match self.answer(state) {
             Some(_) => Ok(()),
-            None => Err(Pause::At(Next::Selects(at, term))),
+            None => Err(self.wait(Next::Selects(at, term))),
         }
     }
 
@@ -54,7 +73,7 @@ impl Progress {
     ) -> Result<Lin, Pause> {
         match self.answer(state) {
             Some(answer) => known(state, answer),
-            None => Err(Pause::At(Next::Reaches(at, base, offset))),
+            None => Err(self.wait(Next::Reaches(at, base, offset))),
         }
     }
 
@@ -64,7 +83,7 @@ impl Progress {
             return Ok(());
         }
         if self.met >= self.passed {
-            return Err(Pause::At(Next::Checks(at, subject)));
+            return Err(self.wait(Next::Checks(at, subject)));
         }
         self.met += 1;
         Ok(())

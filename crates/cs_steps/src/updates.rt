@@ -10,6 +10,7 @@ use crate::progress::Progress;
 use cs_ast::Place;
 use cs_ast::typed::operator::{BinOp, Direction, Gives};
 use cs_cfg::Access;
+use cs_run_state::constants::integer_of;
 use cs_state::{State, Tables, Temporary};
 use cs_store::Value;
 use cs_types::{CType, IntType};
@@ -129,13 +130,5 @@ fn given(gives: Gives, before: Value, after: Value) -> Value {
     match gives {
         Gives::Old => before,
         Gives::New => after,
-    }
-}
-
-// The integer type that a type is.
-fn integer_of(ty: &CType) -> IntType {
-    match ty {
-        CType::Int(ty) => *ty,
-        _ => IntType::Int,
     }
 }

@@ -1,11 +1,12 @@
 //! What each operation of the code does.
 ghost use Rattle.cs_run_state.specs.Prepared.{IsReady};
 
-use crate::access::{load, spell, store};
+use crate::access::{Reached, load, spell, store, write};
 use crate::calls::call;
 use crate::context::Context;
+use crate::ends::go_on;
 use crate::heap::{allocate, release};
-use crate::operands::{drop_newest, number, operand, replace_with, value};
+use crate::operands::{drop_newest, number, operand, replace, replace_with, value};
 use crate::operators::{compare, difference, directed, number_of, operate, sum, test};
 use crate::pause::Pause;
 use crate::pointers::{arrow, further};
@@ -13,36 +14,29 @@ use crate::progress::Progress;
 use crate::terms::constant;
 use crate::updates::{convert, fetch_number, move_pointer, update};
 use cs_ast::Place;
-use cs_ast::typed::operator::{Direction, Order};
-use cs_cfg::{Operation, Spot, Work};
+use cs_ast::typed::operator::{BinOp, CmpOp, Direction, Order, UnOp};
+use cs_cfg::{Access, Operation, Work};
 use cs_checker::Subject;
 use cs_eval::{Question, Tested};
 use cs_regions::Base;
 use cs_state::{State, Tables, Temporary};
 use cs_store::{Fill, Value};
+use cs_types::{CType, IntType};
 
-/// What an operation does, after which the frame stands at a spot.
+/// What an operation does, after which the frame goes on.
 pub fn work(
     context: &Context,
     state: &mut State,
     tables: &mut Tables,
     progress: &mut Progress,
     operation: &Operation,
-    after: Spot,
 ) -> Result<(), Pause>
     requires { IsReady context.now.setting.now }
 {
     let at = operation.place;
     if let Work::Call(function, count) = &operation.work {
-        return call(
-            context,
-            state,
-            tables,
-            progress,
-            at,
-            (*function, *count),
-            after,
-        );
+        let called = (*function, *count);
+        return call(context, state, tables, progress, at, called);
     }
     match &operation.work {
         Work::Number(number) => push(state, Value::Number(constant(*number)))?,
@@ -60,8 +54,7 @@ pub fn work(
         Work::Use => use_result(state, progress, at)?,
         _ => compute(context, state, tables, progress, operation)?,
     }
-    state.go_to(after);
-    Ok(())
+    go_on(context, state)
 }
 
 // The same of an operation that computes, or accesses memory.
@@ -79,43 +72,14 @@ fn compute(
         Work::Sum(bytes, direction, order) => {
             add(context, state, progress, at, *bytes, *direction, *order)
         }
-        Work::Member(offset) => {
-            let place = further(state, value(state, 0)?, *offset)?;
-            replace_with(state, 1, place)
-        }
-        Work::Arrow(offset) => {
-            let place = arrow(state, progress, at, value(state, 0)?, *offset)?;
-            replace_with(state, 1, place)
-        }
-        Work::Unary(operator, ty) => {
-            let operand = number(state, 0)?;
-            let result = progress.ask(state, at, Question::Unary(*operator, *ty, operand))?;
-            replace_with(state, 1, Value::Number(result))
-        }
-        Work::Not => {
-            let holds = test(state, progress, at, value(state, 0)?, Tested::Not)?;
-            replace_with(state, 1, Value::Number(number_of(!holds)))
-        }
-        Work::Judge => {
-            let holds = test(state, progress, at, value(state, 0)?, Tested::Truth)?;
-            replace_with(state, 1, Value::Number(number_of(holds)))
-        }
-        Work::Binary(operator, ty) => {
-            let model = context.model();
-            let operands = (number(state, 1)?, number(state, 0)?);
-            let result = operate(model, state, progress, at, *operator, *ty, operands)?;
-            replace_with(state, 2, Value::Number(result))
-        }
-        Work::Compare(operator) => {
-            let (left, right) = (value(state, 1)?, value(state, 0)?);
-            let result = compare(state, progress, at, *operator, left, right)?;
-            replace_with(state, 2, Value::Number(result))
-        }
-        Work::Difference(bytes) => {
-            let pointers = (value(state, 1)?, value(state, 0)?);
-            let result = difference(state, progress, at, pointers, *bytes)?;
-            replace_with(state, 2, Value::Number(result))
-        }
+        Work::Member(offset) => member(state, *offset),
+        Work::Arrow(offset) => member_through(state, progress, at, *offset),
+        Work::Unary(operator, ty) => unary(state, progress, at, *operator, *ty),
+        Work::Not => judge(state, progress, at, Tested::Not),
+        Work::Judge => judge(state, progress, at, Tested::Truth),
+        Work::Binary(operator, ty) => binary(context, state, progress, at, *operator, *ty),
+        Work::Compare(operator) => compare_operands(state, progress, at, *operator),
+        Work::Difference(bytes) => subtract(state, progress, at, *bytes),
         Work::Convert(from, to) => convert(context, state, progress, at, from, to),
         _ => access(context, state, tables, progress, operation),
     }
@@ -133,27 +97,12 @@ fn access(
 {
     let at = operation.place;
     match &operation.work {
-        Work::Load(access) => {
-            let place = value(state, 0)?;
-            let loaded = load(context, state, tables, progress, access, place)?;
-            crate::operands::replace(state, 1, loaded)
-        }
-        Work::FetchPointer(access) => {
-            let place = value(state, 0)?;
-            let loaded = load(context, state, tables, progress, access, place)?;
-            state.push(loaded)?;
-            Ok(())
-        }
+        Work::Load(access) => load_in_place(context, state, tables, progress, access),
+        Work::FetchPointer(access) => fetch(context, state, tables, progress, access),
         Work::FetchNumber(access, ty) => {
             fetch_number(context, state, tables, progress, (at, *ty), access)
         }
-        Work::Store(access) => {
-            let place = value(state, 1)?;
-            let stored = operand(state, 0)?.clone()?;
-            let left = stored.clone()?;
-            store(context, state, tables, progress, access, place, stored)?;
-            crate::operands::replace(state, 2, left)
-        }
+        Work::Store(access) => assign(context, state, tables, progress, access),
         Work::Update(operator, access, ty, gives) => {
             let how = (*operator, *ty, *gives);
             update(context, state, tables, progress, at, access, how)
@@ -167,14 +116,7 @@ fn access(
         }
         Work::Free => release(context, state, tables, progress, at),
         Work::StoreLocal(decl, offset, ty, _) => {
-            let stored = operand(state, 0)?.clone()?;
-            let base = tables.base(local(state, *decl))?;
-            let reached = crate::access::Reached {
-                base,
-                offset: *offset,
-            };
-            crate::access::write(context, state, ty, reached, stored)?;
-            drop_newest(state, 1)
+            initialize(context, state, tables, *decl, *offset, ty)
         }
         Work::Spell(decl, offset, bytes) => {
             let base = tables.base(local(state, *decl))?;
@@ -182,6 +124,150 @@ fn access(
         }
         _ => Err(Pause::Memory),
     }
+}
+
+// The place of a member of the struct at a place.
+fn member(state: &mut State, offset: u64) -> Result<(), Pause> {
+    let place = further(state, value(state, 0)?, offset)?;
+    replace_with(state, 1, place)
+}
+
+// The place of a member of the struct that a pointer points to.
+fn member_through(
+    state: &mut State,
+    progress: &mut Progress,
+    at: Place,
+    offset: u64,
+) -> Result<(), Pause> {
+    let place = arrow(state, progress, at, value(state, 0)?, offset)?;
+    replace_with(state, 1, place)
+}
+
+fn unary(
+    state: &mut State,
+    progress: &mut Progress,
+    at: Place,
+    operator: UnOp,
+    ty: IntType,
+) -> Result<(), Pause> {
+    let operand = number(state, 0)?;
+    let result = progress.ask(state, at, Question::Unary(operator, ty, operand))?;
+    replace_with(state, 1, Value::Number(result))
+}
+
+// Whether a value isn't zero, or, where that is asked, is zero.
+fn judge(
+    state: &mut State,
+    progress: &mut Progress,
+    at: Place,
+    tested: Tested,
+) -> Result<(), Pause> {
+    let holds = test(state, progress, at, value(state, 0)?, tested)?;
+    let result = number_of(holds != (tested == Tested::Not));
+    replace_with(state, 1, Value::Number(result))
+}
+
+fn binary(
+    context: &Context,
+    state: &mut State,
+    progress: &mut Progress,
+    at: Place,
+    operator: BinOp,
+    ty: IntType,
+) -> Result<(), Pause>
+    requires { IsReady context.now.setting.now }
+{
+    let operands = (number(state, 1)?, number(state, 0)?);
+    let result = operate(context.model(), state, progress, at, operator, ty, operands)?;
+    replace_with(state, 2, Value::Number(result))
+}
+
+fn compare_operands(
+    state: &mut State,
+    progress: &mut Progress,
+    at: Place,
+    operator: CmpOp,
+) -> Result<(), Pause> {
+    let (left, right) = (value(state, 1)?, value(state, 0)?);
+    let result = compare(state, progress, at, operator, left, right)?;
+    replace_with(state, 2, Value::Number(result))
+}
+
+// The difference of two pointers to objects of so many bytes.
+fn subtract(
+    state: &mut State,
+    progress: &mut Progress,
+    at: Place,
+    bytes: u64,
+) -> Result<(), Pause> {
+    let pointers = (value(state, 1)?, value(state, 0)?);
+    let result = difference(state, progress, at, pointers, bytes)?;
+    replace_with(state, 2, Value::Number(result))
+}
+
+// The object at a place, in the place's stead.
+fn load_in_place(
+    context: &Context,
+    state: &mut State,
+    tables: &mut Tables,
+    progress: &mut Progress,
+    access: &Access,
+) -> Result<(), Pause>
+    requires { IsReady context.now.setting.now }
+{
+    let place = value(state, 0)?;
+    let loaded = load(context, state, tables, progress, access, place)?;
+    replace(state, 1, loaded)
+}
+
+// The object at a place, beside the place.
+fn fetch(
+    context: &Context,
+    state: &mut State,
+    tables: &mut Tables,
+    progress: &mut Progress,
+    access: &Access,
+) -> Result<(), Pause>
+    requires { IsReady context.now.setting.now }
+{
+    let place = value(state, 0)?;
+    let loaded = load(context, state, tables, progress, access, place)?;
+    state.push(loaded)?;
+    Ok(())
+}
+
+// An object is assigned, which is the result too.
+fn assign(
+    context: &Context,
+    state: &mut State,
+    tables: &mut Tables,
+    progress: &mut Progress,
+    access: &Access,
+) -> Result<(), Pause>
+    requires { IsReady context.now.setting.now }
+{
+    let place = value(state, 1)?;
+    let stored = operand(state, 0)?.clone()?;
+    let left = stored.clone()?;
+    store(context, state, tables, progress, access, place, stored)?;
+    replace(state, 2, left)
+}
+
+// A part of a local is initialized.
+fn initialize(
+    context: &Context,
+    state: &mut State,
+    tables: &mut Tables,
+    decl: u32,
+    offset: u64,
+    ty: &CType,
+) -> Result<(), Pause>
+    requires { IsReady context.now.setting.now }
+{
+    let stored = operand(state, 0)?.clone()?;
+    let base = tables.base(local(state, decl))?;
+    write(context, state, ty, Reached { base, offset }, stored)?;
+    drop_newest(state, 1)
 }
 
 // One more operand.

@@ -11,10 +11,10 @@ use Rattle.cs_ast.specs.declared.typed.statement.StmtKind.TheVariants as kind
 use Rattle.cs_ast.specs.TypedTree.{Statement, Block}
 use Rattle.cs_ast.specs.TypedProgram.{Variable, Routine, variable, routine}
 use Rattle.cs_ast.specs.TypedView.{statement, statement_at}
-use Rattle.cs_typing.specs.Objects.{TypedStatements}
-use Rattle.cs_typing.specs.Statements.{in_a_row}
+use Rattle.cs_statements.specs.Locals.{TypedStatements}
+use Rattle.cs_statements.specs.Statements.{in_a_row}
 use Rattle.cs_typing.specs.Functions.{bodied}
-use Rattle.cs_typing.proofs.StatementsInARow.{block-in_a_row}
+use Rattle.cs_statements.proofs.StatementsInARow.{block-in_a_row}
 
 -- a function with these variables and this body
 abbrev made : Function → RawFunction → RawBody → List Variable → Statement → Routine

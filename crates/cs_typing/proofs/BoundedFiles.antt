@@ -30,8 +30,9 @@ use Rattle.cs_scopes.specs.Verdicts.{Verdict, Fine}
 use Rattle.cs_declarations.specs.Bodies.{Typing, specs_type, typedefs_added}
 use Rattle.cs_typing.specs.Objects.{Filed, with_known, objects_added}
 use Rattle.cs_typing.specs.Order.{is_of_library, is_defined, placed, all_placed, order_of}
-use Rattle.cs_typing.specs.Files.{blank, beginning, specs_of, external_declared, external_read, external_typed, file_typed, typed_file}
+use Rattle.cs_typing.specs.Files.{blank, beginning, specs_of, external_declared, external_read, external_typed, file_typed, begun, typed_file}
 use Rattle.cs_typing.specs.Programs.{number_before, numbers_in, constants_in, program_of, typed}
+use Rattle.cs_typing.specs.Tags.{tags_declared}
 use Rattle.cs_well_formed.specs.Files.{IsFileTree}
 use Rattle.cs_well_formed.specs.Nodes.{all_nodes, routine_nodes, program_nodes}
 use Rattle.cs_well_formed.specs.Places.{IsOfFiles, ObjectStandsAmong, RoutineStandsAmong, ProgramStandsAmong}
@@ -39,8 +40,9 @@ use Rattle.cs_well_formed.specs.Sizes.{text_size, size_of}
 use Rattle.cs_well_formed.specs.WrittenPlaces.{DeclaredAmong, ExternalKindAmong, ExternalAmong}
 use Rattle.cs_well_formed.proofs.TextSizes.{size-following, size-specs, size-with_commas, all_nodes-cons}
 use Rattle.cs_well_formed.proofs.Verdicts.{IfFine, if_fine-at, if_fine-weaker, lift-then}
-use Rattle.cs_typing.proofs.BoundedParts.{IsTyping, words-bounded, AreTypedefs, typedefs-bounded, grows-by}
-use Rattle.cs_typing.proofs.BoundedTexts.{declarators_size}
+use Rattle.cs_statements.proofs.BoundedParts.{IsTyping, words-bounded, AreTypedefs, typedefs-bounded, grows-by}
+use Rattle.cs_statements.proofs.BoundedTexts.{declarators_size}
+use Rattle.cs_typing.proofs.DeclaredTags.{tags-few}
 use Rattle.cs_typing.proofs.BoundedObjects.{FiledFits, fits-less, fits-known, objects_added-fits}
 use Rattle.cs_typing.proofs.BoundedFunctions.{function_added-fits}
 
@@ -206,12 +208,23 @@ abbrev blank_place : Place
 blank_place = record { file = 0; line = 1; column = 1 }
 
 module _ (Is : Place → Type 0) (blank_is : Is blank_place) where
-  pub typed_file-fits : (model : DataModel) (file : List RawExternal) → All (ExternalAmong Is) file
-      → IfFine (typed_file model file) (FiledFits Is (25 * text_size (file_text (map external file))) 0)
-  typed_file-fits model file among = file-fits Is _ file (beginning model (order_of file)) (recursion_from_All (ExternalAmong Is) file among) begun
+  pub typed_file-fits : (model : DataModel) (tokens : List Token) (file : List RawExternal) → All (ExternalAmong Is) file
+      → IfFine (typed_file model tokens file) (FiledFits Is (25 * text_size (file_text (map external file)) + length tokens) 0)
+  typed_file-fits model tokens file among =
+      file-fits Is _ file (begun model tokens file) (recursion_from_All (ExternalAmong Is) file among)
+      (fits-known Is room blanks (tags_declared tokens blanks.known) _ _ (let few = tags-few tokens blanks.known in omega (arith, few)) before)
     where
-      begun : FiledFits Is (25 * text_size (file_text (map external file))) (24 * text_size (file_text (map external file))) (beginning model (order_of file))
-      begun = record {
+      size : ℕ
+      size = text_size (file_text (map external file))
+
+      room : ℕ
+      room = 25 * size + length tokens
+
+      blanks : Filed
+      blanks = beginning model (order_of file)
+
+      before : FiledFits Is room (24 * size + length tokens) blanks
+      before = record {
         globals = All-nil (ObjectStandsAmong Is);
         routines = All-map (RoutineStandsAmong Is) blank (order_of file) (λ i name within. record { at = blank_is; closes = blank_is; body = tt });
         nodes = (let e = blank-nodes (order_of file) in let few = few-functions file in omega (arith, e, few));
@@ -225,9 +238,9 @@ typed-bounded : (model : DataModel) (files : List (List ℕ)) (tokens : List Tok
     → IfFine (typed model files tokens file) IsBoundedProgram
 typed-bounded model files tokens file tree =
     let Is : Place → Type 0 = IsOfFiles (length files) in
-    lift-then (FiledFits Is (25 * text_size (file_text (map external file))) 0) IsBoundedProgram (λ (f : Filed). Fine (program_of model files tokens f))
-    (typed_file model file)
-    (typed_file-fits Is tree.some_file model file tree.placed)
+    lift-then (FiledFits Is (25 * text_size (file_text (map external file)) + length tokens) 0) IsBoundedProgram
+    (λ (f : Filed). Fine (program_of model files tokens f)) (typed_file model tokens file)
+    (typed_file-fits Is tree.some_file model tokens file tree.placed)
     (λ f h. (
       record { globals = h.globals; routines = h.routines },
       omega (arith, h.nodes, few-constants tokens, tree.short, tree.few_tokens, tree.few_files),

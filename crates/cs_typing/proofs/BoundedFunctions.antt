@@ -28,8 +28,8 @@ use Rattle.cs_declarations.specs.Bodies.{specs_type}
 use Rattle.cs_declarations.specs.Environment.{Environment, meaning_here, entered}
 use Rattle.cs_declarations.specs.Parameters.{Head, with_parameter, parameter_passed, parameter_typed, parameters_after}
 use Rattle.cs_declarations.specs.Parameters.{no_parameter, parameters_typed, after_twice, twice_after}
+use Rattle.cs_statements.specs.Statements.{in_a_row, no_statements, body_typed}
 use Rattle.cs_typing.specs.Objects.{Filed}
-use Rattle.cs_typing.specs.Statements.{in_a_row, no_statements, body_typed}
 use Rattle.cs_typing.specs.Functions.{is_result, same_types, types_of, may_be_function, bodiless, number_in, Routed, new_function, function_of, declared_inside}
 use Rattle.cs_typing.specs.Functions.{bodied, with_body, at_beginning, where_in, body_added, completed, outside_of, headed, resulted, function_added}
 use Rattle.cs_typing.specs.Functions.{declared_once}
@@ -40,11 +40,11 @@ use Rattle.cs_well_formed.specs.Sizes.{text_size, size_of}
 use Rattle.cs_well_formed.specs.WrittenPlaces.{ItemAmong, BodyAmong}
 use Rattle.cs_well_formed.proofs.TextSizes.{size-following, size-pointers, size-parameters}
 use Rattle.cs_well_formed.proofs.Verdicts.{IfFine, if_fine-any, if_fine-weaker, lift-then, cond-then}
+use Rattle.cs_statements.proofs.WellStatements.{both-fine}
+use Rattle.cs_statements.proofs.BoundedParts.{IsHead, parameters-bounded}
+use Rattle.cs_statements.proofs.BoundedTexts.{parameters_count}
+use Rattle.cs_statements.proofs.BoundedStatements.{weight, HasRoom, body-fits}
 use Rattle.cs_typing.proofs.FilesSoFar.{changed-All}
-use Rattle.cs_typing.proofs.WellStatements.{both-fine}
-use Rattle.cs_typing.proofs.BoundedParts.{IsHead, parameters-bounded}
-use Rattle.cs_typing.proofs.BoundedTexts.{parameters_count}
-use Rattle.cs_typing.proofs.BoundedStatements.{weight, HasRoom, body-fits}
 use Rattle.cs_typing.proofs.BoundedObjects.{changed-nodes, FiledFits, fits-less, fits-known}
 use Rattle.cs_typing.proofs.RepeatedNames.{once-then}
 

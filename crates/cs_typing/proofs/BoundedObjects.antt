@@ -28,9 +28,9 @@ use Rattle.cs_well_formed.specs.Sizes.{text_size}
 use Rattle.cs_well_formed.specs.WrittenPlaces.{FirstValueAmong, DeclaredAmong}
 use Rattle.cs_well_formed.proofs.TextSizes.{size-initial, all_nodes-append, all_nodes-cons}
 use Rattle.cs_well_formed.proofs.Verdicts.{IfFine, if_fine-any, lift-then, cond-then}
+use Rattle.cs_statements.proofs.BoundedParts.{nodes_known, IsFirst, first-bounded}
+use Rattle.cs_statements.proofs.BoundedTexts.{declarator_size}
 use Rattle.cs_typing.proofs.FilesSoFar.{changed-All}
-use Rattle.cs_typing.proofs.BoundedParts.{nodes_known, IsFirst, first-bounded}
-use Rattle.cs_typing.proofs.BoundedTexts.{declarator_size}
 
 -- the nodes of a list with one more, and of one of which a part is changed
 module _ {A : Type 0} (count : A → ℕ) where

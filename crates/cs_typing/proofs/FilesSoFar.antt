@@ -25,7 +25,7 @@ use Rattle.cs_well_formed.specs.Growth.{Grows}
 use Rattle.cs_well_formed.specs.Leading.{Leads}
 use Rattle.cs_well_formed.proofs.Growth.{IsThere-grown}
 use Rattle.cs_well_formed.proofs.Structs.{keeps-self, keeps-trans, globals-longer, routines-longer}
-use Rattle.cs_typing.proofs.DeclarationsAfter.{Starts, starts-trans, start-take, IsPlain, DeclaresOn, on-starts}
+use Rattle.cs_statements.proofs.DeclarationsAfter.{Starts, starts-trans, start-take, IsPlain, DeclaresOn, on-starts}
 
 -- ---- lists
 

@@ -21,7 +21,7 @@ ProgramIsLaidOut p = IsLaidOut p.model p.table
 pub typed_laid : (model : DataModel) (files : List (List ℕ)) (tokens : List Token) (file : List RawExternal)
     → IfFine (typed model files tokens file) ProgramIsLaidOut
 typed_laid model files tokens file =
-    IfFine-lift _ (typed_file model file) (FiledIsSound model) ProgramIsLaidOut (typed_file-sound model file)
+    IfFine-lift _ (typed_file model tokens file) (FiledIsSound model) ProgramIsLaidOut (typed_file-sound model tokens file)
     (λ f h. subst (λ (m : DataModel). IsLaidOut m (table_of f.known)) h.1 h.0.laid_out)
 
 pub laid_out : (model : DataModel) (files : List (List ℕ)) (tokens : List Token) (file : List RawExternal) (p : TypedProgram)
@@ -30,7 +30,7 @@ laid_out model files tokens file p reported = IfFine-at (typed model files token
 
 -- the program that is made of a typed file
 pub made : (model : DataModel) (files names : List (List ℕ)) (tokens : List Token) (file : List RawExternal) (f : Filed) (constants : List ℤ)
-    → typed_file model file ≡ Fine f → names ≡ files → constants ≡ constants_in tokens
+    → typed_file model tokens file ≡ Fine f → names ≡ files → constants ≡ constants_in tokens
     → typed model files tokens file
     ≡ Fine (record {
       model = model;

@@ -4,6 +4,7 @@ use Rattle.std.specs.Prelude.{Option, Some, None, is_some}
 use Rattle.cs_types.specs.declared.data_model.DataModel.{DataModel}
 use Rattle.cs_types.specs.Shape.{Shape, same_shape}
 use Rattle.cs_ast.specs.declared.place.Place.{Place}
+use Rattle.cs_ast.specs.declared.token.Token.{Token}
 use Rattle.cs_ast.specs.declared.raw.declaration.RawSpecs.{RawSpecs}
 use Rattle.cs_ast.specs.declared.raw.declaration.RawDeclarator.{RawDeclarator}
 use Rattle.cs_ast.specs.declared.raw.declaration.RawFirstValue.{RawFirstValue}
@@ -29,14 +30,15 @@ use Rattle.cs_declarations.proofs.FineVerdicts.{IfFine, IfFine-lift, IfFine-lift
 use Rattle.cs_declarations.proofs.SoundBodies.{TypeGoesOn, specs_type-GoesOn}
 use Rattle.cs_declarations.proofs.SoundParameters.{HeadGoesOn, typedefs_added-GoesOn, parameters_typed-GoesOn}
 use Rattle.cs_declarations.proofs.SoundStructs.{GoesOn, none-AreSound}
+use Rattle.cs_statements.specs.Statements.{body_typed, no_statements}
 use Rattle.cs_typing.specs.Objects.{Filed, Object, with_known, is_completed, may_be_object, object_of, object_initialized, marked, object_added, objects_added}
 use Rattle.cs_typing.specs.Order.{order_of}
-use Rattle.cs_typing.specs.Statements.{body_typed, no_statements}
 use Rattle.cs_typing.specs.Functions.{Routed, same_types, types_of, function_of, may_be_function, where_in, at_beginning, declared_inside, body_added}
 use Rattle.cs_typing.specs.Functions.{completed, outside_of, headed, is_result, resulted, function_added}
 use Rattle.cs_typing.specs.Functions.{declared_once}
-use Rattle.cs_typing.specs.Files.{beginning, external_declared, external_typed, specs_of, file_typed, typed_file}
-use Rattle.cs_typing.proofs.SoundStatements.{IsLaidUnder, following, ReportedIsSound, body_typed-sound}
+use Rattle.cs_typing.specs.Files.{beginning, external_declared, external_typed, specs_of, file_typed, begun, typed_file}
+use Rattle.cs_statements.proofs.SoundStatements.{IsLaidUnder, following, ReportedIsSound, body_typed-sound}
+use Rattle.cs_typing.proofs.DeclaredTags.{tags-sound}
 use Rattle.cs_typing.proofs.RepeatedNames.{once-fine}
 
 module _ (m : DataModel) where
@@ -149,5 +151,7 @@ module _ (m : DataModel) where
       IfFine-lift (file_typed es) (external_typed e.place e.kind f) FiledIsSound FiledIsSound (external_typed-sound e.place e.kind f h)
       (λ g i. file_typed-sound es g i)
 
-pub typed_file-sound : (model : DataModel) (file : List RawExternal) → IfFine (typed_file model file) (FiledIsSound model)
-typed_file-sound model file = file_typed-sound model file (beginning model (order_of file)) (none-AreSound model, refl)
+pub typed_file-sound : (model : DataModel) (tokens : List Token) (file : List RawExternal) → IfFine (typed_file model tokens file) (FiledIsSound model)
+typed_file-sound model tokens file =
+    file_typed-sound model file (begun model tokens file)
+    (tags-sound model tokens (beginning model (order_of file)).known (none-AreSound model, refl))

@@ -22,7 +22,8 @@ use Rattle.cs_declarations.specs.LaidOut.{IsOfTable}
 use Rattle.cs_declarations.proofs.FineVerdicts.{IfFine-at}
 use Rattle.cs_typing.specs.Objects.{Filed, with_known}
 use Rattle.cs_typing.specs.Order.{order_of}
-use Rattle.cs_typing.specs.Files.{allocators, blank, beginning, specs_of, external_declared, external_read, external_typed, file_typed, typed_file}
+use Rattle.cs_typing.specs.Files.{allocators, blank, beginning, specs_of, external_declared, external_read, external_typed, file_typed, begun}
+use Rattle.cs_typing.specs.Files.{typed_file}
 use Rattle.cs_typing.specs.Programs.{program_of, typed}
 use Rattle.cs_well_formed.specs.Structs.{NamesStructs, MembersName, HasNamedTypes, TypesAreNamed}
 use Rattle.cs_well_formed.specs.Expressions.{IsScalar, IsWhole}
@@ -37,13 +38,14 @@ use Rattle.cs_well_formed.proofs.Leading.{specs_type-leads, typedefs_added-leads
 use Rattle.cs_well_formed.proofs.NamedTypes.{NamedOn, TypeNamed, specs_type-named, typedefs_added-named}
 use Rattle.cs_well_formed.proofs.Naming.{program-named}
 use Rattle.cs_well_formed.proofs.Structs.{keeps-self}
+use Rattle.cs_statements.proofs.DeclarationsAfter.{starts-self, DeclaresOn, TypeDeclaresOn, specs_type-on, typedefs_added-on}
+use Rattle.cs_statements.proofs.HeldConstants.{ExternalHasConstants, FileHasConstants, file_text-held}
+use Rattle.cs_statements.proofs.WellStatements.{both-fine}
 use Rattle.cs_typing.proofs.BoundedFiles.{typed_is_bounded}
-use Rattle.cs_typing.proofs.DeclarationsAfter.{starts-self, DeclaresOn, TypeDeclaresOn, specs_type-on, typedefs_added-on}
+use Rattle.cs_typing.proofs.DeclaredTags.{tags-add}
 use Rattle.cs_typing.proofs.FilesSoFar.{HasNumber, IsCounted, with_parts, Kept, Has, IsWellSoFar, Adds, adds-self, adds-trans, leads-following, known-adds}
-use Rattle.cs_typing.proofs.HeldConstants.{ExternalHasConstants, FileHasConstants, file_text-held}
 use Rattle.cs_typing.proofs.OrderedNames.{ExternalIsPlaced, FileIsPlaced, order_of-placed}
 use Rattle.cs_typing.proofs.SoundFiles.{FiledIsSound, typed_file-sound}
-use Rattle.cs_typing.proofs.WellStatements.{both-fine}
 use Rattle.cs_typing.proofs.WellObjects.{objects_added-adds}
 use Rattle.cs_typing.proofs.WellFunctions.{itself, function_added-adds}
 
@@ -135,7 +137,8 @@ module _ (p : TypedProgram) (laid : IsLaidOut p.model p.table) where
   }
 
 -- the program that a file is
-file-well : (model : DataModel) (files : List (List ℕ)) (tokens : List Token) (file : List RawExternal) (f : Filed) → typed_file model file ≡ Fine f
+file-well : (model : DataModel) (files : List (List ℕ)) (tokens : List Token) (file : List RawExternal) (f : Filed)
+    → typed_file model tokens file ≡ Fine f
     → IsFileTree files tokens file → IsWellFormed (program_of model files tokens f)
 unfolding lift
 file-well model files tokens file f is tree = record {
@@ -158,15 +161,19 @@ file-well model files tokens file f is tree = record {
 
     laid : IsLaidOut model (table_of f.known)
     laid =
-        let sound = IfFine-at (typed_file model file) (FiledIsSound model) f is (typed_file-sound model file) in
+        let sound = IfFine-at (typed_file model tokens file) (FiledIsSound model) f is (typed_file-sound model tokens file) in
         subst (λ (m : DataModel). IsLaidOut m (table_of f.known)) sound.1 sound.0.laid_out
 
-    begun : Filed
-    begun = beginning model (order_of file)
+    blanks : Filed
+    blanks = beginning model (order_of file)
 
-    adds : Adds p begun f
-    adds = if_fine-at (Adds p begun) (typed_file model file) f
-        (file_typed-adds p laid file begun (beginning-kept p laid (order_of file)) (order_of-placed file) fit) is
+    tags : Adds p blanks (begun model tokens file)
+    tags = tags-add p blanks tokens (beginning-kept p laid (order_of file))
+
+    adds : Adds p blanks f
+    adds = adds-trans p blanks (begun model tokens file) f tags
+        (if_fine-at (Adds p (begun model tokens file)) (typed_file model tokens file) f
+        (file_typed-adds p laid file (begun model tokens file) tags.kept (order_of-placed file) fit) is)
 
     types : TypesAreNamed p
     types = record { members = adds.kept.types.known.members; globals = adds.kept.types.globals; routines = adds.kept.types.routines }
@@ -180,8 +187,8 @@ file-well model files tokens file f is tree = record {
 pub typed-well : (model : DataModel) (files : List (List ℕ)) (tokens : List Token) (file : List RawExternal) → IsFileTree files tokens file
     → IfFine (typed model files tokens file) IsWellFormed
 typed-well model files tokens file tree =
-    lift-then (λ f. typed_file model file ≡ Fine f) IsWellFormed (λ (f : Filed). Fine (program_of model files tokens f)) (typed_file model file)
-    (itself (typed_file model file))
+    lift-then (λ f. typed_file model tokens file ≡ Fine f) IsWellFormed (λ (f : Filed). Fine (program_of model files tokens f))
+    (typed_file model tokens file) (itself (typed_file model tokens file))
     (λ f is. file-well model files tokens file f is tree)
 
 pub well_formed : (model : DataModel) (files : List (List ℕ)) (tokens : List Token) (file : List RawExternal) (p : TypedProgram)

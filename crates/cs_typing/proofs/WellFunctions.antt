@@ -27,8 +27,9 @@ use Rattle.cs_scopes.specs.TypeNames.{starred}
 use Rattle.cs_scopes.specs.Verdicts.{Verdict, Fine, Fault, lift}
 use Rattle.cs_declarations.specs.Environment.{table_of, declarations_of, meaning_here, entered, left}
 use Rattle.cs_declarations.specs.Parameters.{Head, parameters_typed}
-use Rattle.cs_typing.specs.Objects.{Filed, TypedStatements, Inside, changed}
-use Rattle.cs_typing.specs.Statements.{in_a_row, no_statements, body_typed, labels_of_items}
+use Rattle.cs_statements.specs.Locals.{TypedStatements, Inside}
+use Rattle.cs_statements.specs.Statements.{in_a_row, no_statements, body_typed, labels_of_items}
+use Rattle.cs_typing.specs.Objects.{Filed, changed}
 use Rattle.cs_typing.specs.Order.{is_of_library}
 use Rattle.cs_typing.specs.Functions.{is_result, same_types, types_of, has_body, may_be_function, bodiless, numbered, number_in, Routed, new_function}
 use Rattle.cs_typing.specs.Functions.{function_of, declared_inside, bodied, with_body, at_beginning, where_in, body_added, completed, outside_of, headed}
@@ -45,14 +46,14 @@ use Rattle.cs_well_formed.proofs.Verdicts.{IfFine, if_fine-at, if_fine-weaker, l
 use Rattle.cs_well_formed.proofs.Leading.{parameters_typed-leads}
 use Rattle.cs_well_formed.proofs.NamedTypes.{starred-named, declaring-known, entered-known, left-known, HeadNamed, parameters_typed-named}
 use Rattle.cs_well_formed.proofs.Structs.{found-at, names-longer, variables-longer, globals-longer, routine-longer, routines-longer, meaning-longer}
-use Rattle.cs_typing.proofs.DeclarationsAfter.{Starts, starts-trans, start-take, IsPlain, DeclaresOn, parameters_typed-on, AreScalars, HeadDeclaresOn}
+use Rattle.cs_statements.proofs.DeclarationsAfter.{Starts, starts-trans, start-take, IsPlain, DeclaresOn, parameters_typed-on, AreScalars, HeadDeclaresOn}
+use Rattle.cs_statements.proofs.HeldConstants.{ItemsHaveConstants}
+use Rattle.cs_statements.proofs.LedJumps.{ReportedIsLed, body_typed-led}
+use Rattle.cs_statements.proofs.WellStatements.{both-fine, Has as HasInside, Knows, Yields, body_typed-well, AreThere}
 use Rattle.cs_typing.proofs.FilesSoFar.{start-All, found-start, both-All, changed-length, changed-at, changed-other, changed-found, changed-All, newest-All}
 use Rattle.cs_typing.proofs.FilesSoFar.{IsOther, newest-none, newest-start, HasNumber, there-inside, IsCounted, with_parts, Kept, Has, Adds, adds-self}
 use Rattle.cs_typing.proofs.FilesSoFar.{adds-trans, HasGlobal, HasRoutine, all-there-kept, known-adds}
-use Rattle.cs_typing.proofs.HeldConstants.{ItemsHaveConstants}
-use Rattle.cs_typing.proofs.LedJumps.{ReportedIsLed, body_typed-led}
 use Rattle.cs_typing.proofs.OrderedNames.{IsOrdered, IsPlaced, number-names}
-use Rattle.cs_typing.proofs.WellStatements.{both-fine, Has as HasInside, Knows, Yields, body_typed-well, AreThere}
 use Rattle.cs_typing.proofs.RepeatedNames.{once-then}
 
 -- what holds of a value for each of some

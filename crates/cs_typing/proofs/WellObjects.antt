@@ -32,12 +32,12 @@ use Rattle.cs_well_formed.proofs.Initials.{initial-well, initial-constant}
 use Rattle.cs_well_formed.proofs.Leading.{object_type-whole}
 use Rattle.cs_well_formed.proofs.NamedTypes.{object_type-named, declaring-known}
 use Rattle.cs_well_formed.proofs.Structs.{names-longer}
-use Rattle.cs_typing.proofs.DeclarationsAfter.{starts-trans}
+use Rattle.cs_statements.proofs.DeclarationsAfter.{starts-trans}
+use Rattle.cs_statements.proofs.HeldConstants.{FirstValueHasConstants, ObjectsHaveConstants}
+use Rattle.cs_statements.proofs.LiteralsAfter.{GoesOnFrom, initial_typed-begins}
+use Rattle.cs_statements.proofs.WellStatements.{under, both-fine}
 use Rattle.cs_typing.proofs.FilesSoFar.{start-All, found-start, changed-found, changed-All, newest-All, HasNumber, with_parts, Kept, Has, Adds, adds-self}
 use Rattle.cs_typing.proofs.FilesSoFar.{adds-trans, file-agrees, HasGlobal, HasRoutine, all-there-kept}
-use Rattle.cs_typing.proofs.HeldConstants.{FirstValueHasConstants, ObjectsHaveConstants}
-use Rattle.cs_typing.proofs.LiteralsAfter.{GoesOnFrom, initial_typed-begins}
-use Rattle.cs_typing.proofs.WellStatements.{under, both-fine}
 
 last-found : {A : Type 0} (xs : List A) (x : A) → slice_get (xs ++ x ∷ []) (length xs) ≡ Some x
 last-found [] x = refl

@@ -4,6 +4,7 @@ use Rattle.cs_types.specs.declared.data_model.DataModel.{DataModel}
 use Rattle.cs_types.specs.DataModel.{size_type_of}
 use Rattle.cs_types.specs.Shape.{Shape, void, integer, pointer}
 use Rattle.cs_ast.specs.declared.place.Place.{Place}
+use Rattle.cs_ast.specs.declared.token.Token.{Token}
 use Rattle.cs_ast.specs.declared.raw.declaration.RawSpecs.{RawSpecs}
 use Rattle.cs_ast.specs.declared.raw.external.RawExternalKind.{RawExternalKind}
 use Rattle.cs_ast.specs.declared.raw.external.RawExternalKind.TheVariants as external
@@ -15,6 +16,7 @@ use Rattle.cs_scopes.specs.Verdicts.{Verdict, Fine, lift}
 use Rattle.cs_scopes.specs.Meanings.{Declaration, Function}
 use Rattle.cs_declarations.specs.Bodies.{Typing, specs_type, typedefs_added}
 use Rattle.cs_typing.specs.Order.{order_of}
+use Rattle.cs_typing.specs.Tags.{tags_declared}
 use Rattle.cs_typing.specs.Objects.{Filed, with_known, objects_added}
 use Rattle.cs_typing.specs.Functions.{function_added}
 
@@ -86,6 +88,11 @@ abbrev pub file_typed : List RawExternal → Filed → Verdict Filed
 file_typed [] f = Fine f
 file_typed (e ∷ es) f = lift (file_typed es) (external_typed e.place e.kind f)
 
+-- a file with these tokens before its parts are read: its functions are numbered, and the tags of its structs are known
+abbrev pub begun : DataModel → List Token → List RawExternal → Filed
+begun model tokens file =
+    with_known (tags_declared tokens (beginning model (order_of file)).known) (beginning model (order_of file))
+
 -- a typed file
-abbrev pub typed_file : DataModel → List RawExternal → Verdict Filed
-typed_file model file = file_typed file (beginning model (order_of file))
+abbrev pub typed_file : DataModel → List Token → List RawExternal → Verdict Filed
+typed_file model tokens file = file_typed file (begun model tokens file)

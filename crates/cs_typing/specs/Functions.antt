@@ -18,8 +18,9 @@ use Rattle.cs_scopes.specs.Meanings.{Meaning, Function, Signature, Declaration}
 use Rattle.cs_scopes.specs.TypeNames.{starred}
 use Rattle.cs_declarations.specs.Environment.{Environment, declarations_of, with_declarations, declaring, meaning_here, entered, left}
 use Rattle.cs_declarations.specs.Parameters.{Head, parameters_typed}
-use Rattle.cs_typing.specs.Objects.{Filed, Inside, TypedStatements, changed, with_known}
-use Rattle.cs_typing.specs.Statements.{Where, in_a_row, no_statements, body_typed, labels_of_items}
+use Rattle.cs_statements.specs.Locals.{Inside, TypedStatements}
+use Rattle.cs_statements.specs.Statements.{Where, in_a_row, no_statements, body_typed, labels_of_items}
+use Rattle.cs_typing.specs.Objects.{Filed, changed, with_known}
 
 -- a result that a function may have (C11 6.9.1, paragraph 3)
 abbrev pub is_result : Shape → Bool

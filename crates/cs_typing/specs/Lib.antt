@@ -1,8 +1,6 @@
 pub mod Order
+pub mod Tags
 pub mod Objects
-pub mod Statements
-pub mod LabelNumbers
-pub mod CaseNumbers
 pub mod Functions
 pub mod Files
 pub mod View

@@ -41,4 +41,4 @@ program_of model files tokens f = record {
 
 -- the program that the parts of a file are, or the first failing place
 abbrev pub typed : DataModel → List (List ℕ) → List Token → List RawExternal → Verdict TypedProgram
-typed model files tokens file = lift (λ (f : Filed). Fine (program_of model files tokens f)) (typed_file model file)
+typed model files tokens file = lift (λ (f : Filed). Fine (program_of model files tokens f)) (typed_file model tokens file)

@@ -5,22 +5,21 @@ ghost use Rattle.cs_ast.specs.TypedProgram.{variable, routine};
 ghost use Rattle.cs_scopes.specs.declared.scope.Callee.TheVariants as callee;
 ghost use Rattle.cs_scopes.specs.Verdicts.{Answers};
 ghost use Rattle.cs_ast.specs.TypedView.{statement};
-ghost use Rattle.cs_typing.specs.Objects.{TypedStatements as TypedStatementsOf, changed};
+ghost use Rattle.cs_statements.specs.Locals.{TypedStatements as TypedStatementsOf};
+ghost use Rattle.cs_typing.specs.Objects.{changed};
 ghost use Rattle.cs_typing.specs.Functions as functions;
 ghost use Rattle.cs_typing.specs.Functions.{body_added, bodied, function_added};
 ghost use Rattle.cs_typing.specs.View.{filed_of, inner_of};
 
 use crate::filed::Filed;
 use crate::functions::is_result;
-use crate::inside::{Inside, Where};
-use crate::labels::labels_of_body;
-use crate::statements::items_typed;
 use cs_ast::raw::declaration::RawFunction;
 use cs_ast::raw::external::RawBody;
 use cs_ast::typed::program::{Function, Local};
 use cs_ast::typed::statement::{Stmt, StmtKind};
 use cs_declarations::{Inner, parameters_typed};
 use cs_scopes::{Callee, TypeCode, TypeRefusal, starred};
+use cs_statements::{Inside, Where, items_typed, labels_of_body};
 use cs_types::CType;
 use std::alloc::{AllocError, Global};
 

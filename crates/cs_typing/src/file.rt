@@ -4,12 +4,14 @@ ghost use Rattle.cs_types.specs.Shape.{shape_of, void, integer, pointer};
 ghost use Rattle.cs_types.specs.DataModel.{size_type_of};
 ghost use Rattle.cs_types.specs.declared.ctype.CType.{CType as CTypeOf};
 ghost use Rattle.cs_scopes.specs.Verdicts.{Answers};
-ghost use Rattle.cs_typing.specs.Files.{library_function, allocators, beginning, specs_of, external_declared, external_typed, file_typed, typed_file};
+ghost use Rattle.cs_typing.specs.Files.{library_function, allocators, beginning, specs_of, external_declared, external_typed, file_typed, begun, typed_file};
 ghost use Rattle.cs_typing.specs.View.{filed_of};
 
 use crate::bodies::with_function;
 use crate::filed::Filed;
 use crate::order::{blanks, order_of};
+use crate::tags::declare_tags;
+use cs_ast::Token;
 use cs_ast::raw::declaration::RawSpecs;
 use cs_ast::raw::external::{RawExternal, RawExternalKind};
 use cs_declarations::{Environment, specs_type};
@@ -180,14 +182,29 @@ fn with_externals(alloc: Global, before: Filed, file: &[RawExternal]) -> Result<
     Ok(filed)
 }
 
-/// A file, or the first failing place in it.
+// A file with these tokens before its parts are read.
+fn begun(
+    alloc: Global,
+    model: DataModel,
+    tokens: &[Token],
+    file: &[RawExternal],
+) -> Result<Filed, AllocError>
+    ensures { IfOk result (λ filed. filed_of filed ≡ begun model tokens.now file.now) }
+{
+    let mut filed = beginning(alloc, model, order_of(alloc, file)?)?;
+    declare_tags(alloc, &mut filed.known, tokens)?;
+    Ok(filed)
+}
+
+/// A file with these tokens, or the first failing place in it.
 pub fn typed_file(
     alloc: Global,
     model: DataModel,
+    tokens: &[Token],
     file: &[RawExternal],
 ) -> Result<Filed, TypeRefusal>
-    ensures { Answers filed_of (typed_file model file.now) result }
+    ensures { Answers filed_of (typed_file model tokens.now file.now) result }
 {
-    let filed = beginning(alloc, model, order_of(alloc, file)?)?;
+    let filed = begun(alloc, model, tokens, file)?;
     with_externals(alloc, filed, file)
 }

@@ -1,17 +1,13 @@
-//! The typing of files (C11 6.8, 6.9): objects, functions and statements.
+//! The typing of files (C11 6.9): objects, functions and their bodies.
 #![tactic(auto)]
 
 mod bodies;
-mod cases;
 mod file;
 mod filed;
 mod functions;
-mod inside;
-mod labels;
 mod objects;
 mod order;
 mod program;
-mod statements;
-mod switches;
+mod tags;
 
 pub use program::typed;

@@ -66,7 +66,7 @@ pub fn typed(
         globals,
         functions,
         ..
-    } = typed_file(alloc, model, file)?;
+    } = typed_file(alloc, model, tokens, file)?;
     let Environment {
         context,
         literals,

@@ -1,5 +1,5 @@
 -- Calls are well formed: the rules of calls.
-use Rattle.std.proofs.Common.{◌≡◌, ℕ, ◌&&◌, not, List, [], ◌∷◌, length, Option, Some, None, eqb, refl, sym, subst, eqb-true}
+use Rattle.std.proofs.Common.{◌≡◌, ℕ, Bool, true, false, cond, ◌&&◌, not, List, [], ◌∷◌, length, Option, Some, None, eqb, refl, sym, subst, eqb-true}
 use Rattle.std.specs.Prelude.{IfSome, take}
 use Rattle.std.proofs.lemmas.List.Elements.{All-take}
 use Rattle.cs_types.specs.declared.data_model.DataModel.{DataModel}
@@ -13,14 +13,18 @@ use Rattle.cs_scopes.specs.declared.context.Context.{Context}
 use Rattle.cs_scopes.specs.declared.scope.Callee.{Callee}
 use Rattle.cs_scopes.specs.declared.scope.Callee.TheVariants.{Malloc, Calloc, Free, Numbered}
 use Rattle.cs_scopes.specs.Meanings.{Signature}
+use Rattle.cs_scopes.specs.declared.refusal.TypeCode.{TypeCode}
+use Rattle.cs_scopes.specs.declared.refusal.TypeCode.TheVariants.{ArgumentCount, NoTarget}
 use Rattle.cs_scopes.specs.Verdicts.{Verdict, Fine, Fault}
+use Rattle.cs_scopes.specs.Faults.{least_code}
 use Rattle.cs_folding.specs.TypedParts.{type_of}
-use Rattle.cs_expressions.specs.Calls.{parameters_of, allocates, is_pointer_target, admitted, before_others, converted_list, allocated, freed, call_by, call_of}
+use Rattle.cs_expressions.specs.Calls.{parameters_of, allocates, is_pointer_target, call_fault, before_others, converted_list, allocated, freed, call_by}
+use Rattle.cs_expressions.specs.Calls.{call_of}
 use Rattle.cs_consts.specs.Typing.{call_with, call_or_not, no_function}
 use Rattle.cs_well_formed.specs.Structs.{NamesStructs, HasNamedTypes, TypesAreNamed}
 use Rattle.cs_well_formed.specs.Expressions.{Setting, IsWell, AreWell, IsValue, IsValueOf, AreValuesOf, sizes_of}
 use Rattle.cs_well_formed.specs.Agreement.{IsFunction, IsAllocator}
-use Rattle.cs_well_formed.proofs.Verdicts.{IfFine, if_fine-any, lift-then, lift2-then, cond-then}
+use Rattle.cs_well_formed.proofs.Verdicts.{IfFine, if_fine-any, lift-then, unless_fault-then, first-none}
 use Rattle.cs_well_formed.specs.Laws.{TargetNames}
 use Rattle.cs_well_formed.proofs.Structs.{found-at, AreNamed, each-named}
 use Rattle.cs_well_formed.proofs.Conversions.{converted-well}
@@ -99,31 +103,32 @@ pub parameters_of-named : (p : TypedProgram) → TypesAreNamed p → (function :
 parameters_of-named p types None is = tt
 parameters_of-named p types (Some f) is = parameters-named p types f.callee f is
 
--- a call that is admitted has an argument for each parameter
-admitted-counts : (at : Place) (target : Option Shape) (count : ℕ) (f : Signature)
-    → IfFine (admitted at target count f) (λ g. (g ≡ f) × (length f.parameters ≡ count))
-unfolding admitted
-admitted-counts at target count f =
-    cond-then (λ g. (g ≡ f) × (length f.parameters ≡ count)) (eqb (length f.parameters) count) _ _
-    (λ h.
-    cond-then (λ g. (g ≡ f) × (length f.parameters ≡ count)) (allocates f.callee && not (is_pointer_target target)) _ _ (λ _. tt)
-    (λ _. (refl, eqb-true (length f.parameters) count h)))
-    (λ _. tt)
+-- a call of which its place says nothing has an argument for each parameter
+call-counts : (target : Option Shape) (count : ℕ) (f : Signature) → call_fault target count f ≡ None → length f.parameters ≡ count
+unfolding call_fault
+call-counts target count f none = by_test (eqb (length f.parameters) count) refl none
+  where
+    by_test : (test : Bool) → eqb (length f.parameters) count ≡ test
+        → cond test (cond (allocates f.callee && not (is_pointer_target target)) (Some NoTarget) None) (Some ArgumentCount) ≡ None
+        → length f.parameters ≡ count
+    by_test true h e = eqb-true (length f.parameters) count h
+    by_test false h e = absurd cc
 
 -- a call of a function with its arguments
 pub call-well : (s : Setting) (c : Context) (at : Place) (target : Option Shape) (function : Option Signature) (count : ℕ) (v : Verdict Typed)
-    (values : Verdict TypedList) → TargetNames s target → TypesAreNamed s.program →
+    (fault : Option TypeCode) (values : Verdict TypedList) → TargetNames s target → TypesAreNamed s.program →
     IfSome function (λ f. IsFunction s.program f.callee f)
     → IfFine values (λ vs. length (parameters_of function) ≡ count → AreGiven s (parameters_of function) vs)
-    → IfFine (call_or_not c at target function count v values) (IsWell s)
+    → IfFine (call_or_not c at target function count v fault values) (IsWell s)
 unfolding call_or_not call_with
-call-well s c at target None count v values names types there given = lift-then (λ _. Unit {0}) (IsWell s) (no_function at) v (if_fine-any v) (λ _ _. tt)
-call-well s c at target (Some f) count v values names types there given =
-    lift2-then (λ g. (g ≡ f) × (length f.parameters ≡ count)) (λ vs. length f.parameters ≡ count → AreGiven s f.parameters vs) (IsWell s)
-    (call_with c at target) _ values
-    (admitted-counts at target count f) given
-    (λ g vs is are.
-    subst (λ h. IfFine (call_with c at target h vs) (IsWell s)) (sym is.0)
-    (lift-then (AreTaken s f.parameters) (IsWell s) (call_of at target f) _
-    (converted_list-taken s c.model at f.parameters vs (parameters-named s.program types f.callee f there) (are is.1))
+call-well s c at target None count v fault values names types there given =
+    lift-then (λ _. Unit {0}) (IsWell s) (no_function at) v (if_fine-any v) (λ _ _. tt)
+call-well s c at target (Some f) count v fault values names types there given =
+    unless_fault-then (IsWell s) at (least_code (call_fault target count f) fault) _
+    (λ none.
+    lift-then (λ vs. length f.parameters ≡ count → AreGiven s f.parameters vs) (IsWell s) (call_with c at target f) values given
+    (λ vs are.
+    lift-then (AreTaken s f.parameters) (IsWell s) (call_of at target f) _
+    (converted_list-taken s c.model at f.parameters vs (parameters-named s.program types f.callee f there)
+    (are (call-counts target count f (first-none (call_fault target count f) fault none))))
     (λ ws taken. call_of-well s at target names f ws there taken)))

@@ -22,13 +22,13 @@ use Rattle.cs_consts.specs.Roles.{operand_of}
 use Rattle.cs_declarations.specs.Initializers.{Storage, InFile, InFunction, part_types, text_of, is_admitted, has_form, Reading, Readings, value_read}
 use Rattle.cs_declarations.specs.Initializers.{expression_read, types_or_none, parts_read, one_more, initial_read, items_read, is_braceless, value_held}
 use Rattle.cs_declarations.specs.Initializers.{value_judged, before_others, part_judged, parts_judged, initial_judged, stored, limited, kept_with}
-use Rattle.cs_declarations.specs.Initializers.{initial_typed}
+use Rattle.cs_declarations.specs.Initializers.{initial_fault, value_limit, whole_read, initial_typed}
 use Rattle.cs_well_formed.specs.Nodes.{expression_nodes, initial_nodes, initials_nodes}
 use Rattle.cs_well_formed.specs.Places.{StandsAmong, InitialStandsAmong, InitialsStandAmong}
 use Rattle.cs_well_formed.specs.WrittenPlaces.{ExpressionAmong, ValuesAmong, AllValuesAmong}
 use Rattle.cs_well_formed.specs.Sizes.{size_of}
 use Rattle.cs_well_formed.specs.Bounded.{texts_nodes, IsBoundedInitial, InitialsAreBounded}
-use Rattle.cs_well_formed.proofs.Verdicts.{IfFine, if_fine-at, lift-then, cond-then}
+use Rattle.cs_well_formed.proofs.Verdicts.{IfFine, if_fine-at, lift-then, cond-then, unless_fault-then, after_limit-then}
 use Rattle.cs_well_formed.proofs.TextSizes.{size-initial, size-initials}
 use Rattle.cs_well_formed.proofs.LiteralsAfter.{sized, literals-grow}
 use Rattle.cs_well_formed.proofs.FittingValues.{Fits, converted-fits}
@@ -173,8 +173,10 @@ module _ (Is : Place → Type 0) where
           let size = size_of (initial_text (initial raw)) in
           cond-then (λ (r : Reading). IsBoundedInitial Is literals r.1 size r.0) (has_form c.table.list storage ty raw) _ _
           (λ _.
-          lift-then (IsReadBy literals size) (λ (r : Reading). IsBoundedInitial Is literals r.1 size r.0) _ (initial_read c literals ty raw)
-          (initial-read literals ty raw among)
+          lift-then (IsReadBy literals size) (λ (r : Reading). IsBoundedInitial Is literals r.1 size r.0) _ (whole_read c literals storage at ty raw)
+          (unless_fault-then (IsReadBy literals size) at (initial_fault c literals storage at ty raw) _
+          (λ _. after_limit-then (IsReadBy literals size) at (value_limit c.table.list storage ty raw) (initial_read c literals ty raw)
+          (initial-read literals ty raw among)))
           (λ r h. lift-then (IsJudged r.0) (λ (found : Reading). IsBoundedInitial Is literals found.1 size found.0) (kept_with r.1) _
           (lift-then (IsJudged r.0) (IsJudged r.0) (limited c.table.list storage at ty) _ (judged ty r.0 h.stands) (limited-judged ty storage r.0))
           (λ found k. record {

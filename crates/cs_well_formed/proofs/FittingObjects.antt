@@ -18,7 +18,9 @@ use Rattle.cs_scopes.specs.declared.context.Context.{Context}
 use Rattle.cs_scopes.specs.declared.scope.Callee.{Callee}
 use Rattle.cs_scopes.specs.declared.scope.Callee.TheVariants.{Malloc, Calloc, Free, Numbered}
 use Rattle.cs_scopes.specs.Meanings.{Signature}
+use Rattle.cs_scopes.specs.declared.refusal.TypeCode.{TypeCode}
 use Rattle.cs_scopes.specs.Verdicts.{Verdict, Fine, Fault}
+use Rattle.cs_scopes.specs.Faults.{least_code}
 use Rattle.cs_folding.specs.TypedParts.{type_of, form_of}
 use Rattle.cs_expressions.specs.Objects.{is_object}
 use Rattle.cs_types.specs.Kinds.{is_void, is_complete}
@@ -27,11 +29,12 @@ use Rattle.cs_expressions.specs.Places.{object_member}
 use Rattle.cs_expressions.specs.Places.{selected, selected_through}
 use Rattle.cs_expressions.specs.Stores.{is_stored_to, assignable, assigned, is_additive, updatable_as, updatable, updated_fault, led, moved_by_step, steppable}
 use Rattle.cs_expressions.specs.Stores.{updated, taken_in, stepped}
-use Rattle.cs_expressions.specs.Calls.{parameters_of, admitted, before_others, converted_list, allocated, freed, call_by, call_of}
+use Rattle.cs_expressions.specs.Calls.{parameters_of, call_fault, before_others, converted_list, allocated, freed, call_by, call_of}
 use Rattle.cs_consts.specs.Typing.{is_plain, operator_of, left_side, left_fault, stored_by, stored, stored_to, call_with, call_or_not, no_function}
 use Rattle.cs_well_formed.specs.Nodes.{expression_nodes, row_nodes}
 use Rattle.cs_well_formed.specs.Places.{RowStandsAmong}
 use Rattle.cs_well_formed.proofs.Verdicts.{IfFine, if_fine-any, if_fine-weaker, lift-then, lift2-then, cond-then, weighed-then, led-then}
+use Rattle.cs_well_formed.proofs.Verdicts.{unless_fault-then}
 use Rattle.cs_well_formed.proofs.FittingValues.{Fits, fits-more, converted-fits, in_type-fits}
 
 -- expressions in a row that stand among some places and have so many nodes at most
@@ -207,15 +210,16 @@ module _ (Is : Place → Type 0) where
         (λ row g. call_by-fits room target f.callee f.result row g)
 
     pub call-fits : (c : Context) (room : ℕ) (target : Option Shape) (function : Option Signature) (count : ℕ) (v : Verdict Typed)
-        (values : Verdict TypedList) → IfFine values (λ vs. RowStandsAmong Is vs × (row_nodes vs + row_count vs ≤ room))
-        → IfFine (call_or_not c at target function count v values) (Fits Is (room + 1))
+        (fault : Option TypeCode) (values : Verdict TypedList) → IfFine values (λ vs. RowStandsAmong Is vs × (row_nodes vs + row_count vs ≤ room))
+        → IfFine (call_or_not c at target function count v fault values) (Fits Is (room + 1))
     unfolding call_or_not
-    call-fits c room target None count v values given = lift-then (λ _. Unit {0}) (Fits Is (room + 1)) (no_function at) v (if_fine-any v) (λ _ _. tt)
-    call-fits c room target (Some f) count v values given =
-        lift2-then (λ _. Unit {0}) (λ vs. RowStandsAmong Is vs × (row_nodes vs + row_count vs ≤ room)) (Fits Is (room + 1)) (call_with c at target)
-        (admitted at target count f) values
-        (if_fine-any (admitted at target count f)) given
-        (λ g vs _ h. call_with-fits c room target g vs h.0 h.1)
+    call-fits c room target None count v fault values given =
+        lift-then (λ _. Unit {0}) (Fits Is (room + 1)) (no_function at) v (if_fine-any v) (λ _ _. tt)
+    call-fits c room target (Some f) count v fault values given =
+        unless_fault-then (Fits Is (room + 1)) at (least_code (call_fault target count f) fault) _
+        (λ _.
+        lift-then (λ vs. RowStandsAmong Is vs × (row_nodes vs + row_count vs ≤ room)) (Fits Is (room + 1)) (call_with c at target f) values given
+        (λ vs h. call_with-fits c room target f vs h.0 h.1))
 
   -- objects that are stored to
   updatable_as-fits : (op : BinOp) (at : Place) (room : ℕ) (e : Typed) (ty : Shape) → Fits Is room e → IfFine (updatable_as op at e ty) (Fits Is room)

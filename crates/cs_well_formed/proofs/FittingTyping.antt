@@ -6,6 +6,7 @@ use Rattle.cs_types.specs.Shape.{Shape}
 use Rattle.cs_ast.specs.declared.place.Place.{Place}
 use Rattle.cs_ast.specs.declared.raw.expression.RawExprKind.{RawExprKind, Row_of-RawExpr, end_of-RawExpr, more_of-RawExpr}
 use Rattle.cs_ast.specs.declared.raw.expression.RawExprKind.TheVariants as kind
+use Rattle.cs_ast.specs.declared.raw.operator.InfixOp.TheVariants as infix_op
 use Rattle.cs_ast.specs.declared.raw.operator.PrefixOp.{PrefixOp}
 use Rattle.cs_ast.specs.declared.raw.operator.PrefixOp.TheVariants as prefix_op
 use Rattle.cs_ast.specs.declared.typed.operator.UnOp.TheVariants as un
@@ -23,22 +24,24 @@ use Rattle.cs_folding.specs.TypedParts.{type_of}
 use Rattle.cs_types.specs.Kinds.{is_void}
 use Rattle.cs_expressions.specs.Objects.{valued, operand, measured}
 use Rattle.cs_consts.specs.Constants.{finished}
+use Rattle.cs_consts.specs.Operands.{left_operand_fault}
 use Rattle.cs_expressions.specs.Conversions.{recast}
 use Rattle.cs_expressions.specs.Operators.{combined, tested, followed}
 use Rattle.cs_expressions.specs.Places.{selected}
 use Rattle.cs_expressions.specs.Stores.{steppable, step_operator}
 use Rattle.cs_scopes.specs.Scopes.{newest}
-use Rattle.cs_scopes.specs.TypeNames.{arrayed}
+use Rattle.cs_scopes.specs.TypeNames.{arrayed, complete_at}
 use Rattle.cs_expressions.specs.Calls.{called, parameters_of}
 use Rattle.cs_expressions.specs.Primary.{Literals, named, text_at}
 use Rattle.cs_consts.specs.Typing.{literals_after, row_length, done, value_in, operand_in, purpose_if, purpose_after, is_address, prefixed_value, prefixed}
-use Rattle.cs_consts.specs.Typing.{indexed_values, arrow_on, stepped_object, left_side, right_target, cast_type, given_shape, cast_operand, cast_to}
+use Rattle.cs_consts.specs.Typing.{between, indexed_values, arrow_on, stepped_object, left_side, right_target, cast_type, given_shape, cast_operand, cast_to}
 use Rattle.cs_consts.specs.Typing.{chosen_values, measured_type, measured_arrays, base_in, further, formed, arguments_formed}
+use Rattle.cs_consts.specs.Typing.{arguments_fault, numbers_formed, bounds_formed, size_alone, measured_type_name}
 use Rattle.cs_well_formed.specs.Nodes.{row_nodes}
 use Rattle.cs_well_formed.specs.Places.{RowStandsAmong}
 use Rattle.cs_well_formed.specs.WrittenPlaces.{WrittenAmong, RowAmong}
 use Rattle.cs_well_formed.specs.Sizes.{size_of}
-use Rattle.cs_well_formed.proofs.Verdicts.{IfFine, if_fine-any, if_fine-weaker, lift-then, lift2-then, lift3-then, cond-then}
+use Rattle.cs_well_formed.proofs.Verdicts.{IfFine, if_fine-any, if_fine-weaker, lift-then, lift2-then, lift3-then, cond-then, between-then}
 use Rattle.cs_well_formed.proofs.LiteralsAfter.{sized, sized-Enclosed, sized-Index, sized-Call, sized-Member, sized-Arrow, sized-StepAfter, sized-Infix}
 use Rattle.cs_well_formed.proofs.LiteralsAfter.{sized-Choice, sized-Assign, sized-Comma, sized-SizeOfType, sized-Cast, sized-commas, sized-listed}
 use Rattle.cs_well_formed.proofs.FittingValues.{Fits, if_fine-more, finished-fits, valued-fits, operand-fits, measured-fits, raised-fits, turned-fits}
@@ -122,13 +125,16 @@ module _ (Is : Place → Type 0) (c : Context) where
     sized-fits v = lift-then (λ _. Unit {0}) (Fits Is 1) (measured_type c at) v (if_fine-any v)
         (λ e _. measured-fits Is at here c.model c.table.list (type_of e))
 
-    sized_type-fits : (v : Verdict Shape) (w : Verdict (List ℤ)) → IfFine (lift2 (measured_arrays c at) v w) (Fits Is 1)
+    sized_type-fits : (base : Verdict Shape) (ns : List ℤ) (bounds : Verdict (Unit {0})) → IfFine (measured_type_name c at base ns bounds) (Fits Is 1)
     unfolding measured_arrays
-    sized_type-fits v w =
-        lift2-then (λ _. Unit {0}) (λ _. Unit {0}) (Fits Is 1) (measured_arrays c at) v w (if_fine-any v) (if_fine-any w)
-        (λ base ns _ _.
-        lift-then (λ _. Unit {0}) (Fits Is 1) (measured c.model c.table.list at) _ (if_fine-any (arrayed c.model c.table.list at base ns))
-        (λ ty _. measured-fits Is at here c.model c.table.list ty))
+    sized_type-fits base ns bounds =
+        lift2-then (Fits Is 1) (λ _. Unit {0}) (Fits Is 1) size_alone _ bounds
+        (lift-then (λ _. Unit {0}) (Fits Is 1) (measured_arrays c at ns) (lift (complete_at c.table.list at) base)
+        (if_fine-any (lift (complete_at c.table.list at) base))
+        (λ ty _.
+        lift-then (λ _. Unit {0}) (Fits Is 1) (measured c.model c.table.list at) _ (if_fine-any (arrayed c.model c.table.list at ty ns))
+        (λ whole _. measured-fits Is at here c.model c.table.list whole)))
+        (if_fine-any bounds) (λ size _ fits _. fits)
 
   -- one more argument
   further-fits : (m n : ℕ) (v : Verdict Typed) (w : Verdict TypedList) → IfFine v (Fits Is m)
@@ -152,7 +158,8 @@ module _ (Is : Place → Type 0) (c : Context) where
         (omega (arith, sized-Enclosed (written_kind inner)))
     formed-fits purpose literals target at (kind.Index' place p left place' q right) h =
         if_fine-more Is (room_of left + 1 + (room_of right + 1) + 1) _ _
-        (lift2-then (Fits Is (room_of left + 1)) (Fits Is (room_of right + 1)) (Fits Is (room_of left + 1 + (room_of right + 1) + 1)) (indexed_values c at) _ _
+        (between-then (Fits Is (room_of left + 1)) (Fits Is (room_of right + 1)) (Fits Is (room_of left + 1 + (room_of right + 1) + 1)) at
+        (left_operand_fault c.table.list infix_op.Add) (indexed_values c at) _ _
         (operand_in-fits (room_of left) purpose _ (formed-fits purpose literals None place left h.1))
         (operand_in-fits (room_of right) purpose _ (formed-fits purpose (literals_after literals left) None place' right h.2))
         (λ a b. indexed-fits Is at h.0 c.table.list (room_of left + 1) (room_of right + 1) a b (type_of a) (type_of b)))
@@ -162,6 +169,7 @@ module _ (Is : Place → Type 0) (c : Context) where
         if_fine-more Is (5 * commas + 1) _ _
         (call-fits Is at h.0 c (5 * commas) target (called c.scope.declarations function) (row_length row)
         (operand_in c purpose (formed c purpose literals None place function))
+        (arguments_fault c purpose literals at (parameters_of (called c.scope.declarations function)) row)
         (arguments_formed c purpose literals (parameters_of (called c.scope.declarations function)) row)
         (arguments-fit purpose literals (parameters_of (called c.scope.declarations function)) row h.2))
         (omega (arith, sized-Call (written_kind function) (written_row row), sized-listed (written_row row)))
@@ -195,7 +203,8 @@ module _ (Is : Place → Type 0) (c : Context) where
         (omega arith)
     formed-fits purpose literals target at (kind.SizeOf' place p e) h = if_fine-more Is 1 _ _ (sized-fits at h.0 _) (omega arith)
     formed-fits purpose literals target at (kind.SizeOfType' ty shape row) h =
-        if_fine-more Is 1 _ _ (sized_type-fits at h _ _) (omega (arith, sized-SizeOfType ty.words.items ty.pointers.items (written_row row)))
+        if_fine-more Is 1 _ _ (sized_type-fits at h (base_in c at ty) (numbers_formed c literals row) (bounds_formed c literals row))
+        (omega (arith, sized-SizeOfType ty.words.items ty.pointers.items (written_row row)))
     formed-fits purpose literals target at (kind.Cast' ty shape row place p e) h =
         if_fine-more Is (room_of e + 2) _ _
         (lift2-then (λ _. Unit {0}) (Fits Is (room_of e)) (Fits Is (room_of e + 2)) (cast_to c at) _ _
@@ -206,8 +215,8 @@ module _ (Is : Place → Type 0) (c : Context) where
     formed-fits purpose literals target at (kind.Infix' operator place p left place' q right) h =
         let one = operand_in c purpose (formed c purpose literals None place left) in
         if_fine-more Is (room_of left + 1 + (room_of right + 1) + 3) _ _
-        (lift2-then (Fits Is (room_of left + 1)) (Fits Is (room_of right + 1)) (Fits Is (room_of left + 1 + (room_of right + 1) + 3))
-        (combined c.model c.table.list operator at) _ _
+        (between-then (Fits Is (room_of left + 1)) (Fits Is (room_of right + 1)) (Fits Is (room_of left + 1 + (room_of right + 1) + 3)) at
+        (left_operand_fault c.table.list operator) (combined c.model c.table.list operator at) _ _
         (operand_in-fits (room_of left) purpose _ (formed-fits purpose literals None place left h.1))
         (operand_in-fits (room_of right) (purpose_after operator purpose one) _
         (formed-fits (purpose_after operator purpose one) (literals_after literals left) None place' right h.2))

@@ -25,14 +25,16 @@ use Rattle.cs_consts.specs.Roles.{operand_of}
 use Rattle.cs_declarations.specs.Initializers.{Storage, InFile, InFunction, is_character, copies, member_types, part_types, text_of, is_admitted}
 use Rattle.cs_declarations.specs.Initializers.{takes_expression, has_form, have_forms, Reading, Readings, value_read, expression_read, types_or_none}
 use Rattle.cs_declarations.specs.Initializers.{parts_read, one_more, initial_read, items_read, is_braceless, value_held, value_judged, item_judged}
-use Rattle.cs_declarations.specs.Initializers.{before_others, part_judged, parts_judged, initial_judged, stored, limited, kept_with, initial_typed}
+use Rattle.cs_declarations.specs.Initializers.{before_others, part_judged, parts_judged, initial_judged, initial_fault, value_limit, whole_read}
+use Rattle.cs_declarations.specs.Initializers.{stored, limited}
+use Rattle.cs_declarations.specs.Initializers.{kept_with, initial_typed}
 use Rattle.cs_well_formed.specs.Structs.{NamesStructs, MembersName}
 use Rattle.cs_well_formed.specs.Expressions.{Setting, IsWell, IsValue, IsValueOf, IsWhole}
 use Rattle.cs_well_formed.specs.Initials.{HasParts, TakesBytes, IsWellInitial, AreWellParts, HasConstantValues, HaveConstantValues}
 use Rattle.cs_well_formed.specs.Constants.{HasConstants, InitialHasConstants, InitialsHaveConstants}
 use Rattle.cs_well_formed.specs.Agreement.{Agrees, AreFirst}
 use Rattle.cs_well_formed.specs.Laws.{InitialsAreWell, FileInitialsAreConstant}
-use Rattle.cs_well_formed.proofs.Verdicts.{IfFine, if_fine-at, if_fine-any, lift-then, cond-then, both_true}
+use Rattle.cs_well_formed.proofs.Verdicts.{IfFine, if_fine-at, if_fine-any, lift-then, cond-then, unless_fault-then, after_limit-then, both_true}
 use Rattle.cs_well_formed.proofs.Conversions.{converted-well}
 use Rattle.cs_well_formed.proofs.Names.{Begins, begins-self, begins-trans, first-part, literals-begin}
 use Rattle.cs_well_formed.proofs.Typing.{IsWellValue}
@@ -237,8 +239,10 @@ module _ (s : Setting) (c : Context) (agrees : Agrees s c) where
         IfFine (initial_typed c literals storage at ty raw) (λ r. AreFirst s.program r.1 → IsWellInitial s ty r.0)
     initial-well literals ty raw whole names fit =
         cond-then (λ (r : Reading). AreFirst s.program r.1 → IsWellInitial s ty r.0) (has_form c.table.list storage ty raw) _ _
-        (λ h. lift-then (IsReading literals ty) (λ (r : Reading). AreFirst s.program r.1 → IsWellInitial s ty r.0) _ (initial_read c literals ty raw)
-        (initial-reading storage literals ty raw names fit h)
+        (λ h. lift-then (IsReading literals ty) (λ (r : Reading). AreFirst s.program r.1 → IsWellInitial s ty r.0) _ (whole_read c literals storage at ty raw)
+        (unless_fault-then (IsReading literals ty) at (initial_fault c literals storage at ty raw) _
+        (λ _. after_limit-then (IsReading literals ty) at (value_limit c.table.list storage ty raw) (initial_read c literals ty raw)
+        (initial-reading storage literals ty raw names fit h)))
         (λ r held.
         lift-then (λ found. AreFirst s.program r.1 → IsWellInitial s ty found) (λ (r : Reading). AreFirst s.program r.1 → IsWellInitial s ty r.0)
         (kept_with r.1) _
@@ -292,8 +296,8 @@ module _ (c : Context) (at : Place) where
   initial-constant literals ty raw =
       cond-then (λ (r : Reading). HasConstantValues c.model r.0) (has_form c.table.list InFile ty raw) _ _
       (λ _.
-      lift-then (λ _. Unit {0}) (λ (r : Reading). HasConstantValues c.model r.0) _ (initial_read c literals ty raw)
-      (if_fine-any (initial_read c literals ty raw))
+      lift-then (λ _. Unit {0}) (λ (r : Reading). HasConstantValues c.model r.0) _ (whole_read c literals InFile at ty raw)
+      (if_fine-any (whole_read c literals InFile at ty raw))
       (λ r _. lift-then (HasConstantValues c.model) (λ (r : Reading). HasConstantValues c.model r.0) (kept_with r.1) _
       (lift-then (HasConstantValues c.model) (HasConstantValues c.model) (limited c.table.list InFile at ty) _ (judged-constant ty r.0) (λ found h. h))
       (λ found h. h)))

@@ -118,7 +118,7 @@ module _ (s : Setting) where
   leads-reading : (reading : List ℕ) (k : Environment) → Leads s k (with_reading reading k)
   leads-reading reading k = record { model = refl; literals = refl; table = keeps-self (table_of k); declarations = λ h. h }
 
-  leads-tagged : (name : List ℕ) (k : Environment) → Leads s k (with_tagged_struct name k)
+  pub leads-tagged : (name : List ℕ) (k : Environment) → Leads s k (with_tagged_struct name k)
   leads-tagged name k = leads-trans k (with_struct name k) (with_tagged_struct name k) (leads-struct name k)
       (leads-tag name (tag.Struct (length (table_of k))) (with_struct name k))
 

@@ -318,7 +318,7 @@ tag-known k name meaning is h = record {
   members = h.members;
 }
 
-tagged_struct-named : (name : List ℕ) (k : Environment) → KnownTypesAreNamed k.context → NamedOn k (with_tagged_struct name k)
+pub tagged_struct-named : (name : List ℕ) (k : Environment) → KnownTypesAreNamed k.context → NamedOn k (with_tagged_struct name k)
 tagged_struct-named name k h = record {
   known = tag-known (with_struct name k) name (tag.Struct (length (table_of k))) (one-longer k name h) (struct-known k name h);
   longer = no-shorter k name h;

@@ -10,6 +10,7 @@ use Rattle.cs_ast.specs.declared.raw.expression.RawExprKind.{RawExprKind, Row_of
 use Rattle.cs_ast.specs.declared.raw.expression.RawExprKind.TheVariants as kind
 use Rattle.cs_ast.specs.declared.raw.operator.AssignOp.{AssignOp}
 use Rattle.cs_ast.specs.declared.raw.operator.InfixOp.{InfixOp}
+use Rattle.cs_ast.specs.declared.raw.operator.InfixOp.TheVariants as infix_op
 use Rattle.cs_ast.specs.declared.raw.operator.PrefixOp.{PrefixOp}
 use Rattle.cs_ast.specs.declared.raw.operator.PrefixOp.TheVariants as prefix_op
 use Rattle.cs_ast.specs.declared.typed.operator.UnOp.TheVariants as un
@@ -19,12 +20,14 @@ use Rattle.cs_ast.specs.RawView.{written_kind, written_row}
 use Rattle.cs_ast.specs.TypedTree.{Typed, Number, TypedList, NoMore}
 use Rattle.cs_scopes.specs.declared.context.Context.{Context}
 use Rattle.cs_consts.specs.declared.purpose.Purpose.{Purpose}
+use Rattle.cs_scopes.specs.TypeNames.{complete_at}
 use Rattle.cs_scopes.specs.Verdicts.{Verdict, Fine, Fault, lift, lift2}
 use Rattle.cs_folding.specs.TypedParts.{type_of}
 use Rattle.cs_expressions.specs.Integers.{raised}
 use Rattle.cs_types.specs.Kinds.{is_void}
 use Rattle.cs_expressions.specs.Objects.{valued, operand, measured}
 use Rattle.cs_consts.specs.Constants.{finished}
+use Rattle.cs_consts.specs.Operands.{left_operand_fault}
 use Rattle.cs_expressions.specs.Conversions.{recast}
 use Rattle.cs_expressions.specs.Operators.{combined, tested, followed}
 use Rattle.cs_expressions.specs.Places.{selected}
@@ -33,15 +36,15 @@ use Rattle.cs_scopes.specs.Scopes.{newest}
 use Rattle.cs_expressions.specs.Calls.{called, parameters_of}
 use Rattle.cs_expressions.specs.Primary.{Literals, constant_type}
 use Rattle.cs_consts.specs.Typing.{literals_after, literals_after_row, row_length, done, value_in, operand_in, purpose_if, purpose_after, is_address}
-use Rattle.cs_consts.specs.Typing.{prefixed_value, prefixed, indexed_values, arrow_on, stepped_object, is_plain, left_side, type_in, right_target}
+use Rattle.cs_consts.specs.Typing.{prefixed_value, prefixed, between, indexed_values, arrow_on, stepped_object, is_plain, left_side, type_in, right_target}
 use Rattle.cs_consts.specs.Typing.{cast_type, given_shape, cast_operand, cast_to, chosen_values, measured_type, measured_arrays, base_in, further, formed}
-use Rattle.cs_consts.specs.Typing.{arguments_formed}
+use Rattle.cs_consts.specs.Typing.{arguments_formed, arguments_fault, numbers_formed, bounds_formed, size_alone, measured_type_name}
 use Rattle.cs_well_formed.specs.Structs.{NamesStructs}
 use Rattle.cs_well_formed.specs.Expressions.{Setting, IsWell, IsWellForm, IsValue, IsScalarValue}
 use Rattle.cs_ast.specs.HeldTokens.{IsHeldConstant}
 use Rattle.cs_well_formed.specs.Constants.{HasConstants, HaveConstants}
 use Rattle.cs_well_formed.specs.Agreement.{Agrees, AreFirst}
-use Rattle.cs_well_formed.proofs.Verdicts.{IfFine, if_fine-any, if_fine-weaker, lift-then, lift2-then, lift3-then, cond-then}
+use Rattle.cs_well_formed.proofs.Verdicts.{IfFine, if_fine-any, if_fine-weaker, lift-then, lift2-then, lift3-then, cond-then, between-then}
 use Rattle.cs_well_formed.proofs.Numbers.{constant-InRange, character-InRange}
 use Rattle.cs_well_formed.proofs.Constants.{finished-well}
 use Rattle.cs_well_formed.proofs.Integers.{raised-well, turned-well}
@@ -145,17 +148,21 @@ module _ (s : Setting) (c : Context) (agrees : Agrees s c) where
   sized-well : (at : Place) (v : Verdict Typed) → IfFine (lift (measured_type c at) v) (IsWell s)
   sized-well at v = lift-then (λ _. Unit {0}) (IsWell s) (measured_type c at) v (if_fine-any v) (λ e _. measured-well s c agrees at (type_of e))
 
-  sized_type-well : (at : Place) (v : Verdict Shape) (w : Verdict (List ℤ)) → IfFine (lift2 (measured_arrays c at) v w) (IsWell s)
+  sized_type-well : (at : Place) (base : Verdict Shape) (ns : List ℤ) (bounds : Verdict (Unit {0}))
+      → IfFine (measured_type_name c at base ns bounds) (IsWell s)
   unfolding measured_arrays
-  sized_type-well at v w =
-      lift2-then (λ _. Unit {0}) (λ _. Unit {0}) (IsWell s) (measured_arrays c at) v w (if_fine-any v) (if_fine-any w)
-      (λ base ns _ _. lift-then (λ _. Unit {0}) (IsWell s) (measured c.model c.table.list at) _ (if_fine-any _) (λ ty _. measured-well s c agrees at ty))
+  sized_type-well at base ns bounds =
+      lift2-then (IsWell s) (λ _. Unit {0}) (IsWell s) size_alone _ bounds
+      (lift-then (λ _. Unit {0}) (IsWell s) (measured_arrays c at ns) (lift (complete_at c.table.list at) base)
+      (if_fine-any (lift (complete_at c.table.list at) base))
+      (λ ty _. lift-then (λ _. Unit {0}) (IsWell s) (measured c.model c.table.list at) _ (if_fine-any _) (λ whole _. measured-well s c agrees at whole)))
+      (if_fine-any bounds) (λ size _ well _. well)
 
   -- operators on two operands
   infix-well : (op : InfixOp) (at : Place) (v w : Verdict Typed) → IfFine v (IsWellValue s) → IfFine w (IsWellValue s)
-      → IfFine (lift2 (combined c.model c.table.list op at) v w) (IsWell s)
+      → IfFine (between at (left_operand_fault c.table.list op) (combined c.model c.table.list op at) v w) (IsWell s)
   infix-well op at v w one other =
-      lift2-then (IsWellValue s) (IsWellValue s) (IsWell s) (combined c.model c.table.list op at) v w one other
+      between-then (IsWellValue s) (IsWellValue s) (IsWell s) at (left_operand_fault c.table.list op) (combined c.model c.table.list op at) v w one other
       (λ a b h k. combined-well s c agrees op at a b h.0 h.1 k.0 k.1)
 
   -- one more argument
@@ -179,13 +186,14 @@ module _ (s : Setting) (c : Context) (agrees : Agrees s c) where
     formed-well purpose literals target names at (kind.Parenthesis' place p inner) fit texts =
         done-well purpose _ (formed-well purpose literals target names place inner fit texts)
     formed-well purpose literals target names at (kind.Index' place p left place' q right) fit texts =
-        lift2-then (IsWellValue s) (IsWellValue s) (IsWell s) (indexed_values c at) _ _
+        between-then (IsWellValue s) (IsWellValue s) (IsWell s) at (left_operand_fault c.table.list infix_op.Add) (indexed_values c at) _ _
         (operand_in-well purpose _ (formed-well purpose literals None tt place left fit.0 (both-first s literals left right texts)))
         (operand_in-well purpose _ (formed-well purpose (literals_after literals left) None tt place' right fit.1 texts))
         (λ a b h k. indexed-well s c agrees at a b (type_of a) (type_of b) h.0 (h.1, refl) k.0 (k.1, refl))
     formed-well purpose literals target names at (kind.Call' place p function shape row) fit texts =
         call-well s c at target (called c.scope.declarations function) (row_length row)
         (operand_in c purpose (formed c purpose literals None place function))
+        (arguments_fault c purpose literals at (parameters_of (called c.scope.declarations function)) row)
         (arguments_formed c purpose literals (parameters_of (called c.scope.declarations function)) row)
         names agrees.types.program (called-there s c agrees function)
         (arguments-given purpose literals (parameters_of (called c.scope.declarations function))
@@ -206,7 +214,8 @@ module _ (s : Setting) (c : Context) (agrees : Agrees s c) where
         lift-then (IsWell s) (IsWell s) (prefixed c operator at) _ (done-well purpose _ (formed-well purpose literals None tt place e fit texts))
         (prefixed-well operator at)
     formed-well purpose literals target names at (kind.SizeOf' place p e) fit texts = sized-well at _
-    formed-well purpose literals target names at (kind.SizeOfType' ty shape row) fit texts = sized_type-well at _ _
+    formed-well purpose literals target names at (kind.SizeOfType' ty shape row) fit texts =
+        sized_type-well at (base_in c at ty) (numbers_formed c literals row) (bounds_formed c literals row)
     formed-well purpose literals target names at (kind.Cast' ty shape row place p e) fit texts =
         let to = cast_type at (row_length row) (base_in c at ty) in
         let given = given_named at (row_length row) ty in

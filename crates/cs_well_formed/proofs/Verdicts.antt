@@ -4,7 +4,12 @@ use Rattle.cs_ast.specs.declared.place.Place.{Place}
 use Rattle.cs_ast.specs.TypedTree.{Typed}
 use Rattle.cs_scopes.specs.declared.refusal.TypeCode.{TypeCode}
 use Rattle.cs_scopes.specs.Verdicts.{Verdict, Fine, Fault, lift, lift2, lift3}
+use Rattle.cs_scopes.specs.Faults.{least_code, unless_fault}
+use Rattle.cs_types.specs.Shape.{Shape}
+use Rattle.cs_folding.specs.TypedParts.{type_of}
 use Rattle.cs_expressions.specs.Stores.{weighed, led}
+use Rattle.cs_consts.specs.Typing.{between}
+use Rattle.cs_declarations.specs.Initializers.{Reading, after_limit}
 use Rattle.cs_declarations.specs.Sizes.{unless_refused}
 use Rattle.cs_declarations.specs.Parameters.{after_twice}
 
@@ -64,6 +69,30 @@ pub led-then : (P : Typed → Type 0) (at : Place) (fault : Option TypeCode) (v 
 led-then P at None v held = held
 led-then P at (Some first) (Fine e) held = held
 led-then P at (Some first) (Fault code place) held = tt
+
+-- of an operator between two operands
+pub between-then : (P Q R : Typed → Type 0) (at : Place) (asks : Shape → Option TypeCode) (rule : Typed → Typed → Verdict Typed) (v w : Verdict Typed)
+    → IfFine v P → IfFine w Q → ((a b : Typed) → P a → Q b → IfFine (rule a b) R) → IfFine (between at asks rule v w) R
+unfolding between
+between-then P Q R at asks rule (Fine a) w first second follows =
+    lift-then Q R (rule a) (led at (asks (type_of a)) w) (led-then Q at (asks (type_of a)) w second) (λ b held. follows a b first held)
+between-then P Q R at asks rule (Fault code place) w first second follows = tt
+
+-- of what comes after a place at which a code may hold
+pub unless_fault-then : {A : Type 0} (P : A → Type 0) (at : Place) (fault : Option TypeCode) (v : Verdict A) → (fault ≡ None → IfFine v P)
+    → IfFine (unless_fault at fault v) P
+unless_fault-then P at None v held = held refl
+unless_fault-then P at (Some code) v held = tt
+
+pub first-none : (code other : Option TypeCode) → least_code code other ≡ None → code ≡ None
+first-none None other h = refl
+first-none (Some code) other h = absurd cc
+
+-- of a value after a place at which a code may hold
+pub after_limit-then : (P : Reading → Type 0) (at : Place) (limit : Option TypeCode) (v : Verdict Reading) → IfFine v P → IfFine (after_limit at limit v) P
+after_limit-then P at None v held = held
+after_limit-then P at (Some code) (Fine r) held = held
+after_limit-then P at (Some code) (Fault other place) held = tt
 
 -- of what a name declares, after which bounds stand
 pub unless_refused-then : {A : Type 0} (P : A → Type 0) (refused : Option (TypeCode × Place)) (found : A) → P found

@@ -1,6 +1,7 @@
 pub mod OptionTexts
 pub mod GivenTexts
 pub mod SettingWords
+pub mod KindTexts
 pub mod FoundFields
 pub mod ReadSettings
 pub mod Refusals

@@ -9,46 +9,62 @@ use Rattle.std.proofs.lemmas.List.{append-nil}
 use Rattle.cs_inputs.specs.PathText.{is_name}
 use Rattle.cs_inputs.specs.Reading.{SplitsBefore, IsEmptyOrAt}
 use Rattle.cs_inputs.proofs.Splits.{one_cut}
-use Rattle.cs_words.specs.declared.setting.Setting.TheVariants.{Visits, Depth, Events, Model}
-use Rattle.cs_words.specs.declared.verb.Verb.TheVariants.{Analyze, Flow, Replay}
+use Rattle.cs_words.specs.declared.setting.Setting.TheVariants.{Visits, Depth, Events, Nodes, Splits, Kinds, Entry, Format, Model}
+use Rattle.cs_words.specs.declared.verb.Verb.TheVariants.{Analyze, Flow, Replay, Generate}
 use Rattle.cs_words.specs.Options.{Verb, Setting, verb_text, setting_text}
 use Rattle.cs_words.specs.Settings.{option_text, place_of, is_same}
 
 -- ---- commands and options by their texts and places
 verb_of : List ℕ → Verb
-verb_of word = if pointwise nat_eq word (codes "analyze") then Analyze else if pointwise nat_eq word (codes "flow") then Flow else Replay
+verb_of word = if pointwise nat_eq word (codes "analyze") then Analyze else if pointwise nat_eq word (codes "flow") then Flow
+    else if pointwise nat_eq word (codes "replay") then Replay else Generate
 
 verb_back : (verb : Verb) → verb_of (verb_text verb) ≡ verb
 unfolding verb_of
 verb_back Analyze = refl
 verb_back Flow = refl
 verb_back Replay = refl
+verb_back Generate = refl
 
 pub same_verb : (one other : Verb) → verb_text one ≡ verb_text other → one ≡ other
 same_verb one other e = sym (verb_back one) ∙ ap verb_of e ∙ verb_back other
 
 setting_of : List ℕ → Setting
 setting_of name = if pointwise nat_eq name (codes "visits") then Visits else if pointwise nat_eq name (codes "depth") then Depth
-    else if pointwise nat_eq name (codes "events") then Events else Model
+    else if pointwise nat_eq name (codes "events") then Events else if pointwise nat_eq name (codes "nodes") then Nodes
+    else if pointwise nat_eq name (codes "splits") then Splits else if pointwise nat_eq name (codes "kinds") then Kinds
+    else if pointwise nat_eq name (codes "entry") then Entry else if pointwise nat_eq name (codes "format") then Format else Model
 
 setting_back : (setting : Setting) → setting_of (setting_text setting) ≡ setting
 unfolding setting_of
 setting_back Visits = refl
 setting_back Depth = refl
 setting_back Events = refl
+setting_back Nodes = refl
+setting_back Splits = refl
+setting_back Kinds = refl
+setting_back Entry = refl
+setting_back Format = refl
 setting_back Model = refl
 
 same_setting : (one other : Setting) → setting_text one ≡ setting_text other → one ≡ other
 same_setting one other e = sym (setting_back one) ∙ ap setting_of e ∙ setting_back other
 
 setting_at : ℕ → Setting
-setting_at place = if nat_eq place 0 then Visits else if nat_eq place 1 then Depth else if nat_eq place 2 then Events else Model
+setting_at place = if nat_eq place 0 then Visits else if nat_eq place 1 then Depth else if nat_eq place 2 then Events
+    else if nat_eq place 3 then Nodes else if nat_eq place 4 then Splits else if nat_eq place 5 then Kinds else if nat_eq place 6 then Entry
+    else if nat_eq place 7 then Format else Model
 
 place_back : (setting : Setting) → setting_at (place_of setting) ≡ setting
 unfolding setting_at
 place_back Visits = refl
 place_back Depth = refl
 place_back Events = refl
+place_back Nodes = refl
+place_back Splits = refl
+place_back Kinds = refl
+place_back Entry = refl
+place_back Format = refl
 place_back Model = refl
 
 pub same_place : (one other : Setting) → is_same one other ≡ true → one ≡ other
@@ -58,6 +74,11 @@ pub is_same-itself : (setting : Setting) → is_same setting setting ≡ true
 is_same-itself Visits = refl
 is_same-itself Depth = refl
 is_same-itself Events = refl
+is_same-itself Nodes = refl
+is_same-itself Splits = refl
+is_same-itself Kinds = refl
+is_same-itself Entry = refl
+is_same-itself Format = refl
 is_same-itself Model = refl
 
 -- ---- an option's word is cut at its first `=`
@@ -65,6 +86,11 @@ no_equals : (setting : Setting) → list_all (λ b. not (b == 61)) (setting_text
 no_equals Visits = refl
 no_equals Depth = refl
 no_equals Events = refl
+no_equals Nodes = refl
+no_equals Splits = refl
+no_equals Kinds = refl
+no_equals Entry = refl
+no_equals Format = refl
 no_equals Model = refl
 
 abbrev pub tail_text : Option (List ℕ) → List ℕ

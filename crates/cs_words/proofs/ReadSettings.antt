@@ -1,21 +1,23 @@
 -- Where a command's word and some settings are read: which words go on to a command, and how the settings grow. For
 -- `settings_of`, `with_option` and what reads the rest.
 use Rattle.std.proofs.Common.{◌≡◌, ℕ, Bool, true, false, List, [], ◌∷◌, ◌++◌, Option, Some, None, ap, sym, ◌∙◌, refl, subst}
-use Rattle.std.proofs.Common.{append_assoc, inl, inr}
+use Rattle.std.proofs.Common.{append_assoc, inl, inr, ◌≤◌, lit<, lit≤}
 use Rattle.std.specs.Prelude.{◌⊎◌, codes}
 use Rattle.std.proofs.lemmas.List.{append-nil}
-use Rattle.cs_words.specs.declared.command.Command.TheVariants.{Analyze, Flow, Replay}
-use Rattle.cs_words.specs.declared.setting.Setting.TheVariants.{Visits, Depth, Events, Model}
+use Rattle.cs_words.specs.declared.command.Command.TheVariants.{Analyze, Flow, Replay, Generate}
+use Rattle.cs_words.specs.declared.setting.Setting.TheVariants.{Visits, Depth, Events, Nodes, Splits, Kinds, Entry, Format, Model}
 use Rattle.cs_words.specs.declared.verb.Verb.TheVariants as verbs
 use Rattle.cs_words.specs.Options.{Verb, Setting, verb_text, takes}
+use Rattle.cs_words.specs.Values.{IsNumberIn}
 use Rattle.cs_words.specs.Settings.{Given, option_text, BeginWithSetting, BeginWithSettings, is_same, text_of, AreTaken, AreDifferent}
 use Rattle.cs_words.specs.Meaning.{Command, AskFor, WordsMean, BeginsACommand}
 use Rattle.cs_words.specs.Scan.{Settings, IsSetTo, is_set, HasValue, IsSetBesides, AreReadTo, BeginWithNoOption}
 use Rattle.cs_words.proofs.OptionTexts.{same_verb, same_option, same_place}
 use Rattle.cs_words.proofs.GivenTexts.{text_here, not_given, different_more, taken_more, taken_here, text_more}
 use Rattle.cs_words.proofs.SettingWords.{heads, joined, followed, asks_no_option, after_read, none_left}
-use Rattle.cs_words.proofs.FoundFields.{IsReported, not_set, reported_from, reported_some, some_budgets, some_model, visits_reported, depth_reported}
-use Rattle.cs_words.proofs.FoundFields.{events_reported, model_reported}
+use Rattle.cs_words.proofs.FoundFields.{IsReported, not_set, reported_from, reported_some, some_budgets, some_analysis_budgets, some_selected, some_entry}
+use Rattle.cs_words.proofs.FoundFields.{some_json, some_model, visits_reported, depth_reported, events_reported, analysis_number_reported, kinds_reported}
+use Rattle.cs_words.proofs.FoundFields.{entry_reported, json_reported, model_reported}
 
 -- ---- words that go on
 -- words after settings that were read go on to a command
@@ -73,12 +75,27 @@ means_with verb given done others command words taken different asks = record {
   asks = asks;
 }
 
+nothing : (greatest : ℕ) → 0 ≤ greatest → IsNumberIn 0 greatest (codes "0") 0
+nothing greatest h = record { digits = refl; some = lit< tt; few = lit≤ tt; value = refl; from_least = lit≤ tt; to_greatest = h }
+
 -- they go on to some command
 completed : (verb : Verb) (given : List Given) → ((setting : Setting) → IsReported setting (text_of setting given))
     → (others : List (List ℕ)) × (command : Command) × AskFor verb given others command
 completed verbs.Analyze given reported =
-    let model = some_model given reported in
-    ([], Analyze (record { model = model.0 }), (refl, model.1))
+    let budgets = some_analysis_budgets given reported in
+    let kinds = some_selected given reported in
+    let entry = some_entry given reported in
+    let json = some_json given reported in
+    let model = some_model given reported in (
+      [],
+      Analyze (record { budgets = budgets.0; kinds = kinds.0; entry = entry.0; json = json.0; model = model.0 }),
+      record { budgets = budgets.1; kinds = kinds.1; entry = entry.1; json = json.1; model = model.1; no_more = refl },
+    )
+completed verbs.Generate given reported = (
+  codes "0" ∷ codes "0" ∷ [],
+  Generate (record { seed = 0; size = 0 }),
+  record { seed = codes "0"; size = codes "0"; whole = refl; is_seed = nothing 999999999 (lit≤ tt); is_size = nothing 4000 (lit≤ tt) },
+)
 completed verbs.Flow given reported =
     let model = some_model given reported in
     ([], Flow (record { model = model.0 }), (refl, model.1))
@@ -153,20 +170,32 @@ read_more verb g words before after rest own left read whole begins taken unset 
 -- ---- an option's word that goes on
 asked_value : (verb : Verb) (setting : Setting) (given : List Given) (others : List (List ℕ)) (command : Command) (text : List ℕ)
     → AskFor verb given others command → takes verb setting ≡ true → text_of setting given ≡ Some text → HasValue setting text
-asked_value verbs.Analyze Model given others (Analyze words) text asks taken e = model_reported given words.model text asks.1 e
-asked_value verbs.Analyze Model given others (Flow words) text asks taken e = absurd asks
-asked_value verbs.Analyze Model given others (Replay words) text asks taken e = absurd asks
-asked_value verbs.Analyze setting given others command text asks taken e = absurd (cc)
-asked_value verbs.Flow Model given others (Analyze words) text asks taken e = absurd asks
+asked_value verbs.Analyze Visits given others (Analyze words) text asks taken e = analysis_number_reported given words.budgets Visits text asks.budgets tt e
+asked_value verbs.Analyze Depth given others (Analyze words) text asks taken e = analysis_number_reported given words.budgets Depth text asks.budgets tt e
+asked_value verbs.Analyze Events given others (Analyze words) text asks taken e = analysis_number_reported given words.budgets Events text asks.budgets tt e
+asked_value verbs.Analyze Nodes given others (Analyze words) text asks taken e = analysis_number_reported given words.budgets Nodes text asks.budgets tt e
+asked_value verbs.Analyze Splits given others (Analyze words) text asks taken e = analysis_number_reported given words.budgets Splits text asks.budgets tt e
+asked_value verbs.Analyze Kinds given others (Analyze words) text asks taken e = kinds_reported given words.kinds text asks.kinds e
+asked_value verbs.Analyze Entry given others (Analyze words) text asks taken e = entry_reported given words.entry text asks.entry e
+asked_value verbs.Analyze Format given others (Analyze words) text asks taken e = json_reported given words.json text asks.json e
+asked_value verbs.Analyze Model given others (Analyze words) text asks taken e = model_reported given words.model text asks.model e
+asked_value verbs.Analyze setting given others (Flow words) text asks taken e = absurd asks
+asked_value verbs.Analyze setting given others (Replay words) text asks taken e = absurd asks
+asked_value verbs.Analyze setting given others (Generate words) text asks taken e = absurd asks
 asked_value verbs.Flow Model given others (Flow words) text asks taken e = model_reported given words.model text asks.1 e
+asked_value verbs.Flow Model given others (Analyze words) text asks taken e = absurd asks
 asked_value verbs.Flow Model given others (Replay words) text asks taken e = absurd asks
+asked_value verbs.Flow Model given others (Generate words) text asks taken e = absurd asks
 asked_value verbs.Flow setting given others command text asks taken e = absurd (cc)
-asked_value verbs.Replay setting given others (Analyze words) text asks taken e = absurd asks
-asked_value verbs.Replay setting given others (Flow words) text asks taken e = absurd asks
 asked_value verbs.Replay Visits given others (Replay words) text asks taken e = visits_reported given words.budgets text asks.budgets e
 asked_value verbs.Replay Depth given others (Replay words) text asks taken e = depth_reported given words.budgets text asks.budgets e
 asked_value verbs.Replay Events given others (Replay words) text asks taken e = events_reported given words.budgets text asks.budgets e
 asked_value verbs.Replay Model given others (Replay words) text asks taken e = model_reported given words.model text asks.model e
+asked_value verbs.Replay setting given others (Replay words) text asks taken e = absurd (cc)
+asked_value verbs.Replay setting given others (Analyze words) text asks taken e = absurd asks
+asked_value verbs.Replay setting given others (Flow words) text asks taken e = absurd asks
+asked_value verbs.Replay setting given others (Generate words) text asks taken e = absurd asks
+asked_value verbs.Generate setting given others command text asks taken e = absurd (cc)
 
 -- what is known of an option whose word goes on to a command
 pub record IsGoodOption (verb : Verb) (given : List Given) (setting : Setting) (reported : Option (List ℕ)) (following : List (List ℕ)) : Type 0 where

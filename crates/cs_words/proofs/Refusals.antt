@@ -5,13 +5,15 @@ use Rattle.std.specs.Prelude.{◌⊎◌, codes}
 use Rattle.std.proofs.lemmas.List.{append-nil}
 use Rattle.cs_types.specs.declared.data_model.DataModel.TheVariants.{Lp64}
 use Rattle.cs_words.specs.declared.option_word.OptionWord.{OptionWord}
-use Rattle.cs_words.specs.declared.setting.Setting.TheVariants.{Visits, Depth, Events, Model}
+use Rattle.cs_words.specs.declared.setting.Setting.TheVariants.{Visits, Depth, Events, Nodes, Splits, Kinds, Entry, Format, Model}
 use Rattle.cs_words.specs.Options.{Verb, Setting, verb_text, takes}
 use Rattle.cs_words.specs.Settings.{Given, option_text, BeginWithSettings, text_of}
-use Rattle.cs_words.specs.Meaning.{Command, WordsMean, BeginsACommand, EndBefore, AreRefusedAt}
-use Rattle.cs_words.specs.Scan.{Settings, IsSetTo, is_set, HasValue, IsSetBesides, AreReadTo, IsFirstOption, setting_in, text_in}
+use Rattle.cs_words.specs.Meaning.{Command, AskFor, WordsMean, BeginsACommand, EndBefore, AreRefusedAt}
+use Rattle.cs_words.specs.Scan.{Settings, IsSetTo, is_set, HasValue, IsSetBesides, AreReadTo, AreReadWhole, BeginWithNoOption, IsFirstOption, setting_in}
+use Rattle.cs_words.specs.Scan.{text_in}
 use Rattle.cs_words.proofs.FoundFields.{none_is_unset, not_set}
-use Rattle.cs_words.proofs.ReadSettings.{GoOn, goes_on, begins, spelled_by, spelled_more, read_more, IsGoodOption, good_option}
+use Rattle.cs_words.proofs.ReadSettings.{GoOn, goes_on, asks_here, AreSpelled, means_with, begins, spelled_by, spelled_more, read_more, IsGoodOption}
+use Rattle.cs_words.proofs.ReadSettings.{good_option}
 
 -- ---- words and fewer of them
 pub shorter : (words more : List (List ℕ)) → BeginsACommand (words ++ more) → BeginsACommand words
@@ -147,6 +149,11 @@ sample : (setting : Setting) → (text : List ℕ) × HasValue setting text
 sample Visits = (codes "1", (1, record { digits = refl; some = lit< tt; few = lit≤ tt; value = refl; from_least = lit≤ tt; to_greatest = lit≤ tt }))
 sample Depth = (codes "1", (1, record { digits = refl; some = lit< tt; few = lit≤ tt; value = refl; from_least = lit≤ tt; to_greatest = lit≤ tt }))
 sample Events = (codes "1", (1, record { digits = refl; some = lit< tt; few = lit≤ tt; value = refl; from_least = lit≤ tt; to_greatest = lit≤ tt }))
+sample Nodes = (codes "1", (1, record { digits = refl; some = lit< tt; few = lit≤ tt; value = refl; from_least = lit≤ tt; to_greatest = lit≤ tt }))
+sample Splits = (codes "1", (1, record { digits = refl; some = lit< tt; few = lit≤ tt; value = refl; from_least = lit≤ tt; to_greatest = lit≤ tt }))
+sample Kinds = (codes "null", refl)
+sample Entry = (codes "f", refl)
+sample Format = (codes "json", (true, refl))
 sample Model = (codes "lp64", (Lp64, refl))
 
 begins_alone : (verb : Verb) (words : List (List ℕ)) (settings : Settings) (rest others : List (List ℕ)) (option : OptionWord)
@@ -214,3 +221,54 @@ after_read verb words before after rest others left option text read first is fo
     read_more verb (record { setting = setting_in option; text = text }) words before after rest (first.word ∷ text ∷ []) left read (first.whole
     ∙ ap (λ (w : List (List ℕ)). first.word ∷ w) following)
     (inl (ap (λ (w : List ℕ). w ∷ text ∷ []) (first.names ∙ ap (option_text (setting_in option)) is))) taken unset set
+
+-- ---- words after the settings
+-- no option's word stands first, where there is a word at all
+abbrev pub IsNoOptionFirst : List (List ℕ) → List (List ℕ) → Type 0
+IsNoOptionFirst front following = BeginWithNoOption (front ++ following)
+
+same_front : (front : List (List ℕ)) (word : List ℕ) (others more : List (List ℕ)) → BeginWithNoOption (front ++ word ∷ others)
+    → BeginWithNoOption (front ++ word ∷ more)
+same_front [] word others more absent = absent
+same_front (first ∷ front) word others more absent = absent
+
+-- some words after the settings begin what a command asks for
+pub asks_from : (verb : Verb) (given : List Given) (done front more : List (List ℕ)) (command : Command) → AreSpelled verb given done
+    → AskFor verb given (front ++ more) command → BeginsACommand ((verb_text verb ∷ done) ++ front)
+asks_from verb given done front more command s asks = (
+  more,
+  command,
+  subst (λ (w : List (List ℕ)). WordsMean w command) (sym (append_assoc (verb_text verb ∷ done) front more))
+      (means_with verb given done (front ++ more) command s.words s.taken s.different asks),
+)
+
+-- some words after the settings begin what a command asks for, and with the next word, or without one, they don't
+pub refused_inside : (verb : Verb) (words : List (List ℕ)) (settings : Settings) (rest : List (List ℕ)) (number : ℕ) (front following : List (List ℕ))
+    → (whole : AreReadWhole verb words settings rest) → rest ≡ front ++ following → number + length following ≡ length words + 1
+    → BeginsACommand ((verb_text verb ∷ whole.read.done) ++ front) → IsNoOptionFirst front following
+    → ((command : Command) → following ≡ [] → AskFor verb whole.read.given front command → ⊥)
+    → ((word : List ℕ) (others more : List (List ℕ)) (command : Command) → following ≡ word ∷ others
+    → AskFor verb whole.read.given (front ++ word ∷ more) command → ⊥)
+    → AreRefusedAt words number
+refused_inside verb words settings rest number front following whole is counts begin absent none_at_end none_with =
+    refused_so words (done ++ front) following number (whole.read.whole ∙ ap (λ (w : List (List ℕ)). done ++ w) is
+    ∙ sym (append_assoc done front following)) counts begin
+    (at following absent (λ command. none_at_end command) (λ word others more command. none_with word others more command))
+  where
+    done : List (List ℕ)
+    done = verb_text verb ∷ whole.read.done
+
+    at : (left : List (List ℕ)) → IsNoOptionFirst front left
+        → ((command : Command) → left ≡ [] → AskFor verb whole.read.given front command → ⊥)
+        → ((word : List ℕ) (others more : List (List ℕ)) (command : Command) → left ≡ word ∷ others
+        → AskFor verb whole.read.given (front ++ word ∷ more) command → ⊥) → EndBefore ((verb_text verb ∷ whole.read.done) ++ front) left
+    at [] absent none_at_end none_with = λ command m.
+        let on = goes_on verb whole.read.given whole.read.done front command whole.read.spelled m in
+        none_at_end command refl (asks_here verb whole.read.given front command (subst BeginWithNoOption (append-nil front) absent) on)
+    at (word ∷ others) absent none_at_end none_with = λ h.
+        let parts = append_assoc ((verb_text verb ∷ whole.read.done) ++ front) (word ∷ []) h.0
+        ∙ append_assoc (verb_text verb ∷ whole.read.done) front (word ∷ h.0) in
+        let on = goes_on verb whole.read.given whole.read.done (front ++ word ∷ h.0) h.1 whole.read.spelled
+        (subst (λ (w : List (List ℕ)). WordsMean w h.1) parts h.2) in
+        none_with word others h.0 h.1 refl
+        (asks_here verb whole.read.given (front ++ word ∷ h.0) h.1 (same_front front word others h.0 absent) on)

@@ -1,9 +1,11 @@
 -- The words of settings are read in one way, and go on with those of others: for `settings_of`.
-use Rattle.std.proofs.Common.{◌≡◌, ℕ, true, false, List, [], ◌∷◌, ◌++◌, Some, None, ap, sym, ◌∙◌, refl, subst, inl, inr}
+use Rattle.std.proofs.Common.{◌≡◌, ℕ, true, false, List, [], ◌∷◌, ◌++◌, Option, Some, None, ap, sym, ◌∙◌, refl, subst, inl, inr}
+use Rattle.std.specs.List.{list_all}
+use Rattle.cs_inputs.specs.InputText.{is_digit}
 use Rattle.cs_inputs.specs.PathText.{is_name}
-use Rattle.cs_words.specs.declared.command.Command.TheVariants.{Analyze, Flow, Replay}
+use Rattle.cs_words.specs.declared.command.Command.TheVariants.{Analyze, Flow, Replay, Generate}
 use Rattle.cs_words.specs.declared.verb.Verb.TheVariants as verbs
-use Rattle.cs_words.specs.Options.{Verb}
+use Rattle.cs_words.specs.Options.{Verb, Setting}
 use Rattle.cs_words.specs.Settings.{Given, option_text, BeginWithSetting, BeginWithSettings}
 use Rattle.cs_words.specs.Meaning.{Command, AskFor}
 use Rattle.cs_words.specs.Scan.{BeginWithNoOption}
@@ -81,21 +83,41 @@ named_first entry numbers (word ∷ words) named e = λ setting text is.
     let absent : is_name entry ≡ false = ap is_name (sym first ∙ is) ∙ no_name setting text in
     (let both : true ≡ false = sym named ∙ absent in absurd (cc))
 
+-- digits begin with no option's dashes
+dashes : (setting : Setting) (text : Option (List ℕ)) → list_all is_digit (option_text setting text) ≡ false
+dashes setting None = refl
+dashes setting (Some text) = refl
+
+pub digits_first : (digits : List ℕ) (more others : List (List ℕ)) → list_all is_digit digits ≡ true → others ≡ digits ∷ more
+    → BeginWithNoOption others
+digits_first digits more [] all e = tt
+digits_first digits more (word ∷ words) all e = λ setting text is.
+    let first : word ≡ digits = (heads word digits words more e).0 in
+    let absent : list_all is_digit digits ≡ false = ap (list_all is_digit) (sym first ∙ is) ∙ dashes setting text in
+    (let both : true ≡ false = sym all ∙ absent in absurd (cc))
+
 nothing_first : (others : List (List ℕ)) → others ≡ [] → BeginWithNoOption others
 nothing_first [] e = tt
 nothing_first (word ∷ words) e = absurd (cc)
 
 pub asks_no_option : (verb : Verb) (given : List Given) (others : List (List ℕ)) (command : Command) → AskFor verb given others command
     → BeginWithNoOption others
-asks_no_option verbs.Analyze given others (Analyze words) asks = nothing_first others asks.0
+asks_no_option verbs.Analyze given others (Analyze words) asks = nothing_first others asks.no_more
 asks_no_option verbs.Analyze given others (Flow words) asks = absurd asks
 asks_no_option verbs.Analyze given others (Replay words) asks = absurd asks
+asks_no_option verbs.Analyze given others (Generate words) asks = absurd asks
 asks_no_option verbs.Flow given others (Analyze words) asks = absurd asks
 asks_no_option verbs.Flow given others (Flow words) asks = nothing_first others asks.0
 asks_no_option verbs.Flow given others (Replay words) asks = absurd asks
+asks_no_option verbs.Flow given others (Generate words) asks = absurd asks
 asks_no_option verbs.Replay given others (Analyze words) asks = absurd asks
 asks_no_option verbs.Replay given others (Flow words) asks = absurd asks
 asks_no_option verbs.Replay given others (Replay words) asks = named_first words.entry asks.input_words others asks.name asks.whole
+asks_no_option verbs.Replay given others (Generate words) asks = absurd asks
+asks_no_option verbs.Generate given others (Analyze words) asks = absurd asks
+asks_no_option verbs.Generate given others (Flow words) asks = absurd asks
+asks_no_option verbs.Generate given others (Replay words) asks = absurd asks
+asks_no_option verbs.Generate given others (Generate words) asks = digits_first asks.seed (asks.size ∷ []) others asks.is_seed.digits asks.whole
 
 -- ---- settings that were read are the first of all
 pub after_read : (given all : List Given) (done others t : List (List ℕ)) → BeginWithNoOption others → BeginWithSettings given [] done

@@ -1,15 +1,15 @@
 -- Words as lists of bytes, and what the scan's answers are at them: for all functions that go over the words.
 use Rattle.std.proofs.Common.{◌≡◌, ℕ, ◌+◌, ◌<◌, true, false, List, [], ◌∷◌, length, Some, None, Result, Ok, Err, ap, sym, ◌∙◌, refl}
-use Rattle.std.proofs.Common.{subst, inl, inr, arith}
+use Rattle.std.proofs.Common.{subst, inl, inr, arith, ◌≤◌}
 use Rattle.std.specs.Prelude.{◌⊎◌, ℤ, MatchResult, IsErrAnd, string_bytes, codes}
-use Rattle.std.proofs.lemmas.List.{length-map}
+use Rattle.std.proofs.lemmas.List.{length-map, length-append}
 use Rattle.cs_inputs.specs.declared.path.Path.{Path}
 use Rattle.cs_inputs.specs.declared.refusal.PathRefusal.{PathRefusal}
 use Rattle.cs_inputs.specs.declared.refusal.PathRefusal.TheVariants as paths
 use Rattle.cs_inputs.specs.InputText.{SpellsInput}
 use Rattle.cs_inputs.specs.PathText.{is_name}
 use Rattle.cs_types.specs.declared.data_model.DataModel.TheVariants.{Lp64}
-use Rattle.cs_words.specs.declared.command.Command.TheVariants.{Analyze}
+use Rattle.cs_words.specs.declared.command.Command.TheVariants.{Flow, Generate}
 use Rattle.cs_words.specs.declared.option_word.OptionWord.{OptionWord}
 use Rattle.cs_words.specs.declared.scan.Found.{Found}
 use Rattle.cs_words.specs.declared.refusal.WordsRefusal.{WordsRefusal}
@@ -22,7 +22,8 @@ use Rattle.cs_words.specs.Scan.{IsRefusalBefore, IsRefusalFor, IsRight, AreInput
 use Rattle.cs_words.proofs.EnteredInputs.{AreEnteredTo, no_input}
 use Rattle.cs_words.proofs.SettingWords.{heads}
 use Rattle.cs_words.proofs.Refusals.{unfit, bad_joined, bad_after, joined_read, after_read}
-use Rattle.cs_words.proofs.WholeWords.{AsksForNoMore, one_more, no_entry, bad_entry, bad_input}
+use Rattle.cs_words.specs.Values.{IsSeed, IsSize}
+use Rattle.cs_words.proofs.WholeWords.{AsksForNoMore, one_more, no_entry, bad_entry, bad_input, bad_seed, no_seed, bad_size, third_word, generate_right}
 
 -- ---- lists of words
 words_length : (words : List Word) → length (words_text words) ≡ length words
@@ -43,6 +44,13 @@ no_text (word ∷ words) none = absurd (omega arith)
 some_text : (words : List Word) → 0 < length words → 0 < length (words_text words)
 some_text words some = omega (arith, words_length words)
 
+-- what is left after the settings is a part of all words
+pub rest_within : (verb : Verb) (words rest : List Word) (settings : Settings) → AreReadWhole verb (words_text words) settings (words_text rest)
+    → length rest ≤ length words
+rest_within verb words rest settings whole =
+    let parts = ap length whole.read.whole ∙ length-append (verb_text verb ∷ whole.read.done) (words_text rest) in
+    omega (arith, parts, words_length words, words_length rest)
+
 -- a refusal by what is left
 refusal_before : (words rest : List Word) (refusal : WordsRefusal) → IsRefusalBefore (length words) (length rest) refusal
     → ((number : ℕ) → number + length (words_text rest) ≡ length (words_text words) + 1 → AreRefusedAt (words_text words) number)
@@ -53,9 +61,9 @@ refusal_before words rest Memory counts so = absurd counts
 -- ---- the first word
 begins_empty : BeginsACommand []
 begins_empty = (
-  codes "analyze" ∷ [],
-  Analyze (record { model = Lp64 }),
-  record { verb = verbs.Analyze; given = []; others = []; following = []; first = refl; settings = refl; taken = tt; different = tt; asks = (refl, refl) },
+  codes "flow" ∷ [],
+  Flow (record { model = Lp64 }),
+  record { verb = verbs.Flow; given = []; others = []; following = []; first = refl; settings = refl; taken = tt; different = tt; asks = (refl, refl) },
 )
 
 pub no_verb : (words : List (List ℕ)) (first : List ℕ) (following : List (List ℕ)) → words ≡ first ∷ following
@@ -173,6 +181,62 @@ pub input_refused : (words rest others : List Word) (settings : Settings) (entry
     → AreInputsRead (words_text others) (length words) (Err refusal) → IsErrAnd result (λ e. e ≡ refusal) → IsRight (words_text words) result
 input_refused words rest others settings entry refusal result whole is name bad e =
     passed_on (words_text words) result refusal e (refused_input words rest others settings entry refusal whole is name bad)
+
+-- ---- `generate`
+pub seed_refused : (words rest others : List Word) (settings : Settings) (seed : List ℕ) (refusal : WordsRefusal)
+    → AreReadWhole verbs.Generate (words_text words) settings (words_text rest) → words_text rest ≡ seed ∷ words_text others
+    → ((n : ℕ) → IsSeed seed n → ⊥) → IsRefusalBefore (length words) (length rest) refusal → IsRefusal (words_text words) refusal
+seed_refused words rest others settings seed refusal whole is none counts =
+    refusal_before words rest refusal counts (λ number c.
+    bad_seed (words_text words) settings (words_text rest) number seed (words_text others) whole is none c)
+
+pub seed_missing : (words rest : List Word) (settings : Settings) (refusal : WordsRefusal)
+    → AreReadWhole verbs.Generate (words_text words) settings (words_text rest) → length rest ≡ 0 → IsRefusalBefore (length words) (length rest) refusal
+    → IsRefusal (words_text words) refusal
+seed_missing words rest settings refusal whole none counts =
+    refusal_before words rest refusal counts (λ number c. no_seed (words_text words) settings (words_text rest) number whole (no_text rest none) c)
+
+pub size_refused : (words rest others : List Word) (settings : Settings) (seed : List ℕ) (a : ℕ) (refusal : WordsRefusal)
+    → AreReadWhole verbs.Generate (words_text words) settings (words_text rest) → words_text rest ≡ seed ∷ words_text others → IsSeed seed a
+    → ((word : List ℕ) (more : List (List ℕ)) (n : ℕ) → words_text others ≡ word ∷ more → IsSize word n → ⊥)
+    → IsRefusalBefore (length words) (length others) refusal → IsRefusal (words_text words) refusal
+size_refused words rest others settings seed a refusal whole is is_seed none counts =
+    refusal_before words others refusal counts (λ number c.
+    bad_size (words_text words) settings (words_text rest) number seed a (words_text others) whole is is_seed none c)
+
+pub third_refused : (words rest more : List Word) (settings : Settings) (seed size : List ℕ) (a b : ℕ) (refusal : WordsRefusal)
+    → AreReadWhole verbs.Generate (words_text words) settings (words_text rest) → words_text rest ≡ seed ∷ size ∷ words_text more → IsSeed seed a
+    → IsSize size b → 0 < length more → IsRefusalBefore (length words) (length more) refusal → IsRefusal (words_text words) refusal
+third_refused words rest more settings seed size a b refusal whole is is_seed is_size some counts =
+    refusal_before words more refusal counts (λ number c.
+    third_word (words_text words) settings (words_text rest) number seed size a b (words_text more) whole is is_seed is_size (some_text more some) c)
+
+pub size_missing : (words rest others : List Word) (settings : Settings) (seed : List ℕ) (a : ℕ) (refusal : WordsRefusal)
+    → AreReadWhole verbs.Generate (words_text words) settings (words_text rest) → words_text rest ≡ seed ∷ words_text others → IsSeed seed a
+    → length others ≡ 0 → IsRefusalBefore (length words) (length others) refusal → IsRefusal (words_text words) refusal
+size_missing words rest others settings seed a refusal whole is is_seed none counts =
+    size_refused words rest others settings seed a refusal whole is is_seed (λ word more n e is_size. absurd (let no_more = no_text others none in cc)) counts
+
+pub no_size : (words rest others more : List Word) (settings : Settings) (seed size : List ℕ) (a : ℕ) (refusal : WordsRefusal)
+    → AreReadWhole verbs.Generate (words_text words) settings (words_text rest) → words_text rest ≡ seed ∷ words_text others → IsSeed seed a
+    → words_text others ≡ size ∷ words_text more → ((n : ℕ) → IsSize size n → ⊥) → IsRefusalBefore (length words) (length others) refusal
+    → IsRefusal (words_text words) refusal
+no_size words rest others more settings seed size a refusal whole is is_seed following none counts =
+    size_refused words rest others settings seed a refusal whole is is_seed (λ word later n e is_size.
+    let same : word ≡ size = (heads word size later (words_text more) (sym e ∙ following)).0 in
+    none n (subst (λ (t : List ℕ). IsSize t n) same is_size)) counts
+
+pub generated : (words rest more : List Word) (settings : Settings) (seed size : List ℕ) (a b : ℕ)
+    → AreReadWhole verbs.Generate (words_text words) settings (words_text rest) → words_text rest ≡ seed ∷ size ∷ words_text more → IsSeed seed a
+    → IsSize size b → length more ≡ 0 → IsRight (words_text words) (Ok (Generate (record { seed = a; size = b })))
+generated words rest more settings seed size a b whole is is_seed is_size none =
+    generate_right (words_text words) settings (words_text rest) (record { seed = a; size = b }) whole (record {
+      seed = seed;
+      size = size;
+      whole = is ∙ ap (λ (w : List (List ℕ)). seed ∷ size ∷ w) (no_text more none);
+      is_seed = is_seed;
+      is_size = is_size;
+    })
 
 -- ---- an input's word
 abbrev pub AcceptsInputs : List ℕ → Result (Path × ℤ) PathRefusal → Type 0

@@ -8,11 +8,15 @@ use Rattle.cs_inputs.specs.InputText.{SpellsInput}
 use Rattle.cs_inputs.specs.PathOrder.{path_order}
 use Rattle.cs_inputs.specs.PathText.{is_name}
 pub use Rattle.cs_words.specs.declared.command.Command.{Command}
-use Rattle.cs_words.specs.declared.command.Command.TheVariants.{Analyze, Flow, Replay}
+use Rattle.cs_words.specs.declared.command.Command.TheVariants.{Analyze, Flow, Replay, Generate}
+use Rattle.cs_words.specs.declared.command.AnalyzeWords.{AnalyzeWords}
 use Rattle.cs_words.specs.declared.command.ReplayWords.{ReplayWords}
+use Rattle.cs_words.specs.declared.command.GenerateWords.{GenerateWords}
 use Rattle.cs_words.specs.declared.verb.Verb.TheVariants as verbs
 use Rattle.cs_words.specs.Options.{Verb, verb_text}
-use Rattle.cs_words.specs.Settings.{Given, BeginWithSettings, AreTaken, AreDifferent, AreBudgets, IsDataModel}
+use Rattle.cs_words.specs.Settings.{Given, BeginWithSettings, AreTaken, AreDifferent, AreBudgets, AreAnalysisBudgets, AreSelectedKinds, IsEntry}
+use Rattle.cs_words.specs.Settings.{IsJson, IsDataModel}
+use Rattle.cs_words.specs.Values.{IsSeed, IsSize}
 
 -- a word of the command line
 abbrev pub Word : Type 0
@@ -28,6 +32,23 @@ AreEntered before [] after = after ≡ before
 AreEntered before (word ∷ words) after = (path : Path) × (number : ℤ) × SpellsInput word path number
     × AreEntered (insert_entry path_order before path number) words after
 
+-- an analysis: its settings, and nothing after them
+pub record IsAnalysis (given : List Given) (others : List (List ℕ)) (analysis : AnalyzeWords) : Type 0 where
+  pub budgets : AreAnalysisBudgets given analysis.budgets
+  pub kinds : AreSelectedKinds given analysis.kinds
+  pub entry : IsEntry given analysis.entry
+  pub json : IsJson given analysis.json
+  pub model : IsDataModel given analysis.model
+  pub no_more : others ≡ []
+
+-- a generated file: the two numbers after the command
+pub record IsGeneration (others : List (List ℕ)) (generation : GenerateWords) : Type 0 where
+  pub seed : List ℕ
+  pub size : List ℕ
+  pub whole : others ≡ seed ∷ size ∷ []
+  pub is_seed : IsSeed seed generation.seed
+  pub is_size : IsSize size generation.size
+
 -- a run of the machine: its settings, and after them a function's name and any number of inputs
 pub record IsReplay (given : List Given) (others : List (List ℕ)) (replay : ReplayWords) : Type 0 where
   pub budgets : AreBudgets given replay.budgets
@@ -39,9 +60,10 @@ pub record IsReplay (given : List Given) (others : List (List ℕ)) (replay : Re
 
 -- what a command's settings and the words after them ask for
 abbrev pub AskFor : Verb → List Given → List (List ℕ) → Command → Type 0
-AskFor verbs.Analyze given others (Analyze words) = (others ≡ []) × IsDataModel given words.model
+AskFor verbs.Analyze given others (Analyze words) = IsAnalysis given others words
 AskFor verbs.Flow given others (Flow words) = (others ≡ []) × IsDataModel given words.model
 AskFor verbs.Replay given others (Replay words) = IsReplay given others words
+AskFor verbs.Generate given others (Generate words) = IsGeneration others words
 AskFor verb given others command = ⊥
 
 -- words mean a command: its own word, then settings of its options, none twice, then what else it asks for

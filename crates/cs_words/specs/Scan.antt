@@ -1,18 +1,26 @@
 -- What the scan's own functions give: the contracts of parts of `words_of` cite it.
-use Rattle.std.specs.Prelude.{◌≡◌, ℕ, Bool, false, is_some, ℤ, List, [], ◌∷◌, ◌++◌, ◌+◌, length, Option, Some, None, Result, Ok, Err}
+use Rattle.std.specs.Prelude.{◌≡◌, ℕ, Bool, true, false, is_some, nat_eq, ◌==◌, IsTrue, map, ℤ, List, [], ◌∷◌, ◌++◌, ◌+◌, length}
+use Rattle.std.specs.Prelude.{Option, Some, None, Result, Ok, Err}
+use Rattle.std.specs.List.{find, filter_map, list_all, slice_split}
+use Rattle.std.specs.Cmp.Lexicographic.{pointwise}
+use Rattle.std.specs.Borrow.{Bor}
+use Rattle.cs_model.specs.declared.kind.Kind.{Kind}
+use Rattle.cs_model.specs.Kinds.{kind_name}
+use Rattle.cs_results.specs.Selected.{every_kind}
+use Rattle.cs_inputs.specs.PathText.{is_name}
 use Rattle.cs_inputs.specs.declared.path.Path.{Path}
 use Rattle.cs_inputs.specs.declared.refusal.PathRefusal.{PathRefusal}
 use Rattle.cs_inputs.specs.declared.refusal.PathRefusal.TheVariants as paths
 use Rattle.cs_inputs.specs.InputText.{SpellsInput}
 pub use Rattle.cs_words.specs.declared.settings.Settings.{Settings}
-use Rattle.cs_words.specs.declared.setting.Setting.TheVariants.{Visits, Depth, Events, Model}
+use Rattle.cs_words.specs.declared.setting.Setting.TheVariants.{Visits, Depth, Events, Nodes, Splits, Kinds, Entry, Format, Model}
 use Rattle.cs_words.specs.declared.option_word.OptionWord.{OptionWord}
 use Rattle.cs_words.specs.declared.option_word.OptionWord.TheVariants.{Alone, With}
 use Rattle.cs_words.specs.declared.refusal.WordsRefusal.{WordsRefusal}
 use Rattle.cs_words.specs.declared.refusal.WordsRefusal.TheVariants.{Words, Memory}
 pub use Rattle.cs_words.specs.Options.{Setting}
 use Rattle.cs_words.specs.Options.{Verb, verb_text}
-use Rattle.cs_words.specs.Values.{DataModel, IsVisits, IsDepth, IsEvents, IsModel}
+use Rattle.cs_words.specs.Values.{DataModel, IsVisits, IsDepth, IsEvents, IsNodes, IsSplits, IsKinds, IsFormat, IsModel}
 use Rattle.cs_words.specs.Settings.{Given, option_text, BeginWithSettings, is_same, text_of, AreTaken, AreDifferent}
 use Rattle.cs_words.specs.Meaning.{Command, WordsMean, AreEntered, AreRefusedAt}
 
@@ -29,22 +37,44 @@ text_in (With setting text) = Some text.now
 abbrev pub IsOption : List ℕ → OptionWord → Type 0
 IsOption word option = word ≡ option_text (setting_in option) (text_in option)
 
--- the option's word stands first, before the others
+-- the option's word is the first, before the others
 pub record IsFirstOption (option : OptionWord) (others words : List (List ℕ)) : Type 0 where
   pub word : List ℕ
   pub whole : words ≡ word ∷ others
   pub names : IsOption word option
 
--- a field of the settings found: nothing where the option isn't given, else what the text tells
+-- a field of the settings found: nothing if the option isn't given, else the value of the text
 abbrev pub IsFound : {X : Type 0} → (List ℕ → X → Type 0) → Option (List ℕ) → Option X → Type 0
 IsFound Yields None found = found ≡ None
 IsFound {X} Yields (Some text) found = (value : X) × (found ≡ Some value) × Yields text value
 
--- an option's field is what its text tells, if it's given
+-- the kind with a name, if there is one
+abbrev pub kind_of : List ℕ → Option Kind
+kind_of name = find (λ (kind : Kind). pointwise nat_eq (kind_name kind) name) every_kind
+
+-- whether the pieces of a text between its commas are names of kinds
+abbrev pub are_kinds : List ℕ → Bool
+are_kinds text = list_all (λ (name : List ℕ). is_some (kind_of name)) (slice_split (λ b. b == 44) text)
+
+-- the kinds that a text names, all of them where there is no text
+abbrev pub AreKindsOf : Option (Bor (List ℕ)) → List Kind → Type 0
+AreKindsOf None kinds = kinds ≡ every_kind
+AreKindsOf (Some text) kinds = kinds ≡ filter_map kind_of (slice_split (λ b. b == 44) text.now)
+
+-- a field that keeps the text, which passes a test
+abbrev pub IsKept : (List ℕ → Bool) → List ℕ → Bor (List ℕ) → Type 0
+IsKept test text kept = (kept.now ≡ text) × IsTrue (test text)
+
+-- an option's field is the value of its text, if it's given
 abbrev pub IsSetTo : Setting → Option (List ℕ) → Settings → Type 0
 IsSetTo Visits text settings = IsFound IsVisits text settings.visits
 IsSetTo Depth text settings = IsFound IsDepth text settings.depth
 IsSetTo Events text settings = IsFound IsEvents text settings.events
+IsSetTo Nodes text settings = IsFound IsNodes text settings.nodes
+IsSetTo Splits text settings = IsFound IsSplits text settings.splits
+IsSetTo Kinds text settings = IsFound (IsKept are_kinds) text settings.kinds
+IsSetTo Entry text settings = IsFound (IsKept is_name) text settings.entry
+IsSetTo Format text settings = IsFound IsFormat text settings.json
 IsSetTo Model text settings = IsFound IsModel text settings.model
 
 -- whether an option's field is set
@@ -52,6 +82,11 @@ abbrev pub is_set : Setting → Settings → Bool
 is_set Visits settings = is_some settings.visits
 is_set Depth settings = is_some settings.depth
 is_set Events settings = is_some settings.events
+is_set Nodes settings = is_some settings.nodes
+is_set Splits settings = is_some settings.splits
+is_set Kinds settings = is_some settings.kinds
+is_set Entry settings = is_some settings.entry
+is_set Format settings = is_some settings.json
 is_set Model settings = is_some settings.model
 
 -- a text is that of some value of an option
@@ -59,6 +94,11 @@ abbrev pub HasValue : Setting → List ℕ → Type 0
 HasValue Visits text = (value : ℕ) × IsVisits text value
 HasValue Depth text = (value : ℕ) × IsDepth text value
 HasValue Events text = (value : ℕ) × IsEvents text value
+HasValue Nodes text = (value : ℕ) × IsNodes text value
+HasValue Splits text = (value : ℕ) × IsSplits text value
+HasValue Kinds text = IsTrue (are_kinds text)
+HasValue Entry text = IsTrue (is_name text)
+HasValue Format text = (value : Bool) × IsFormat text value
 HasValue Model text = (value : DataModel) × IsModel text value
 
 -- settings with one more: the option is set to the text's value, and the others are as before
@@ -77,7 +117,7 @@ pub record AreReadTo (verb : Verb) (words : List (List ℕ)) (settings : Setting
   pub different : AreDifferent given
   pub fields : (setting : Setting) → IsSetTo setting (text_of setting given) settings
 
--- no option's word stands first
+-- the first word isn't an option's
 abbrev pub BeginWithNoOption : List (List ℕ) → Type 0
 BeginWithNoOption [] = Unit {0}
 BeginWithNoOption (word ∷ words) = (setting : Setting) (text : Option (List ℕ)) → word ≡ option_text setting text → ⊥

@@ -3,6 +3,7 @@
 
 mod command;
 mod inputs;
+mod kinds;
 mod name;
 mod option_word;
 mod refusal;
@@ -13,6 +14,7 @@ mod value;
 mod verb;
 mod words;
 
-pub use command::{AnalyzeWords, Command, FlowWords, ReplayWords};
+pub use command::{AnalyzeWords, Command, FlowWords, GenerateWords, ReplayWords};
+pub use kinds::Kinds;
 pub use refusal::WordsRefusal;
 pub use words::words_of;

@@ -39,7 +39,7 @@ pub fn option_of(word: &[u8]) -> Option<OptionWord<'_>>
     }
 }
 
-// What stands before the first mark, and the rest from it on; all and nothing where there is no mark.
+// The bytes before the first mark, and the rest from it on; all and nothing if there is no mark.
 fn split_before(text: &[u8], mark: u8) -> (&[u8], &[u8])
     ensures { SplitsBefore mark text.now result.0.now result.1.now }
 {

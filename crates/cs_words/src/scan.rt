@@ -13,7 +13,7 @@ use crate::verb::{Verb, takes};
 /// The settings that are found, and the words that are left after them.
 #[derive(Clone, Copy, Debug)]
 pub struct Found<'a> {
-    pub settings: Settings,
+    pub settings: Settings<'a>,
     pub rest: &'a [String],
 }
 
@@ -41,12 +41,12 @@ pub fn settings_of<'a>(
     Ok(found)
 }
 
-// The settings with the one whose option's word stands first in the rest, before others.
+// The settings with the one whose option's word is the first of the rest, before others.
 fn with_option<'a>(
     verb: Verb,
     words: &[String],
     found: Found<'a>,
-    option: OptionWord<'_>,
+    option: OptionWord<'a>,
     others: &'a [String],
 ) -> Result<Found<'a>, WordsRefusal>
     requires read { AreReadTo verb (words_text words.now) found.settings
@@ -88,15 +88,15 @@ fn with_option<'a>(
 // no value's.
 fn with_value<'a>(
     words: &[String],
-    settings: Settings,
+    settings: Settings<'a>,
     setting: Setting,
-    text: &[u8],
+    text: &'a [u8],
     at: &[String],
     left: &'a [String],
 ) -> Result<Found<'a>, WordsRefusal>
     requires { length at.now ≤ length words.now }
     ensures { MatchResult result (λ after.
-        IsSetBesides setting text.now settings after.settings
+        IsSetBesides setting text.now settings.entry after.settings
         × (after.rest.now ≡ left.now)) (λ refusal.
         (HasValue setting text.now → ⊥)
         × IsRefusalBefore (length words.now) (length at.now) refusal) }

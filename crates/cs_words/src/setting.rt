@@ -12,6 +12,16 @@ pub enum Setting {
     Depth,
     /// How many events a run may pass.
     Events,
+    /// How many nodes the exploded graph may have.
+    Nodes,
+    /// How many offsets of one access are followed.
+    Splits,
+    /// Which kinds of faults are printed.
+    Kinds,
+    /// The function that is analyzed.
+    Entry,
+    /// The form of the output.
+    Format,
     /// The sizes of `long` and of pointers.
     Model,
 }
@@ -25,6 +35,11 @@ pub fn setting_named(name: &[u8]) -> Option<Setting>
         b"visits" => Some(Setting::Visits),
         b"depth" => Some(Setting::Depth),
         b"events" => Some(Setting::Events),
+        b"nodes" => Some(Setting::Nodes),
+        b"splits" => Some(Setting::Splits),
+        b"kinds" => Some(Setting::Kinds),
+        b"entry" => Some(Setting::Entry),
+        b"format" => Some(Setting::Format),
         b"model" => Some(Setting::Model),
         _ => None,
     }

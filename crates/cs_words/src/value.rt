@@ -1,10 +1,10 @@
 //! The values of options.
-ghost use Rattle.std.specs.Prelude.{◌≡◌, ◌≢◌, ℕ, ◌<◌, ◌≤◌, IsTrue, MatchOption, length};
+ghost use Rattle.std.specs.Prelude.{◌≡◌, ◌≢◌, ℕ, ◌<◌, ◌≤◌, Bool, IsTrue, MatchOption, length};
 ghost use Rattle.std.specs.List.{list_all};
 ghost use Rattle.std.specs.Str.Parse.{digits_value};
 ghost use Rattle.cs_inputs.specs.InputText.{is_digit};
 ghost use Rattle.cs_words.specs.Values as values;
-ghost use Rattle.cs_words.specs.Values.{IsNumberIn, model_text};
+ghost use Rattle.cs_words.specs.Values.{IsNumberIn, format_text, model_text};
 
 use cs_types::DataModel;
 use std::str;
@@ -53,6 +53,18 @@ pub fn model_named(text: &[u8]) -> Option<DataModel>
     match text {
         b"lp64" => Some(DataModel::Lp64),
         b"ilp32" => Some(DataModel::Ilp32),
+        _ => None,
+    }
+}
+
+/// Whether the form of the output with this name is JSON.
+pub fn format_named(text: &[u8]) -> Option<bool>
+    ensures { MatchOption result ((json : Bool)
+        → format_text json ≢ text.now) (λ json. format_text json ≡ text.now) }
+{
+    match text {
+        b"text" => Some(false),
+        b"json" => Some(true),
         _ => None,
     }
 }

@@ -11,6 +11,7 @@ pub enum Verb {
     Analyze,
     Flow,
     Replay,
+    Generate,
 }
 
 /// The command with this word.
@@ -22,6 +23,7 @@ pub fn verb_named(word: &[u8]) -> Option<Verb>
         b"analyze" => Some(Verb::Analyze),
         b"flow" => Some(Verb::Flow),
         b"replay" => Some(Verb::Replay),
+        b"generate" => Some(Verb::Generate),
         _ => None,
     }
 }
@@ -31,7 +33,12 @@ pub fn takes(verb: Verb, setting: Setting) -> bool
     ensures { result ≡ options.takes verb setting }
 {
     match verb {
-        Verb::Analyze | Verb::Flow => matches!(setting, Setting::Model),
-        Verb::Replay => true,
+        Verb::Analyze => true,
+        Verb::Flow => matches!(setting, Setting::Model),
+        Verb::Replay => matches!(
+            setting,
+            Setting::Visits | Setting::Depth | Setting::Events | Setting::Model
+        ),
+        Verb::Generate => false,
     }
 }

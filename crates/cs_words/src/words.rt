@@ -6,11 +6,12 @@ ghost use Rattle.cs_words.specs.Meaning.{words_text, WordsMean, AreRefusedAt};
 ghost use Rattle.cs_words.specs.Options.{verb_text};
 ghost use Rattle.cs_words.specs.Scan.{IsRight, IsRefusal};
 
-use crate::command::{AnalyzeWords, Command, FlowWords, ReplayWords};
+use crate::command::{AnalyzeWords, Command, FlowWords, GenerateWords, ReplayWords};
 use crate::inputs::inputs_of;
 use crate::name::is_name;
 use crate::refusal::WordsRefusal;
 use crate::scan::{refused, settings_of};
+use crate::value::number_in;
 use crate::verb::{Verb, verb_named};
 use cs_names::Name;
 use std::alloc::Global;
@@ -44,15 +45,20 @@ fn command_of(
     ensures { IsRight (words_text words.now) result }
 {
     match verb_named(first) {
-        Some(Verb::Analyze) => analyze_words(words, following),
+        Some(Verb::Analyze) => analyze_words(alloc, words, following),
         Some(Verb::Flow) => flow_words(words, following),
         Some(Verb::Replay) => replay_words(alloc, words, following),
+        Some(Verb::Generate) => generate_words(words, following),
         None => Err(WordsRefusal::Words(1)),
     }
 }
 
 // What `analyze` is to do, by the words after it.
-fn analyze_words(words: &[String], following: &[String]) -> Result<Command, WordsRefusal>
+fn analyze_words(
+    alloc: Global,
+    words: &[String],
+    following: &[String],
+) -> Result<Command, WordsRefusal>
     requires { words_text words.now ≡ verb_text verbs.Analyze ∷ words_text following.now }
     ensures { IsRight (words_text words.now) result }
 {
@@ -60,7 +66,13 @@ fn analyze_words(words: &[String], following: &[String]) -> Result<Command, Word
     if !found.rest.is_empty() {
         return Err(refused(words, found.rest));
     }
+    let kinds = found.settings.kinds(alloc)?;
+    let entry = found.settings.entry(alloc)?;
     Ok(Command::Analyze(AnalyzeWords {
+        budgets: found.settings.budgets(),
+        kinds,
+        entry,
+        json: found.settings.json(),
         model: found.settings.data_model(),
     }))
 }
@@ -97,9 +109,33 @@ fn replay_words(
     }
     let inputs = inputs_of(alloc, words, others)?;
     Ok(Command::Replay(ReplayWords {
-        budgets: found.settings.budgets(),
+        budgets: found.settings.run_budgets(),
         entry: Name::from_slice(alloc, entry.as_bytes())?,
         inputs,
         model: found.settings.data_model(),
     }))
+}
+
+// Which file `generate` is to make, by the words after it.
+fn generate_words(words: &[String], following: &[String]) -> Result<Command, WordsRefusal>
+    requires { words_text words.now ≡ verb_text verbs.Generate ∷ words_text following.now }
+    ensures { IsRight (words_text words.now) result }
+{
+    let found = settings_of(Verb::Generate, words, following)?;
+    let Some((seed, others)) = found.rest.split_first() else {
+        return Err(refused(words, found.rest));
+    };
+    let Some(seed) = number_in(seed.as_bytes(), 0, 999_999_999) else {
+        return Err(refused(words, found.rest));
+    };
+    let Some((size, more)) = others.split_first() else {
+        return Err(refused(words, others));
+    };
+    let Some(size) = number_in(size.as_bytes(), 0, 4_000) else {
+        return Err(refused(words, others));
+    };
+    if !more.is_empty() {
+        return Err(refused(words, more));
+    }
+    Ok(Command::Generate(GenerateWords { seed, size }))
 }

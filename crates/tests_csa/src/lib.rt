@@ -1,25 +1,5 @@
-//! Worked examples that cross crates: words and a file in, a text and a status out.
+//! Whole runs of csa whose source or sink fails. Those that end well are rows of the tables in `tests/`, which `tools/check-tests` runs.
 #![tactic(auto)]
 
 #[cfg(test)]
-mod analyzed;
-pub mod asked;
-#[cfg(test)]
-mod edited;
-#[cfg(test)]
 mod faults;
-#[cfg(test)]
-mod flows;
-pub mod front;
-#[cfg(test)]
-mod ordered;
-#[cfg(test)]
-mod parsed;
-#[cfg(test)]
-mod refused;
-#[cfg(test)]
-mod replayed;
-#[cfg(test)]
-mod truncated;
-#[cfg(test)]
-mod typed;

@@ -1,5 +1,7 @@
 //! Words that mean a command, with their values, and words that are refused, with the number of the word, with ample memory.
 use cs_events::RunBudgets;
+use cs_model::Kind;
+use cs_results::Budgets;
 use cs_types::DataModel;
 use cs_words::{Command, ReplayWords, WordsRefusal, words_of};
 use std::alloc::{AllocError, Global};
@@ -14,19 +16,151 @@ fn words_in(alloc: Global, line: &str) -> Result<Vec<String>, AllocError> {
     Ok(words)
 }
 
+/// Every kind of fault, by number.
+const EVERY_KIND: [Kind; 11] = [
+    Kind::Null,
+    Kind::Divide,
+    Kind::Unset,
+    Kind::Bounds,
+    Kind::DoubleFree,
+    Kind::Freed,
+    Kind::BadFree,
+    Kind::DeadLocal,
+    Kind::Shift,
+    Kind::Unrelated,
+    Kind::ConstWrite,
+];
+
+/// Words of `analyze` with what they mean: the five budgets, the kinds, the entry, whether the output is JSON, and the data model.
+const ANALYSES: [(
+    &str,
+    (u32, u32, u64, u64, u64),
+    &[Kind],
+    Option<&str>,
+    bool,
+    DataModel,
+); 9] = [
+    (
+        "analyze",
+        (4, 5, 20_000, 150_000, 64),
+        &EVERY_KIND,
+        None,
+        false,
+        DataModel::Lp64,
+    ),
+    (
+        "analyze --model ilp32",
+        (4, 5, 20_000, 150_000, 64),
+        &EVERY_KIND,
+        None,
+        false,
+        DataModel::Ilp32,
+    ),
+    (
+        "analyze --visits 1 --depth=64 --events 1000000 --nodes=200000 --splits 4096",
+        (1, 64, 1_000_000, 200_000, 4_096),
+        &EVERY_KIND,
+        None,
+        false,
+        DataModel::Lp64,
+    ),
+    (
+        "analyze --nodes 1 --splits=1",
+        (4, 5, 20_000, 1, 1),
+        &EVERY_KIND,
+        None,
+        false,
+        DataModel::Lp64,
+    ),
+    (
+        "analyze --kinds null,divide",
+        (4, 5, 20_000, 150_000, 64),
+        &[Kind::Null, Kind::Divide],
+        None,
+        false,
+        DataModel::Lp64,
+    ),
+    (
+        "analyze --kinds=const-write,const-write --entry kinds",
+        (4, 5, 20_000, 150_000, 64),
+        &[Kind::ConstWrite, Kind::ConstWrite],
+        Some("kinds"),
+        false,
+        DataModel::Lp64,
+    ),
+    (
+        "analyze --entry=_f1 --format=text",
+        (4, 5, 20_000, 150_000, 64),
+        &EVERY_KIND,
+        Some("_f1"),
+        false,
+        DataModel::Lp64,
+    ),
+    (
+        "analyze --format json --model=lp64",
+        (4, 5, 20_000, 150_000, 64),
+        &EVERY_KIND,
+        None,
+        true,
+        DataModel::Lp64,
+    ),
+    (
+        "analyze --model=ilp32 --format=json --kinds bad-free --splits 7 --entry while --visits 9",
+        (9, 5, 20_000, 150_000, 7),
+        &[Kind::BadFree],
+        Some("while"),
+        true,
+        DataModel::Ilp32,
+    ),
+];
+
 #[test]
 fn reads_words_of_analyze(rt: HostRuntime) -> Result<(), Fail> {
     let alloc = rt.alloc();
-    for (line, model) in [
-        ("analyze", DataModel::Lp64),
-        ("analyze --model lp64", DataModel::Lp64),
-        ("analyze --model ilp32", DataModel::Ilp32),
-        ("analyze --model=ilp32", DataModel::Ilp32),
+    for (line, (visits, depth, events, nodes, splits), kinds, entry, json, model) in ANALYSES {
+        let words = words_in(alloc, line)?;
+        match words_of(alloc, words.as_slice())? {
+            Command::Analyze(read) => {
+                let budgets = Budgets {
+                    visits,
+                    depth,
+                    events,
+                    nodes,
+                    splits,
+                };
+                assert_eq!(rt; read.budgets, budgets, "{line}");
+                assert_eq!(rt; read.kinds.as_slice(), kinds, "{line}");
+                let found = read.entry.as_ref().map(|name| name.as_bytes());
+                assert!(rt; found == entry.map(|name| name.as_bytes()), "{line}");
+                assert_eq!(rt; read.json, json, "{line}");
+                assert_eq!(rt; read.model, model, "{line}");
+            }
+            Command::Flow(_) | Command::Replay(_) | Command::Generate(_) => {
+                assert!(rt; false, "{line}")
+            }
+        }
+    }
+    Ok(())
+}
+
+#[test]
+fn reads_words_of_generate(rt: HostRuntime) -> Result<(), Fail> {
+    let alloc = rt.alloc();
+    for (line, seed, size) in [
+        ("generate 0 6", 0, 6),
+        ("generate 999999999 4000", 999_999_999, 4_000),
+        ("generate 000000007 0000", 7, 0),
     ] {
         let words = words_in(alloc, line)?;
         match words_of(alloc, words.as_slice())? {
-            Command::Analyze(read) => assert_eq!(rt; read.model, model, "{line}"),
-            Command::Flow(_) | Command::Replay(_) => assert!(rt; false, "{line}"),
+            Command::Generate(read) => assert_eq!(rt;
+                (read.seed, read.size),
+                (seed, size),
+                "{line}"
+            ),
+            Command::Analyze(_) | Command::Flow(_) | Command::Replay(_) => {
+                assert!(rt; false, "{line}")
+            }
         }
     }
     Ok(())
@@ -42,7 +176,9 @@ fn reads_words_of_flow(rt: HostRuntime) -> Result<(), Fail> {
         let words = words_in(alloc, line)?;
         match words_of(alloc, words.as_slice())? {
             Command::Flow(read) => assert_eq!(rt; read.model, model, "{line}"),
-            Command::Analyze(_) | Command::Replay(_) => assert!(rt; false, "{line}"),
+            Command::Analyze(_) | Command::Replay(_) | Command::Generate(_) => {
+                assert!(rt; false, "{line}")
+            }
         }
     }
     Ok(())
@@ -163,7 +299,7 @@ fn the_last_of_one_path_holds(rt: HostRuntime) -> Result<(), Fail> {
             assert_eq!(rt; inputs[0].1, 7);
             assert_eq!(rt; inputs[1].1, 1);
         }
-        Command::Analyze(_) | Command::Flow(_) => assert!(rt; false),
+        Command::Analyze(_) | Command::Flow(_) | Command::Generate(_) => assert!(rt; false),
     }
     Ok(())
 }
@@ -187,12 +323,12 @@ fn refused_otherwise(alloc: Global, table: &[(&str, u64)]) -> Result<String, All
 }
 
 /// Words that begin no command, or that a command without a function doesn't take.
-const COMMANDS: [(&str, u64); 12] = [
+const COMMANDS: [(&str, u64); 13] = [
     ("", 1),
     ("Analyze", 1),
     ("analyze ", 2),
     ("analyze f", 2),
-    ("analyze --visits 0", 2),
+    ("analyze --visits 0", 3),
     ("analyze --model", 3),
     ("analyze --model lp32", 3),
     ("analyze --model=", 2),
@@ -200,6 +336,7 @@ const COMMANDS: [(&str, u64); 12] = [
     ("analyze --model lp64 --model=lp64", 4),
     ("flow f", 2),
     ("flow --visits 1", 2),
+    ("replay --nodes 1 f", 2),
 ];
 
 #[test]
@@ -235,6 +372,41 @@ const SETTINGS: [(&str, u64); 17] = [
 #[test]
 fn refuses_settings(rt: HostRuntime) -> Result<(), Fail> {
     let found = refused_otherwise(rt.alloc(), &SETTINGS)?;
+    assert_eq!(rt; found.as_str(), "");
+    Ok(())
+}
+
+/// Options of `analyze` whose values aren't any, and generated files without their numbers.
+const ANALYSES_AND_FILES: [(&str, u64); 24] = [
+    ("analyze --nodes 0", 3),
+    ("analyze --nodes 200001", 3),
+    ("analyze --nodes=200001", 2),
+    ("analyze --splits 4097", 3),
+    ("analyze --splits", 3),
+    ("analyze --kinds nul", 3),
+    ("analyze --kinds=", 2),
+    ("analyze --kinds null,", 3),
+    ("analyze --kinds ,null", 3),
+    ("analyze --kinds null,,divide", 3),
+    ("analyze --kinds null, divide", 3),
+    ("analyze --kinds Null", 3),
+    ("analyze --kinds null --kinds null", 4),
+    ("analyze --entry 1f", 3),
+    ("analyze --entry f --format xml", 5),
+    ("analyze --format JSON", 3),
+    ("analyze --entry", 3),
+    ("generate", 2),
+    ("generate 0", 3),
+    ("generate 1000000000 0", 2),
+    ("generate x 0", 2),
+    ("generate 0 4001", 3),
+    ("generate 0 6 6", 4),
+    ("generate --model lp64 0 6", 2),
+];
+
+#[test]
+fn refuses_analyses_and_files(rt: HostRuntime) -> Result<(), Fail> {
+    let found = refused_otherwise(rt.alloc(), &ANALYSES_AND_FILES)?;
     assert_eq!(rt; found.as_str(), "");
     Ok(())
 }

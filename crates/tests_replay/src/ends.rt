@@ -1,12 +1,11 @@
 //! How runs end.
 
-use crate::machines::disagreeing;
-use crate::replays::differing;
+use crate::machines::differing;
 use std::test::Fail;
 
 /// Words and a file with the line of how the run ends: each kind of fault, the order of checks at one access, budgets, and what an
 /// entry returns; what a function without a body writes; data models; inputs.
-const ENDS: [(&str, &str, &str); 72] = [
+const ENDS: [(&str, &str, &str); 70] = [
     (
         "replay f",
         "int f(int*p){return *p;}",
@@ -329,24 +328,11 @@ const ENDS: [(&str, &str, &str); 72] = [
     ),
     ("replay f x=1 x=2", "int f(int x){return x;}", "done 2\n"),
     ("replay f x=300", "int f(char x){return x;}", "done 0\n"),
-    ("replay g", "int f(int x){return x;}", "refused entry g\n"),
-    (
-        "replay g",
-        "int g(int x);int f(int x){return x;}",
-        "refused entry g\n",
-    ),
 ];
 
 #[test]
-fn replays_end_as_the_plain_machine_does(rt: HostRuntime) -> Result<(), Fail> {
-    let found = differing(rt.alloc(), &ENDS)?;
-    assert_eq!(rt; found.as_str(), "");
-    Ok(())
-}
-
-#[test]
 fn both_machines_end_these_runs_alike(rt: HostRuntime) -> Result<(), Fail> {
-    let found = disagreeing(rt.alloc(), &ENDS)?;
+    let found = differing(rt.alloc(), &ENDS)?;
     assert_eq!(rt; found.as_str(), "");
     Ok(())
 }

@@ -1,24 +1,8 @@
 //! Runs in which results are guessed.
-ghost use Rattle.cs_ast.specs.TypedProgram.{typed_program};
-ghost use Rattle.cs_run_state.specs.Prepared.{IsPrepared, IsReady};
-ghost use Rattle.cs_well_formed.specs.Programs.{IsWellFormed};
 
-use crate::machines::{coded, same_logs};
-use crate::pending::append_pending;
-use cs_app::entry_of;
-use cs_ast::typed::program::Program;
-use cs_events::{Guess, Outcome};
-use cs_names::Name;
-use cs_reference::run;
-use cs_report::append_replayed;
-use cs_run_state::prepared::Prepared;
-use cs_run_state::{Log, Setting};
-use cs_words::{Command, ReplayWords, words_of};
-use std::alloc::{AllocError, Global};
-use std::str;
+use crate::machines::add_if_otherwise;
+use cs_events::Guess;
 use std::test::Fail;
-use tests_csa::asked;
-use tests_csa::front::program;
 
 /// Words, a file and the number that is guessed at an event, with the line of how the run ends, and a line of what was pending at each
 /// event. No event has the number 0.
@@ -124,109 +108,13 @@ const GUESSED: [(&str, &str, Guess, &str); 10] = [
     ),
 ];
 
-/// The text of a run: the line of how it ends, and a line of what was pending at each event.
-fn text_of(
-    alloc: Global,
-    files: &[Name],
-    outcome: Outcome,
-    log: &Log,
-) -> Result<Vec<u8>, AllocError> {
-    let mut text = Vec::new(alloc);
-    append_replayed(&mut text, files, outcome)?;
-    for pending in &log.pending {
-        append_pending(&mut text, files, pending)?;
-    }
-    Ok(text)
-}
-
-/// The text of the run of both machines. Nothing where they don't agree, or memory is short.
-fn run_of<'a>(alloc: Global, setting: &'a Setting<'a>, entry: u32) -> Option<Vec<u8>>
-    requires ready { IsReady setting.now }
-    requires well_formed { IsWellFormed (typed_program setting.now.program.now) }
-{
-    let plain = run(alloc, setting, entry).ok()?;
-    let coded = coded(alloc, setting, entry)?;
-    if plain.outcome != coded.outcome || !same_logs(&plain.log, &coded.log) {
-        return None;
-    }
-    text_of(alloc, &setting.program.files, coded.outcome, &coded.log).ok()
-}
-
-/// The text of the run that the words ask for, with guesses.
-fn guessed(
-    alloc: Global,
-    words: &ReplayWords,
-    program: &Program,
-    guesses: &[Guess],
-) -> Option<Vec<u8>>
-    requires { IsWellFormed (typed_program program.now) }
-{
-    match Prepared::new(alloc, program) {
-        Ok(prepared) => guessed_prepared(alloc, words, program, &prepared, guesses),
-        Err(_) => None,
-    }
-}
-
-/// The same where what the program's runs share is prepared.
-fn guessed_prepared(
-    alloc: Global,
-    words: &ReplayWords,
-    program: &Program,
-    prepared: &Prepared,
-    guesses: &[Guess],
-) -> Option<Vec<u8>>
-    requires well_formed { IsWellFormed (typed_program program.now) }
-    requires prepared { IsPrepared prepared.now program.now }
-{
-    let entry = u32::try_from(entry_of(&program.functions, &words.entry)?).ok()?;
-    let setting = Setting {
-        program,
-        prepared,
-        inputs: &words.inputs,
-        guesses,
-        budgets: words.budgets,
-    };
-    run_of(alloc, &setting, entry)
-}
-
-/// The text of a row's run.
-fn row_text(alloc: Global, line: &str, file: &str, guess: Guess) -> Option<Vec<u8>> {
-    let words = asked::words_of(alloc, line).ok()?;
-    let Ok(Command::Replay(words)) = words_of(alloc, &words) else {
-        return None;
-    };
-    let program = program(alloc, words.model, file)?;
-    guessed(alloc, &words, &program, &[guess])
-}
-
-/// Adds a file with the text of its run, if the run has another text than this.
-fn add_if_otherwise(
-    alloc: Global,
-    found: &mut String,
-    row: &(&str, &str, Guess, &str),
-) -> Result<(), AllocError> {
-    let (words, file, guess, wanted) = row;
-    let text = row_text(alloc, words, file, *guess).unwrap_or(Vec::new(alloc));
-    if text.as_slice() == wanted.as_bytes() {
-        return Ok(());
-    }
-    let given = str::from_utf8(&text).unwrap_or("no text");
-    let reported = format!(in alloc; "{words}: {file} gives {given}")?;
-    found.push_str(reported.as_str())
-}
-
-/// Of a table of guessed runs, the files whose runs have another text.
-fn differing(alloc: Global, table: &[(&str, &str, Guess, &str)]) -> Result<String, AllocError> {
-    let mut found = String::new(alloc);
-    for row in table {
-        add_if_otherwise(alloc, &mut found, row)?;
-    }
-    Ok(found)
-}
-
 #[test]
 fn both_machines_keep_what_was_pending(rt: HostRuntime) -> Result<(), Fail> {
-    let found = differing(rt.alloc(), &GUESSED)?;
+    let alloc = rt.alloc();
+    let mut found = String::new(alloc);
+    for (words, file, guess, text) in GUESSED {
+        add_if_otherwise(alloc, &mut found, &(words, file, text), &[guess], true)?;
+    }
     assert_eq!(rt; found.as_str(), "");
     Ok(())
 }

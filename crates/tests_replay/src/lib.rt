@@ -11,5 +11,3 @@ mod machines;
 mod pending;
 #[cfg(test)]
 mod programs;
-#[cfg(test)]
-mod replays;

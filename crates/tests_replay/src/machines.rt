@@ -1,23 +1,24 @@
-//! The run of a program's code beside the run of the reference machine.
+//! The run of a program's code beside the run of the reference machine, as text.
 ghost use Rattle.cs_ast.specs.TypedProgram.{typed_program};
 ghost use Rattle.cs_run_state.specs.Prepared.{IsPrepared, IsReady};
 ghost use Rattle.cs_well_formed.specs.Programs.{IsWellFormed};
 
-use crate::pending::{same_lookups, same_pending};
-use cs_app::entry_of;
-use cs_ast::typed::program::Program;
+use crate::pending::{append_pending, same_lookups, same_pending};
+use cs_ast::typed::program::{Function, Program};
+use cs_events::Guess;
 use cs_lower::lower;
 use cs_reference::run;
 use cs_replay::{Replayed, replay};
+use cs_report::append_replayed;
 use cs_run_state::prepared::Prepared;
 use cs_run_state::{Log, Setting};
 use cs_words::{Command, ReplayWords, words_of};
 use std::alloc::{AllocError, Global};
-use tests_csa::asked;
-use tests_csa::front::program;
+use std::str;
+use tests_files::front::program;
 
 /// The run of a function's code, if it has a body and memory is found.
-pub fn coded(alloc: Global, setting: &Setting, entry: u32) -> Option<Replayed>
+fn coded(alloc: Global, setting: &Setting, entry: u32) -> Option<Replayed>
     requires ready { IsReady setting.now }
     requires well_formed { IsWellFormed (typed_program setting.now.program.now) }
 {
@@ -28,82 +29,125 @@ pub fn coded(alloc: Global, setting: &Setting, entry: u32) -> Option<Replayed>
 }
 
 /// Whether two runs have shown, read and touched the same, and the same was pending at their events.
-pub fn same_logs(one: &Log, other: &Log) -> bool {
+fn same_logs(one: &Log, other: &Log) -> bool {
     one.events == other.events
         && one.touches == other.touches
         && same_pending(&one.pending, &other.pending)
         && same_lookups(&one.read, &other.read)
 }
 
-/// Whether the run of a function's code ends as the reference machine's run, and shows, reads and touches the same. Nothing where memory is
-/// short.
-fn runs_agree<'a>(alloc: Global, setting: &'a Setting<'a>, entry: u32) -> Option<bool>
+/// The run of a function's code. Nothing where it doesn't end as the reference machine's run, or shows, reads or touches something else, or
+/// memory is short.
+fn run_of<'a>(alloc: Global, setting: &'a Setting<'a>, entry: u32) -> Option<Replayed>
     requires ready { IsReady setting.now }
     requires well_formed { IsWellFormed (typed_program setting.now.program.now) }
 {
     let plain = run(alloc, setting, entry).ok()?;
     let coded = coded(alloc, setting, entry)?;
-    Some(plain.outcome == coded.outcome && same_logs(&plain.log, &coded.log))
+    if plain.outcome == coded.outcome && same_logs(&plain.log, &coded.log) {
+        return Some(coded);
+    }
+    None
 }
 
-/// The same of the run that the words ask for. Nothing where the program has no such function.
-fn agree(alloc: Global, words: &ReplayWords, program: &Program) -> Option<bool>
+/// The same of the run that the words ask for, with guesses. Nothing where the program has no such function.
+fn guessed(
+    alloc: Global,
+    words: &ReplayWords,
+    program: &Program,
+    guesses: &[Guess],
+) -> Option<Replayed>
     requires { IsWellFormed (typed_program program.now) }
 {
-    let entry = u32::try_from(entry_of(&program.functions, &words.entry)?).ok()?;
     match Prepared::new(alloc, program) {
-        Ok(prepared) => prepared_agree(alloc, words, program, &prepared, entry),
+        Ok(prepared) => guessed_prepared(alloc, words, program, &prepared, guesses),
         Err(_) => None,
     }
 }
 
 /// The same where what the program's runs share is prepared.
-fn prepared_agree(
+fn guessed_prepared(
     alloc: Global,
     words: &ReplayWords,
     program: &Program,
     prepared: &Prepared,
-    entry: u32,
-) -> Option<bool>
+    guesses: &[Guess],
+) -> Option<Replayed>
     requires well_formed { IsWellFormed (typed_program program.now) }
     requires prepared { IsPrepared prepared.now program.now }
 {
-    let guesses = Vec::new(alloc);
+    let is_entry = |it: &Function| it.name == words.entry && it.body.is_some();
+    let entry = program.functions.iter().position(is_entry)?;
     let setting = Setting {
         program,
         prepared,
         inputs: &words.inputs,
-        guesses: &guesses,
+        guesses,
         budgets: words.budgets,
     };
-    runs_agree(alloc, &setting, entry)
+    run_of(alloc, &setting, u32::try_from(entry).ok()?)
 }
 
-/// Whether both machines agree on the run that these words ask for of a file; nothing where they ask for none.
-fn row_agrees(alloc: Global, line: &str, file: &str) -> Option<bool> {
-    let words = asked::words_of(alloc, line).ok()?;
+/// The text of a run: the line of how it ends, and, where it is asked for, a line of what was pending at each event.
+fn text_of(
+    alloc: Global,
+    program: &Program,
+    replayed: &Replayed,
+    has_pending: bool,
+) -> Result<Vec<u8>, AllocError> {
+    let mut text = Vec::new(alloc);
+    append_replayed(&mut text, &program.files, replayed.outcome)?;
+    if has_pending {
+        for pending in &replayed.log.pending {
+            append_pending(&mut text, &program.files, pending)?;
+        }
+    }
+    Ok(text)
+}
+
+/// The text of the run that a command line asks for of a file, with guesses. Nothing where both machines don't agree.
+fn row_text(
+    alloc: Global,
+    line: &str,
+    file: &str,
+    guesses: &[Guess],
+    has_pending: bool,
+) -> Option<Vec<u8>> {
+    let mut words = Vec::new(alloc);
+    for word in line.split_ascii_whitespace() {
+        words.push(String::from_str(alloc, word).ok()?).ok()?;
+    }
     let Ok(Command::Replay(words)) = words_of(alloc, &words) else {
         return None;
     };
     let program = program(alloc, words.model, file)?;
-    agree(alloc, &words, &program)
+    let replayed = guessed(alloc, &words, &program, guesses)?;
+    text_of(alloc, &program, &replayed, has_pending).ok()
 }
 
-/// What is to be said of a row with this answer: both agree, unless the answer is that there is no run.
-fn expected(line: &str) -> Option<bool> {
-    if line.starts_with("refused entry") {
-        return None;
+/// Adds a file with the text of its run, if the run has another text than this.
+pub fn add_if_otherwise(
+    alloc: Global,
+    found: &mut String,
+    row: &(&str, &str, &str),
+    guesses: &[Guess],
+    has_pending: bool,
+) -> Result<(), AllocError> {
+    let (words, file, wanted) = row;
+    let text = row_text(alloc, words, file, guesses, has_pending).unwrap_or(Vec::new(alloc));
+    if text.as_slice() == wanted.as_bytes() {
+        return Ok(());
     }
-    Some(true)
+    let given = str::from_utf8(&text).unwrap_or("no text");
+    let reported = format!(in alloc; "{words}: {file} gives {given}")?;
+    found.push_str(reported.as_str())
 }
 
-/// Of a table of words, files and answers, the files on which both machines don't agree.
-pub fn disagreeing(alloc: Global, table: &[(&str, &str, &str)]) -> Result<String, AllocError> {
+/// Of a table of words, files and answers, the runs that end otherwise by one of the machines, with their texts.
+pub fn differing(alloc: Global, table: &[(&str, &str, &str)]) -> Result<String, AllocError> {
     let mut found = String::new(alloc);
-    for (words, file, line) in table {
-        if row_agrees(alloc, words, file) != expected(line) {
-            found.push_str(file)?;
-        }
+    for row in table {
+        add_if_otherwise(alloc, &mut found, row, &[], false)?;
     }
     Ok(found)
 }

@@ -4,12 +4,12 @@ use Rattle.cs_app.proofs.AnswerLemmas.{whole_of_result, whole_of_words, only_com
 use Rattle.cs_app.proofs.command.answer_for.Goals as goal
 
 pub returns-in-Ok-clause-whole : goal.returns-in-Ok-clause-whole
-returns-in-Ok-clause-whole g c = whole_of_result (words_text c.args.words.now) _ c.in-Ok.command _ c.in-Ok.ensures.ok c.answer_from.ensures.whole
+returns-in-Ok-clause-whole g c = whole_of_result (words_text c.args.words.now) _ c.in-Ok.command _ c.in-Ok.ensures.ok c.answer_of.ensures.whole
 
 pub returns-in-Ok-clause-only : goal.returns-in-Ok-clause-only
 returns-in-Ok-clause-only g c = λ command meant.
     only_command (words_text c.args.words.now) _ c.in-Ok.command command (Ok c.in-Ok.command) _ refl (c.in-Ok.ensures.accepts command meant)
-    c.answer_from.ensures.whole
+    c.answer_of.ensures.whole
 
 pub returns-in-Ok-clause-unread : goal.returns-in-Ok-clause-unread
 returns-in-Ok-clause-unread g c = λ n refused.

@@ -7,10 +7,10 @@ use Rattle.cs_app.proofs.AnswerLemmas.{answers_program, refuses_type}
 use Rattle.cs_app.proofs.file.answer_by_type.Goals as goal
 
 pub answer_of-requires : goal.answer_of-requires
-answer_of-requires c = c.in-Ok.ensures.well_formed (rw c.deref.ensures.value (rw c.deref-2.ensures.value c.requires))
+answer_of-requires g c = c.in-Ok.ensures.well_formed (rw c.deref.ensures.value (rw c.deref-2.ensures.value c.requires))
 
 pub returns-in_ok-answer-in-Ok : goal.returns-in_ok-answer-in-Ok
-returns-in_ok-answer-in-Ok c =
+returns-in_ok-answer-in-Ok g c =
     let answer = c.in_ok-answer-in-Ok.answer in
     let same = same_typing c.args.lexed.now (model_of c.args.command.now) c.model_of.result c.deref.result.now c.deref-2.result.now c.args.tree.now
     c.model_of.ensures c.deref.ensures.value c.deref-2.ensures.value in
@@ -19,7 +19,7 @@ returns-in_ok-answer-in-Ok c =
     (sym same ∙ c.in-Ok.ensures.reported) (rw c.deref-in-Ok.ensures.value at c.in_ok-answer-in-Ok.ensures)
 
 pub returns-in_ok-answer-in-Err : goal.returns-in_ok-answer-in-Err
-returns-in_ok-answer-in-Err c =
+returns-in_ok-answer-in-Err g c =
     let answer = c.in_ok-answer-in-Err.answer in
     let same = same_typing c.args.lexed.now (model_of c.args.command.now) c.model_of.result c.deref.result.now c.deref-2.result.now c.args.tree.now
     c.model_of.ensures c.deref.ensures.value c.deref-2.ensures.value in

@@ -1,10 +1,10 @@
 -- The cycle of typing: each return is its production's equation at these parts.
-use Rattle.std.proofs.Common.{◌≡◌, ◌+◌, [], ◌∷◌, ◌++◌, max, drop, length, map, None, Err, rules, arith, refl, sym, ap}
+use Rattle.std.proofs.Common.{◌≡◌, ◌+◌, ◌<◌, [], ◌∷◌, ◌++◌, max, drop, length, map, Some, None, Err, pos, rules, arith, refl, sym, ap}
 use Rattle.std.proofs.Common.{subst, ◌∙◌}
-use Rattle.std.specs.Prelude.{option_copied, OnOk, FitsSigned}
+use Rattle.std.specs.Prelude.{option_copied, OnOk, FitsSigned, vec_len, ◌⊎◌, ◌≤◌, min}
 use Rattle.std.specs.Int.{w128}
 use Rattle.std.proofs.lemmas.Int.{to_z-of_z}
-use Rattle.std.specs.Option.{option_map}
+use Rattle.std.specs.Option.{option_map, option_or}
 use Rattle.std.proofs.lemmas.List.{length-map, drop_all}
 use Rattle.cs_types.specs.declared.ctype.CType.{CType}
 use Rattle.cs_types.specs.Shape.{shape_of}
@@ -14,29 +14,33 @@ use Rattle.cs_ast.specs.RawView.{written, written_kind, written_list}
 use Rattle.cs_ast.specs.RawHeight.{height, highest}
 use Rattle.cs_ast.proofs.HeightsOfNodes.{height-Call, height-SizeOfType, height-Cast}
 use Rattle.cs_consts.proofs.Heights.{height-among}
-use Rattle.cs_scopes.specs.Verdicts.{Fine, lift, lift2, IsRefused, Yields, Answers}
+use Rattle.cs_scopes.specs.Verdicts.{Fine, Fault, lift, IsRefused, Yields, Answers}
+use Rattle.cs_scopes.specs.Faults.{least_code, unless_fault, unless_stopped}
 use Rattle.cs_expressions.specs.Stores.{steppable, step_operator, led}
 use Rattle.cs_expressions.specs.Operators.{followed}
 use Rattle.cs_expressions.specs.Places.{selected}
-use Rattle.cs_scopes.specs.TypeNames.{complete_at}
 use Rattle.cs_scopes.specs.Meanings.{signature_of}
 use Rattle.cs_expressions.specs.Calls.{shape_in}
-use Rattle.cs_consts.specs.Rows.{expressions_before, numbers_before}
+use Rattle.cs_consts.specs.declared.purpose.Purpose.TheVariants.{Constant}
+use Rattle.cs_consts.specs.Rows.{expressions_before}
 use Rattle.cs_consts.specs.Typing.{literals_after, literals_after_list, arguments_listed, formed, done, value_in, operand_in, infix_formed, choice_formed}
-use Rattle.cs_consts.specs.Typing.{store_formed, cast_formed, call_formed, stepped_object, measured_arrays, measured_type, base_in, numbers_listed}
-use Rattle.cs_consts.specs.Typing.{indexed_values, arrow_on, prefixed, number_at}
+use Rattle.cs_consts.specs.Typing.{store_formed, cast_formed, call_formed, stepped_object, measured_arrays, measured_type, measured_type_name, base_in}
+use Rattle.cs_consts.specs.Typing.{arguments_listed_fault, numbers_listed, bounds_listed, bound_number}
+use Rattle.cs_consts.specs.Typing.{subscript_formed, arrow_on, prefixed, number_at}
 use Rattle.cs_scopes.proofs.Lifting.{lift-refused, lift2-refused-first, yields_as}
 use Rattle.cs_consts.proofs.Productions.{done_stops, done_is, value_stops, value_is, operand_stops, operand_is, infix_left_stops, infix_right_stops}
-use Rattle.cs_consts.proofs.Productions.{infix_taken, choice_test_stops, choice_tested_stops, choice_one_stops, choice_other_stops, choice_taken}
+use Rattle.cs_consts.proofs.Productions.{infix_taken, subscript_left_stops, subscript_right_stops, subscript_taken}
+use Rattle.cs_consts.proofs.Productions.{choice_test_stops, choice_tested_stops, choice_one_stops, choice_other_stops, choice_taken}
 use Rattle.cs_consts.proofs.Productions.{store_object_stops, store_left_stops, store_value_stops, store_taken, cast_type_stops, cast_operand_stops, cast_taken}
-use Rattle.cs_consts.proofs.Productions.{call_other_stops, call_other, call_admitted_stops, call_arguments_stop, call_taken}
-use Rattle.cs_consts.proofs.Admitting.{admitted_counts}
+use Rattle.cs_consts.proofs.Productions.{call_other_stops, call_other, call_arguments_stop, call_taken, call_passes}
 use Rattle.cs_consts.proofs.ProductionRows.{formed-Call, formed-SizeOfType, formed-Cast, literals-Call, literals-SizeOfType}
-use Rattle.cs_consts.proofs.RowsSoFar.{none_before, no_numbers_before, at_place, arguments_turn, arguments_stop, arguments_end, numbers_turn, numbers_stop}
-use Rattle.cs_consts.proofs.RowsSoFar.{numbers_end}
+use Rattle.cs_consts.proofs.RowsSoFar.{none_before, at_place, argument_taken, argument_stopped, code_taken, code_stopped, arguments_end, codes_end, one_over}
+use Rattle.cs_consts.proofs.RowsSoFar.{number_taken, bound_passed, bound_stops, some_refused, both}
 use Rattle.cs_consts.proofs.SingleParts.{part_taken, parts_taken, second_stops, step_object_stops, step_steppable_stops, step_taken, size_base_stops}
-use Rattle.cs_consts.proofs.SingleParts.{size_complete_stops, size_numbers_stop, size_taken}
+use Rattle.cs_consts.proofs.SingleParts.{size_complete_stops, size_stops, size_taken, size_bounds_stop, on_ok}
 use Rattle.cs_consts.proofs.typing.+typing.Goals as goal
+use Rattle.cs_consts.proofs.typing.+typing.Goals.{arguments_of-in-Ok+in_ok-push-in-Ok, arguments_of-in-Err-Code}
+use Rattle.cs_consts.proofs.typing.+typing.Goals.{bounds_of-in-Ok+in_ok-push-in-Ok, bounds_of-in-Err-Code+in_ok-push-in-Err-Code}
 
 pub judged-returns-in_err-value-clause-reported : goal.judged-returns-in_err-value-clause-reported
 judged-returns-in_err-value-clause-reported t c =
@@ -81,16 +85,55 @@ infix-returns-in_err-left-clause-reported t c =
 pub infix-returns-in_err-right-clause-reported : goal.infix-returns-in_err-right-clause-reported
 infix-returns-in_err-right-clause-reported t c =
     let e : c.from_residual-in_err-right.result ≡ Err c.in_err-right.field-0.0 = search rules in
+    let right =
+    operand_in c.args.context.now c.purpose_after-following.result
+    (formed c.args.context.now c.purpose_after-following.result c.operand_in.new.literals.items None c.args.right.now.place c.args.right.now.kind.value) in
+    let refused = c.in_err-right.ensures.reported right c.operand_in-other.ensures.reported in
     subst (Yields (infix_formed c.args.context.now c.args.purpose c.args.literals.now.items c.args.place c.args.operator c.args.left.now c.args.right.now))
     (sym e) (infix_right_stops c.args.context.now c.args.purpose c.args.literals.now.items c.operand_in.new.literals.items c.args.place c.args.operator
-    c.args.left.now c.args.right.now (typed c.in_ok-left.left) c.purpose_after-following.result c.in_err-right.field-0.0 c.in_ok-left.ensures.reported
-    c.purpose_after-following.ensures c.in_ok-left.ensures.texts c.in_err-right.ensures.reported)
+    c.args.left.now c.args.right.now (typed c.in_ok-left.left) c.purpose_after-following.result c.left_operand_fault-fault.result
+    c.in_err-right.field-0.0 c.in_ok-left.ensures.reported c.purpose_after-following.ensures c.in_ok-left.ensures.texts
+    c.left_operand_fault-fault.ensures refused)
 
 pub infix-returns-clause-reported : goal.infix-returns-clause-reported
 infix-returns-clause-reported t c =
+    let right =
+    operand_in c.args.context.now c.purpose_after-following.result
+    (formed c.args.context.now c.purpose_after-following.result c.operand_in.new.literals.items None c.args.right.now.place c.args.right.now.kind.value) in
+    let given = c.in_ok-right.ensures.reported right c.operand_in-other.ensures.reported in
     infix_taken c.args.context.now c.args.purpose c.args.literals.now.items c.operand_in.new.literals.items c.args.place c.args.operator c.args.left.now
-    c.args.right.now (typed c.in_ok-left.left) (typed c.in_ok-right.right) c.purpose_after-following.result c.combined.result c.in_ok-left.ensures.reported
-    c.purpose_after-following.ensures c.in_ok-left.ensures.texts c.in_ok-right.ensures.reported c.combined.ensures
+    c.args.right.now (typed c.in_ok-left.left) (typed c.in_ok-right.right) c.purpose_after-following.result c.left_operand_fault-fault.result
+    c.combined.result c.in_ok-left.ensures.reported c.purpose_after-following.ensures c.in_ok-left.ensures.texts c.left_operand_fault-fault.ensures given
+    c.combined.ensures
+
+pub subscript-returns-in_err-left-clause-reported : goal.subscript-returns-in_err-left-clause-reported
+subscript-returns-in_err-left-clause-reported t c =
+    let e : c.from_residual.result ≡ Err c.in_err-left.field-0.0 = search rules in
+    subst (Yields (subscript_formed c.args.context.now c.args.purpose c.args.literals.now.items c.args.place c.args.left.now c.args.right.now))
+    (sym e) (subscript_left_stops c.args.context.now c.args.purpose c.args.literals.now.items c.args.place c.args.left.now c.args.right.now
+    c.in_err-left.field-0.0 c.in_err-left.ensures.reported)
+
+pub subscript-returns-in_err-right-clause-reported : goal.subscript-returns-in_err-right-clause-reported
+subscript-returns-in_err-right-clause-reported t c =
+    let e : c.from_residual-in_err-right.result ≡ Err c.in_err-right.field-0.0 = search rules in
+    let right =
+    operand_in c.args.context.now c.args.purpose
+    (formed c.args.context.now c.args.purpose c.operand_in.new.literals.items None c.args.right.now.place c.args.right.now.kind.value) in
+    let refused = c.in_err-right.ensures.reported right c.operand_in-other.ensures.reported in
+    subst (Yields (subscript_formed c.args.context.now c.args.purpose c.args.literals.now.items c.args.place c.args.left.now c.args.right.now))
+    (sym e) (subscript_right_stops c.args.context.now c.args.purpose c.args.literals.now.items c.operand_in.new.literals.items c.args.place
+    c.args.left.now c.args.right.now (typed c.in_ok-left.left) c.left_operand_fault-fault.result c.in_err-right.field-0.0 c.in_ok-left.ensures.reported
+    c.in_ok-left.ensures.texts c.left_operand_fault-fault.ensures refused)
+
+pub subscript-returns-clause-reported : goal.subscript-returns-clause-reported
+subscript-returns-clause-reported t c =
+    let right =
+    operand_in c.args.context.now c.args.purpose
+    (formed c.args.context.now c.args.purpose c.operand_in.new.literals.items None c.args.right.now.place c.args.right.now.kind.value) in
+    let given = c.in_ok-right.ensures.reported right c.operand_in-other.ensures.reported in
+    subscript_taken c.args.context.now c.args.purpose c.args.literals.now.items c.operand_in.new.literals.items c.args.place c.args.left.now
+    c.args.right.now (typed c.in_ok-left.left) (typed c.in_ok-right.right) c.left_operand_fault-fault.result c.indexed.result
+    c.in_ok-left.ensures.reported c.in_ok-left.ensures.texts c.left_operand_fault-fault.ensures given c.indexed.ensures
 
 pub select-returns-in_err-test-clause-reported : goal.select-returns-in_err-test-clause-reported
 select-returns-in_err-test-clause-reported t c =
@@ -226,39 +269,67 @@ step-returns-clause-reported t c =
 pub size_of_type-returns-in_err-base-clause-reported : goal.size_of_type-returns-in_err-base-clause-reported
 size_of_type-returns-in_err-base-clause-reported t c =
     let e : c.from_residual.result ≡ Err c.in_err-base.field-0.0 = search rules in
-    subst (Yields (lift2 (measured_arrays c.args.context.now c.args.place)
-    (lift (complete_at c.args.context.now.table.list c.args.place) (base_in c.args.context.now c.args.place c.args.ty.now))
-    (numbers_listed c.args.context.now c.args.literals.now.items c.args.bounds.now))) (sym e)
-    (size_base_stops c.args.context.now c.args.place (base_in c.args.context.now c.args.place c.args.ty.now)
-    (numbers_listed c.args.context.now c.args.literals.now.items c.args.bounds.now) c.in_err-base.field-0.0 c.in_err-base.ensures)
+    let base = base_in c.args.context.now c.args.place c.args.ty.now in
+    let ns = numbers_listed c.args.context.now c.args.literals.now.items c.args.bounds.now in
+    let bounds = bounds_listed c.args.context.now c.args.literals.now.items c.args.bounds.now in
+    subst (Yields (measured_type_name c.args.context.now c.args.place base ns bounds)) (sym e)
+    (size_base_stops c.args.context.now c.args.place base ns bounds c.in_err-base.field-0.0 c.in_err-base.ensures)
 
 pub size_of_type-returns-in_err-base-2-clause-reported : goal.size_of_type-returns-in_err-base-2-clause-reported
 size_of_type-returns-in_err-base-2-clause-reported t c =
     let e : c.from_residual-in_err-base-2.result ≡ Err c.in_err-base-2.field-0.0 = search rules in
-    subst (Yields (lift2 (measured_arrays c.args.context.now c.args.place)
-    (lift (complete_at c.args.context.now.table.list c.args.place) (base_in c.args.context.now c.args.place c.args.ty.now))
-    (numbers_listed c.args.context.now c.args.literals.now.items c.args.bounds.now))) (sym e)
-    (size_complete_stops c.args.context.now c.args.place (base_in c.args.context.now c.args.place c.args.ty.now)
-    (numbers_listed c.args.context.now c.args.literals.now.items c.args.bounds.now) (shape_of c.in_ok-base.base) c.in_err-base-2.field-0.0
-    c.in_ok-base.ensures c.in_err-base-2.ensures)
+    let base = base_in c.args.context.now c.args.place c.args.ty.now in
+    let ns = numbers_listed c.args.context.now c.args.literals.now.items c.args.bounds.now in
+    let bounds = bounds_listed c.args.context.now c.args.literals.now.items c.args.bounds.now in
+    subst (Yields (measured_type_name c.args.context.now c.args.place base ns bounds)) (sym e)
+    (size_complete_stops c.args.context.now c.args.place base ns bounds (shape_of c.in_ok-base.base) c.in_ok-base.ensures c.in_err-base-2.field-0.0
+    c.in_err-base-2.ensures)
 
-pub size_of_type-returns-in_err-numbers-clause-reported : goal.size_of_type-returns-in_err-numbers-clause-reported
-size_of_type-returns-in_err-numbers-clause-reported t c =
-    let e : c.from_residual-in_err-numbers.result ≡ Err c.in_err-numbers.field-0.0 = search rules in
-    subst (Yields (lift2 (measured_arrays c.args.context.now c.args.place)
-    (lift (complete_at c.args.context.now.table.list c.args.place) (base_in c.args.context.now c.args.place c.args.ty.now))
-    (numbers_listed c.args.context.now c.args.literals.now.items c.args.bounds.now))) (sym e)
-    (size_numbers_stop c.args.context.now c.args.place (base_in c.args.context.now c.args.place c.args.ty.now)
-    (numbers_listed c.args.context.now c.args.literals.now.items c.args.bounds.now) (shape_of c.in_ok-base.base) (shape_of c.in_ok-base-2.base)
-    c.in_err-numbers.field-0.0 c.in_ok-base.ensures c.in_ok-base-2.ensures c.in_err-numbers.ensures.reported)
+pub size_of_type-returns-in_err-size-clause-reported : goal.size_of_type-returns-in_err-size-clause-reported
+size_of_type-returns-in_err-size-clause-reported t c =
+    let e : c.from_residual-in_err-size.result ≡ Err c.in_err-size.field-0.0 = search rules in
+    let base = base_in c.args.context.now c.args.place c.args.ty.now in
+    let ns = numbers_listed c.args.context.now c.args.literals.now.items c.args.bounds.now in
+    let bounds = bounds_listed c.args.context.now c.args.literals.now.items c.args.bounds.now in
+    subst (Yields (measured_type_name c.args.context.now c.args.place base ns bounds)) (sym e)
+    (size_stops c.args.context.now c.args.place base ns bounds (shape_of c.in_ok-base.base) c.in_ok-base.ensures (shape_of c.in_ok-base-2.base)
+    c.in_ok-base-2.ensures c.in_err-size.field-0.0
+    (subst (λ l. IsRefused (measured_arrays c.args.context.now c.args.place l (shape_of c.in_ok-base-2.base)) c.in_err-size.field-0.0)
+    (c.deref.ensures.value ∙ c.in_ok-bounds.ensures.numbers) c.in_err-size.ensures))
+
+pub size_of_type-returns-in-Some-clause-reported : goal.size_of_type-returns-in-Some-clause-reported
+size_of_type-returns-in-Some-clause-reported t c =
+    let base = base_in c.args.context.now c.args.place c.args.ty.now in
+    let ns = numbers_listed c.args.context.now c.args.literals.now.items c.args.bounds.now in
+    let bounds = bounds_listed c.args.context.now c.args.literals.now.items c.args.bounds.now in
+    size_bounds_stop c.args.context.now c.args.place base ns bounds (shape_of c.in_ok-base.base) c.in_ok-base.ensures (shape_of c.in_ok-base-2.base)
+    c.in_ok-base-2.ensures (typed c.in_ok-size.size) c.in-Some.code c.in-Some.at
+    (subst (λ l. measured_arrays c.args.context.now c.args.place l (shape_of c.in_ok-base-2.base) ≡ Fine (typed c.in_ok-size.size))
+    (c.deref.ensures.value ∙ c.in_ok-bounds.ensures.numbers) c.in_ok-size.ensures)
+    (sym c.in_ok-bounds.ensures.refused ∙ ap (λ r. unless_stopped r (Fine tt)) c.in-Some.is)
 
 pub size_of_type-returns-clause-reported : goal.size_of_type-returns-clause-reported
 size_of_type-returns-clause-reported t c =
-    size_taken c.args.context.now c.args.place (base_in c.args.context.now c.args.place c.args.ty.now)
-    (numbers_listed c.args.context.now c.args.literals.now.items c.args.bounds.now) (shape_of c.in_ok-base.base) (shape_of c.in_ok-base-2.base)
-    c.in_ok-numbers.numbers.items c.measured_arrays.result c.in_ok-base.ensures c.in_ok-base-2.ensures c.in_ok-numbers.ensures.reported
-    (subst (λ ns. Yields (measured_arrays c.args.context.now c.args.place (shape_of c.in_ok-base-2.base) ns) c.measured_arrays.result)
-    c.deref.ensures.value c.measured_arrays.ensures)
+    let base = base_in c.args.context.now c.args.place c.args.ty.now in
+    let ns = numbers_listed c.args.context.now c.args.literals.now.items c.args.bounds.now in
+    let bounds = bounds_listed c.args.context.now c.args.literals.now.items c.args.bounds.now in
+    size_taken c.args.context.now c.args.place base ns bounds (shape_of c.in_ok-base.base) c.in_ok-base.ensures (shape_of c.in_ok-base-2.base)
+    c.in_ok-base-2.ensures (typed c.in_ok-size.size)
+    (subst (λ l. measured_arrays c.args.context.now c.args.place l (shape_of c.in_ok-base-2.base) ≡ Fine (typed c.in_ok-size.size))
+    (c.deref.ensures.value ∙ c.in_ok-bounds.ensures.numbers) c.in_ok-size.ensures)
+    (sym c.in_ok-bounds.ensures.refused ∙ ap (λ r. unless_stopped r (Fine tt)) c.in-None.is)
+
+pub call-call_with-requires : goal.call-call_with-requires
+call-call_with-requires t c =
+    let counted = call_passes c.args.place (shape_in c.args.target) (length c.args.arguments.now) c.in-Some.called.now c.call_fault-fault.result _ _ _
+    c.call_fault-fault.ensures c.in_ok-values.ensures.reported in
+    c.in_ok-values.ensures.count counted ∙ counted
+
+pub call-returns-clause-texts : goal.call-returns-clause-texts
+call-returns-clause-texts t c =
+    let counted = call_passes c.args.place (shape_in c.args.target) (length c.args.arguments.now) c.in-Some.called.now c.call_fault-fault.result _ _ _
+    c.call_fault-fault.ensures c.in_ok-values.ensures.reported in
+    on_ok c.call_with.result (c.in_ok-values.ensures.texts counted)
 
 pub call-returns-in_err-operand_in-clause-reported : goal.call-returns-in_err-operand_in-clause-reported
 call-returns-in_err-operand_in-clause-reported t c =
@@ -275,29 +346,38 @@ call-returns-in_default-clause-reported t c =
     (typed c.in_ok-operand_in.field-0) (sym c.called.ensures ∙ ap (λ r. option_map signature_of (option_copied r)) c.in_default.is)
     c.in_ok-operand_in.ensures.reported
 
-pub call-returns-in_err-admitted-clause-reported : goal.call-returns-in_err-admitted-clause-reported
-call-returns-in_err-admitted-clause-reported t c =
-    let e : c.from_residual-in_err-admitted.result ≡ Err c.in_err-admitted.field-0.0 = search rules in
-    subst (Yields (call_formed c.args.context.now c.args.purpose c.args.literals.now.items (shape_in c.args.target) c.args.place c.args.function.now
-    c.args.arguments.now)) (sym e)
-    (call_admitted_stops c.args.context.now c.args.purpose c.args.literals.now.items (shape_in c.args.target) c.args.place c.args.function.now
-    c.args.arguments.now (signature_of c.in-Some.called.now) c.in_err-admitted.field-0.0 (sym c.called.ensures
-    ∙ ap (λ r. option_map signature_of (option_copied r)) c.in-Some.is) c.in_err-admitted.ensures)
-
 pub call-returns-in_err-values-clause-reported : goal.call-returns-in_err-values-clause-reported
 call-returns-in_err-values-clause-reported t c =
     let e : c.from_residual-in_err-values.result ≡ Err c.in_err-values.field-0.0 = search rules in
+    let found = sym c.called.ensures ∙ ap (λ r. option_map signature_of (option_copied r)) c.in-Some.is in
     subst (Yields (call_formed c.args.context.now c.args.purpose c.args.literals.now.items (shape_in c.args.target) c.args.place c.args.function.now
     c.args.arguments.now)) (sym e)
     (call_arguments_stop c.args.context.now c.args.purpose c.args.literals.now.items (shape_in c.args.target) c.args.place c.args.function.now
-    c.args.arguments.now (signature_of c.in-Some.called.now) c.in_err-values.field-0.0 (sym c.called.ensures
-    ∙ ap (λ r. option_map signature_of (option_copied r)) c.in-Some.is) c.in_ok-admitted.ensures c.in_err-values.ensures.reported)
+    c.args.arguments.now (signature_of c.in-Some.called.now) found c.in_err-values.field-0.0
+    (subst (λ f.
+    IsRefused (unless_fault c.args.place
+    (least_code f (arguments_listed_fault c.args.context.now c.args.purpose c.args.literals.now.items c.args.place
+    (signature_of c.in-Some.called.now).parameters c.args.arguments.now))
+    (arguments_listed c.args.context.now c.args.purpose c.args.literals.now.items (signature_of c.in-Some.called.now).parameters c.args.arguments.now))
+    c.in_err-values.field-0.0) c.call_fault-fault.ensures c.in_err-values.ensures.reported))
 
 pub call-returns-clause-reported : goal.call-returns-clause-reported
 call-returns-clause-reported t c =
+    let found = sym c.called.ensures ∙ ap (λ r. option_map signature_of (option_copied r)) c.in-Some.is in
     call_taken c.args.context.now c.args.purpose c.args.literals.now.items (shape_in c.args.target) c.args.place c.args.function.now c.args.arguments.now
-    (signature_of c.in-Some.called.now) (typed_list c.in_ok-values.values.items) c.call_with.result (sym c.called.ensures
-    ∙ ap (λ r. option_map signature_of (option_copied r)) c.in-Some.is) c.in_ok-admitted.ensures c.in_ok-values.ensures.reported c.call_with.ensures
+    (signature_of c.in-Some.called.now) found (typed_list c.in_ok-values.values.items) c.call_with.result
+    (subst (λ f.
+    unless_fault c.args.place
+    (least_code f (arguments_listed_fault c.args.context.now c.args.purpose c.args.literals.now.items c.args.place
+    (signature_of c.in-Some.called.now).parameters c.args.arguments.now))
+    (arguments_listed c.args.context.now c.args.purpose c.args.literals.now.items (signature_of c.in-Some.called.now).parameters c.args.arguments.now)
+    ≡ Fine (typed_list c.in_ok-values.values.items)) c.call_fault-fault.ensures c.in_ok-values.ensures.reported) c.call_with.ensures
+
+pub formed-returns-in-Index-clause-reported : goal.formed-returns-in-Index-clause-reported
+formed-returns-in-Index-clause-reported t c =
+    subst (λ k.
+    Yields (formed c.args.context.now c.args.purpose c.args.literals.now.items (shape_in c.args.target) c.args.tree.now.place k) c.subscript.result)
+    (sym c.in-Index.is ∙ c.deref.ensures) c.subscript.ensures.reported
 
 pub formed-returns-in-Infix-clause-reported : goal.formed-returns-in-Infix-clause-reported
 formed-returns-in-Infix-clause-reported t c =
@@ -359,10 +439,9 @@ formed-returns-in-SizeOfType-clause-reported t c =
     (yields_as c.size_of_type.result
     (formed-SizeOfType c.args.context.now c.args.purpose c.args.literals.now.items (shape_in c.args.target) c.args.tree.now.place c.in-SizeOfType.ty
     c.in-SizeOfType.bounds) (subst (λ x.
-    Yields (lift2 (measured_arrays c.args.context.now c.args.tree.now.place)
-    (lift (complete_at c.args.context.now.table.list c.args.tree.now.place) (base_in c.args.context.now c.args.tree.now.place c.in-SizeOfType.ty))
-    (numbers_listed c.args.context.now c.args.literals.now.items x)) c.size_of_type.result) c.deref-in-SizeOfType.ensures.value
-    c.size_of_type.ensures.reported))
+    Yields (measured_type_name c.args.context.now c.args.tree.now.place (base_in c.args.context.now c.args.tree.now.place c.in-SizeOfType.ty)
+    (numbers_listed c.args.context.now c.args.literals.now.items x) (bounds_listed c.args.context.now c.args.literals.now.items x)) c.size_of_type.result)
+    c.deref-in-SizeOfType.ensures.value c.size_of_type.ensures.reported))
 
 pub formed-returns-in_err-object-in-Member-clause-reported : goal.formed-returns-in_err-object-in-Member-clause-reported
 formed-returns-in_err-object-in-Member-clause-reported t c =
@@ -441,119 +520,6 @@ formed-returns-in_ok-operand-in-SizeOf-clause-reported t c =
     (part_taken (measured_type c.args.context.now c.args.tree.now.place) _ (typed c.in_ok-operand-in-SizeOf.operand) c.measured.result
     c.in_ok-operand-in-SizeOf.ensures.reported c.measured.ensures)
 
-pub formed-returns-in_err-array-in-Index-clause-reported : goal.formed-returns-in_err-array-in-Index-clause-reported
-formed-returns-in_err-array-in-Index-clause-reported t c =
-    let e : c.from_residual-in_err-array-in-Index.result ≡ Err c.in_err-array-in-Index.field-0.0 = search rules in
-    subst (λ k.
-    Yields (formed c.args.context.now c.args.purpose c.args.literals.now.items (shape_in c.args.target) c.args.tree.now.place k)
-    c.from_residual-in_err-array-in-Index.result) (sym c.in-Index.is ∙ c.deref.ensures)
-    (subst
-    (Yields (formed c.args.context.now c.args.purpose c.args.literals.now.items (shape_in c.args.target) c.args.tree.now.place
-    (kind.Index c.in-Index.array c.in-Index.number))) (sym e)
-    (lift2-refused-first (indexed_values c.args.context.now c.args.tree.now.place) _ _ c.in_err-array-in-Index.field-0.0
-    c.in_err-array-in-Index.ensures.reported))
-
-pub formed-returns-in_err-number-in-Index-clause-reported : goal.formed-returns-in_err-number-in-Index-clause-reported
-formed-returns-in_err-number-in-Index-clause-reported t c =
-    let e : c.from_residual-in_err-number-in-Index.result ≡ Err c.in_err-number-in-Index.field-0.0 = search rules in
-    subst (λ k.
-    Yields (formed c.args.context.now c.args.purpose c.args.literals.now.items (shape_in c.args.target) c.args.tree.now.place k)
-    c.from_residual-in_err-number-in-Index.result) (sym c.in-Index.is ∙ c.deref.ensures)
-    (subst
-    (Yields (formed c.args.context.now c.args.purpose c.args.literals.now.items (shape_in c.args.target) c.args.tree.now.place
-    (kind.Index c.in-Index.array c.in-Index.number))) (sym e)
-    (second_stops (indexed_values c.args.context.now c.args.tree.now.place)
-    (operand_in c.args.context.now c.args.purpose
-    (formed c.args.context.now c.args.purpose c.args.literals.now.items None c.in-Index.array.place c.in-Index.array.kind.value))
-    (operand_in c.args.context.now c.args.purpose
-    (formed c.args.context.now c.args.purpose (literals_after c.args.literals.now.items c.in-Index.array.kind.value) None c.in-Index.number.place
-    c.in-Index.number.kind.value)) (typed c.in_ok-array-in-Index.array) c.in_err-number-in-Index.field-0.0 c.in_ok-array-in-Index.ensures.reported
-    (subst (λ l.
-    IsRefused (operand_in c.args.context.now c.args.purpose
-    (formed c.args.context.now c.args.purpose l None c.in-Index.number.place c.in-Index.number.kind.value)) c.in_err-number-in-Index.field-0.0)
-    c.in_ok-array-in-Index.ensures.texts c.in_err-number-in-Index.ensures.reported)))
-
-pub formed-returns-in_ok-number-in-Index-clause-reported : goal.formed-returns-in_ok-number-in-Index-clause-reported
-formed-returns-in_ok-number-in-Index-clause-reported t c =
-    subst (λ k. Yields (formed c.args.context.now c.args.purpose c.args.literals.now.items (shape_in c.args.target) c.args.tree.now.place k) c.indexed.result)
-    (sym c.in-Index.is ∙ c.deref.ensures)
-    (parts_taken (indexed_values c.args.context.now c.args.tree.now.place)
-    (operand_in c.args.context.now c.args.purpose
-    (formed c.args.context.now c.args.purpose c.args.literals.now.items None c.in-Index.array.place c.in-Index.array.kind.value))
-    (operand_in c.args.context.now c.args.purpose
-    (formed c.args.context.now c.args.purpose (literals_after c.args.literals.now.items c.in-Index.array.kind.value) None c.in-Index.number.place
-    c.in-Index.number.kind.value)) (typed c.in_ok-array-in-Index.array) (typed c.in_ok-number-in-Index.number) c.indexed.result
-    c.in_ok-array-in-Index.ensures.reported (subst (λ l.
-    operand_in c.args.context.now c.args.purpose (formed c.args.context.now c.args.purpose l None c.in-Index.number.place c.in-Index.number.kind.value)
-    ≡ Fine (typed c.in_ok-number-in-Index.number)) c.in_ok-array-in-Index.ensures.texts c.in_ok-number-in-Index.ensures.reported) c.indexed.ensures)
-
-pub arguments_of-loop-i-init : goal.arguments_of-loop-i-init
-arguments_of-loop-i-init t c =
-    record {
-      made = c.new-list.ensures.len;
-      reported =
-          ap (λ l.
-          lift (expressions_before l) (arguments_listed c.args.context.now c.args.purpose c.args.literals.now.items
-          (map (λ (ty : CType). shape_of ty) c.args.function.now.parameters.items) c.args.arguments.now)) c.new-list.ensures.items
-          ∙ none_before (arguments_listed c.args.context.now c.args.purpose c.args.literals.now.items
-          (map (λ (ty : CType). shape_of ty) c.args.function.now.parameters.items) c.args.arguments.now);
-      texts = refl;
-    }
-
-pub arguments_of-returns-in_err-value-clause-reported : goal.arguments_of-returns-in_err-value-clause-reported
-arguments_of-returns-in_err-value-clause-reported t c =
-    let e : c.from_residual.result ≡ Err c.in_err-value.field-0.0 = search rules in
-    subst (Answers (λ list. typed_list list.items)
-    (arguments_listed c.args.context.now c.args.purpose c.args.literals.now.items (map (λ (ty : CType). shape_of ty) c.args.function.now.parameters.items)
-    c.args.arguments.now)) (sym e)
-    (arguments_stop c.args.context.now c.args.purpose c.loop-i.list.items
-    (arguments_listed c.args.context.now c.args.purpose c.args.literals.now.items (map (λ (ty : CType). shape_of ty) c.args.function.now.parameters.items)
-    c.args.arguments.now) (shape_of c.index-types-i.result) (map (λ (ty : CType). shape_of ty) (drop c.loop-i.i c.args.function.now.parameters.items))
-    (map (λ (ty : CType). shape_of ty) (drop (c.loop-i.i + 1) c.args.function.now.parameters.items)) c.index-arguments-i.result
-    (drop c.loop-i.i c.args.arguments.now) (drop (c.loop-i.i + 1) c.args.arguments.now) c.loop-i.literals.items c.in_err-value.field-0.0
-    (ap (map (λ (ty : CType). shape_of ty))
-    (subst (λ l. drop c.loop-i.i l ≡ c.index-types-i.result ∷ drop (c.loop-i.i + 1) l) c.as_slice-types.ensures.value
-    (at_place c.loop-i.i c.as_slice-types.result.now c.index-types-i.result
-    (omega (arith, ap length c.as_slice-types.ensures.value, c.requires, c.args.function.now.parameters.ok.0)) c.index-types-i.is)))
-    (at_place c.loop-i.i c.args.arguments.now c.index-arguments-i.result c.loop-i-test.true c.index-arguments-i.is) c.in_err-value.ensures.reported
-    c.loop-i.invariant.reported)
-
-pub arguments_of-loop-i-preserved : goal.arguments_of-loop-i-preserved
-arguments_of-loop-i-preserved t c =
-    record {
-      made = omega (arith, c.in_ok-push.ensures.len, c.loop-i.invariant.made);
-      reported =
-          ap (λ l.
-          lift (expressions_before l) (arguments_listed c.args.context.now c.args.purpose c.operand_in.new.literals.items
-          (map (λ (ty : CType). shape_of ty) (drop (c.loop-i.i + 1) c.args.function.now.parameters.items)) (drop (c.loop-i.i + 1) c.args.arguments.now)))
-          c.in_ok-push.ensures.items ∙ arguments_turn c.args.context.now c.args.purpose c.loop-i.list.items c.in_ok-value.value
-          (arguments_listed c.args.context.now c.args.purpose c.args.literals.now.items
-          (map (λ (ty : CType). shape_of ty) c.args.function.now.parameters.items) c.args.arguments.now) (shape_of c.index-types-i.result)
-          (map (λ (ty : CType). shape_of ty) (drop c.loop-i.i c.args.function.now.parameters.items))
-          (map (λ (ty : CType). shape_of ty) (drop (c.loop-i.i + 1) c.args.function.now.parameters.items)) c.index-arguments-i.result
-          (drop c.loop-i.i c.args.arguments.now) (drop (c.loop-i.i + 1) c.args.arguments.now) c.loop-i.literals.items c.operand_in.new.literals.items
-          (ap (map (λ (ty : CType). shape_of ty))
-          (subst (λ l. drop c.loop-i.i l ≡ c.index-types-i.result ∷ drop (c.loop-i.i + 1) l) c.as_slice-types.ensures.value
-          (at_place c.loop-i.i c.as_slice-types.result.now c.index-types-i.result
-          (omega (arith, ap length c.as_slice-types.ensures.value, c.requires, c.args.function.now.parameters.ok.0)) c.index-types-i.is)))
-          (at_place c.loop-i.i c.args.arguments.now c.index-arguments-i.result c.loop-i-test.true c.index-arguments-i.is) c.in_ok-value.ensures.reported
-          c.in_ok-value.ensures.texts c.loop-i.invariant.reported;
-      texts = ap (λ l. literals_after_list l (drop (c.loop-i.i + 1) c.args.arguments.now)) c.in_ok-value.ensures.texts
-          ∙ ap (literals_after_list c.loop-i.literals.items)
-          (sym (at_place c.loop-i.i c.args.arguments.now c.index-arguments-i.result c.loop-i-test.true c.index-arguments-i.is)) ∙ c.loop-i.invariant.texts;
-    }
-
-pub call-call_with-requires : goal.call-call_with-requires
-call-call_with-requires t c =
-    omega (
-      arith,
-      c.in_ok-values.ensures.count,
-      c.in-Some.called.now.parameters.ok.0,
-      admitted_counts c.args.place (shape_in c.args.target) (length c.args.arguments.now) (signature_of c.in-Some.called.now)
-          (signature_of c.in-Some.called.now) c.in_ok-admitted.ensures,
-      length-map c.in-Some.called.now.parameters.items (λ (ty : CType). shape_of ty),
-    )
-
 pub formed-returns-in_err-first-in-Comma-clause-reported : goal.formed-returns-in_err-first-in-Comma-clause-reported
 formed-returns-in_err-first-in-Comma-clause-reported t c =
     let e : c.from_residual-in_err-first-in-Comma.result ≡ Err c.in_err-first-in-Comma.field-0.0 = search rules in
@@ -599,66 +565,6 @@ formed-returns-in_ok-second-in-Comma-clause-reported t c =
     value_in c.args.context.now c.args.purpose (formed c.args.context.now c.args.purpose l None c.in-Comma.second.place c.in-Comma.second.kind.value)
     ≡ Fine (typed c.in_ok-second-in-Comma.second)) c.in_ok-first-in-Comma.ensures.texts c.in_ok-second-in-Comma.ensures.reported) c.followed.ensures)
 
-pub numbers_of-loop-bound-init : goal.numbers_of-loop-bound-init
-numbers_of-loop-bound-init t c =
-    record {
-      reported = ap (λ l. lift (numbers_before l) (numbers_listed c.args.context.now c.args.literals.now.items c.args.bounds.now)) c.new-numbers.ensures.items
-          ∙ no_numbers_before (numbers_listed c.args.context.now c.args.literals.now.items c.args.bounds.now);
-      texts = refl;
-    }
-
-pub numbers_of-returns-in_err-value-clause-reported : goal.numbers_of-returns-in_err-value-clause-reported
-numbers_of-returns-in_err-value-clause-reported t c =
-    let e : c.from_residual.result ≡ Err c.in_err-value.field-0.0 = search rules in
-    let i = c.loop-bound.bound-index in
-    subst (Answers (λ numbers. numbers.items) (numbers_listed c.args.context.now c.args.literals.now.items c.args.bounds.now)) (sym e)
-    (numbers_stop c.args.context.now c.loop-bound.numbers.items (numbers_listed c.args.context.now c.args.literals.now.items c.args.bounds.now)
-    c.bound-item.result (drop i c.args.bounds.now) (drop (i + 1) c.args.bounds.now) c.loop-bound.literals.items c.in_err-value.field-0.0
-    (at_place i c.args.bounds.now c.bound-item.result c.loop-bound-test.true c.bound-item.is) c.in_err-value.ensures.reported
-    c.loop-bound.invariant.reported)
-
-pub numbers_of-loop-bound-preserved : goal.numbers_of-loop-bound-preserved
-numbers_of-loop-bound-preserved t c =
-    let i = c.loop-bound.bound-index in
-    let there : drop i c.args.bounds.now ≡ c.bound-item.result ∷ drop (i + 1) c.args.bounds.now =
-    at_place i c.args.bounds.now c.bound-item.result c.loop-bound-test.true c.bound-item.is in
-    let fits : FitsSigned w128 c.number_at.result = search rules in
-    let pushed : c.push.new.self.items ≡ c.loop-bound.numbers.items ++ c.number_at.result ∷ [] = simp to_z-of_z at c.in_ok-push.ensures.items in
-    record {
-      reported = ap (λ l. lift (numbers_before l) (numbers_listed c.args.context.now c.judged.new.literals.items (drop (i + 1) c.args.bounds.now))) pushed
-          ∙ numbers_turn c.args.context.now c.loop-bound.numbers.items (typed c.in_ok-value.value) c.number_at.result
-          (numbers_listed c.args.context.now c.args.literals.now.items c.args.bounds.now) c.bound-item.result (drop i c.args.bounds.now)
-          (drop (i + 1) c.args.bounds.now) c.loop-bound.literals.items c.judged.new.literals.items there c.in_ok-value.ensures.reported
-          (ap (λ k. number_at (form k)) (sym c.deref.ensures) ∙ c.number_at.ensures) c.in_ok-value.ensures.texts c.loop-bound.invariant.reported;
-      texts = ap (λ l. literals_after_list l (drop (i + 1) c.args.bounds.now)) c.in_ok-value.ensures.texts
-          ∙ ap (literals_after_list c.loop-bound.literals.items) (sym there) ∙ c.loop-bound.invariant.texts;
-    }
-
-pub numbers_of-returns-clause-reported : goal.numbers_of-returns-clause-reported
-numbers_of-returns-clause-reported t c =
-    numbers_end c.args.context.now c.loop-bound.numbers.items (numbers_listed c.args.context.now c.args.literals.now.items c.args.bounds.now)
-    (drop c.loop-bound.bound-index c.args.bounds.now) c.loop-bound.literals.items
-    (drop_all c.loop-bound.bound-index c.args.bounds.now c.loop-bound-test.false) c.loop-bound.invariant.reported
-
-pub arguments_of-returns-clause-reported : goal.arguments_of-returns-clause-reported
-arguments_of-returns-clause-reported t c =
-    arguments_end c.args.context.now c.args.purpose c.loop-i.list.items
-    (arguments_listed c.args.context.now c.args.purpose c.args.literals.now.items (map (λ (ty : CType). shape_of ty) c.args.function.now.parameters.items)
-    c.args.arguments.now) (map (λ (ty : CType). shape_of ty) (drop c.loop-i.i c.args.function.now.parameters.items)) (drop c.loop-i.i c.args.arguments.now)
-    c.loop-i.literals.items (drop_all c.loop-i.i c.args.arguments.now c.loop-i-test.false) c.loop-i.invariant.reported
-
-pub call-arguments_of-requires : goal.call-arguments_of-requires
-call-arguments_of-requires t c = (
-  grind arith,
-  omega (
-    arith,
-    c.in-Some.called.now.parameters.ok.0,
-    admitted_counts c.args.place (shape_in c.args.target) (length c.args.arguments.now) (signature_of c.in-Some.called.now) (signature_of c.in-Some.called.now)
-        c.in_ok-admitted.ensures,
-    length-map c.in-Some.called.now.parameters.items (λ (ty : CType). shape_of ty),
-  ),
-)
-
 pub formed-returns-in-Call-clause-texts : goal.formed-returns-in-Call-clause-texts
 formed-returns-in-Call-clause-texts t c =
     subst (λ k. OnOk c.call.result (c.call.new.literals.items ≡ literals_after c.args.literals.now.items k)) (sym c.in-Call.is ∙ c.deref.ensures)
@@ -694,14 +600,10 @@ formed-cast-requires t c =
     let e = height-Cast c.in-Cast.ty c.in-Cast.bounds c.in-Cast.operand c.in-Cast.is in
     grind arith
 
-pub arguments_of-operand_in-requires : goal.arguments_of-operand_in-requires
-arguments_of-operand_in-requires t c =
-    let h = height-among c.args.arguments.now c.loop-i.i c.index-arguments-i.result c.loop-i-test.true c.index-arguments-i.is in
-    grind arith
-
-pub numbers_of-judged-requires : goal.numbers_of-judged-requires
-numbers_of-judged-requires t c =
-    let h = height-among c.args.bounds.now c.loop-bound.bound-index c.bound-item.result c.loop-bound-test.true c.bound-item.is in
+pub formed-subscript-requires : goal.formed-subscript-requires
+formed-subscript-requires t c =
+    let e : height (written c.args.tree.now) ≡ 1 + max (height (written c.in-Index.left)) (height (written c.in-Index.right)) =
+    ap (λ k. height (written_kind k)) (sym c.deref.ensures ∙ c.in-Index.is) in
     grind arith
 
 pub formed-infix-requires : goal.formed-infix-requires
@@ -722,3 +624,167 @@ formed-store-requires t c =
     let e : height (written c.args.tree.now) ≡ 1 + max (height (written c.in-Assign.object)) (height (written c.in-Assign.value)) =
     ap (λ k. height (written_kind k)) (sym c.deref.ensures ∙ c.in-Assign.is) in
     grind arith
+
+pub arguments_of-loop-i-init : goal.arguments_of-loop-i-init
+arguments_of-loop-i-init t c =
+    record {
+      made = λ _. c.new-list.ensures.len;
+      values =
+          ap (λ l.
+          lift (expressions_before l) (arguments_listed c.args.context.now c.args.purpose c.args.literals.now.items
+          (map (λ (ty : CType). shape_of ty) c.args.function.now.parameters.items) c.args.arguments.now)) c.new-list.ensures.items
+          ∙ none_before (arguments_listed c.args.context.now c.args.purpose c.args.literals.now.items
+          (map (λ (ty : CType). shape_of ty) c.args.function.now.parameters.items) c.args.arguments.now);
+      codes = refl;
+      texts = λ _. refl;
+    }
+
+pub arguments_of-loop-i-preserved : goal.arguments_of-loop-i-preserved
+arguments_of-loop-i-preserved t c =
+    let i = c.loop-i.i in
+    let all = c.args.arguments.now in
+    let parameters = c.args.function.now.parameters.items in
+    let context = c.args.context.now in
+    let here : i < length all = omega (arith, c.loop-i-test.true, c.min-i-end.ensures) in
+    let there : i < length c.as_slice-types.result.now = omega (arith, c.loop-i-test.true, c.min-i-end.ensures) in
+    let is_types : map (λ (ty : CType). shape_of ty) (drop i parameters)
+    ≡ shape_of c.index-types-i.result ∷ map (λ (ty : CType). shape_of ty) (drop (i + 1) parameters) =
+    ap (map (λ (ty : CType). shape_of ty))
+    (subst (λ l. drop i l ≡ c.index-types-i.result ∷ drop (i + 1) l) c.as_slice-types.ensures.value
+    (at_place i c.as_slice-types.result.now c.index-types-i.result there c.index-types-i.is)) in
+    let is_arguments = at_place i all c.index-arguments-i.result here c.index-arguments-i.is in
+    let types = map (λ (ty : CType). shape_of ty) (drop i parameters) in
+    let following = map (λ (ty : CType). shape_of ty) (drop (i + 1) parameters) in
+    let a = c.index-arguments-i.result in
+    let ty = shape_of c.index-types-i.result in
+    let ls = c.loop-i.literals.items in
+    let ms = c.match-operand_in.literals.items in
+    elim c.match-operand_in.branch [
+      | arguments_of-in-Ok+in_ok-push-in-Ok w ↦
+          let pushed = ap (λ l. l.items) w.list-is ∙ w.in_ok-push-in-Ok.ensures.items in
+          let texts = ap (λ l. l.items) w.literals-is ∙ w.in-Ok.ensures.texts in
+          let more = w.least-is ∙ w.least_code-least.ensures ∙ ap (least_code c.loop-i.least) (w.conversion_fault.ensures c.args.place) in
+          record {
+            made = λ none.
+                omega (arith, ap (λ l. vec_len l) w.list-is, w.in_ok-push-in-Ok.ensures.len, c.loop-i.invariant.made (sym w.refused-is ∙ none));
+            values =
+                ap (λ r.
+                unless_stopped r (lift (expressions_before c.match-operand_in.list.items)
+                (arguments_listed context c.args.purpose ms following (drop (i + 1) all)))) w.refused-is
+                ∙ ap (λ l.
+                unless_stopped c.loop-i.refused (lift (expressions_before l) (arguments_listed context c.args.purpose ms following (drop (i + 1) all)))) pushed
+                ∙ argument_taken context c.args.purpose c.args.place ty types following a (drop i all) (drop (i + 1) all) ls ms is_types is_arguments
+                c.loop-i.refused c.loop-i.list.items w.in-Ok.value _ w.in-Ok.ensures.reported texts c.loop-i.invariant.values;
+            codes =
+                ap (λ f. least_code f (arguments_listed_fault context c.args.purpose ms c.args.place following (drop (i + 1) all))) more
+                ∙ code_taken context c.args.purpose c.args.place ty types following a (drop i all) (drop (i + 1) all) ls ms is_types is_arguments
+                c.loop-i.least (typed w.in-Ok.value) _ w.in-Ok.ensures.reported texts c.loop-i.invariant.codes;
+            texts = λ none.
+                ap (λ l. literals_after_list l (drop (i + 1) all)) texts ∙ ap (literals_after_list ls) (sym is_arguments)
+                ∙ c.loop-i.invariant.texts (sym w.refused-is ∙ none);
+          }
+      | arguments_of-in-Err-Code w ↦
+          let value = operand_in context c.args.purpose (formed context c.args.purpose ls (Some ty) a.place a.kind.value) in
+          let reported : value ≡ Fault w.in-Err-Code.code w.in-Err-Code.at = subst (IsRefused value) w.in-Err-Code.field-0-is w.in-Err-Code.ensures.reported in
+          let texts = ap (λ l. l.items) w.literals-is ∙ w.clear.ensures.items in
+          let now : c.match-operand_in.refused ≡ option_or c.loop-i.refused (Some (w.in-Err-Code.code, w.in-Err-Code.at)) =
+          w.refused-is ∙ w.or-refused.ensures
+          ∙ ap (λ r. option_or c.loop-i.refused (Some r)) (both w.in-Err-Code.code-is w.in-Err-Code.at-is) in
+          record {
+            made = λ none. some_refused c.loop-i.refused (w.in-Err-Code.code, w.in-Err-Code.at) (sym now ∙ none);
+            values =
+                ap (λ r.
+                unless_stopped r (lift (expressions_before c.match-operand_in.list.items)
+                (arguments_listed context c.args.purpose ms following (drop (i + 1) all)))) now
+                ∙ argument_stopped context c.args.purpose c.args.place ty types following a (drop i all) (drop (i + 1) all) ls ms is_types is_arguments
+                c.loop-i.refused c.loop-i.list.items c.match-operand_in.list.items w.in-Err-Code.code w.in-Err-Code.at _ reported c.loop-i.invariant.values;
+            codes =
+                ap (λ f. least_code f (arguments_listed_fault context c.args.purpose ms c.args.place following (drop (i + 1) all))) w.least-is
+                ∙ code_stopped context c.args.purpose c.args.place ty types following a (drop i all) (drop (i + 1) all) ls ms is_types is_arguments
+                c.loop-i.least w.in-Err-Code.code w.in-Err-Code.at _ reported texts c.loop-i.invariant.codes;
+            texts = λ none. some_refused c.loop-i.refused (w.in-Err-Code.code, w.in-Err-Code.at) (sym now ∙ none);
+          }
+    ]
+
+pub arguments_of-returns-clause-reported : goal.arguments_of-returns-clause-reported
+arguments_of-returns-clause-reported t c =
+    let i = c.loop-i.i in
+    let all = c.args.arguments.now in
+    let context = c.args.context.now in
+    let ls = c.loop-i.literals.items in
+    let types = map (λ (ty : CType). shape_of ty) (drop i c.args.function.now.parameters.items) in
+    let past : min (length all) (length c.as_slice-types.result.now) ≤ i = subst (λ n. n ≤ i) c.min-i-end.ensures c.loop-i-test.false in
+    let over : (types ≡ []) ⊎ (drop i all ≡ []) =
+    one_over i all c.args.function.now.parameters.items (λ (ty : CType). shape_of ty)
+    (subst (λ l. min (length all) (length l) ≤ i) c.as_slice-types.ensures.value past) in
+    subst (λ v. Answers (λ list. typed_list list.items) v c.unless_refused.result)
+    (ap (λ f. unless_fault c.args.place f (unless_stopped c.loop-i.refused (Fine (typed_list c.loop-i.list.items))))
+    (codes_end context c.args.purpose c.args.place types (drop i all) ls over c.loop-i.least _ c.loop-i.invariant.codes)
+    ∙ ap (unless_fault c.args.place _)
+    (arguments_end context c.args.purpose c.args.place types (drop i all) ls over c.loop-i.refused c.loop-i.list.items _ c.loop-i.invariant.values))
+    c.unless_refused.ensures.values
+
+pub arguments_of-operand_in-requires : goal.arguments_of-operand_in-requires
+arguments_of-operand_in-requires t c =
+    let here : c.loop-i.i < length c.args.arguments.now = omega (arith, c.loop-i-test.true, c.min-i-end.ensures) in
+    let h = height-among c.args.arguments.now c.loop-i.i c.index-arguments-i.result here c.index-arguments-i.is in
+    grind arith
+
+pub bounds_of-loop-bound-init : goal.bounds_of-loop-bound-init
+bounds_of-loop-bound-init t c =
+    record {
+      numbers = ap (λ l. l ++ numbers_listed c.args.context.now c.args.literals.now.items c.args.bounds.now) (sym c.new-numbers.ensures.items);
+      bounds = refl;
+      texts = λ _. refl;
+    }
+
+pub bounds_of-judged-requires : goal.bounds_of-judged-requires
+bounds_of-judged-requires t c =
+    let h = height-among c.args.bounds.now c.loop-bound.bound-index c.bound-item.result c.loop-bound-test.true c.bound-item.is in
+    grind arith
+
+pub bounds_of-loop-bound-preserved : goal.bounds_of-loop-bound-preserved
+bounds_of-loop-bound-preserved t c =
+    let i = c.loop-bound.bound-index in
+    let all = c.args.bounds.now in
+    let context = c.args.context.now in
+    let a = c.bound-item.result in
+    let ls = c.loop-bound.literals.items in
+    let ms = c.match-judged.literals.items in
+    let there : drop i all ≡ a ∷ drop (i + 1) all = at_place i all a c.loop-bound-test.true c.bound-item.is in
+    elim c.match-judged.branch [
+      | bounds_of-in-Ok+in_ok-push-in-Ok w ↦
+          let fits : FitsSigned w128 w.number_at.result = search rules in
+          let added : w.push.new.self.items ≡ c.loop-bound.numbers.items ++ w.number_at.result ∷ [] = simp to_z-of_z at w.in_ok-push-in-Ok.ensures.items in
+          let pushed = ap (λ l. l.items) w.numbers-is ∙ added in
+          let texts = ap (λ l. l.items) w.literals-is ∙ w.in-Ok.ensures.texts in
+          record {
+            numbers = number_taken context a (drop i all) (drop (i + 1) all) ls ms there c.loop-bound.numbers.items w.number_at.result
+                (Fine (typed w.in-Ok.value)) _ w.in-Ok.ensures.reported (ap (λ k. number_at (form k)) (sym w.deref.ensures) ∙ sym w.number_at.ensures) texts
+                c.loop-bound.invariant.numbers ∙ ap (λ l. l ++ numbers_listed context ms (drop (i + 1) all)) (sym pushed);
+            bounds = ap (λ r. unless_stopped r (bounds_listed context ms (drop (i + 1) all))) w.refused-is
+                ∙ bound_passed context a (drop i all) (drop (i + 1) all) ls ms there c.loop-bound.refused (typed w.in-Ok.value) _ w.in-Ok.ensures.reported texts
+                c.loop-bound.invariant.bounds;
+            texts = λ none.
+                ap (λ l. literals_after_list l (drop (i + 1) all)) texts ∙ ap (literals_after_list ls) (sym there)
+                ∙ c.loop-bound.invariant.texts (sym w.refused-is ∙ none);
+          }
+      | bounds_of-in-Err-Code+in_ok-push-in-Err-Code w ↦
+          let value = done context Constant (formed context Constant ls None a.place a.kind.value) in
+          let reported : value ≡ Fault w.in-Err-Code.code w.in-Err-Code.at = subst (IsRefused value) w.in-Err-Code.field-0-is w.in-Err-Code.ensures.reported in
+          let added : w.push-in-Err-Code.new.self.items ≡ c.loop-bound.numbers.items ++ pos 1 ∷ [] = w.in_ok-push-in-Err-Code.ensures.items in
+          let pushed = ap (λ l. l.items) w.numbers-is ∙ added in
+          let texts = ap (λ l. l.items) w.literals-is ∙ w.clear.ensures.items in
+          let now : c.match-judged.refused ≡ option_or c.loop-bound.refused (Some (w.in-Err-Code.code, w.in-Err-Code.at)) =
+          w.refused-is ∙ w.or-refused.ensures
+          ∙ ap (λ r. option_or c.loop-bound.refused (Some r)) (both (sym w.in-Err-Code.code-is) (sym w.in-Err-Code.at-is)) in
+          record {
+            numbers = number_taken context a (drop i all) (drop (i + 1) all) ls ms there c.loop-bound.numbers.items (pos 1)
+                (Fault w.in-Err-Code.code w.in-Err-Code.at) _ reported refl texts c.loop-bound.invariant.numbers
+                ∙ ap (λ l. l ++ numbers_listed context ms (drop (i + 1) all)) (sym pushed);
+            bounds = ap (λ r. unless_stopped r (bounds_listed context ms (drop (i + 1) all))) now
+                ∙ bound_stops context a (drop i all) (drop (i + 1) all) ls ms there c.loop-bound.refused w.in-Err-Code.code w.in-Err-Code.at _ reported
+                c.loop-bound.invariant.bounds;
+            texts = λ none. some_refused c.loop-bound.refused (w.in-Err-Code.code, w.in-Err-Code.at) (sym now ∙ none);
+          }
+    ]

@@ -33,6 +33,6 @@ returns c =
     let first : words_text c.in_ok-found.found.rest.now ≡ entry ∷ words_text c.in-Some.others.now =
     first_text c.in_ok-found.found.rest.now c.in-Some.entry.now c.in-Some.others.now entry c.in-Some.ensures.cases.0 (is ∙ c.as_bytes.ensures.value) in
     replay_right (words_text c.args.words.now) c.in_ok-found.found.settings (words_text c.in_ok-found.found.rest.now)
-    (record { budgets = c.budgets.result; entry = entry; inputs = c.in_ok-inputs.inputs; model = c.data_model.result }) (words_text c.in-Some.others.now)
-    c.in_ok-found.ensures first (ap is_name is ∙ sym c.is_name.ensures ∙ c.if-not-is_name.false) c.in_ok-inputs.ensures c.budgets.ensures.visits
-    c.budgets.ensures.depth c.budgets.ensures.events c.data_model.ensures
+    (record { budgets = c.run_budgets.result; entry = entry; inputs = c.in_ok-inputs.inputs; model = c.data_model.result }) (words_text c.in-Some.others.now)
+    c.in_ok-found.ensures first (ap is_name is ∙ sym c.is_name.ensures ∙ c.if-not-is_name.false) c.in_ok-inputs.ensures c.run_budgets.ensures.visits
+    c.run_budgets.ensures.depth c.run_budgets.ensures.events c.data_model.ensures

@@ -1,5 +1,5 @@
 use Rattle.cs_ast.specs.TypedProgram.{typed_program}
-use Rattle.cs_app.proofs.AllocatedWell.{well_formed_allocates}
+use Rattle.cs_allocations.proofs.WellAllocated.{well_formed_allocates}
 use Rattle.tests_replay.proofs.machines.coded.Goals as goal
 
 pub lower-requires : goal.lower-requires

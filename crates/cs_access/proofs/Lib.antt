@@ -1,0 +1,5 @@
+pub mod Asked
+pub mod Ascending
+pub mod FaultyValues
+pub mod Splits
+pub mod Stepping

@@ -1,0 +1,4 @@
+pub mod Subjects
+pub mod Checks
+pub mod Numbers
+pub mod Offsets

@@ -1,0 +1,98 @@
+//! The analysis of an entry.
+ghost use Rattle.std.specs.Prelude.{◌≡◌, ◌≤◌, map, length, IfOk};
+ghost use Rattle.cs_ast.specs.TypedProgram.{typed_program};
+ghost use Rattle.cs_run_state.specs.Prepared.{IsReady};
+ghost use Rattle.cs_findings.specs.GoodEntries.{IsGoodEntry};
+ghost use Rattle.cs_witness.specs.Entries.{CanRun};
+
+use cs_checker::Checker;
+use cs_engine::{Exploration, Explored, explore};
+use cs_inputs::Inputs;
+use cs_run_state::Setting;
+use cs_steps::Context;
+use cs_suspects::{listed, suspects};
+use cs_witness::{Entry, Witnessed, result};
+use std::alloc::{AllocError, Global};
+
+/// What an analysis makes of an entry.
+#[derive(Drop)]
+pub struct Analysis {
+    pub witnessed: Witnessed,
+    /// How many rows the graph has.
+    pub rows: u64,
+}
+
+/// Explores the runs of an entry, and gives what is shown of its ends: nothing has to be known of the exploration, since each end that it
+/// finds is replayed and judged.
+pub fn analyze(
+    alloc: Global,
+    entry: &Entry,
+    checkers: &mut Vec<Box<dyn Checker>>,
+) -> Result<Analysis, AllocError>
+    requires runs { CanRun entry.now }
+    requires nodes { entry.now.budgets.nodes ≤ 200000 }
+    ensures good { IfOk result (λ analysis. IsGoodEntry
+        (typed_program entry.now.program.now) entry.now.budgets analysis.witnessed.result) }
+    ensures entry { IfOk result (λ analysis.
+        analysis.witnessed.result.entry ≡ entry.now.function) }
+    ensures rows { IfOk result (λ analysis. analysis.rows ≤ entry.now.budgets.nodes) }
+    ensures kinds { map (λ b. kind_of b) checkers.new.items
+        ≡ map (λ b. kind_of b) checkers.old.items }
+{
+    let explored = explored(alloc, entry, checkers)?;
+    let found = suspects(alloc, &explored)?;
+    let cuts = listed(alloc, &explored.cuts)?;
+    let rows = explored.rows.len() as u64;
+    let witnessed = result(alloc, entry, &found, cuts)?;
+    Ok(Analysis { witnessed, rows })
+}
+
+// What an exploration of the entry finds, with nothing known of its inputs.
+fn explored(
+    alloc: Global,
+    entry: &Entry,
+    checkers: &mut Vec<Box<dyn Checker>>,
+) -> Result<Explored, AllocError>
+    requires runs { CanRun entry.now }
+    requires nodes { entry.now.budgets.nodes ≤ 200000 }
+    ensures rows { IfOk result (λ explored.
+        length explored.rows.items ≤ entry.now.budgets.nodes) }
+    ensures kinds { map (λ b. kind_of b) checkers.new.items
+        ≡ map (λ b. kind_of b) checkers.old.items }
+{
+    let inputs = Inputs::new(alloc);
+    let setting = Setting {
+        program: entry.program,
+        prepared: entry.prepared,
+        inputs: &inputs,
+        guesses: &[],
+        budgets: entry.budgets.of_runs(),
+    };
+    explored_in(alloc, entry, &setting, checkers)
+}
+
+fn explored_in(
+    alloc: Global,
+    entry: &Entry,
+    setting: &Setting,
+    checkers: &mut Vec<Box<dyn Checker>>,
+) -> Result<Explored, AllocError>
+    requires ready { IsReady setting.now }
+    requires nodes { entry.now.budgets.nodes ≤ 200000 }
+    ensures rows { IfOk result (λ explored.
+        length explored.rows.items ≤ entry.now.budgets.nodes) }
+    ensures kinds { map (λ b. kind_of b) checkers.new.items
+        ≡ map (λ b. kind_of b) checkers.old.items }
+{
+    let context = Context {
+        alloc,
+        code: entry.code,
+        setting,
+    };
+    let exploration = Exploration {
+        context: &context,
+        budgets: entry.budgets,
+        rules: &[],
+    };
+    explore(&exploration, entry.function, checkers)
+}

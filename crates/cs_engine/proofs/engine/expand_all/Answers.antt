@@ -1,0 +1,20 @@
+use Rattle.std.proofs.Common.{refl, ◌∙◌}
+use Rattle.cs_engine.proofs.Growing.{grows_not, grows_on, grows_worked}
+use Rattle.cs_engine.proofs.engine.expand_all.Goals as goal
+
+pub loop-init : goal.loop-init
+loop-init g c = record { grows = grows_not c.args.findings.now; kinds = refl }
+
+pub loop-preserved : goal.loop-preserved
+loop-preserved g c = record {
+  grows = grows_on c.args.findings.now c.loop.findings c.expand.new.findings c.loop.invariant.grows
+      (grows_on c.loop.findings _ c.expand.new.findings (grows_worked c.loop.findings c.next.new.self c.next.ensures.rest)
+      c.in_ok-expand.ensures.grows);
+  kinds = c.expand.ensures.kinds ∙ c.loop.invariant.kinds;
+}
+
+pub returns-then-not-branch-clause-grows : goal.returns-then-not-branch-clause-grows
+returns-then-not-branch-clause-grows g c =
+    grows_on c.args.findings.now c.loop.findings c.expand.new.findings c.loop.invariant.grows
+    (grows_on c.loop.findings _ c.expand.new.findings (grows_worked c.loop.findings c.next.new.self c.next.ensures.rest)
+    c.in_ok-expand.ensures.grows)

@@ -1,0 +1,4 @@
+pub mod Watching
+pub mod Found
+pub mod Answering
+pub mod Parameters

@@ -1,0 +1,108 @@
+//! The exploration of an entry, row by row.
+ghost use Rattle.std.specs.Prelude.{◌≡◌, ◌≤◌, map, length, IfOk, OnOk};
+ghost use Rattle.cs_run_state.specs.Prepared.{IsReady};
+ghost use Rattle.cs_engine.specs.Found.{IsSound, Grows, AreLinked, AreOfRows};
+
+use crate::children::Children;
+use crate::entry::start;
+use crate::explored::Explored;
+use crate::findings::Findings;
+use crate::watch::Rule;
+use cs_checker::Checker;
+use cs_results::Budgets;
+use cs_steps::Context;
+use std::alloc::AllocError;
+
+/// What an exploration goes by.
+#[derive(Drop)]
+pub struct Exploration<'a> {
+    pub context: &'a Context<'a>,
+    pub budgets: Budgets,
+    /// The rules of the protocol that is watched.
+    pub rules: &'a [Rule],
+}
+
+/// Explores the runs of an entry.
+pub fn explore(
+    exploration: &Exploration,
+    entry: u32,
+    checkers: &mut Vec<Box<dyn Checker>>,
+) -> Result<Explored, AllocError>
+    requires ready { IsReady exploration.now.context.now.setting.now }
+    requires nodes { exploration.now.budgets.nodes ≤ 200000 }
+    ensures few { IfOk result (λ explored.
+        length explored.rows.items ≤ exploration.now.budgets.nodes) }
+    ensures linked { IfOk result (λ explored. AreLinked explored.rows.items) }
+    ensures ends { IfOk result (λ explored.
+        AreOfRows explored.rows.items explored.ends.items) }
+    ensures kinds { map (λ b. kind_of b) checkers.new.items
+        ≡ map (λ b. kind_of b) checkers.old.items }
+{
+    let mut findings = begin(exploration, entry)?;
+    expand_all(exploration, &mut findings, checkers)?;
+    Ok(findings.explored())
+}
+
+// The row in which the entry begins, where there is room for it.
+fn begin(exploration: &Exploration, entry: u32) -> Result<Findings, AllocError>
+    requires ready { IsReady exploration.now.context.now.setting.now }
+    requires nodes { exploration.now.budgets.nodes ≤ 200000 }
+    ensures sound { IfOk result (λ findings. IsSound findings) }
+    ensures nodes { IfOk result (λ findings.
+        findings.nodes ≡ exploration.now.budgets.nodes) }
+{
+    let alloc = exploration.context.alloc;
+    let mut findings = Findings::new(alloc, exploration.budgets.nodes);
+    let state = start(exploration.context, entry, &mut findings.tables)?;
+    let state = Box::new(alloc, state)?;
+    findings.add_first(alloc, state)?;
+    Ok(findings)
+}
+
+// Finds what comes of each row, until none waits or the graph is full.
+fn expand_all(
+    exploration: &Exploration,
+    findings: &mut Findings,
+    checkers: &mut Vec<Box<dyn Checker>>,
+) -> Result<(), AllocError>
+    requires { IsReady exploration.now.context.now.setting.now }
+    ensures grows { OnOk result (Grows findings.old findings.new) }
+    ensures kinds { map (λ b. kind_of b) checkers.new.items
+        ≡ map (λ b. kind_of b) checkers.old.items }
+{
+    for _ in 0..u64::MAX {
+        let Some(row) = findings.graph.next() else {
+            return Ok(());
+        };
+        if !expand(exploration, findings, row, checkers)? {
+            return Ok(());
+        }
+    }
+    Err(AllocError)
+}
+
+// Finds what comes of a row: its ends and cuts first, then its children. False where the graph is full.
+fn expand(
+    exploration: &Exploration,
+    findings: &mut Findings,
+    row: u32,
+    checkers: &mut Vec<Box<dyn Checker>>,
+) -> Result<bool, AllocError>
+    requires { IsReady exploration.now.context.now.setting.now }
+    ensures grows { OnOk result (Grows findings.old findings.new) }
+    ensures kinds { map (λ b. kind_of b) checkers.new.items
+        ≡ map (λ b. kind_of b) checkers.old.items }
+{
+    let alloc = exploration.context.alloc;
+    let Some(from) = findings.graph.rows().get(row as usize) else {
+        return Err(AllocError);
+    };
+    let state = Box::new(alloc, from.state.copy()?)?;
+    let mut children = Children::new(alloc);
+    children.find(exploration, state, &mut findings.tables, checkers)?;
+    let Children { made, ends, cuts } = children;
+    findings.add_ends(row, ends)?;
+    findings.add_cuts(&cuts)?;
+    let room = findings.add_all(alloc, row, made)?;
+    Ok(room)
+}

@@ -1,0 +1,116 @@
+//! The state in which the exploration of an entry begins.
+ghost use Rattle.std.specs.Prelude.{◌≡◌, ◌<◌, ℕ, true, false, length, map, Some, slice_get};
+ghost use Rattle.cs_types.specs.Shape.{shape_of};
+ghost use Rattle.cs_types.specs.Layout.{IsLaidOut};
+ghost use Rattle.cs_ast.specs.TypedProgram.{typed_program, variable, routine};
+ghost use Rattle.cs_meaning.specs.Machine.{routine_of};
+ghost use Rattle.cs_meaning.specs.Steps as meaning;
+ghost use Rattle.cs_run_state.specs.Prepared.{IsReady};
+ghost use Rattle.cs_state.specs.Starting.{HaveSizes, HasSizes, DifferInName};
+ghost use Rattle.cs_engine.specs.Parameters.{DiffersFromBefore};
+
+use cs_ast::typed::program::{Function, Local, Program};
+use cs_run_state::types::is_small;
+use cs_state::{State, Tables};
+use cs_steps::Context;
+use cs_types::CType;
+use std::alloc::AllocError;
+
+/// The state in which an entry begins, at a spot where something else stands than a jump. An entry that can't begin is want of memory.
+pub(crate) fn start(context: &Context, entry: u32, tables: &mut Tables) -> Result<State, AllocError>
+    requires { IsReady context.now.setting.now }
+{
+    let program = context.setting.program;
+    if !can_start(program, entry) {
+        return Err(AllocError);
+    }
+    let mut state = State::start(context.alloc, context.code, program, entry, tables)?;
+    let spot = context.code.settled(state.frame.spot).ok_or(AllocError)?;
+    state.go_to(spot);
+    Ok(state)
+}
+
+// Whether an entry can begin: no two of its parameters have one name (C11 6.7, paragraph 3), and no size passes the bounds in what they
+// point to. Both hold of each file that was read, but not of each program that is well-formed.
+fn can_start(program: &Program, entry: u32) -> bool
+    requires { IsLaidOut program.now.model program.now.table.list }
+    ensures sizes { result ≡ true → HaveSizes (typed_program program.now)
+        (meaning.parameters_of (routine_of (typed_program program.now) entry)) }
+    ensures names { result ≡ true → DifferInName
+        (meaning.parameters_of (routine_of (typed_program program.now) entry)) }
+{
+    match program.functions.get(entry as usize) {
+        Some(function) => can_receive(program, parameters_of(function)),
+        None => true,
+    }
+}
+
+// The parameters of a function.
+fn parameters_of(function: &Function) -> &[Local]
+    ensures { map variable result.now ≡ meaning.parameters_of (routine function.now) }
+{
+    let locals = function.locals.as_slice();
+    let count = (function.parameters as usize).min(locals.len());
+    &locals[..count]
+}
+
+fn can_receive(program: &Program, parameters: &[Local]) -> bool
+    requires { IsLaidOut program.now.model program.now.table.list }
+    ensures sizes { result ≡ true → HaveSizes (typed_program program.now)
+        (map variable parameters.now) }
+    ensures names { result ≡ true → DifferInName (map variable parameters.now) }
+{
+    have_sizes(program, parameters) && differ_in_name(parameters)
+}
+
+// Whether no size passes the bounds in what the parameters point to.
+fn have_sizes(program: &Program, parameters: &[Local]) -> bool
+    requires { IsLaidOut program.now.model program.now.table.list }
+    ensures { result ≡ true → HaveSizes (typed_program program.now) (map variable parameters.now) }
+{
+    for parameter in parameters {
+        if !has_sizes(program, &parameter.ty) {
+            return false;
+        }
+    }
+    true
+}
+
+fn has_sizes(program: &Program, ty: &CType) -> bool
+    requires { IsLaidOut program.now.model program.now.table.list }
+    ensures { result ≡ true → HasSizes (typed_program program.now) (shape_of ty.now) }
+{
+    match ty {
+        CType::Pointer(target) => is_small(program.model, &program.table, target),
+        CType::Void => true,
+        CType::Int(_) => true,
+        CType::Array(_, _) => true,
+        CType::Struct(_) => true,
+    }
+}
+
+// Whether no two parameters have one name.
+fn differ_in_name(parameters: &[Local]) -> bool
+    ensures { result ≡ true → DifferInName (map variable parameters.now) }
+{
+    for number in 0..parameters.len() {
+        if !differs_from_before(parameters, number) {
+            return false;
+        }
+    }
+    true
+}
+
+// Whether no parameter before this one has its name.
+fn differs_from_before(parameters: &[Local], number: usize) -> bool
+    requires { number < length parameters.now }
+    ensures { result ≡ true → DiffersFromBefore parameters.now number }
+{
+    let name = &parameters[number].name;
+    for earlier in 0..number {
+        if parameters[earlier].name == *name {
+            return false;
+        }
+    }
+    true
+}

@@ -1,0 +1,156 @@
+//! What an exploration has found so far.
+ghost use Rattle.std.specs.Prelude.{◌≡◌, ◌≤◌, ◌<◌, length, IfOk, OnOk};
+ghost use Rattle.cs_keys.specs.Live.{live_part};
+ghost use Rattle.cs_keys.specs.Words.{words_of};
+ghost use Rattle.cs_engine.specs.Found.{ComesFromBefore, IsSound, Grows, AreLinked, AreOfRows, IsPlaced};
+
+use crate::children::Child;
+use crate::explored::{End, Explored, Row};
+use crate::visits::visits_of;
+use cs_events::Outcome;
+use cs_graph::{Graph, GraphRefusal};
+use cs_keys::{Key, key};
+use cs_results::Cut;
+use cs_state::{State, Tables};
+use std::alloc::{AllocError, Global};
+
+/// What is found so far.
+#[derive(Drop)]
+pub(crate) struct Findings {
+    pub graph: Graph<Key, Row>,
+    pub ends: Vec<End>,
+    pub cuts: Vec<Cut>,
+    pub tables: Tables,
+    /// How many rows there may be.
+    pub nodes: u64,
+}
+
+impl Findings {
+    /// Nothing, and room for so many rows.
+    pub fn new(alloc: Global, nodes: u64) -> Findings
+        requires { nodes ≤ 200000 }
+        ensures sound { IsSound result }
+        ensures nodes { result.nodes ≡ nodes }
+        ensures rows { length result.graph.rows ≡ 0 }
+    {
+        Findings {
+            graph: Graph::new(alloc, nodes),
+            ends: Vec::new(alloc),
+            cuts: Vec::new(alloc),
+            tables: Tables::new(alloc),
+            nodes,
+        }
+    }
+
+    /// The row in which the entry begins; false where the graph is full.
+    pub fn add_first(&mut self, alloc: Global, state: Box<State>) -> Result<bool, AllocError>
+        requires none { length self.old.graph.rows ≡ 0 }
+        ensures { OnOk result (Grows self.old self.new) }
+    {
+        self.add(
+            alloc,
+            Row {
+                parent: 0,
+                event: None,
+                guess: None,
+                state,
+            },
+        )
+    }
+
+    /// Adds a row, if no other has its key; false where the graph is full, which is listed as a cut.
+    pub fn add(&mut self, alloc: Global, row: Row) -> Result<bool, AllocError>
+        requires parent { ComesFromBefore (length self.old.graph.rows) row }
+        ensures placed { IfOk result (λ room.
+            IsPlaced (words_of (live_part row.state.value)) row room self.old self.new) }
+        ensures grows { OnOk result (Grows self.old self.new) }
+    {
+        let key = key(alloc, &*row.state)?;
+        let visits = visits_of(&*row.state);
+        match self.graph.add(key, visits, row) {
+            Ok(_) => Ok(true),
+            Err(GraphRefusal::Full) => {
+                self.cuts.push(Cut::Nodes(self.nodes))?;
+                Ok(false)
+            }
+            Err(GraphRefusal::Memory) => Err(AllocError),
+        }
+    }
+
+    /// Adds what comes of a row; false where the graph is full.
+    pub fn add_all(&mut self, alloc: Global, row: u32, made: Vec<Child>) -> Result<bool, AllocError>
+        requires { row < length self.old.graph.rows }
+        ensures { OnOk result (Grows self.old self.new) }
+    {
+        for child in made {
+            if !self.add(alloc, row_of(row, child))? {
+                return Ok(false);
+            }
+        }
+        Ok(true)
+    }
+
+    /// Runs that come from a row end so.
+    pub fn add_ends(&mut self, row: u32, ends: Vec<(Outcome, Box<State>)>) -> Result<(), AllocError>
+        requires { row < length self.old.graph.rows }
+        ensures { OnOk result (Grows self.old self.new) }
+    {
+        for (outcome, state) in ends {
+            self.ends.push(End {
+                row,
+                outcome,
+                state,
+            })?;
+        }
+        Ok(())
+    }
+
+    /// The exploration was cut there too.
+    pub fn add_cuts(&mut self, cuts: &[Cut]) -> Result<(), AllocError>
+        ensures { OnOk result (Grows self.old self.new) }
+    {
+        for cut in cuts {
+            self.cuts.push(*cut)?;
+        }
+        Ok(())
+    }
+
+    /// All of it, for good.
+    pub fn explored(self) -> Explored
+        requires { IsSound self }
+        ensures few { length result.rows.items ≤ self.nodes }
+        ensures linked { AreLinked result.rows.items }
+        ensures ends { AreOfRows result.rows.items result.ends.items }
+    {
+        let Findings {
+            graph,
+            ends,
+            cuts,
+            tables,
+            nodes: _,
+        } = self;
+        Explored {
+            rows: graph.into_rows(),
+            ends,
+            cuts,
+            tables,
+        }
+    }
+}
+
+// The row of a child.
+fn row_of(parent: u32, child: Child) -> Row
+    ensures { result.parent ≡ parent }
+{
+    let Child {
+        event,
+        guess,
+        state,
+    } = child;
+    Row {
+        parent,
+        event: Some(event),
+        guess,
+        state,
+    }
+}

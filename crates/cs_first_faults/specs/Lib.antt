@@ -1,0 +1,10 @@
+pub mod Failures
+pub mod Expressions
+pub mod Roles
+pub mod Declarators
+pub mod Types
+pub mod Initials
+pub mod Objects
+pub mod Statements
+pub mod Files
+pub mod Laws

@@ -1,0 +1,4 @@
+mod LineTexts
+mod JsonTexts
+mod Names
+pub mod KindCounts

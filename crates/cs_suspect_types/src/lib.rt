@@ -1,0 +1,6 @@
+//! Suspects, as types: the runs that an exploration suspects of an end, with what the witness needs to show them.
+#![tactic(auto)]
+
+mod suspect;
+
+pub use suspect::{OperandRange, Suspect, SuspectedGuess};

@@ -1,0 +1,101 @@
+//! The cuts of an exploration as they are listed.
+ghost use Rattle.std.specs.Prelude.{◌≡◌, ◌++◌, map, IfOk, OnOk};
+ghost use Rattle.std.specs.BTreeMap.{IsOrdered};
+ghost use Rattle.cs_findings.specs.GoodEntries.{cut_key, AreCutsListed};
+ghost use Rattle.cs_suspects.specs.Spots.{place_of, spot_order, entry_key, cut_of_nodes};
+
+use cs_ast::Place;
+use cs_results::Cut;
+use std::alloc::{AllocError, Global};
+use std::collections::BTreeMap;
+
+// The accesses that were cut, by file, line and column, each with the most offsets that it had.
+type Splits = BTreeMap<(u32, (u32, u32)), u64>;
+
+/// The cuts in the order in which they are printed: that of the nodes first, then those of accesses by place, of each place the one with
+/// the most offsets.
+pub fn listed(alloc: Global, cuts: &[Cut]) -> Result<Vec<Cut>, AllocError>
+    ensures { IfOk result (λ listed. AreCutsListed listed.items) }
+{
+    let splits = splits_of(alloc, cuts)?;
+    let mut listed = list_nodes(alloc, nodes_of(cuts))?;
+    list_splits(&mut listed, &splits)?;
+    Ok(listed)
+}
+
+// Lists the cut of the nodes, if there was one.
+fn list_nodes(alloc: Global, nodes: Option<u64>) -> Result<Vec<Cut>, AllocError>
+    ensures { IfOk result (λ listed. listed.items ≡ cut_of_nodes nodes) }
+{
+    let mut listed = Vec::new(alloc);
+    match nodes {
+        Some(nodes) => {
+            listed.push(Cut::Nodes(nodes))?;
+            Ok(listed)
+        }
+        None => Ok(listed),
+    }
+}
+
+// The nodes that there were where the graph was full.
+fn nodes_of(cuts: &[Cut]) -> Option<u64> {
+    for cut in cuts {
+        if let Cut::Nodes(nodes) = *cut {
+            return Some(nodes);
+        }
+    }
+    None
+}
+
+// The accesses that were cut.
+fn splits_of(alloc: Global, cuts: &[Cut]) -> Result<Splits, AllocError>
+    ensures { IfOk result (λ splits. IsOrdered spot_order splits) }
+{
+    let mut splits = BTreeMap::new(alloc);
+    for cut in cuts {
+        if let Cut::Splits(place, count) = *cut {
+            raise(&mut splits, place, count)?;
+        }
+    }
+    Ok(splits)
+}
+
+// An access had so many offsets at least.
+fn raise(splits: &mut Splits, place: Place, count: u64) -> Result<(), AllocError>
+    requires { IsOrdered spot_order splits.old }
+    ensures { IsOrdered spot_order splits.new }
+{
+    let spot = spot_of(place);
+    if let Some(most) = splits.get(&spot)
+        && *most >= count
+    {
+        return Ok(());
+    }
+    splits.insert(spot, count)?;
+    Ok(())
+}
+
+// Lists the accesses that were cut.
+fn list_splits(listed: &mut Vec<Cut>, splits: &Splits) -> Result<(), AllocError>
+    ensures { OnOk result (map cut_key listed.new.items
+        ≡ map cut_key listed.old.items ++ map entry_key splits.now.entries) }
+{
+    for (spot, count) in splits {
+        listed.push(Cut::Splits(place_of(*spot), *count))?;
+    }
+    Ok(())
+}
+
+fn spot_of(place: Place) -> (u32, (u32, u32)) {
+    (place.file, (place.line, place.column))
+}
+
+fn place_of(spot: (u32, (u32, u32))) -> Place
+    ensures { result ≡ place_of spot }
+{
+    Place {
+        file: spot.0,
+        line: spot.1.0,
+        column: spot.1.1,
+    }
+}

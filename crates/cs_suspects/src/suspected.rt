@@ -1,0 +1,68 @@
+//! The runs that are suspected.
+ghost use Rattle.std.specs.Prelude.{◌≡◌, IfOk};
+
+use crate::choosing::chosen;
+use crate::numbers::{inputs_of, number_of, operand_range};
+use cs_engine::{End, Explored};
+use cs_events::Guess;
+use cs_state::{Asked, State, Tables};
+use cs_suspect_types::{Suspect, SuspectedGuess};
+use std::alloc::{AllocError, Global};
+
+/// The suspects of an exploration.
+pub fn suspects(alloc: Global, explored: &Explored) -> Result<Vec<Suspect>, AllocError> {
+    let mut suspects = Vec::new(alloc);
+    let numbers = chosen(alloc, &explored.ends)?;
+    for number in &numbers {
+        if let Some(end) = explored.ends.get(*number) {
+            suspects.push(suspect(alloc, end, &explored.tables)?)?;
+        }
+    }
+    Ok(suspects)
+}
+
+/// The run that is suspected to end so: the numbers of its symbols are those of least absolute value that the end allows.
+pub fn suspect(alloc: Global, end: &End, tables: &Tables) -> Result<Suspect, AllocError>
+    ensures what { IfOk result (λ suspect. suspect.what ≡ end.now.outcome) }
+    ensures events { IfOk result (λ suspect.
+        suspect.events ≡ end.now.state.value.counters.events) }
+{
+    let inputs = inputs_of(alloc, &*end.state, tables)?;
+    let guesses = guesses_of(alloc, &*end.state, tables)?;
+    Ok(Suspect {
+        what: end.outcome,
+        events: end.state.counters.events,
+        inputs,
+        guesses,
+    })
+}
+
+// The guesses of a state, in the order of their events.
+fn guesses_of(
+    alloc: Global,
+    state: &State,
+    tables: &Tables,
+) -> Result<Vec<SuspectedGuess>, AllocError> {
+    let mut guesses = Vec::new(alloc);
+    for (_, asked) in state.asked.iter()? {
+        guesses.push(suspected_guess(state, tables, asked)?)?;
+    }
+    Ok(guesses)
+}
+
+fn suspected_guess(
+    state: &State,
+    tables: &Tables,
+    asked: &Asked,
+) -> Result<SuspectedGuess, AllocError> {
+    let left = operand_range(tables, asked.left, asked.ends.left)?;
+    let right = operand_range(tables, asked.right, asked.ends.right)?;
+    Ok(SuspectedGuess {
+        guess: Guess {
+            event: asked.event,
+            number: number_of(state, asked.guess),
+        },
+        left,
+        right,
+    })
+}

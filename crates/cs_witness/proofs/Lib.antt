@@ -1,0 +1,15 @@
+pub mod StepBudgets
+pub mod SmallerBudgets
+pub mod PathsRead
+pub mod SameRuns
+pub mod Keys
+pub mod PoolLemmas
+pub mod Groundings
+pub mod Keepings
+pub mod Showings
+pub mod Ascending
+pub mod ShownGrounds
+pub mod Insertions
+pub mod Orders
+pub mod Tries
+pub mod GoodLists

@@ -1,0 +1,26 @@
+use Rattle.std.proofs.Common.{◌<◌, ◌≤◌, IsTrue, length, sym, ap, ◌∙◌, arith, rules}
+use Rattle.std.specs.Prelude.{ℤ}
+use Rattle.std.specs.Map.{keys_of}
+use Rattle.cs_inputs.specs.declared.path.Path.{Path}
+use Rattle.std.proofs.lemmas.List.{take_all}
+use Rattle.cs_witness.proofs.Keys.{keys_more}
+use Rattle.cs_witness.proofs.listing.same_keys.Goals as goal
+
+pub loop-index-preserved : goal.loop-index-preserved
+loop-index-preserved c =
+    let one = c.args.one.now in
+    let other = c.args.other.now in
+    let passes : IsTrue c.same_path.result = search rules in
+    let below : c.loop-index.index < length one = omega arith in
+    let below' : c.loop-index.index < length other = omega arith in
+    keys_more one other c.loop-index.index c.index-one-index.result c.index-other-index.result below below' c.index-one-index.is c.index-other-index.is
+    (ap (λ (e : Path × ℤ). e.0) c.index-one-index.is ∙ c.same_path.ensures passes ∙ sym (ap (λ (e : Path × ℤ). e.0) c.index-other-index.is))
+    c.loop-index.invariant
+
+pub returns : goal.returns
+returns c passes =
+    let one = c.args.one.now in
+    let other = c.args.other.now in
+    let none : length one ≤ c.loop-index.index = omega arith in
+    let none' : length other ≤ c.loop-index.index = omega arith in
+    sym (ap keys_of (take_all c.loop-index.index one none)) ∙ c.loop-index.invariant ∙ ap keys_of (take_all c.loop-index.index other none')

@@ -1,0 +1,7 @@
+-- The paths before the index are the same.
+use Rattle.std.proofs.Common.{◌≡◌, take}
+use Rattle.std.specs.Map.{keys_of}
+use Rattle.cs_witness.proofs.listing.same_keys.Given as goal
+
+abbrev pub invariant-loop-index : goal.invariant-loop-index
+invariant-loop-index l = keys_of (take l.index l.one) ≡ keys_of (take l.index l.other)

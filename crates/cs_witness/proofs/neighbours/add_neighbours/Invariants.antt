@@ -1,0 +1,10 @@
+-- The neighbours by the paths before the index joined the tries, as far as there is room.
+use Rattle.std.proofs.Common.{◌≡◌, ℤ, ◌++◌, take}
+use Rattle.std.specs.Prelude.{flat_map}
+use Rattle.cs_inputs.specs.declared.path.Path.{Path}
+use Rattle.cs_findings.specs.Neighbours.{replaced}
+use Rattle.cs_witness.proofs.neighbours.add_neighbours.Given as goal
+
+abbrev pub invariant-loop-entry : goal.invariant-loop-entry
+invariant-loop-entry l =
+    l.tries.items ≡ take 64 (l.fn.tries.items ++ flat_map (λ (e : Path × ℤ). replaced l.constants l.inputs e.0) (take l.entry-index l.listed))

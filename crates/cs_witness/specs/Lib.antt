@@ -1,0 +1,5 @@
+pub mod Entries
+pub mod Listing
+pub mod Keeping
+pub mod Grounding
+pub mod Witnesses

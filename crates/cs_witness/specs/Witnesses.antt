@@ -1,0 +1,47 @@
+-- What the witness says of suspects.
+use Rattle.std.specs.Prelude.{◌≡◌, ℕ, ℤ, List, Result, MatchResult, map, Contains, All, ◌⊎◌}
+use Rattle.std.specs.List.{HoldsAt}
+use Rattle.std.specs.List.Sorted.{IsPartitionPoint}
+use Rattle.std.specs.declared.cmp.Ordering.TheVariants.{Less, Equal, Greater}
+use Rattle.cs_inputs.specs.declared.path.Path.{Path}
+use Rattle.cs_ast.specs.TypedProgram.{typed_program}
+use Rattle.cs_events.specs.declared.outcome.Outcome.{Outcome}
+use Rattle.cs_results.specs.declared.finding.Finding.{Finding}
+use Rattle.cs_witness.specs.declared.entry.Entry.{Entry}
+use Rattle.cs_findings.specs.Runs.{run_budgets}
+use Rattle.cs_findings.specs.GoodFindings.{IsShown, IsGoodFinding, EndsElsewhere}
+use Rattle.cs_findings.specs.GoodEntries.{IsFault, IsOver, AreListed, outcome_key, key_order}
+
+-- a finding of the entry that is shown, and a good one
+abbrev pub IsShownOf : Entry → Finding → Type 0
+IsShownOf entry = IsShown (typed_program entry.program.now) entry.function (run_budgets entry.budgets)
+
+abbrev pub IsGoodOf : Entry → Finding → Type 0
+IsGoodOf entry = IsGoodFinding (typed_program entry.program.now) entry.function (run_budgets entry.budgets)
+
+-- a run of the entry from these inputs doesn't end so without guesses
+abbrev pub IsElsewhereOf : Entry → Outcome → List (Path × ℤ) → Type 0
+IsElsewhereOf entry = EndsElsewhere (typed_program entry.program.now) entry.function (run_budgets entry.budgets)
+
+-- good findings of outcomes of one form, as they are listed
+pub record AreGood (entry : Entry) (Is : Outcome → Type 0) (findings : List Finding) : Type 0 where
+  pub good : All (IsGoodOf entry) findings
+  pub form : All (λ f. Is f.what) findings
+  pub listed : AreListed findings
+
+-- good findings of faults, and of met budgets
+abbrev pub AreGoodReports : Entry → List Finding → Type 0
+AreGoodReports entry = AreGood entry IsFault
+
+abbrev pub AreGoodOvers : Entry → List Finding → Type 0
+AreGoodOvers entry = AreGood entry IsOver
+
+-- the findings before a place are of lesser outcomes, and the others of greater ones
+abbrev pub BelongsAt : Outcome → List Finding → ℕ → Type 0
+BelongsAt what = IsPartitionPoint (λ f. key_order (outcome_key f.what) (outcome_key what) ≡ Less)
+    (λ f. key_order (outcome_key f.what) (outcome_key what) ≡ Greater)
+
+-- where an outcome is listed, or where it belongs
+abbrev pub IsPlaceIn : Outcome → List Finding → Result ℕ ℕ → Type 0
+IsPlaceIn what findings answer =
+    MatchResult answer (HoldsAt (λ f. key_order (outcome_key f.what) (outcome_key what) ≡ Equal) findings) (BelongsAt what findings)

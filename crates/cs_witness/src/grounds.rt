@@ -1,0 +1,228 @@
+//! The grounds of a run's guesses.
+ghost use Rattle.std.specs.Prelude.{◌≡◌, ◌<◌, [], IsTrue, Some, slice_get, length, IfOk, IfSome};
+ghost use Rattle.cs_ast.specs.TypedProgram.{typed_program};
+ghost use Rattle.cs_results.specs.declared.run.Others.TheVariants as others;
+ghost use Rattle.cs_findings.specs.Runs.{run_of, run_budgets};
+ghost use Rattle.cs_findings.specs.GoodFindings.{IsEach, IsGroundOf};
+ghost use Rattle.cs_judge.specs.declared.pool.Replay as replays;
+ghost use Rattle.cs_judge.specs.Pools.{IsKept};
+ghost use Rattle.cs_witness.specs.Entries.{CanRun, Gives};
+ghost use Rattle.cs_witness.specs.Grounding.{IsGroundIn, AreGroundsIn, AreRunsAt, IsListedRunAt, IsPlaceAt};
+
+use crate::copies::copy_run;
+use crate::entry::Entry;
+use crate::kept::kept_of;
+use crate::listing::same_paths;
+use crate::pools::{add_all_corners, add_further_corners, name_partners};
+use cs_ast::Place;
+use cs_events::Guess;
+use cs_findings::{Ground, Others, Run};
+use cs_inputs::Inputs;
+use cs_judge::{Kept, Replay, are_real};
+use cs_replay::Replayed;
+use cs_suspect_types::SuspectedGuess;
+use std::alloc::{AllocError, Global};
+
+/// The grounds of a run's guesses, if the judge is shown that all of them are real.
+pub fn grounds_of(
+    alloc: Global,
+    entry: &Entry,
+    guesses: &[SuspectedGuess],
+    run: &Run,
+    replayed: &Replayed,
+) -> Result<Option<Vec<Ground>>, AllocError>
+    requires runs { CanRun entry.now }
+    requires replayed { Gives entry.now (run_of run.now) replayed.now }
+    ensures { IfOk result (λ found. IfSome found (λ grounds.
+        IsEach (IsGroundOf (typed_program entry.now.program.now) entry.now.function
+        (run_budgets entry.now.budgets) (run_of run.now))
+        run.now.guesses.items grounds.items)) }
+{
+    if guesses_nothing(run) {
+        let none = Vec::new(alloc);
+        return Ok(Some(none));
+    }
+    let mut pool = Vec::new(alloc);
+    pool.push(shown_replay(alloc, entry, run, replayed)?)?;
+    let corners = add_all_corners(alloc, entry, &mut pool, run, guesses)?;
+    add_further_corners(alloc, entry, &mut pool, guesses)?;
+    name_partners(alloc, entry.program.model, &mut pool, corners.as_slice())?;
+    if !are_real(alloc, entry.program.model, pool.as_slice())? {
+        return Ok(None);
+    }
+    grounds_in(alloc, pool.as_slice(), &run.inputs)
+}
+
+/// Whether a run lists no guess.
+#[tactic(auto, using(crate::proofs::PoolLemmas::none_there))]
+pub fn guesses_nothing(run: &Run) -> bool
+    ensures { IsTrue result → run.now.guesses.items ≡ [] }
+{
+    run.guesses.is_empty()
+}
+
+// The run that is shown, as the judge takes it.
+fn shown_replay(
+    alloc: Global,
+    entry: &Entry,
+    run: &Run,
+    replayed: &Replayed,
+) -> Result<Replay, AllocError>
+    requires runs { CanRun entry.now }
+    requires replayed { Gives entry.now (run_of run.now) replayed.now }
+    ensures kept { IfOk result (IsKept (typed_program entry.now.program.now) entry.now.function
+        (run_budgets entry.now.budgets)) }
+    ensures run { IfOk result (λ replay. run_of replay.run ≡ run_of run.now) }
+{
+    let run = copy_run(alloc, run)?;
+    let events = Vec::from_slice(alloc, replayed.log.events.as_slice())?;
+    let kept = kept_of(alloc, replayed.log.pending.as_slice())?;
+    Ok(Replay {
+        run,
+        events,
+        kept,
+        partners: Vec::new(alloc),
+    })
+}
+
+// The grounds of the guesses of the first run of a pool, if there is one for each, of runs that list the same paths.
+fn grounds_in(
+    alloc: Global,
+    pool: &[Replay],
+    inputs: &Inputs,
+) -> Result<Option<Vec<Ground>>, AllocError>
+    ensures { IfOk result (λ found. IfSome found (λ grounds.
+        (mine : replays.Replay) → slice_get pool.now 0 ≡ Some mine
+        → AreGroundsIn pool.now mine inputs.now grounds.items)) }
+{
+    match pool.first() {
+        Some(mine) => grounds_for(alloc, pool, mine, inputs),
+        None => Ok(None),
+    }
+}
+
+fn grounds_for(
+    alloc: Global,
+    pool: &[Replay],
+    mine: &Replay,
+    inputs: &Inputs,
+) -> Result<Option<Vec<Ground>>, AllocError>
+    ensures { IfOk result (λ found. IfSome found (λ grounds.
+        AreGroundsIn pool.now mine.now inputs.now grounds.items)) }
+{
+    let mut grounds = Vec::new(alloc);
+    for place in 0..mine.run.guesses.len() {
+        match ground_of(alloc, pool, mine, inputs, place)? {
+            Some(ground) => grounds.push(ground)?,
+            None => return Ok(None),
+        }
+    }
+    Ok(Some(grounds))
+}
+
+// The ground of one guess.
+fn ground_of(
+    alloc: Global,
+    pool: &[Replay],
+    mine: &Replay,
+    inputs: &Inputs,
+    number: usize,
+) -> Result<Option<Ground>, AllocError>
+    requires { number < length mine.now.run.guesses.items }
+    ensures { IfOk result (λ found. IfSome found
+        (IsGroundIn pool.now mine.now inputs.now number)) }
+{
+    let guess = mine.run.guesses[number];
+    let Some(partners) = mine.partners.get(number) else {
+        return Ok(None);
+    };
+    let Some(place) = place_of(mine, guess) else {
+        return Ok(None);
+    };
+    match others_in(alloc, pool, inputs, partners.others)? {
+        Some(others) => Ok(Some(Ground {
+            guess,
+            place,
+            others,
+        })),
+        None => Ok(None),
+    }
+}
+
+// The place of the operation that was kept at a guess.
+fn place_of(mine: &Replay, guess: Guess) -> Option<Place>
+    ensures { IfSome result (IsPlaceAt mine.now guess) }
+{
+    let passed = guess.event.checked_sub(1)?;
+    match mine.kept.get(passed as usize) {
+        Some(kept) => match *kept {
+            Kept::Operates(place, _) => Some(place),
+            Kept::Other => None,
+        },
+        None => None,
+    }
+}
+
+// The runs of a pool with these numbers once more, if they list the same paths.
+fn others_in(
+    alloc: Global,
+    pool: &[Replay],
+    inputs: &Inputs,
+    others: Others<usize>,
+) -> Result<Option<Others<Run>>, AllocError>
+    ensures { IfOk result (λ found. IfSome found (AreRunsAt pool.now inputs.now others)) }
+{
+    match others {
+        Others::One(number) => match other_in(alloc, pool, inputs, number)? {
+            Some(run) => Ok(Some(Others::One(run))),
+            None => Ok(None),
+        },
+        Others::Two(first, second) => two_in(alloc, pool, inputs, first, second),
+    }
+}
+
+fn two_in(
+    alloc: Global,
+    pool: &[Replay],
+    inputs: &Inputs,
+    first: usize,
+    second: usize,
+) -> Result<Option<Others<Run>>, AllocError>
+    ensures { IfOk result (λ found. IfSome found
+        (AreRunsAt pool.now inputs.now (others.Two first second))) }
+{
+    let Some(one) = other_in(alloc, pool, inputs, first)? else {
+        return Ok(None);
+    };
+    let Some(other) = other_in(alloc, pool, inputs, second)? else {
+        return Ok(None);
+    };
+    Ok(Some(Others::Two(one, other)))
+}
+
+// The run of a pool with a number once more, if it lists the same paths.
+fn other_in(
+    alloc: Global,
+    pool: &[Replay],
+    inputs: &Inputs,
+    number: usize,
+) -> Result<Option<Run>, AllocError>
+    ensures { IfOk result (λ found. IfSome found (IsListedRunAt pool.now inputs.now number)) }
+{
+    match replay_at(pool, number) {
+        Some(replay) => {
+            if !same_paths(&replay.run.inputs, inputs) {
+                return Ok(None);
+            }
+            let run = copy_run(alloc, &replay.run)?;
+            Ok(Some(run))
+        }
+        None => Ok(None),
+    }
+}
+
+fn replay_at(pool: &[Replay], number: usize) -> Option<&Replay>
+    ensures { IfSome result (λ replay. slice_get pool.now number ≡ Some replay.now) }
+{
+    pool.get(number)
+}

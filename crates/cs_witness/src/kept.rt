@@ -1,0 +1,58 @@
+//! What the judge keeps of a replay.
+ghost use Rattle.std.specs.Prelude.{IfOk};
+ghost use Rattle.cs_ast.specs.TypedProgram.{typed_program};
+ghost use Rattle.cs_findings.specs.Runs.{run_budgets};
+ghost use Rattle.cs_judge.specs.Pools.{IsKept};
+ghost use Rattle.cs_witness.specs.Entries.{CanRun};
+ghost use Rattle.cs_run_state.specs.View.{pending_of};
+ghost use Rattle.cs_witness.specs.Keeping.{AreKeptOf, IsKeptAt};
+
+use crate::entry::Entry;
+use crate::replaying::replayed;
+use cs_findings::Run;
+use cs_judge::{Kept, Replay};
+use cs_run_state::Pending;
+use std::alloc::{AllocError, Global};
+
+/// What was pending at the events of a run, as the judge keeps it.
+pub fn kept_of(alloc: Global, pending: &[Pending]) -> Result<Vec<Kept>, AllocError>
+    ensures { IfOk result (λ kept. AreKeptOf pending.now kept.items) }
+{
+    let mut kept = Vec::new(alloc);
+    for one in pending {
+        kept.push(kept_at(one))?;
+    }
+    Ok(kept)
+}
+
+fn kept_at(pending: &Pending) -> Kept
+    ensures { IsKeptAt (pending_of pending.now) result }
+{
+    match pending {
+        Pending::Operates(place, operation) => Kept::Operates(*place, *operation),
+        Pending::Tries(_, _) => Kept::Other,
+        Pending::Accesses(_, _, _) => Kept::Other,
+    }
+}
+
+/// A run up to an event, as the judge takes it, with no partners so far.
+pub fn replay_up_to(
+    alloc: Global,
+    entry: &Entry,
+    run: Run,
+    event: u64,
+) -> Result<Replay, AllocError>
+    requires { CanRun entry.now }
+    ensures { IfOk result (IsKept (typed_program entry.now.program.now) entry.now.function
+        (run_budgets entry.now.budgets)) }
+{
+    let events = event.min(entry.budgets.events);
+    let replayed = replayed(alloc, entry, &run.inputs, run.guesses.as_slice(), events)?;
+    let kept = kept_of(alloc, replayed.log.pending.as_slice())?;
+    Ok(Replay {
+        run,
+        events: replayed.log.events,
+        kept,
+        partners: Vec::new(alloc),
+    })
+}

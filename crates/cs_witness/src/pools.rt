@@ -1,0 +1,198 @@
+//! The pool of a suspect: its run, and the runs of its guesses' corners.
+ghost use Rattle.std.specs.Prelude.{◌≡◌, OnOk, IfOk};
+ghost use Rattle.cs_witness.specs.Entries.{CanRun};
+ghost use Rattle.cs_witness.specs.Keeping.{Widens, KeepsRuns, bare};
+
+use crate::copies::copy_run;
+use crate::corners::corners_of;
+use crate::entry::Entry;
+use crate::kept::replay_up_to;
+use cs_findings::{Others, Run};
+use cs_judge::{Partners, Replay, Stretch, partners, shown_partners};
+use cs_suspect_types::SuspectedGuess;
+use cs_types::DataModel;
+use std::alloc::{AllocError, Global};
+
+// How many runs a pool takes beside the shown run and its corners, and how often these are looked for.
+const MOST_FURTHER_RUNS: usize = 64;
+
+/// Adds the runs of the corners of each guess of a run to a pool: which runs of the pool belong to which guess.
+pub fn add_all_corners(
+    alloc: Global,
+    entry: &Entry,
+    pool: &mut Vec<Replay>,
+    run: &Run,
+    guesses: &[SuspectedGuess],
+) -> Result<Vec<Stretch>, AllocError>
+    requires { CanRun entry.now }
+    ensures { IfOk result (λ _. Widens entry.now pool.old.items pool.new.items) }
+{
+    let mut corners = Vec::new(alloc);
+    for guess in guesses {
+        let from = pool.len();
+        add_corners(alloc, entry, pool, run, guess)?;
+        corners.push(Stretch {
+            from,
+            to: pool.len(),
+        })?;
+    }
+    Ok(corners)
+}
+
+/// Adds corners of the guesses of other runs of the pool that find no partners there.
+pub fn add_further_corners(
+    alloc: Global,
+    entry: &Entry,
+    pool: &mut Vec<Replay>,
+    guesses: &[SuspectedGuess],
+) -> Result<(), AllocError>
+    requires { CanRun entry.now }
+    ensures { OnOk result (Widens entry.now pool.old.items pool.new.items) }
+{
+    let most = pool.len().saturating_add(MOST_FURTHER_RUNS);
+    for _round in 0..MOST_FURTHER_RUNS {
+        let found = partners(alloc, entry.program.model, pool.as_slice())?;
+        let before = pool.len();
+        add_missing(alloc, entry, pool, guesses, found.as_slice(), most)?;
+        if pool.len() == before {
+            return Ok(());
+        }
+    }
+    Ok(())
+}
+
+/// Names partners for all guesses of the pool: of the shown run among the corners of the guess, of the others among all runs.
+pub fn name_partners(
+    alloc: Global,
+    model: DataModel,
+    pool: &mut Vec<Replay>,
+    corners: &[Stretch],
+) -> Result<(), AllocError>
+    ensures { OnOk result (KeepsRuns pool.old.items pool.new.items) }
+{
+    let found = partners(alloc, model, pool.as_slice())?;
+    let shown = shown_partners(alloc, model, pool.as_slice(), corners)?;
+    for number in 0..pool.len() {
+        let named = if number == 0 {
+            shown.as_slice()
+        } else {
+            row_at(found.as_slice(), number)
+        };
+        name(alloc, &mut pool[number], named)?;
+    }
+    Ok(())
+}
+
+// The partners that were found for a run.
+fn row_at(found: &[Vec<Partners>], number: usize) -> &[Partners] {
+    match found.get(number) {
+        Some(row) => row.as_slice(),
+        None => &[],
+    }
+}
+
+// Names the partners of a run's guesses.
+fn name(alloc: Global, replay: &mut Replay, named: &[Partners]) -> Result<(), AllocError>
+    ensures { bare replay.new ≡ bare replay.old }
+{
+    replay.partners = Vec::from_slice(alloc, named)?;
+    Ok(())
+}
+
+// Adds the corners of a guess.
+fn add_corners(
+    alloc: Global,
+    entry: &Entry,
+    pool: &mut Vec<Replay>,
+    run: &Run,
+    guess: &SuspectedGuess,
+) -> Result<(), AllocError>
+    requires { CanRun entry.now }
+    ensures { OnOk result (Widens entry.now pool.old.items pool.new.items) }
+{
+    for corner in corners_of(alloc, run, guess)? {
+        let replay = replay_up_to(alloc, entry, corner, guess.guess.event)?;
+        pool.push(replay)?;
+    }
+    Ok(())
+}
+
+// Adds the corners of each guess that found no partners, but of the shown run's, whose corners are there.
+fn add_missing(
+    alloc: Global,
+    entry: &Entry,
+    pool: &mut Vec<Replay>,
+    guesses: &[SuspectedGuess],
+    found: &[Vec<Partners>],
+    most: usize,
+) -> Result<(), AllocError>
+    requires { CanRun entry.now }
+    ensures { OnOk result (Widens entry.now pool.old.items pool.new.items) }
+{
+    for number in 1..found.len() {
+        add_missing_of(
+            alloc,
+            entry,
+            pool,
+            guesses,
+            number,
+            row_at(found, number),
+            most,
+        )?;
+    }
+    Ok(())
+}
+
+// The same of one run.
+fn add_missing_of(
+    alloc: Global,
+    entry: &Entry,
+    pool: &mut Vec<Replay>,
+    guesses: &[SuspectedGuess],
+    number: usize,
+    row: &[Partners],
+    most: usize,
+) -> Result<(), AllocError>
+    requires { CanRun entry.now }
+    ensures { OnOk result (Widens entry.now pool.old.items pool.new.items) }
+{
+    for (guess, partners) in guesses.iter().zip(row) {
+        if is_missing(partners) && pool.len() < most {
+            add_corners_of(alloc, entry, pool, number, guess)?;
+        }
+    }
+    Ok(())
+}
+
+// Adds the corners of a guess of the run with a number.
+fn add_corners_of(
+    alloc: Global,
+    entry: &Entry,
+    pool: &mut Vec<Replay>,
+    number: usize,
+    guess: &SuspectedGuess,
+) -> Result<(), AllocError>
+    requires { CanRun entry.now }
+    ensures { OnOk result (Widens entry.now pool.old.items pool.new.items) }
+{
+    let Some(run) = run_at(alloc, pool.as_slice(), number)? else {
+        return Ok(());
+    };
+    add_corners(alloc, entry, pool, &run, guess)
+}
+
+// The run with a number once more.
+fn run_at(alloc: Global, pool: &[Replay], number: usize) -> Result<Option<Run>, AllocError> {
+    match pool.get(number) {
+        Some(replay) => Ok(Some(copy_run(alloc, &replay.run)?)),
+        None => Ok(None),
+    }
+}
+
+// Whether no partners were found.
+fn is_missing(partners: &Partners) -> bool {
+    match partners.others {
+        Others::One(number) => number == usize::MAX,
+        Others::Two(_, _) => false,
+    }
+}

@@ -1,0 +1,259 @@
+//! The result of an entry.
+ghost use Rattle.std.specs.Prelude.{◌≡◌, ◌≤◌, [], length, IfOk, IfSome, OnOk};
+ghost use Rattle.std.specs.List.Sorted.{IsSearchInRange};
+ghost use Rattle.cs_ast.specs.TypedProgram.{typed_program};
+ghost use Rattle.cs_findings.specs.GoodFindings.{IsFinding};
+ghost use Rattle.cs_findings.specs.GoodEntries.{IsFault, IsOver, IsGoodEntry, AreListed, AreCutsListed, verdict_of};
+ghost use Rattle.cs_witness.specs.Entries.{CanRun};
+ghost use Rattle.cs_witness.specs.Witnesses.{IsShownOf, IsGoodOf, AreGoodReports, AreGoodOvers, BelongsAt, IsPlaceIn};
+
+use crate::entry::Entry;
+use crate::grounds::guesses_nothing;
+use crate::neighbours::confirmed;
+use crate::order::order;
+use crate::showing::shown;
+use cs_events::Outcome;
+use cs_findings::{Cut, EntryResult, Finding, Verdict};
+use cs_suspect_types::Suspect;
+use std::alloc::{AllocError, Global};
+
+/// What is said of an entry, and how many suspects were looked at and dropped, since they couldn't be shown.
+#[derive(Drop)]
+pub struct Witnessed {
+    pub result: EntryResult,
+    pub dropped: u64,
+}
+
+// The findings so far, and how many suspects were dropped.
+#[derive(Drop)]
+pub struct Findings {
+    pub reports: Vec<Finding>,
+    pub overs: Vec<Finding>,
+    pub dropped: u64,
+}
+
+// By what the suspects of one outcome are ordered: without guesses first, then by the number of events, then as they come.
+#[derive(Clone, Copy, PartialEq, Eq, PartialOrd, Ord)]
+pub struct Rank {
+    pub guesses: bool,
+    pub events: u64,
+    pub number: usize,
+}
+
+/// The result of an entry from what is suspected of it, and from where its exploration was cut: one finding for each outcome that is
+/// shown, of the suspects of one outcome the first that is shown, those without guesses first, then those with fewest events. A suspect
+/// that isn't shown is dropped, and counted. The error comes where memory runs out, or where a run is replayed of a function without a body.
+pub fn result(
+    alloc: Global,
+    entry: &Entry,
+    suspects: &[Suspect],
+    cuts: Vec<Cut>,
+) -> Result<Witnessed, AllocError>
+    requires runs { CanRun entry.now }
+    requires cuts { AreCutsListed cuts.items }
+    ensures good { IfOk result (λ witnessed. IsGoodEntry
+        (typed_program entry.now.program.now) entry.now.budgets witnessed.result) }
+    ensures entry { IfOk result (λ witnessed. witnessed.result.entry ≡ entry.now.function) }
+    ensures cuts { IfOk result (λ witnessed. witnessed.result.cuts.items ≡ cuts.items) }
+{
+    let ranks = ranked(alloc, suspects)?;
+    let mut findings = Findings::new(alloc);
+    for rank in &ranks {
+        if let Some(suspect) = suspects.get(rank.number) {
+            findings.take_in(alloc, entry, suspect)?;
+        }
+    }
+    Ok(findings.into_result(entry, cuts))
+}
+
+// The numbers of the suspects, those first that are looked at first.
+fn ranked(alloc: Global, suspects: &[Suspect]) -> Result<Vec<Rank>, AllocError> {
+    let mut ranks = Vec::new(alloc);
+    for (number, suspect) in suspects.iter().enumerate() {
+        ranks.push(Rank {
+            guesses: !suspect.guesses.is_empty(),
+            events: suspect.events,
+            number,
+        })?;
+    }
+    ranks.sort()?;
+    Ok(ranks)
+}
+
+impl Findings {
+    fn new(alloc: Global) -> Findings
+        ensures reports { result.reports.items ≡ [] }
+        ensures overs { result.overs.items ≡ [] }
+    {
+        Findings {
+            reports: Vec::new(alloc),
+            overs: Vec::new(alloc),
+            dropped: 0,
+        }
+    }
+
+    // A suspect is looked at, unless its outcome is listed already.
+    fn take_in(&mut self, alloc: Global, entry: &Entry, suspect: &Suspect) -> Result<(), AllocError>
+        requires runs { CanRun entry.now }
+        requires reports { AreGoodReports entry.now self.old.reports.items }
+        requires overs { AreGoodOvers entry.now self.old.overs.items }
+        ensures reports { OnOk result (AreGoodReports entry.now self.new.reports.items) }
+        ensures overs { OnOk result (AreGoodOvers entry.now self.new.overs.items) }
+    {
+        match suspect.what {
+            Outcome::Done(_) => self.dropped = self.dropped.saturating_add(1),
+            Outcome::Fault(_, _) => {
+                let listed = list_if_shown(alloc, entry, &mut self.reports, suspect)?;
+                self.count(listed);
+            }
+            Outcome::Over(_, _) => {
+                let listed = list_if_shown(alloc, entry, &mut self.overs, suspect)?;
+                self.count(listed);
+            }
+        }
+        Ok(())
+    }
+
+    // One more suspect was looked at.
+    fn count(&mut self, listed: bool)
+        ensures reports { self.new.reports ≡ self.old.reports }
+        ensures overs { self.new.overs ≡ self.old.overs }
+    {
+        if !listed {
+            self.dropped = self.dropped.saturating_add(1);
+        }
+    }
+
+    fn into_result(self, entry: &Entry, cuts: Vec<Cut>) -> Witnessed
+        requires reports { AreGoodReports entry.now self.reports.items }
+        requires overs { AreGoodOvers entry.now self.overs.items }
+        requires cuts { AreCutsListed cuts.items }
+        ensures good { IsGoodEntry (typed_program entry.now.program.now) entry.now.budgets
+            result.result }
+        ensures entry { result.result.entry ≡ entry.now.function }
+        ensures cuts { result.result.cuts.items ≡ cuts.items }
+    {
+        let verdict = verdict_of(cuts.as_slice(), self.overs.as_slice());
+        Witnessed {
+            result: EntryResult {
+                entry: entry.function,
+                verdict,
+                reports: self.reports,
+                overs: self.overs,
+                cuts,
+            },
+            dropped: self.dropped,
+        }
+    }
+}
+
+// Cut where anything was cut, else bounded where a budget was met, else complete.
+fn verdict_of(cuts: &[Cut], overs: &[Finding]) -> Verdict
+    ensures { result ≡ verdict_of cuts.now overs.now }
+{
+    if !cuts.is_empty() {
+        Verdict::Cut
+    } else if !overs.is_empty() {
+        Verdict::Bounded
+    } else {
+        Verdict::Complete
+    }
+}
+
+// Whether a suspect's outcome is listed: it was before, or is now, since the suspect is shown.
+fn list_if_shown(
+    alloc: Global,
+    entry: &Entry,
+    findings: &mut Vec<Finding>,
+    suspect: &Suspect,
+) -> Result<bool, AllocError>
+    requires runs { CanRun entry.now }
+    requires finding { IsFinding suspect.now.what }
+    requires listed { AreListed findings.old.items }
+    ensures reports { OnOk result (IsFault suspect.now.what
+        → AreGoodReports entry.now findings.old.items
+        → AreGoodReports entry.now findings.new.items) }
+    ensures overs { OnOk result (IsOver suspect.now.what
+        → AreGoodOvers entry.now findings.old.items
+        → AreGoodOvers entry.now findings.new.items) }
+{
+    match place_in(findings.as_slice(), suspect.what) {
+        Ok(_) => Ok(true),
+        Err(place) => list_at(alloc, entry, findings, suspect, place),
+    }
+}
+
+// Whether a suspect is shown, and so listed where its outcome belongs.
+fn list_at(
+    alloc: Global,
+    entry: &Entry,
+    findings: &mut Vec<Finding>,
+    suspect: &Suspect,
+    place: usize,
+) -> Result<bool, AllocError>
+    requires runs { CanRun entry.now }
+    requires finding { IsFinding suspect.now.what }
+    requires within { place ≤ length findings.old.items }
+    requires place { BelongsAt suspect.now.what findings.old.items place }
+    ensures reports { OnOk result (IsFault suspect.now.what
+        → AreGoodReports entry.now findings.old.items
+        → AreGoodReports entry.now findings.new.items) }
+    ensures overs { OnOk result (IsOver suspect.now.what
+        → AreGoodOvers entry.now findings.old.items
+        → AreGoodOvers entry.now findings.new.items) }
+{
+    match finding_of(alloc, entry, suspect)? {
+        Some(finding) => {
+            findings.insert(place, finding)?;
+            Ok(true)
+        }
+        None => Ok(false),
+    }
+}
+
+// Where an outcome is listed, or where it belongs.
+fn place_in(findings: &[Finding], what: Outcome) -> Result<usize, usize>
+    requires { AreListed findings.now }
+    ensures within { IsSearchInRange result (length findings.now) }
+    ensures place { IsPlaceIn what findings.now result }
+{
+    findings.binary_search_by(|finding| order(finding.what, what))
+}
+
+// The good finding of a suspect, if it is shown.
+fn finding_of(
+    alloc: Global,
+    entry: &Entry,
+    suspect: &Suspect,
+) -> Result<Option<Finding>, AllocError>
+    requires runs { CanRun entry.now }
+    requires finding { IsFinding suspect.now.what }
+    ensures good { IfOk result (λ found. IfSome found (IsGoodOf entry.now)) }
+    ensures so { IfOk result (λ found. IfSome found (λ finding.
+        finding.what ≡ suspect.now.what)) }
+{
+    match shown(alloc, entry, suspect)? {
+        Some(finding) => {
+            let good = good_finding(alloc, entry, finding)?;
+            Ok(Some(good))
+        }
+        None => Ok(None),
+    }
+}
+
+// A shown finding, or in its place that of the first neighbour that ends so without guesses, if one does.
+fn good_finding(alloc: Global, entry: &Entry, finding: Finding) -> Result<Finding, AllocError>
+    requires runs { CanRun entry.now }
+    requires form { IsFinding finding.what }
+    requires shown { IsShownOf entry.now finding }
+    ensures good { IfOk result (IsGoodOf entry.now) }
+    ensures so { IfOk result (λ good. good.what ≡ finding.what) }
+{
+    if guesses_nothing(&finding.run) {
+        return Ok(finding);
+    }
+    match confirmed(alloc, entry, &finding.run.inputs, finding.what)? {
+        Some(found) => Ok(found),
+        None => Ok(finding),
+    }
+}
