@@ -6,23 +6,13 @@ crates/bench_analysis, which counts the rows of the graphs. Prints the least pro
 """
 import os
 import shutil
-import subprocess
 import tempfile
+
+from timing import run
 
 CSA = os.environ.get("CSA", "crates/csa/out/csa")
 COUNTER = os.environ.get("BENCH_ANALYSIS", "crates/bench_analysis/out/bench_analysis")
 RUNS = 5
-
-
-def run(command, text):
-    """What a command prints of a text, its processor time in seconds and its memory in MB."""
-    with tempfile.TemporaryFile() as given:
-        given.write(text.encode())
-        given.seek(0)
-        child = subprocess.Popen(command, stdin=given, stdout=subprocess.PIPE, stderr=subprocess.DEVNULL)
-        said = child.stdout.read().decode()
-        _, _, usage = os.wait4(child.pid, 0)
-    return said, usage.ru_utime + usage.ru_stime, usage.ru_maxrss // 1024
 
 
 def least(command, text):

@@ -4,9 +4,9 @@
 Run it at the top of the repository once `rt run` has built csa in crates/csa: python3 bench/replay.py
 """
 
-import os
-import subprocess
 import tempfile
+
+from timing import run
 
 PROGRAM = "crates/csa/out/csa"
 RUNS = 5
@@ -31,20 +31,9 @@ MAIN = "int printf(const char *, ...);\nint main(void) { printf(\"done %%d\\n\",
 EVENTS = TURNS * (4 * 250 + 2 + 1 + 1 + 3) + 2
 
 
-def run(command, text):
-    """What a command prints of a text, and its processor time in seconds."""
-    with tempfile.TemporaryFile() as given:
-        given.write(text.encode())
-        given.seek(0)
-        child = subprocess.Popen(command, stdin=given, stdout=subprocess.PIPE)
-        said = child.stdout.read().decode().strip()
-        _, _, usage = os.wait4(child.pid, 0)
-    return said, usage.ru_utime + usage.ru_stime, usage.ru_maxrss // 1024
-
-
 def least(name, command, text, wanted=None):
     runs = [run(command, text) for _ in range(RUNS)]
-    said = runs[0][0]
+    said = runs[0][0].strip()
     if wanted is not None and said != wanted:
         raise SystemExit(f"{name} says {said}, and not {wanted}")
     print(f"  {name}: {said}, {min(it[1] for it in runs):.3f} s, {max(it[2] for it in runs)} MB")
@@ -56,7 +45,7 @@ def main():
     print(f"{EVENTS} events")
     said = least("csa replay", replay, SOURCE)
     fewer = replay[:5] + [str(EVENTS - 1)] + replay[6:]
-    print(f"  with one event less: {run(fewer, SOURCE)[0]}")
+    print(f"  with one event less: {run(fewer, SOURCE)[0].strip()}")
     with tempfile.NamedTemporaryFile("w", suffix=".c") as file:
         file.write(SOURCE + MAIN)
         file.flush()
