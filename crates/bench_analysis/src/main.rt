@@ -6,7 +6,7 @@
 ghost use Rattle.cs_ast.specs.TypedProgram.{typed_program};
 ghost use Rattle.cs_cfg.specs.GraphView as view;
 ghost use Rattle.cs_cfg.specs.Lowered.{IsLowered};
-ghost use Rattle.cs_run_state.specs.Prepared.{IsPrepared};
+ghost use Rattle.cs_objects.specs.Prepared.{IsPrepared};
 ghost use Rattle.cs_types.specs.Layout.{IsLaidOut};
 ghost use Rattle.cs_well_formed.specs.Programs.{IsWellFormed};
 ghost use Rattle.std.specs.Prelude.{◌≤◌};
@@ -25,14 +25,14 @@ use cs_checks::{
 use cs_generate::generate_text;
 use cs_io::{StdSource, read_all};
 use cs_lower::lower;
+use cs_objects::prepared::Prepared;
+use cs_program::program_of;
 use cs_results::Budgets;
-use cs_run_state::prepared::Prepared;
 use cs_types::DataModel;
 use cs_witness::Entry;
 use cs_words::{AnalyzeWords, Command, GenerateWords, words_of};
 use std::alloc::{AllocError, Global};
-use std::{env, io, str};
-use tests_files::front::program;
+use std::{env, io};
 
 /// The budgets of `csa generate`.
 const BUDGETS: Budgets = Budgets {
@@ -76,19 +76,12 @@ fn generated(rt: &HostRuntime, words: &GenerateWords) -> io::Result<()> {
 }
 
 fn with_file(rt: &HostRuntime, model: DataModel, budgets: Budgets, file: &[u8]) -> io::Result<()> {
-    match str::from_utf8(file) {
-        Ok(text) => with_text(rt, model, budgets, text),
-        Err(_) => println!(rt; "no text"),
-    }
-}
-
-fn with_text(rt: &HostRuntime, model: DataModel, budgets: Budgets, text: &str) -> io::Result<()> {
-    match program(rt.alloc(), model, text) {
-        Some(program) => match counted(rt.alloc(), budgets, &program) {
+    match program_of(rt.alloc(), model, file) {
+        Ok(found) => match counted(rt.alloc(), budgets, &found.program) {
             Ok(counts) => counts.print(rt),
             Err(_) => println!(rt; "memory"),
         },
-        None => println!(rt; "no program"),
+        Err(_) => println!(rt; "no program"),
     }
 }
 

@@ -6,7 +6,7 @@ ghost use Rattle.cs_types.specs.Layout.{IsLaidOut};
 ghost use Rattle.cs_ast.specs.TypedProgram.{typed_program};
 ghost use Rattle.cs_cfg.specs.GraphView as view;
 ghost use Rattle.cs_cfg.specs.Lowered.{IsLowered};
-ghost use Rattle.cs_run_state.specs.Prepared.{IsPrepared, IsReady};
+ghost use Rattle.cs_objects.specs.Prepared.{IsPrepared, IsReady};
 ghost use Rattle.cs_well_formed.specs.Programs.{IsWellFormed};
 
 use cs_ast::typed::program::Program;
@@ -15,13 +15,13 @@ use cs_events::RunBudgets;
 use cs_inputs::Inputs;
 use cs_io::{StdSource, read_all};
 use cs_lower::lower;
+use cs_objects::Setting;
+use cs_objects::prepared::Prepared;
+use cs_program::program_of;
 use cs_replay::replay;
-use cs_run_state::Setting;
-use cs_run_state::prepared::Prepared;
 use cs_types::DataModel;
 use std::alloc::Global;
 use std::{env, io};
-use tests_files::front::program;
 
 // How far each replay goes.
 const BUDGETS: RunBudgets = RunBudgets {
@@ -35,17 +35,14 @@ fn main(rt: HostRuntime) -> io::Result<()> {
     let Ok(file) = read_all(rt.alloc(), &mut source) else {
         return println!(rt; "not read");
     };
-    match str::from_utf8(file.as_slice()) {
-        Ok(text) => timed(&rt, text),
-        Err(_) => println!(rt; "no text"),
-    }
+    timed(&rt, file.as_slice())
 }
 
 // Replays the last function of a file.
-fn timed(rt: &HostRuntime, text: &str) -> io::Result<()> {
-    match program(rt.alloc(), DataModel::Lp64, text) {
-        Some(program) => lowered(rt, &program),
-        None => println!(rt; "no program"),
+fn timed(rt: &HostRuntime, file: &[u8]) -> io::Result<()> {
+    match program_of(rt.alloc(), DataModel::Lp64, file) {
+        Ok(found) => lowered(rt, &found.program),
+        Err(_) => println!(rt; "no program"),
     }
 }
 

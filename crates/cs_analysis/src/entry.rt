@@ -1,14 +1,14 @@
 //! The analysis of an entry.
 ghost use Rattle.std.specs.Prelude.{◌≡◌, ◌≤◌, map, length, IfOk};
 ghost use Rattle.cs_ast.specs.TypedProgram.{typed_program};
-ghost use Rattle.cs_run_state.specs.Prepared.{IsReady};
+ghost use Rattle.cs_objects.specs.Prepared.{IsReady};
 ghost use Rattle.cs_findings.specs.GoodEntries.{IsGoodEntry};
 ghost use Rattle.cs_witness.specs.Entries.{CanRun};
 
 use cs_checker::Checker;
 use cs_engine::{Exploration, Explored, explore};
 use cs_inputs::Inputs;
-use cs_run_state::Setting;
+use cs_objects::Setting;
 use cs_steps::Context;
 use cs_suspects::{listed, suspects};
 use cs_witness::{Entry, Witnessed, result};

@@ -20,7 +20,8 @@ use Rattle.cs_words.specs.declared.command.Command.{Command}
 use Rattle.cs_words.specs.declared.command.AnalyzeWords.{AnalyzeWords}
 use Rattle.cs_words.specs.declared.command.ReplayWords.{ReplayWords}
 use Rattle.cs_words.specs.declared.command.Command.TheVariants.{Analyze, Flow, Replay, Generate}
-use Rattle.cs_app.specs.Trees.{Parses, HasProgram, typed_tree, entry_of}
+use Rattle.cs_program.specs.Trees.{Parses, HasProgram, typed_tree}
+use Rattle.cs_app.specs.Functions.{entry_of}
 use Rattle.cs_app.specs.Refusals.{IsLexLine, IsSyntaxLine, type_line, IsRefusal, too_long, by_lexing, by_syntax, by_type}
 use Rattle.cs_app.specs.declared.status.Status.{Status}
 use Rattle.cs_app.specs.declared.status.Status.TheVariants.{Clean, Found, BadWords, BadFile, ReadFault, WriteFault, Memory, NoEntry}
@@ -31,7 +32,7 @@ use Rattle.cs_app.specs.Answers.{outcome_status}
 use Rattle.cs_app.specs.Answers.{IsTypeRefused, refused_line, IsRefusedWith}
 use Rattle.cs_app.specs.Laws.{RefusedIsNotAccepted, TreesAreRefusedByTypes}
 use Rattle.cs_decl_parser.proofs.WholeFiles.{file_or_refused}
-use Rattle.cs_app.proofs.TypingLemmas.{one_typing}
+use Rattle.cs_program.proofs.OneTyping.{one_typing}
 
 -- what has a program has no fault
 not_both : (verdict : Verdict TypedProgram) (program : TypedProgram) (code : TypeCode) (place : Place) → verdict ≡ Fine program

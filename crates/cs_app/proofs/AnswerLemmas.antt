@@ -6,12 +6,8 @@ use Rattle.std.specs.List.{list_any}
 use Rattle.std.proofs.lemmas.List.{length-replicate}
 use Rattle.std.specs.Fmt.{decimal}
 use Rattle.cs_ast.specs.declared.raw.external.RawExternal.{RawExternal}
-use Rattle.cs_ast.specs.TypedProgram.{TypedProgram}
+use Rattle.cs_ast.specs.TypedProgram.{TypedProgram, typed_program}
 use Rattle.cs_lexer.specs.declared.lexer.Lexed.{Lexed}
-use Rattle.cs_lexer.specs.declared.refusal.LexRefusal.{LexRefusal}
-use Rattle.cs_lexer.specs.Lexing.{Lexes, IsRefused}
-use Rattle.cs_grammar.specs.declared.refusal.SyntaxRefusal.{SyntaxRefusal}
-use Rattle.cs_decl_parser.specs.Files.{IsFileRefusal}
 use Rattle.cs_scopes.specs.declared.refusal.TypeRefusal.{TypeRefusal}
 use Rattle.cs_scopes.specs.declared.refusal.TypeRefusal.TheVariants as types
 use Rattle.cs_scopes.specs.Verdicts as verdicts
@@ -23,8 +19,12 @@ use Rattle.cs_words.specs.declared.refusal.WordsRefusal.TheVariants as words_ref
 use Rattle.cs_words.specs.Meaning.{WordsMean}
 use Rattle.cs_words.specs.Scan as scan
 use Rattle.cs_limits.specs.declared.TheConstants.{MOST_BYTES}
-use Rattle.cs_app.specs.Trees.{Parses, typed_tree}
-use Rattle.cs_app.specs.Refusals.{IsLexLine, IsSyntaxLine, IsTypeLine, too_long, by_lexing, by_syntax, by_type}
+use Rattle.cs_program.specs.declared.program.FileProgram.{FileProgram}
+use Rattle.cs_program.specs.declared.refusal.FileRefusal.{FileRefusal}
+use Rattle.cs_program.specs.declared.refusal.FileRefusal.TheVariants as file_refusal
+use Rattle.cs_program.specs.Answers.{IsProgramOf, IsRefusedFor}
+use Rattle.cs_program.specs.Trees.{Parses, typed_tree}
+use Rattle.cs_app.specs.Refusals.{IsFileLine, IsSyntaxLine, IsTypeLine, too_long, by_lexing, by_syntax, by_type}
 use Rattle.cs_app.specs.declared.status.Status.{Status}
 use Rattle.cs_app.specs.declared.status.Status.TheVariants.{Clean, Found, BadWords, BadFile}
 use Rattle.cs_app.specs.declared.answer.Answer.{Answer}
@@ -42,7 +42,7 @@ no_analysis status true not_clean not_found is = absurd (not_found is)
 no_analysis status false not_clean not_found is = absurd (not_clean is)
 
 -- the answer of a command to the program that a file's tree is
-pub answers_program : (command : Command) (file : List ℕ) (lexed : Lexed) (parsed : List RawExternal) (program : TypedProgram) (status : Status)
+answers_program : (command : Command) (file : List ℕ) (lexed : Lexed) (parsed : List RawExternal) (program : TypedProgram) (status : Status)
     (text : List ℕ) → Parses file lexed parsed → typed_tree (model_of command) lexed parsed ≡ Fine program
     → IsProgramAnswer command lexed.files.items program status text → IsAnswer command file status text
 answers_program command file lexed parsed program BadFile text h typed answer =
@@ -64,33 +64,41 @@ no_answer_of_words (Generate words) files program text answer =
 
 -- ---- a file
 -- the line that refuses a tree that is no program answers the file that has it
-pub refuses_type : (command : Command) (file : List ℕ) (lexed : Lexed) (parsed : List RawExternal) (refusal : TypeRefusal) (status : Status) (text : List ℕ)
+refuses_type : (command : Command) (file : List ℕ) (lexed : Lexed) (parsed : List RawExternal) (refusal : TypeRefusal) (status : Status) (text : List ℕ)
     → status ≡ BadFile → verdicts.IsRefused (typed_tree (model_of command) lexed parsed) refusal → IsTypeLine lexed.files.items refusal text
     → Parses file lexed parsed → IsAnswer command file status text
 refuses_type command file lexed parsed (types.Code code place) status text is refused line h =
     subst (λ s. IsAnswer command file s text) (sym is) (inl (by_type lexed parsed h code place refused line))
 refuses_type command file lexed parsed types.Memory status text is refused line h = absurd line
 
--- the line that refuses tokens that are no file answers the file that has them
-pub refuses_syntax : (command : Command) (file : List ℕ) (lexed : Lexed) (refusal : SyntaxRefusal) (status : Status) (text : List ℕ) → status ≡ BadFile
-    → IsFileRefusal lexed.list.items lexed.end refusal → IsSyntaxLine lexed.files.items refusal text → length file ≤ MOST_BYTES → Lexes file lexed
-    → IsAnswer command file status text
-refuses_syntax command file lexed refusal status text is refused line short has =
-    subst (λ s. IsAnswer command file s text) (sym is) (inl (by_syntax short lexed has refusal refused line))
+-- a file that is too long has the line that says so
+long_answer : (command : Command) (file : List ℕ) (status : Status) (text : List ℕ) → status ≡ BadFile → text ≡ codes "refused too-long 4194305\n"
+    → MOST_BYTES < length file → IsAnswer command file status text
+long_answer command file status text is line long = subst (λ s. IsAnswer command file s text) (sym is) (inl (too_long long line))
 
--- the line that refuses a text without tokens answers it
-pub refuses_tokens : (command : Command) (file : List ℕ) (refusal : LexRefusal) (status : Status) (text : List ℕ) → status ≡ BadFile
-    → length file ≤ MOST_BYTES → IsRefused file refusal → IsLexLine refusal text → IsAnswer command file status text
-refuses_tokens command file refusal status text is short refused line =
-    subst (λ s. IsAnswer command file s text) (sym is) (inl (by_lexing short refusal refused line))
+-- the line of the check that a file doesn't pass answers it
+pub refuses : (command : Command) (file : List ℕ) (refusal : FileRefusal) (status : Status) (text : List ℕ) → status ≡ BadFile
+    → IsRefusedFor (model_of command) file refusal → IsFileLine refusal text → IsAnswer command file status text
+refuses command file file_refusal.TooLong status text is refused line = long_answer command file status text is line refused
+refuses command file (file_refusal.Tokens refusal) status text is refused line =
+    subst (λ s. IsAnswer command file s text) (sym is) (inl (by_lexing refused.0 refusal refused.1 line))
+refuses command file (file_refusal.Syntax refusal files) status text is r line =
+    let same = subst (λ names. IsSyntaxLine names refusal text) r.names line in
+    subst (λ s. IsAnswer command file s text) (sym is) (inl (by_syntax r.short r.lexed r.has_tokens refusal r.refused same))
+refuses command file (file_refusal.Types refusal files) status text is r line =
+    refuses_type command file r.lexed r.tree refusal status text is r.refused (subst (λ names. IsTypeLine names refusal text) r.names line) r.parsed
+
+-- the answer to a file's program answers the file
+pub answers_file : (command : Command) (file : List ℕ) (found : FileProgram) (status : Status) (text : List ℕ)
+    → IsProgramOf (model_of command) file found → IsProgramAnswer command found.files.items (typed_program found.program) status text
+    → IsAnswer command file status text
+answers_file command file found status text h answer =
+    answers_program command file h.lexed h.tree (typed_program found.program) status text h.accepted.parsed h.accepted.typed
+    (subst (λ names. IsProgramAnswer command names (typed_program found.program) status text) h.names answer)
 
 -- ---- what a source has left
 some_longer : (n : ℕ) → (file : List ℕ) × (n < length file)
 some_longer n = (replicate (n + 1) 0, omega (arith, length-replicate {A = ℕ} (n + 1) 0))
-
-long_answer : (command : Command) (file : List ℕ) (status : Status) (text : List ℕ) → status ≡ BadFile → text ≡ codes "refused too-long 4194305\n"
-    → MOST_BYTES < length file → IsAnswer command file status text
-long_answer command file status text is line long = subst (λ s. IsAnswer command file s text) (sym is) (inl (too_long long line))
 
 -- the file of a command that reads is what the source has left
 file_of_source : (command : Command) (left : Option (List ℕ)) → Reads command → file_of command left ≡ left

@@ -1,7 +1,6 @@
 pub mod ShapeLemmas
 pub mod EntryLemmas
 pub mod ReplayLemmas
-pub mod TypingLemmas
 pub mod AnswerLemmas
 pub mod AnalysisLemmas
 pub mod AcceptedLemmas

@@ -23,7 +23,8 @@ use Rattle.cs_words.specs.declared.command.Command.{Command}
 use Rattle.cs_words.specs.declared.command.Command.TheVariants.{Analyze, Flow, Replay, Generate}
 use Rattle.cs_words.specs.declared.command.ReplayWords.{ReplayWords}
 use Rattle.cs_words.specs.Meaning.{WordsMean, AreRefusedAt}
-use Rattle.cs_app.specs.Trees.{Parses, HasProgram, typed_tree, entry_of}
+use Rattle.cs_program.specs.Trees.{Parses, HasProgram, typed_tree}
+use Rattle.cs_app.specs.Functions.{entry_of}
 use Rattle.cs_app.specs.Refusals.{IsRefusal, type_line}
 use Rattle.cs_app.specs.Analyses.{IsAnalysisAnswer, IsSummary, entries_named}
 use Rattle.cs_app.specs.declared.status.Status.{Status}

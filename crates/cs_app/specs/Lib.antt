@@ -1,5 +1,5 @@
 pub mod Statuses
-pub mod Trees
+pub mod Functions
 pub mod Refusals
 pub mod Entries
 pub mod Results

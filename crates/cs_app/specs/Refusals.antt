@@ -17,7 +17,9 @@ use Rattle.cs_scopes.specs.declared.refusal.TypeRefusal.{TypeRefusal}
 use Rattle.cs_scopes.specs.declared.refusal.TypeRefusal.TheVariants as refused
 use Rattle.cs_scopes.specs.Verdicts.{Fault, number_of}
 use Rattle.cs_report.specs.RefusalLines.{refusal_line}
-use Rattle.cs_app.specs.Trees.{Parses, typed_tree}
+use Rattle.cs_program.specs.declared.refusal.FileRefusal.{FileRefusal}
+use Rattle.cs_program.specs.declared.refusal.FileRefusal.TheVariants as file_refusal
+use Rattle.cs_program.specs.Trees.{Parses, typed_tree}
 
 -- the line for a text that has no tokens; want of memory has none
 abbrev pub IsLexLine : LexRefusal → List ℕ → Type 0
@@ -46,6 +48,13 @@ type_line files code place = line_in files (codes "refused type " ++ (decimal (n
 abbrev pub IsTypeLine : List (List ℕ) → TypeRefusal → List ℕ → Type 0
 IsTypeLine files (refused.Code code place) text = text ≡ type_line files code place
 IsTypeLine files refused.Memory text = ⊥
+
+-- the line for a file that is refused
+abbrev pub IsFileLine : FileRefusal → List ℕ → Type 0
+IsFileLine file_refusal.TooLong text = text ≡ codes "refused too-long 4194305\n"
+IsFileLine (file_refusal.Tokens refusal) text = IsLexLine refusal text
+IsFileLine (file_refusal.Syntax refusal files) text = IsSyntaxLine files.items refusal text
+IsFileLine (file_refusal.Types refusal files) text = IsTypeLine files.items refusal text
 
 -- the first check that a file doesn't pass, with the line that says so: it is too long; it has no tokens; they are no file; its
 -- tree is no program

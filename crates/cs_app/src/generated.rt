@@ -5,10 +5,8 @@ ghost use Rattle.cs_app.specs.Answers.{IsAnswer};
 
 use crate::answer::Answer;
 use crate::file::answer_to;
-use crate::refused::refused_length;
 use cs_checker::Checker;
 use cs_generate::generate_text;
-use cs_limits::MOST_BYTES;
 use cs_words::{Command, GenerateWords};
 use std::alloc::{AllocError, Global};
 
@@ -23,10 +21,6 @@ pub fn generated(
         (generated_file words.now.seed words.now.size) answer.status answer.text.items) }
 {
     let file = generate_text(alloc, u64::from(words.seed), u64::from(words.size))?;
-    if file.len() > MOST_BYTES {
-        let answer = refused_length(alloc)?;
-        return Ok(answer);
-    }
     let answer = answer_to(alloc, command, &file, checkers)?;
     Ok(answer)
 }

@@ -1,7 +1,7 @@
 //! The answers to refused files: the line of each refusal.
 ghost use Rattle.std.specs.Prelude.{◌≡◌, ◌++◌, [], codes, slice_index_or, IfOk};
 ghost use Rattle.cs_report.specs.RefusalLines.{refusal_line};
-ghost use Rattle.cs_app.specs.Refusals.{IsLexLine, IsSyntaxLine, IsTypeLine, line_in};
+ghost use Rattle.cs_app.specs.Refusals.{IsFileLine, IsLexLine, IsSyntaxLine, IsTypeLine, line_in};
 
 use crate::answer::Answer;
 use crate::status::Status;
@@ -9,6 +9,7 @@ use cs_ast::Place;
 use cs_grammar::SyntaxRefusal;
 use cs_lexer::LexRefusal;
 use cs_names::Name;
+use cs_program::FileRefusal;
 use cs_report::append_refusal;
 use cs_scopes::TypeRefusal;
 use std::alloc::{AllocError, Global};
@@ -22,8 +23,21 @@ pub fn refused_length(alloc: Global) -> Result<Answer, AllocError>
     refused_line(alloc, b"refused too-long 4194305\n")
 }
 
+/// The answer to a file that is refused.
+pub fn refused(alloc: Global, refusal: FileRefusal) -> Result<Answer, AllocError>
+    ensures status { IfOk result (λ answer. answer.status ≡ Status.BadFile) }
+    ensures text { IfOk result (λ answer. IsFileLine refusal answer.text.items) }
+{
+    match refusal {
+        FileRefusal::TooLong => refused_length(alloc),
+        FileRefusal::Tokens(refusal) => refused_tokens(alloc, refusal),
+        FileRefusal::Syntax(refusal, files) => refused_syntax(alloc, &files, refusal),
+        FileRefusal::Types(refusal, files) => refused_type(alloc, &files, refusal),
+    }
+}
+
 /// The answer to a file that has no tokens.
-pub fn refused_tokens(alloc: Global, refusal: LexRefusal) -> Result<Answer, AllocError>
+fn refused_tokens(alloc: Global, refusal: LexRefusal) -> Result<Answer, AllocError>
     ensures status { IfOk result (λ answer. answer.status ≡ Status.BadFile) }
     ensures text { IfOk result (λ answer. IsLexLine refusal answer.text.items) }
 {
@@ -38,7 +52,7 @@ pub fn refused_tokens(alloc: Global, refusal: LexRefusal) -> Result<Answer, Allo
 }
 
 /// The answer to a file whose tokens are no tree that is low enough. Its places are in these files.
-pub fn refused_syntax(
+fn refused_syntax(
     alloc: Global,
     files: &[Name],
     refusal: SyntaxRefusal,
@@ -55,11 +69,7 @@ pub fn refused_syntax(
 }
 
 /// The answer to a file whose tree is no program. Its places are in these files.
-pub fn refused_type(
-    alloc: Global,
-    files: &[Name],
-    refusal: TypeRefusal,
-) -> Result<Answer, AllocError>
+fn refused_type(alloc: Global, files: &[Name], refusal: TypeRefusal) -> Result<Answer, AllocError>
     ensures status { IfOk result (λ answer. answer.status ≡ Status.BadFile) }
     ensures text { IfOk result (λ answer. IsTypeLine files.now refusal answer.text.items) }
 {

@@ -5,9 +5,9 @@ ghost use Rattle.cs_ast.specs.TypedProgram.{routine, typed_program};
 ghost use Rattle.cs_well_formed.specs.Programs.{IsWellFormed};
 ghost use Rattle.cs_cfg.specs.GraphView as view;
 ghost use Rattle.cs_cfg.specs.Lowered.{IsLowered};
-ghost use Rattle.cs_run_state.specs.Prepared.{IsPrepared};
+ghost use Rattle.cs_objects.specs.Prepared.{IsPrepared};
 ghost use Rattle.cs_report.specs.ReplayLines.{replay_line};
-ghost use Rattle.cs_app.specs.Trees.{is_entry, entry_of};
+ghost use Rattle.cs_app.specs.Functions.{is_entry, entry_of};
 ghost use Rattle.cs_app.specs.Answers.{outcome_status, IsReplayOf, IsReplayAnswer};
 
 use crate::answer::Answer;
@@ -18,10 +18,10 @@ use cs_cfg::Code;
 use cs_events::Outcome;
 use cs_lower::lower;
 use cs_names::Name;
+use cs_objects::Setting;
+use cs_objects::prepared::Prepared;
 use cs_replay::{ReplayRefusal, replay};
 use cs_report::append_replayed;
-use cs_run_state::Setting;
-use cs_run_state::prepared::Prepared;
 use cs_words::ReplayWords;
 use std::alloc::{AllocError, Global};
 

@@ -3,3 +3,4 @@ pub mod ProductionRows
 pub mod RowsSoFar
 pub mod SingleParts
 pub mod Heights
+pub mod TestedTypes

@@ -83,7 +83,8 @@ module _ (c : Context) (p : Purpose) (at : Place) (ty : Shape) (types following 
       ≡ least_code (passing_fault c at ty v) (arguments_listed_fault c p (literals_past v (literals_after ls a.kind.value)) at following rest)
   codes_are v is_value =
       ap (λ t. arguments_listed_fault c p ls at t arguments) is_types ∙ ap (arguments_listed_fault c p ls at (ty ∷ following)) is_arguments
-      ∙ ap (λ v. least_code (passing_fault c at ty v) (arguments_listed_fault c p (literals_past v (literals_after ls a.kind.value)) at following rest)) is_value
+      ∙ ap (λ v. least_code (passing_fault c at ty v) (arguments_listed_fault c p (literals_past v (literals_after ls a.kind.value)) at following rest))
+      is_value
 
   pub argument_taken : (refused : Option (TypeCode × Place)) (made : List Expr) (e : Expr) (whole : Verdict TypedList) → value ≡ Fine (typed e)
       → ms ≡ literals_after ls a.kind.value → unless_stopped refused (lift (expressions_before made) (arguments_listed c p ls types arguments)) ≡ whole
@@ -114,28 +115,31 @@ module _ (c : Context) (p : Purpose) (at : Place) (ty : Shape) (types following 
       ∙ ap (least_code least) (sym (codes_are (Fault code place) is_value)) ∙ so_far
 
 -- no argument or no parameter is left
-module _ (c : Context) (p : Purpose) (at : Place) (types : List Shape) (arguments : List RawExpr) (ls : Literals) (over : (types ≡ []) ⊎ (arguments ≡ [])) where
-  values_over : (types : List Shape) (arguments : List RawExpr) → (types ≡ []) ⊎ (arguments ≡ []) → arguments_listed c p ls types arguments ≡ Fine NoMore
-  values_over types [] h = refl
-  values_over [] (a ∷ rest) h = refl
-  values_over (ty ∷ types) (a ∷ rest) (inl e) = absurd cc
-  values_over (ty ∷ types) (a ∷ rest) (inr e) = absurd cc
+module _ (c : Context) (p : Purpose) (at : Place) (types : List Shape) (arguments : List RawExpr) (ls : Literals) (over : (types ≡ []) ⊎ (arguments ≡ []))
+  where
+    values_over : (types : List Shape) (arguments : List RawExpr) → (types ≡ []) ⊎ (arguments ≡ [])
+        → arguments_listed c p ls types arguments ≡ Fine NoMore
+    values_over types [] h = refl
+    values_over [] (a ∷ rest) h = refl
+    values_over (ty ∷ types) (a ∷ rest) (inl e) = absurd cc
+    values_over (ty ∷ types) (a ∷ rest) (inr e) = absurd cc
 
-  codes_over : (types : List Shape) (arguments : List RawExpr) → (types ≡ []) ⊎ (arguments ≡ []) → arguments_listed_fault c p ls at types arguments ≡ None
-  codes_over types [] h = refl
-  codes_over [] (a ∷ rest) h = refl
-  codes_over (ty ∷ types) (a ∷ rest) (inl e) = absurd cc
-  codes_over (ty ∷ types) (a ∷ rest) (inr e) = absurd cc
+    codes_over : (types : List Shape) (arguments : List RawExpr) → (types ≡ []) ⊎ (arguments ≡ [])
+        → arguments_listed_fault c p ls at types arguments ≡ None
+    codes_over types [] h = refl
+    codes_over [] (a ∷ rest) h = refl
+    codes_over (ty ∷ types) (a ∷ rest) (inl e) = absurd cc
+    codes_over (ty ∷ types) (a ∷ rest) (inr e) = absurd cc
 
-  pub arguments_end : (refused : Option (TypeCode × Place)) (made : List Expr) (whole : Verdict TypedList)
-      → unless_stopped refused (lift (expressions_before made) (arguments_listed c p ls types arguments)) ≡ whole
-      → unless_stopped refused (Fine (typed_list made)) ≡ whole
-  arguments_end refused made whole so_far =
-      ap (unless_stopped refused) (ap Fine (sym (put_before-all made)) ∙ sym (lift-fine (expressions_before made) NoMore)
-      ∙ ap (lift (expressions_before made)) (sym (values_over types arguments over))) ∙ so_far
+    pub arguments_end : (refused : Option (TypeCode × Place)) (made : List Expr) (whole : Verdict TypedList)
+        → unless_stopped refused (lift (expressions_before made) (arguments_listed c p ls types arguments)) ≡ whole
+        → unless_stopped refused (Fine (typed_list made)) ≡ whole
+    arguments_end refused made whole so_far =
+        ap (unless_stopped refused) (ap Fine (sym (put_before-all made)) ∙ sym (lift-fine (expressions_before made) NoMore)
+        ∙ ap (lift (expressions_before made)) (sym (values_over types arguments over))) ∙ so_far
 
-  pub codes_end : (least whole : Option TypeCode) → least_code least (arguments_listed_fault c p ls at types arguments) ≡ whole → least ≡ whole
-  codes_end least whole so_far = sym (least_code-none least) ∙ ap (least_code least) (sym (codes_over types arguments over)) ∙ so_far
+    pub codes_end : (least whole : Option TypeCode) → least_code least (arguments_listed_fault c p ls at types arguments) ≡ whole → least ≡ whole
+    codes_end least whole so_far = sym (least_code-none least) ∙ ap (least_code least) (sym (codes_over types arguments over)) ∙ so_far
 
 -- one of two lists is over at a place
 split_min : (a b i : ℕ) → min a b ≤ i → (a ≤ i) ⊎ (b ≤ i)
@@ -160,7 +164,8 @@ bound_passes e (Fine tt) = refl
 bound_passes e (Fault code place) = refl
 
 bounds_stopped : (refused : Option (TypeCode × Place)) (code : TypeCode) (place : Place) (v w rest whole : Verdict (Unit {0}))
-    → v ≡ lift2 bound_taken (Fault code place) w → unless_stopped refused v ≡ whole → unless_stopped (option_or refused (Some (code, place))) rest ≡ whole
+    → v ≡ lift2 bound_taken (Fault code place) w → unless_stopped refused v ≡ whole
+    → unless_stopped (option_or refused (Some (code, place))) rest ≡ whole
 bounds_stopped None code place v w rest whole is so_far = sym (is ∙ lift2-first bound_taken code place w) ∙ so_far
 bounds_stopped (Some refusal) code place v w rest whole is so_far = so_far
 
@@ -172,7 +177,8 @@ module _ (c : Context) (a : RawExpr) (bounds rest : List RawExpr) (ls ms : Liter
   bounds_are v is_value = ap (bounds_listed c ls) is_bounds
       ∙ ap (λ v. lift2 bound_taken v (bounds_listed c (literals_after ls a.kind.value) rest)) is_value
 
-  pub number_taken : (made : List ℤ) (n : ℤ) (v : Verdict Typed) (whole : List ℤ) → bound ≡ v → bound_number v ≡ n → ms ≡ literals_past v (literals_after ls a.kind.value)
+  pub number_taken : (made : List ℤ) (n : ℤ) (v : Verdict Typed) (whole : List ℤ) → bound ≡ v → bound_number v ≡ n
+      → ms ≡ literals_past v (literals_after ls a.kind.value)
       → whole ≡ made ++ numbers_listed c ls bounds → whole ≡ (made ++ n ∷ []) ++ numbers_listed c ms rest
   number_taken made n v whole is_value is_number is_literals so_far =
       so_far ∙ ap (λ l. made ++ numbers_listed c ls l) is_bounds
@@ -180,7 +186,8 @@ module _ (c : Context) (a : RawExpr) (bounds rest : List RawExpr) (ls ms : Liter
       ∙ ap (λ m. made ++ (m ∷ numbers_listed c (literals_past v (literals_after ls a.kind.value)) rest)) is_number
       ∙ ap (λ l. made ++ (n ∷ numbers_listed c l rest)) (sym is_literals) ∙ sym (append_assoc made (n ∷ []) (numbers_listed c ms rest))
 
-  pub bound_passed : (refused : Option (TypeCode × Place)) (e : Typed) (whole : Verdict (Unit {0})) → bound ≡ Fine e → ms ≡ literals_after ls a.kind.value
+  pub bound_passed : (refused : Option (TypeCode × Place)) (e : Typed) (whole : Verdict (Unit {0})) → bound ≡ Fine e
+      → ms ≡ literals_after ls a.kind.value
       → unless_stopped refused (bounds_listed c ls bounds) ≡ whole → unless_stopped refused (bounds_listed c ms rest) ≡ whole
   bound_passed refused e whole is_value is_literals so_far =
       ap (λ l. unless_stopped refused (bounds_listed c l rest)) is_literals

@@ -75,14 +75,16 @@ module _ (c : Context) (at : Place) (base : Verdict Shape) (ns : List ℤ) (boun
       pub size_stops : (r : TypeRefusal) → IsRefused (measured_arrays c at ns whole) r → IsRefused (measured_type_name c at base ns bounds) r
       size_stops r h = lift2-refused-first size_alone _ bounds r (refused_as r measured_is h)
 
-      pub size_taken : (size : Typed) → measured_arrays c at ns whole ≡ Fine size → bounds ≡ Fine tt → measured_type_name c at base ns bounds ≡ Fine size
+      pub size_taken : (size : Typed) → measured_arrays c at ns whole ≡ Fine size → bounds ≡ Fine tt
+          → measured_type_name c at base ns bounds ≡ Fine size
       size_taken size is_size none =
           ap (λ x. lift2 size_alone x bounds) (measured_is ∙ is_size) ∙ ap (lift2 size_alone (Fine size)) none ∙ lift2-fine size_alone size tt
 
       pub size_bounds_stop : (size : Typed) (code : TypeCode) (place : Place) → measured_arrays c at ns whole ≡ Fine size → bounds ≡ Fault code place
           → measured_type_name c at base ns bounds ≡ Fault code place
       size_bounds_stop size code place is_size refused =
-          ap (λ x. lift2 size_alone x bounds) (measured_is ∙ is_size) ∙ ap (lift2 size_alone (Fine size)) refused ∙ lift2-second size_alone size code place
+          ap (λ x. lift2 size_alone x bounds) (measured_is ∙ is_size) ∙ ap (lift2 size_alone (Fine size)) refused
+          ∙ lift2-second size_alone size code place
 
 -- what holds whatever a call gives holds where it gives something
 pub on_ok : {A E P : Type 0} (result : Result A E) → P → OnOk result P

@@ -7,7 +7,9 @@ use Rattle.cs_ast.specs.declared.raw.expression.RawExpr.{RawExpr}
 use Rattle.cs_ast.specs.TypedTree.{Typed, Of, Number}
 use Rattle.cs_scopes.specs.declared.context.Context.{Context}
 use Rattle.cs_consts.specs.declared.purpose.Purpose.TheVariants.{Run, Constant}
+use Rattle.cs_scopes.specs.declared.refusal.TypeCode.{TypeCode}
 use Rattle.cs_scopes.specs.declared.refusal.TypeCode.TheVariants as code
+use Rattle.cs_scopes.specs.Faults.{code_in}
 use Rattle.cs_scopes.specs.Verdicts.{Verdict, Fine, Fault, lift}
 use Rattle.cs_folding.specs.TypedParts.{type_of}
 use Rattle.cs_expressions.specs.Integers.{raised}
@@ -37,6 +39,15 @@ assigned_value c literals at target e =
 -- an expression that a statement tests (C11 6.8.4.1, paragraph 1; 6.8.5, paragraph 2)
 unfoldable pub test_of : Context → Literals → Place → RawExpr → Verdict Typed
 test_of c literals at e = lift (tested at) (operand_in c Run (formed c Run literals None e.place e.kind.value))
+
+-- the code with which a word refuses what it tests, if that has a type
+abbrev pub testing_fault : Place → Verdict Typed → Option TypeCode
+testing_fault at (Fine v) = code_in (tested at v)
+testing_fault at (Fault code place) = None
+
+-- the same of a test that comes after something else: it is asked before that, and no string literals count, which its type doesn't need
+unfoldable pub test_fault : Context → Place → RawExpr → Option TypeCode
+test_fault c at e = testing_fault at (operand_of c [] None e)
 
 -- the integer that a `switch` goes by (C11 6.8.4.2, paragraphs 1 and 5)
 unfoldable pub selector_of : Context → Literals → Place → RawExpr → Verdict Typed

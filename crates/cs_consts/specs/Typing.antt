@@ -253,7 +253,8 @@ passing_fault c at ty (Fault code place) = None
 
 -- a call of a function with its arguments, or of something else: of what the call's place says of their number, of the result's
 -- target and of each argument that has a type, the least code counts, and it counts before an argument that is refused itself
-unfoldable pub call_or_not : Context → Place → Option Shape → Option Signature → ℕ → Verdict Typed → Option TypeCode → Verdict TypedList → Verdict Typed
+unfoldable pub call_or_not : Context → Place → Option Shape → Option Signature → ℕ → Verdict Typed → Option TypeCode → Verdict TypedList
+    → Verdict Typed
 call_or_not c at target None count v fault values = lift (no_function at) v
 call_or_not c at target (Some f) count v fault values =
     unless_fault at (least_code (call_fault target count f) fault) (lift (call_with c at target f) values)

@@ -7,4 +7,4 @@ mod purpose;
 mod roles;
 mod typing;
 
-pub use roles::{assigned_value, discarded, operand, selector, test, value};
+pub use roles::{assigned_value, discarded, operand, selector, test, test_fault, value};

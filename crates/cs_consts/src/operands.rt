@@ -33,8 +33,8 @@ pub fn left_operand_fault(table: &StructTable, operator: InfixOp, ty: &CType) ->
     }
 }
 
-// What an operator that tests or compares asks.
-fn scalar_fault(ty: &CType) -> Option<TypeCode>
+/// What an operator or a word that tests, or one that compares, asks.
+pub fn scalar_fault(ty: &CType) -> Option<TypeCode>
     ensures { result ≡ scalar_fault (shape_of ty.now) }
 {
     if is_scalar(ty) {

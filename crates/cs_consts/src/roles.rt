@@ -1,12 +1,14 @@
 //! What the typing of declarations and statements asks of expressions.
-ghost use Rattle.std.specs.Prelude.{◌≡◌, OnOk, None, Some};
+ghost use Rattle.std.specs.Prelude.{◌≡◌, OnOk, IfOk, None, Some};
 ghost use Rattle.cs_types.specs.Shape.{shape_of};
 ghost use Rattle.cs_ast.specs.TypedView.{typed};
+ghost use Rattle.cs_ast.specs.declared.place.Place.{Place as AnyPlace};
 ghost use Rattle.cs_scopes.specs.Verdicts.{Yields, Answers};
 ghost use Rattle.cs_expressions.specs.Calls.{shape_in};
 ghost use Rattle.cs_consts.specs.Typing.{literals_after};
-ghost use Rattle.cs_consts.specs.Roles.{number_of_constant, value_of, operand_of, assigned_value, test_of, selector_of, discarded_value};
+ghost use Rattle.cs_consts.specs.Roles.{number_of_constant, value_of, operand_of, assigned_value, test_of, test_fault, selector_of, discarded_value};
 
+use crate::operands::scalar_fault;
 use crate::purpose::Purpose;
 use crate::typing::{judged, operand_in, value_in};
 use cs_ast::Place;
@@ -16,7 +18,7 @@ use cs_expressions::{converted, raised, tested};
 use cs_names::Bytes;
 use cs_scopes::{Context, TypeCode, TypeRefusal};
 use cs_types::{CType, IntType};
-use std::alloc::Global;
+use std::alloc::{AllocError, Global};
 
 /// The type and the number of a constant expression (C11 6.6).
 #[tactic(auto, unfolding(crate::specs::Roles::value_of), using(cs_scopes::proofs::Lifting::lifts))]
@@ -95,6 +97,24 @@ pub fn test(
 {
     let value = operand_in(alloc, context, Purpose::Run, literals, None, tree)?;
     tested(place, value)
+}
+
+/// The code with which a statement's word refuses what it tests, if that has a type: for a word whose test comes after something else.
+#[tactic(auto, unfolding(crate::specs::Roles::test_fault))]
+pub fn test_fault(
+    alloc: Global,
+    context: &Context,
+    tree: &RawExpr,
+) -> Result<Option<TypeCode>, AllocError>
+    ensures { IfOk result (λ code.
+        (at : AnyPlace) → code ≡ test_fault context.now at tree.now) }
+{
+    let mut literals = Vec::new(alloc);
+    match operand(alloc, context, &mut literals, None, tree) {
+        Ok(value) => Ok(scalar_fault(&value.ty)),
+        Err(TypeRefusal::Code(_, _)) => Ok(None),
+        Err(TypeRefusal::Memory) => Err(AllocError),
+    }
 }
 
 /// The integer that a `switch` goes by, in its promoted type (C11 6.8.4.2). `place` is that of the word.

@@ -1,5 +1,6 @@
 -- The codes that an `=` says of the items so far, before those of the items that are left: for the loop over items.
-use Rattle.std.proofs.Common.{◌≡◌, ℕ, suc, ◌≤◌, List, [], ◌∷◌, drop, length, Option, Some, None, Bool, refl, sym, ap, subst, ◌∙◌, Vec, Global, Result, Ok, Err}
+use Rattle.std.proofs.Common.{◌≡◌, ℕ, suc, ◌≤◌, List, [], ◌∷◌, drop, length, Option, Some, None, Bool, refl, sym, ap, subst, ◌∙◌, Vec}
+use Rattle.std.proofs.Common.{Global, Result, Ok, Err}
 use Rattle.std.proofs.Math.ListN.{drop_of_length-le}
 use Rattle.std.specs.Prelude.{slice_get}
 use Rattle.cs_types.specs.Shape.{Shape, void, integer, pointer, array, struct}
@@ -15,14 +16,14 @@ use Rattle.cs_scopes.specs.declared.refusal.TypeCode.{TypeCode}
 use Rattle.cs_scopes.specs.declared.refusal.TypeRefusal.{TypeRefusal}
 use Rattle.cs_scopes.specs.declared.refusal.TypeRefusal.TheVariants.{Code, Memory}
 use Rattle.cs_scopes.specs.Verdicts.{Verdict, Fine, Fault, lift, IsRefused}
-use Rattle.cs_scopes.specs.Faults.{least_code, unless_fault}
+use Rattle.cs_scopes.specs.Faults.{least_code, code_in, unless_fault}
 use Rattle.cs_scopes.proofs.LesserCodes.{least_code-assoc, least_code-none}
 use Rattle.cs_ast.specs.declared.raw.expression.RawExpr.{RawExpr}
 use Rattle.cs_ast.specs.TypedTree.{Typed, Initial, Initials, Value, Bytes, Parts}
 use Rattle.cs_consts.specs.Roles.{operand_of}
 use Rattle.cs_expressions.specs.Primary.{Literals}
 use Rattle.cs_declarations.specs.Initializers.{Storage, Reading, part_types, types_or_none, literals_read, initial_read, item_fault, items_fault, list_fault}
-use Rattle.cs_declarations.specs.Initializers.{initial_fault, reading_fault, value_read, expression_read, text_of}
+use Rattle.cs_declarations.specs.Initializers.{initial_fault, whole_fault, reading_fault, value_read, expression_read, text_of}
 use Rattle.cs_declarations.specs.Answered.{AnswersWith, UnlessMemory}
 use Rattle.cs_declarations.specs.View.{reading}
 use Rattle.cs_declarations.proofs.PartTypes.{types_from, types_past}
@@ -52,7 +53,8 @@ module _ (c : Context) (storage : Storage) (at : Place) where
     row = (items_of (first_value.TheVariants.List list comma)).1
 
     listed : (found : Option (List Shape)) → part_types c.table.list ty ≡ found
-        → items_fault c literals storage at (types_or_none (part_types c.table.list ty)) row ≡ list_fault c literals storage at (types_or_none found) list.items
+        → items_fault c literals storage at (types_or_none (part_types c.table.list ty)) row
+        ≡ list_fault c literals storage at (types_or_none found) list.items
     listed found parts =
         ap (λ p. items_fault c literals storage at (types_or_none p) row) parts ∙ sym (fault-row literals (types_or_none found) _ row)
         ∙ ap (list_fault c literals storage at (types_or_none found)) (first_value.items_hidden-the_row-RawInitial-0 list)
@@ -63,6 +65,9 @@ module _ (c : Context) (storage : Storage) (at : Place) where
 
     pub no_parts : part_types c.table.list ty ≡ None → item_fault c literals storage at ty v ≡ None
     no_parts parts = item_fault-List None parts ∙ no_types literals list.items
+
+    pub whole_fault-List : whole_fault c literals storage at ty v ≡ item_fault c literals storage at ty v
+    whole_fault-List = ap (whole_fault c literals storage at ty) is ∙ sym (ap (item_fault c literals storage at ty) is)
 
     pub initial_fault-List : initial_fault c literals storage at ty v ≡ item_fault c literals storage at ty v
     initial_fault-List = ap (initial_fault c literals storage at ty) is ∙ sym (ap (item_fault c literals storage at ty) is)
@@ -94,14 +99,13 @@ module _ (c : Context) (storage : Storage) (at : Place) where
         ∙ so_far
 
 -- a value that is refused is none of which the `=` says anything
-pub nothing_said : {A : Type 0} (c : Context) (storage : Storage) (at : Place) (ty : Shape) (read : Verdict Reading) (fault : Option TypeCode)
-    (result : Result A TypeRefusal) (r : TypeRefusal) → result ≡ Err r → IsRefused read r
-    → UnlessMemory result (fault ≡ least_code fault (reading_fault c storage at ty read))
-nothing_said {A} c storage at ty read fault result r is h =
-    subst (λ x. UnlessMemory x (fault ≡ least_code fault (reading_fault c storage at ty read))) (sym is) (by_refusal r h)
+pub nothing_said : {A : Type 0} (rule : Initial → Verdict Initial) (read : Verdict Reading) (fault : Option TypeCode) (result : Result A TypeRefusal)
+    (r : TypeRefusal) → result ≡ Err r → IsRefused read r → UnlessMemory result (fault ≡ least_code fault (reading_fault rule read))
+nothing_said {A} rule read fault result r is h =
+    subst (λ x. UnlessMemory x (fault ≡ least_code fault (reading_fault rule read))) (sym is) (by_refusal r h)
   where
-    by_refusal : (r : TypeRefusal) → IsRefused read r → UnlessMemory {A = A} (Err r) (fault ≡ least_code fault (reading_fault c storage at ty read))
-    by_refusal (Code code place) h = sym (least_code-none fault) ∙ ap (λ v. least_code fault (reading_fault c storage at ty v)) (sym h)
+    by_refusal : (r : TypeRefusal) → IsRefused read r → UnlessMemory {A = A} (Err r) (fault ≡ least_code fault (reading_fault rule read))
+    by_refusal (Code code place) h = sym (least_code-none fault) ∙ ap (λ v. least_code fault (reading_fault rule v)) (sym h)
     by_refusal Memory h = tt
 
 pub unless_memory-then : {A : Type 0} {P Q : Type 0} (result : Result A TypeRefusal) → (P → Q) → UnlessMemory result P → UnlessMemory result Q
@@ -111,7 +115,8 @@ unless_memory-then (Err Memory) follows held = tt
 
 -- of what is read after a place: another code that is the same unless memory ran out
 pub same_code : (v : Verdict Reading) (at : Place) (fault said : Option TypeCode) (read result : Result Held TypeRefusal) (following : Literals)
-    → UnlessMemory read (fault ≡ said) → (read ≡ Err Memory → result ≡ Err Memory) → AnswersWith reading (unless_fault at fault v) result following
+    → UnlessMemory read (fault ≡ said) → (read ≡ Err Memory → result ≡ Err Memory)
+    → AnswersWith reading (unless_fault at fault v) result following
     → AnswersWith reading (unless_fault at said v) result following
 same_code v at fault said (Ok value) result following is memory h = subst (λ f. AnswersWith reading (unless_fault at f v) result following) is h
 same_code v at fault said (Err (Code code place)) result following is memory h =
@@ -140,10 +145,10 @@ no_list c literals then_literals (pointer t) e parts is = never_list literals th
 no_list c literals then_literals (struct n) e parts is = never_list literals then_literals e parts (operand_of c literals (Some (struct n)) e) is
 
 -- the `=` says nothing of what is read of an expression and is no value
-pub text_said : (c : Context) (literals then_literals : Literals) (storage : Storage) (at : Place) (ty : Shape) (e : RawExpr) (read : Held)
-    → expression_read c literals ty e ≡ Fine (initial read, then_literals)
-    → ((v : Expr) → read ≡ held.Value v → reading_fault c storage at ty (expression_read c literals ty e) ≡ None)
-    → reading_fault c storage at ty (expression_read c literals ty e) ≡ None
-text_said c literals then_literals storage at ty e (held.Value v) is not_value = not_value v refl
-text_said c literals then_literals storage at ty e (held.Text bytes) is not_value = ap (reading_fault c storage at ty) is
-text_said c literals then_literals storage at ty e (held.List' shape row) is not_value = no_list c literals then_literals ty e (initial_row row) is
+pub text_said : (rule : Initial → Verdict Initial) (c : Context) (literals then_literals : Literals) (ty : Shape) (e : RawExpr) (read : Held)
+    → ((bytes : List ℕ) → code_in (rule (Bytes bytes)) ≡ None) → expression_read c literals ty e ≡ Fine (initial read, then_literals)
+    → ((v : Expr) → read ≡ held.Value v → reading_fault rule (expression_read c literals ty e) ≡ None)
+    → reading_fault rule (expression_read c literals ty e) ≡ None
+text_said rule c literals then_literals ty e (held.Value v) texts is not_value = not_value v refl
+text_said rule c literals then_literals ty e (held.Text bytes) texts is not_value = ap (reading_fault rule) is ∙ texts _
+text_said rule c literals then_literals ty e (held.List' shape row) texts is not_value = no_list c literals then_literals ty e (initial_row row) is

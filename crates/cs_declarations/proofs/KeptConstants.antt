@@ -62,7 +62,8 @@ module _ (model : DataModel) where
   null_at_holds at t e h = sym (null_holds e h)
 
   -- a pointer as another one
-  pointer_holds : (at p : Place) (t s : Shape) (form : Form) → may_hold (Of at (pointer t) (Convert (Of p (pointer s) form))) ≡ may_hold (Of p (pointer s) form)
+  pointer_holds : (at p : Place) (t s : Shape) (form : Form)
+      → may_hold (Of at (pointer t) (Convert (Of p (pointer s) form))) ≡ may_hold (Of p (pointer s) form)
   pointer_holds at p t s form = refl
 
   pointed_by : (at : Place) (t : Shape) (e w : Typed) (same null to_void : Bool) → is_null model e ≡ null
@@ -118,30 +119,29 @@ pub conversions_keep : (model : DataModel) (storage : Storage) (at : Place) (ty 
 conversions_keep model InFunction at ty v w h = refl
 conversions_keep model InFile at ty v w h = converted_holds model at ty v w h
 
--- what the `=` says of an item: its conversion first, then whether an object there may hold it
+-- what the `=` says of a value: its conversion first, then whether an object there may hold it
 module _ (model : DataModel) (storage : Storage) (at : Place) (ty : Shape) (v : Typed) where
   abbrev held : Verdict Typed → Option TypeCode
   held converted = code_in (lift (value_held model storage at) converted)
 
-  item_is : is_braceless ty (type_of v) ≡ false → code_in (item_judged model storage at ty v) ≡ held (converted model at v ty (type_of v))
+  pub item_is : is_braceless ty (type_of v) ≡ false → code_in (item_judged model storage at ty v) ≡ code_in (value_judged model storage at ty v)
   item_is none = ap (λ (b : Bool). code_in (cond b (Fault Initializer at) (value_judged model storage at ty v))) none
 
   pub braceless_said : is_braceless ty (type_of v) ≡ true → code_in (item_judged model storage at ty v) ≡ Some Initializer
   braceless_said is = ap (λ (b : Bool). code_in (cond b (Fault Initializer at) (value_judged model storage at ty v))) is
 
-  pub conversion_said : (code : TypeCode) → is_braceless ty (type_of v) ≡ false → conversion_fault model at ty v ≡ Some code
-      → code_in (item_judged model storage at ty v) ≡ Some code
+  pub conversion_said : (code : TypeCode) → conversion_fault model at ty v ≡ Some code → code_in (value_judged model storage at ty v) ≡ Some code
   unfolding lift
-  conversion_said code none said = item_is none ∙ refused (converted model at v ty (type_of v)) said
+  conversion_said code said = refused (converted model at v ty (type_of v)) said
     where
       refused : (w : Verdict Typed) → code_in w ≡ Some code → held w ≡ Some code
       refused (Fine w) h = absurd cc
       refused (Fault other place) h = h
 
-  pub holding_said : (admitted : Bool) → is_braceless ty (type_of v) ≡ false → conversion_fault model at ty v ≡ None
-      → is_admitted model storage v ≡ admitted → code_in (item_judged model storage at ty v) ≡ cond admitted None (Some Initializer)
+  pub holding_said : (admitted : Bool) → conversion_fault model at ty v ≡ None → is_admitted model storage v ≡ admitted
+      → code_in (value_judged model storage at ty v) ≡ cond admitted None (Some Initializer)
   unfolding lift
-  holding_said admitted none fine is = item_is none ∙ by_verdict (converted model at v ty (type_of v)) refl fine
+  holding_said admitted fine is = by_verdict (converted model at v ty (type_of v)) refl fine
     where
       by_test : (w : Typed) (test : Bool) → code_in (cond test (Fine (Value w)) (Fault Initializer at)) ≡ cond test None (Some Initializer)
       by_test w true = refl

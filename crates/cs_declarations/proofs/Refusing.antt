@@ -20,7 +20,8 @@ unless_memory (Err (Code code place)) p = p
 unless_memory (Err Memory) p = tt
 
 -- what held of the function whose refusal is passed on
-pub passed_on : {A B : Type 0} (P : Type 0) (first : Result A TypeRefusal) (result : Result B TypeRefusal) (r : TypeRefusal) → first ≡ Err r → result ≡ Err r
+pub passed_on : {A B : Type 0} (P : Type 0) (first : Result A TypeRefusal) (result : Result B TypeRefusal) (r : TypeRefusal) → first ≡ Err r
+    → result ≡ Err r
     → UnlessMemory first P → UnlessMemory result P
 passed_on {A} {B} P first result r e f h =
     subst (λ x. UnlessMemory x P) (sym f) (by_refusal r (subst (λ x. UnlessMemory x P) e h))

@@ -7,13 +7,12 @@ use Rattle.std.proofs.lemmas.Bool.{leb-true, leb-false}
 use Rattle.std.proofs.lemmas.Bool.Decides.{nat_tests}
 use Rattle.cs_types.specs.Shape.{Shape}
 use Rattle.cs_types.specs.declared.structs.StructType.{StructType}
-use Rattle.cs_ast.specs.TypedTree.{Initials, NoPart, Part}
-use Rattle.cs_ast.specs.declared.typed.statement.Initial as initials
-use Rattle.cs_ast.specs.TypedView.{initial, initial_list}
-use Rattle.cs_ast.proofs.TypedRows.{initial-List}
+use Rattle.cs_ast.specs.declared.raw.declaration.RawInitial as first_value
+use Rattle.cs_ast.specs.declared.raw.declaration.RawInitial.{RawInitial}
 use Rattle.cs_scopes.specs.Scalars.{few}
-use Rattle.cs_declarations.specs.Initializers.{part_types, types_or_none, together, stored, stored_parts}
+use Rattle.cs_declarations.specs.Initializers.{part_types, types_or_none, together, stored, row_stored, list_stored}
 use Rattle.cs_declarations.proofs.PartTypes.{types_from, types_past}
+use Rattle.cs_declarations.proofs.WrittenLists.{items_of}
 
 few-within : (n : ℕ) → n ≤ 4096 → few n ≡ Some n
 few-within n h = ap (λ (b : Bool). if b then Some n else None) (let e : nat_le n 4096 ≡ true = grind (arith, nat_tests) in e)
@@ -70,63 +69,72 @@ none_before (Some n) (Some m) = elim (few_cases (n + m)) [
   | inr c ↦ ap (together (Some 0)) c.1 ∙ sym c.1
 ]
 
-pub nothing_yet : (table : List StructType) (types : List Shape) (parts : Initials)
-    → together (Some 0) (stored_parts table types parts) ≡ stored_parts table types parts
-nothing_yet table [] NoPart = refl
-nothing_yet table (ty ∷ types) NoPart = refl
-nothing_yet table [] (Part first others) = refl
-nothing_yet table (ty ∷ types) (Part first others) = none_before (stored table ty first) (stored_parts table types others)
+pub nothing_yet : (table : List StructType) (types : List Shape) (items : List RawInitial)
+    → together (Some 0) (list_stored table types items) ≡ list_stored table types items
+nothing_yet table [] [] = refl
+nothing_yet table (ty ∷ types) [] = refl
+nothing_yet table [] (first ∷ others) = refl
+nothing_yet table (ty ∷ types) (first ∷ others) = none_before (stored table ty first) (list_stored table types others)
 
 -- no part takes an item
-no_types : (table : List StructType) (parts : Initials) → stored_parts table [] parts ≡ Some 0
-no_types table NoPart = refl
-no_types table (Part first others) = refl
+no_types : (table : List StructType) (items : List RawInitial) → list_stored table [] items ≡ Some 0
+no_types table [] = refl
+no_types table (first ∷ others) = refl
 
-pub stored-List : (table : List StructType) (ty : Shape) (types : List Shape) (v : initials.Initial) (list : Vec initials.Initial Global)
-    → part_types table ty ≡ Some types → v ≡ initials.TheVariants.List list
-    → stored table ty (initial v) ≡ stored_parts table types (initial_list list.items)
-stored-List table ty types v list parts is =
-    ap (λ v. stored table ty (initial v)) is ∙ ap (stored table ty) (initial-List list)
-    ∙ ap (λ p. stored_parts table (types_or_none p) (initial_list list.items)) parts
+no_items : (table : List StructType) (types : List Shape) → list_stored table types [] ≡ Some 0
+no_items table [] = refl
+no_items table (ty ∷ types) = refl
 
-pub stored-none : (table : List StructType) (ty : Shape) (v : initials.Initial) (list : Vec initials.Initial Global) → part_types table ty ≡ None
-    → v ≡ initials.TheVariants.List list → stored table ty (initial v) ≡ Some 0
-stored-none table ty v list parts is =
-    ap (λ v. stored table ty (initial v)) is ∙ ap (stored table ty) (initial-List list)
-    ∙ ap (λ p. stored_parts table (types_or_none p) (initial_list list.items)) parts
-    ∙ no_types table (initial_list list.items)
+stored-row : (table : List StructType) (types : List Shape) (n : _) (row : first_value.Row_of-RawInitial n)
+    → list_stored table types (first_value.items-the_row-RawInitial n row) ≡ row_stored table types row
+stored-row table [] n first_value.end_of-RawInitial = refl
+stored-row table (ty ∷ types) n first_value.end_of-RawInitial = refl
+stored-row table [] n (first_value.more_of-RawInitial first others) = refl
+stored-row table (ty ∷ types) n (first_value.more_of-RawInitial first others) = ap (together (stored table ty first)) (stored-row table types _ others)
+
+pub stored-List : (table : List StructType) (ty : Shape) (found : Option (List Shape)) (v : RawInitial) (list : Vec RawInitial Global) (comma : Bool)
+    → part_types table ty ≡ found → v ≡ first_value.TheVariants.List list comma
+    → stored table ty v ≡ list_stored table (types_or_none found) list.items
+stored-List table ty found v list comma parts is =
+    let row = items_of (first_value.TheVariants.List list comma) in
+    ap (stored table ty) is ∙ ap (λ p. row_stored table (types_or_none p) row.1) parts ∙ sym (stored-row table (types_or_none found) row.0 row.1)
+    ∙ ap (list_stored table (types_or_none found)) (first_value.items_hidden-the_row-RawInitial-0 list)
+
+pub stored-none : (table : List StructType) (ty : Shape) (v : RawInitial) (list : Vec RawInitial Global) (comma : Bool) → part_types table ty ≡ None
+    → v ≡ first_value.TheVariants.List list comma → stored table ty v ≡ Some 0
+stored-none table ty v list comma parts is = stored-List table ty None v list comma parts is ∙ no_types table list.items
 
 -- all is counted
 counted : (all : ℕ) (left whole : Option ℕ) → all ≤ 4096 → left ≡ Some 0 → together (Some all) left ≡ whole → whole ≡ Some all
 counted all left whole h e so_far = sym so_far ∙ ap (together (Some all)) e ∙ ap few (let f : all + 0 ≡ all = omega arith in f) ∙ few-within all h
 
-module _ (table : List StructType) (types : List Shape) (items : List initials.Initial) (all i : ℕ) (whole : Option ℕ)
-    (so_far : together (Some all) (stored_parts table (drop i types) (initial_list (drop i items))) ≡ whole) where
+module _ (table : List StructType) (types : List Shape) (items : List RawInitial) (all i : ℕ) (whole : Option ℕ)
+    (so_far : together (Some all) (list_stored table (drop i types) (drop i items)) ≡ whole) where
   pub stored_over : all ≤ 4096 → slice_get types i ≡ None → whole ≡ Some all
-  stored_over h part = counted all _ whole h (ap (λ ts. stored_parts table ts (initial_list (drop i items))) (types_past types i part)
-      ∙ no_types table (initial_list (drop i items))) so_far
+  stored_over h part = counted all _ whole h (ap (λ ts. list_stored table ts (drop i items)) (types_past types i part)
+      ∙ no_types table (drop i items)) so_far
 
   pub stored_end : all ≤ 4096 → length items ≤ i → whole ≡ Some all
-  stored_end h past = counted all _ whole h (ap (λ xs. stored_parts table (drop i types) (initial_list xs)) (drop_of_length-le items past)) so_far
+  stored_end h past = counted all _ whole h (ap (list_stored table (drop i types)) (drop_of_length-le items past) ∙ no_items table (drop i types)) so_far
 
-  module _ (item : initials.Initial) (there : drop i items ≡ item ∷ drop (suc i) items) (ty : Shape) (part : slice_get types i ≡ Some ty) where
-    next : together (Some all) (together (stored table ty (initial item)) (stored_parts table (drop (suc i) types) (initial_list (drop (suc i) items))))
+  module _ (item : RawInitial) (there : drop i items ≡ item ∷ drop (suc i) items) (ty : Shape) (part : slice_get types i ≡ Some ty) where
+    next : together (Some all) (together (stored table ty item) (list_stored table (drop (suc i) types) (drop (suc i) items)))
         ≡ whole
-    next = sym (ap (λ ts. together (Some all) (stored_parts table ts (initial_list (drop i items)))) (types_from types i ty part)
-        ∙ ap (λ xs. together (Some all) (stored_parts table (ty ∷ drop (suc i) types) (initial_list xs))) there) ∙ so_far
+    next = sym (ap (λ ts. together (Some all) (list_stored table ts (drop i items))) (types_from types i ty part)
+        ∙ ap (λ xs. together (Some all) (list_stored table (ty ∷ drop (suc i) types) xs)) there) ∙ so_far
 
-    pub stored_stops : stored table ty (initial item) ≡ None → whole ≡ None
-    stored_stops e = sym next ∙ ap (λ s. together (Some all) (together s (stored_parts table (drop (suc i) types) (initial_list (drop (suc i) items))))) e
+    pub stored_stops : stored table ty item ≡ None → whole ≡ None
+    stored_stops e = sym next ∙ ap (λ s. together (Some all) (together s (list_stored table (drop (suc i) types) (drop (suc i) items)))) e
 
-    pub stored_past : (n : ℕ) → stored table ty (initial item) ≡ Some n → few (all + n) ≡ None → whole ≡ None
-    stored_past n e f = sym next ∙ ap (λ s. together (Some all) (together s (stored_parts table (drop (suc i) types) (initial_list (drop (suc i) items))))) e
+    pub stored_past : (n : ℕ) → stored table ty item ≡ Some n → few (all + n) ≡ None → whole ≡ None
+    stored_past n e f = sym next ∙ ap (λ s. together (Some all) (together s (list_stored table (drop (suc i) types) (drop (suc i) items)))) e
         ∙ part_past all n _ (few_passed (all + n) f)
 
-    pub stored_more : (n more : ℕ) → stored table ty (initial item) ≡ Some n → few (all + n) ≡ Some more
-        → together (Some more) (stored_parts table (drop (suc i) types) (initial_list (drop (suc i) items))) ≡ whole
+    pub stored_more : (n more : ℕ) → stored table ty item ≡ Some n → few (all + n) ≡ Some more
+        → together (Some more) (list_stored table (drop (suc i) types) (drop (suc i) items)) ≡ whole
     stored_more n more e f =
         let sum = few_is (all + n) more f in
-        ap (λ k. together (Some k) (stored_parts table (drop (suc i) types) (initial_list (drop (suc i) items)))) (sym sum.1)
-        ∙ sym (ap (λ s. together (Some all) (together s (stored_parts table (drop (suc i) types) (initial_list (drop (suc i) items))))) e
+        ap (λ k. together (Some k) (list_stored table (drop (suc i) types) (drop (suc i) items))) (sym sum.1)
+        ∙ sym (ap (λ s. together (Some all) (together s (list_stored table (drop (suc i) types) (drop (suc i) items)))) e
         ∙ part_more all n _ sum.0)
         ∙ next

@@ -131,9 +131,11 @@ nothing_read list v empty = ap (λ xs. lift (following xs) v) empty ∙ none_yet
 module _ (c : Context) (types : List Shape) (items : List RawInitial) (literals : Literals) (i : ℕ) (refused : Option (TypeCode × Place)) (list : List Held)
     (whole : Verdict Readings)
     (so_far : unless_stopped refused (lift (following list) (list_read c literals (drop i types) (drop i items))) ≡ whole) where
-  all_read : list_read c literals (drop i types) (drop i items) ≡ Fine (NoPart, literals) → unless_stopped refused (Fine (initial_list list, literals)) ≡ whole
+  all_read : list_read c literals (drop i types) (drop i items) ≡ Fine (NoPart, literals)
+      → unless_stopped refused (Fine (initial_list list, literals)) ≡ whole
   all_read e =
-      ap (unless_stopped refused) (ap (λ all. Fine (all, literals)) (sym (before-all list)) ∙ sym (lift_is (following list) _ (NoPart, literals) e)) ∙ so_far
+      ap (unless_stopped refused) (ap (λ all. Fine (all, literals)) (sym (before-all list)) ∙ sym (lift_is (following list) _ (NoPart, literals) e))
+      ∙ so_far
 
   pub read_over : slice_get types i ≡ None → unless_stopped refused (Fine (initial_list list, literals)) ≡ whole
   read_over part = all_read (ap (λ ts. list_read c literals ts (drop i items)) (types_past types i part) ∙ no_types c literals (drop i items))

@@ -21,7 +21,7 @@ use Rattle.cs_scopes.specs.declared.refusal.TypeCode.TheVariants.{Initializer, T
 use Rattle.cs_scopes.specs.Verdicts.{Verdict, Fine, Fault, lift}
 use Rattle.cs_folding.specs.TypedParts.{type_of}
 use Rattle.cs_folding.specs.Folding.{number_in}
-use Rattle.cs_scopes.specs.Scalars.{few, has_few_scalars, scalars_in}
+use Rattle.cs_scopes.specs.Scalars.{few, scalars_in}
 use Rattle.cs_expressions.specs.Conversions.{converted}
 use Rattle.cs_scopes.specs.Faults.{lesser, least, least_code, code_in, unless_fault}
 use Rattle.cs_expressions.specs.Primary.{Literals}
@@ -216,15 +216,16 @@ abbrev pub literals_read : Verdict Reading → Literals
 literals_read (Fine r) = r.1
 literals_read (Fault code place) = []
 
--- what the `=` says of an item, if its value has a type
-abbrev pub reading_fault : Context → Storage → Place → Shape → Verdict Reading → Option TypeCode
-reading_fault c storage at ty (Fine r) = code_in (part_judged c storage at ty r.0)
-reading_fault c storage at ty (Fault code place) = None
+-- what the `=` says of a value or an item, if that has a type
+abbrev pub reading_fault : (Initial → Verdict Initial) → Verdict Reading → Option TypeCode
+reading_fault rule (Fine r) = code_in (rule r.0)
+reading_fault rule (Fault code place) = None
 
 abbrev mutual
   -- the least code that the `=` says of the items of a list whose values have types
   pub item_fault : Context → Literals → Storage → Place → Shape → RawInitial → Option TypeCode
-  item_fault c literals storage at ty (first_value.TheVariants.Value e) = reading_fault c storage at ty (expression_read c literals ty e)
+  item_fault c literals storage at ty (first_value.TheVariants.Value e) =
+      reading_fault (part_judged c storage at ty) (expression_read c literals ty e)
   item_fault c literals storage at ty (first_value.TheVariants.List' shape row comma) =
       items_fault c literals storage at (types_or_none (part_types c.table.list ty)) row
 
@@ -241,59 +242,59 @@ list_fault c literals storage at [] (first ∷ others) = None
 list_fault c literals storage at (ty ∷ types) (first ∷ others) =
     least_code (item_fault c literals storage at ty first) (list_fault c (literals_read (initial_read c literals ty first)) storage at types others)
 
--- what the `=` says of the items of a whole initializer; a single value is judged once it is read
+-- what it says of the items of an initializer of the wrong form, where nothing more is said of a single value
 abbrev pub initial_fault : Context → Literals → Storage → Place → Shape → RawInitial → Option TypeCode
 initial_fault c literals storage at ty (first_value.TheVariants.Value e) = None
 initial_fault c literals storage at ty (first_value.TheVariants.List' shape row comma) =
     items_fault c literals storage at (types_or_none (part_types c.table.list ty)) row
 
--- what it says of a single value whatever that is: a local that takes one has few scalars
-abbrev pub scalar_limit : List StructType → Storage → Shape → Option TypeCode
-scalar_limit table InFile ty = None
-scalar_limit table InFunction ty = if has_few_scalars table ty then None else Some TooManyScalars
-
-abbrev pub value_limit : List StructType → Storage → Shape → RawInitial → Option TypeCode
-value_limit table storage ty (first_value.TheVariants.Value e) = scalar_limit table storage ty
-value_limit table storage ty (first_value.TheVariants.List' shape row comma) = None
-
--- that counts before a value that is refused itself
-abbrev pub after_limit : Place → Option TypeCode → Verdict Reading → Verdict Reading
-after_limit at None v = v
-after_limit at (Some limit) (Fine read) = Fine read
-after_limit at (Some limit) (Fault code place) = Fault limit at
-
--- the values of an initializer, unless the `=` says something of an item: that counts before an item that is refused itself
-abbrev pub whole_read : Context → Literals → Storage → Place → Shape → RawInitial → Verdict Reading
-whole_read c literals storage at ty written =
-    unless_fault at (initial_fault c literals storage at ty written)
-    (after_limit at (value_limit c.table.list storage ty written) (initial_read c literals ty written))
+-- what it says of the values of one of the right form
+abbrev pub whole_fault : Context → Literals → Storage → Place → Shape → RawInitial → Option TypeCode
+whole_fault c literals storage at ty (first_value.TheVariants.Value e) =
+    reading_fault (initial_judged c storage at ty) (expression_read c literals ty e)
+whole_fault c literals storage at ty (first_value.TheVariants.List' shape row comma) =
+    items_fault c literals storage at (types_or_none (part_types c.table.list ty)) row
 
 -- so many scalars and some more, if they are few
 abbrev pub together : Option ℕ → Option ℕ → Option ℕ
 together (Some n) (Some m) = few (n + m)
 together one other = None
 
--- the bytes that a text stores: with its zero byte where that has room
-abbrev pub bytes_stored : Shape → ℕ → Option ℕ
-bytes_stored (array element count) bytes = few (if nat_lt bytes count then bytes + 1 else bytes)
-bytes_stored other bytes = few bytes
+-- the bytes that a text stores in an array of so many: with its zero byte where that has room
+abbrev pub bytes_stored : ℕ → ℕ → Option ℕ
+bytes_stored count bytes = few (if nat_lt bytes count then bytes + 1 else bytes)
+
+-- the scalars that a value stores
+abbrev pub value_stored : List StructType → Shape → RawExprKind → Option ℕ
+value_stored table (array element count) e = bytes_stored count (length (text_of e))
+value_stored table ty e = scalars_in table ty
 
 abbrev mutual
-  -- how many scalars an initializer stores, if they are few; what it leaves out isn't counted
-  pub stored : List StructType → Shape → Initial → Option ℕ
-  stored table ty (Value v) = scalars_in table ty
-  stored table ty (Bytes bytes) = bytes_stored ty (length bytes)
-  stored table ty (Parts parts) = stored_parts table (types_or_none (part_types table ty)) parts
+  -- how many scalars a written initializer stores, if they are few: its values may be anything, and what it leaves out isn't counted
+  pub stored : List StructType → Shape → RawInitial → Option ℕ
+  stored table ty (first_value.TheVariants.Value e) = value_stored table ty e.kind.value
+  stored table ty (first_value.TheVariants.List' shape row comma) = row_stored table (types_or_none (part_types table ty)) row
 
-  pub stored_parts : List StructType → List Shape → Initials → Option ℕ
-  stored_parts table types NoPart = Some 0
-  stored_parts table [] (Part first others) = Some 0
-  stored_parts table (ty ∷ types) (Part first others) = together (stored table ty first) (stored_parts table types others)
+  pub row_stored : {n : _} → List StructType → List Shape → first_value.Row_of-RawInitial n → Option ℕ
+  row_stored table types first_value.end_of-RawInitial = Some 0
+  row_stored table [] (first_value.more_of-RawInitial first others) = Some 0
+  row_stored table (ty ∷ types) (first_value.more_of-RawInitial first others) = together (stored table ty first) (row_stored table types others)
 
--- a local's initializer stores few scalars
-abbrev pub limited : List StructType → Storage → Place → Shape → Initial → Verdict Initial
-limited table InFile at ty found = Fine found
-limited table InFunction at ty found = if is_some (stored table ty found) then Fine found else Fault TooManyScalars at
+abbrev pub list_stored : List StructType → List Shape → List RawInitial → Option ℕ
+list_stored table types [] = Some 0
+list_stored table [] (first ∷ others) = Some 0
+list_stored table (ty ∷ types) (first ∷ others) = together (stored table ty first) (list_stored table types others)
+
+-- what the `=` says of an initializer whatever its values are: that of a local stores few scalars
+abbrev pub scalar_limit : List StructType → Storage → Shape → RawInitial → Option TypeCode
+scalar_limit table InFile ty written = None
+scalar_limit table InFunction ty written = if is_some (stored table ty written) then None else Some TooManyScalars
+
+-- the values of an initializer, unless the `=` says something: that counts before a value that is refused itself
+abbrev pub whole_read : Context → Literals → Storage → Place → Shape → RawInitial → Verdict Reading
+whole_read c literals storage at ty written =
+    unless_fault at (least_code (scalar_limit c.table.list storage ty written) (whole_fault c literals storage at ty written))
+    (initial_read c literals ty written)
 
 abbrev pub kept_with : Literals → Initial → Verdict Reading
 kept_with literals found = Fine (found, literals)
@@ -303,8 +304,7 @@ kept_with literals found = Fine (found, literals)
 abbrev pub initial_typed : Context → Literals → Storage → Place → Shape → RawInitial → Verdict Reading
 initial_typed c literals storage at ty written =
     if has_form c.table.list storage ty written
-    then lift (λ (r : Reading). lift (kept_with r.1) (lift (limited c.table.list storage at ty) (initial_judged c storage at ty r.0)))
-    (whole_read c literals storage at ty written)
+    then lift (λ (r : Reading). lift (kept_with r.1) (initial_judged c storage at ty r.0)) (whole_read c literals storage at ty written)
     else Fault (least Initializer (initial_fault c literals storage at ty written)) at
 
 -- how many elements a written initializer gives an array whose size isn't said: those of its list, or its text with the zero byte;

@@ -8,12 +8,12 @@ ghost use Rattle.cs_scopes.specs.Verdicts.{Verdict, Fine, Fault};
 ghost use Rattle.cs_scopes.specs.declared.refusal.TypeCode.TheVariants.{Initializer};
 ghost use Rattle.cs_expressions.specs.Primary.{Literals};
 ghost use Rattle.cs_declarations.specs.Answered.{AnswersWith, UnlessMemory};
-ghost use Rattle.cs_declarations.specs.Initializers.{Reading, text_of, expression_read, reading_fault, initial_read, item_fault, list_read, list_fault, initial_fault, scalar_limit, after_limit, whole_read, initial_typed};
+ghost use Rattle.cs_declarations.specs.Initializers.{Reading, text_of, expression_read, reading_fault, initial_read, item_fault, list_read, list_fault, part_judged, initial_judged, initial_fault, whole_fault, scalar_limit, whole_read, initial_typed};
 ghost use Rattle.cs_declarations.specs.View as view;
 ghost use Rattle.cs_declarations.specs.View.{reading, readings, types_of};
 
 use crate::forms::{Parts, has_form, parts_of};
-use crate::judging::{item_fault, judged};
+use crate::judging::{item_fault, judged, value_fault};
 use crate::storage::Storage;
 use crate::stored::stores_few;
 use cs_ast::Place;
@@ -22,7 +22,7 @@ use cs_ast::raw::expression::{RawExpr, RawExprKind};
 use cs_ast::typed::statement::Initial;
 use cs_consts::operand;
 use cs_names::Bytes;
-use cs_scopes::{Context, TypeCode, TypeRefusal, has_few_scalars, least, least_code};
+use cs_scopes::{Context, TypeCode, TypeRefusal, least, least_code};
 use cs_types::{CType, StructTable};
 use std::alloc::{AllocError, Global};
 
@@ -70,7 +70,7 @@ fn value_read(
         (expression_read context.now literals.old.items (shape_of ty.now) tree.now) result
         literals.new.items }
     ensures codes { (at : AnyPlace) → UnlessMemory result (fault.new ≡ least_code fault.old
-        (reading_fault context.now (view.storage storage) at (shape_of ty.now)
+        (reading_fault (part_judged context.now (view.storage storage) at (shape_of ty.now))
         (expression_read context.now literals.old.items (shape_of ty.now) tree.now))) }
 {
     let read = expression_read(alloc, context, literals, ty, tree)?;
@@ -154,7 +154,8 @@ fn unless_stopped(
     refused: Option<(TypeCode, Place)>,
     list: Vec<Initial>,
 ) -> Result<Vec<Initial>, TypeRefusal>
-    ensures { (following : Literals) → AnswersWith (λ list following. readings list.items following)
+    ensures { (following : Literals)
+        → AnswersWith (λ list following. readings list.items following)
         (unless_stopped refused (Fine (readings list.items following))) result following }
 {
     match refused {
@@ -163,7 +164,55 @@ fn unless_stopped(
     }
 }
 
-// The values of a whole initializer, unless the `=` says something of an item: that counts before an item that is refused itself.
+// A single value, of which the `=` may say a code: that is joined to one that it says whatever the value is.
+fn single_read(
+    alloc: Global,
+    context: &Context,
+    literals: &mut Vec<Bytes>,
+    storage: Storage,
+    fault: &mut Option<TypeCode>,
+    ty: &CType,
+    tree: &RawExpr,
+) -> Result<Initial, TypeRefusal>
+    ensures values { AnswersWith reading
+        (expression_read context.now literals.old.items (shape_of ty.now) tree.now) result
+        literals.new.items }
+    ensures codes { (at : AnyPlace) → UnlessMemory result (fault.new ≡ least_code fault.old
+        (reading_fault (initial_judged context.now (view.storage storage) at (shape_of ty.now))
+        (expression_read context.now literals.old.items (shape_of ty.now) tree.now))) }
+{
+    let read = expression_read(alloc, context, literals, ty, tree)?;
+    if let Initial::Value(value) = &read {
+        *fault = least_code(*fault, value_fault(context, storage, ty, value));
+    }
+    Ok(read)
+}
+
+// The values of an initializer of the right form, a single one or those of a list. The codes that the `=` says of them are joined to
+// one that it says whatever they are.
+fn values_read(
+    alloc: Global,
+    context: &Context,
+    literals: &mut Vec<Bytes>,
+    storage: Storage,
+    fault: &mut Option<TypeCode>,
+    ty: &CType,
+    written: &RawInitial,
+) -> Result<Initial, TypeRefusal>
+    ensures values { AnswersWith reading
+        (initial_read context.now literals.old.items (shape_of ty.now) written.now) result
+        literals.new.items }
+    ensures codes { (at : AnyPlace) → UnlessMemory result (fault.new ≡ least_code fault.old
+        (whole_fault context.now literals.old.items (view.storage storage) at (shape_of ty.now)
+        written.now)) }
+{
+    match written {
+        RawInitial::Value(tree) => single_read(alloc, context, literals, storage, fault, ty, tree),
+        RawInitial::List(_, _) => item_read(alloc, context, literals, storage, fault, ty, written),
+    }
+}
+
+// The values of a whole initializer, unless the `=` says something of it: that counts before a value that is refused itself.
 fn whole_read(
     alloc: Global,
     context: &Context,
@@ -177,70 +226,30 @@ fn whole_read(
         (whole_read context.now literals.old.items (view.storage storage) place (shape_of ty.now)
         written.now) result literals.new.items }
 {
-    let RawInitial::Value(tree) = written else {
-        let mut fault = None;
-        let read = item_read(alloc, context, literals, storage, &mut fault, ty, written);
-        return unless_fault(place, fault, read);
-    };
-    single_read(alloc, context, literals, storage, place, ty, tree)
+    let mut fault = scalar_limit(&context.table, storage, ty, written);
+    let read = values_read(alloc, context, literals, storage, &mut fault, ty, written);
+    unless_fault(place, fault, read)
 }
 
-// A single value, unless it is refused and the `=` says something of it whatever it is.
-fn single_read(
-    alloc: Global,
-    context: &Context,
-    literals: &mut Vec<Bytes>,
+// What the `=` says of an initializer whatever its values are: that of a local stores few scalars.
+fn scalar_limit(
+    table: &StructTable,
     storage: Storage,
-    place: Place,
     ty: &CType,
-    tree: &RawExpr,
-) -> Result<Initial, TypeRefusal>
-    ensures { AnswersWith reading
-        (after_limit place (scalar_limit context.now.table.list (view.storage storage)
-        (shape_of ty.now))
-        (expression_read context.now literals.old.items (shape_of ty.now) tree.now)) result
-        literals.new.items }
-{
-    let limit = scalar_limit(&context.table, storage, ty);
-    let read = expression_read(alloc, context, literals, ty, tree);
-    after_limit(place, limit, read)
-}
-
-// What the `=` says of a single value whatever that is: a local that takes one has few scalars.
-fn scalar_limit(table: &StructTable, storage: Storage, ty: &CType) -> Option<TypeCode>
-    ensures { result ≡ scalar_limit table.now.list (view.storage storage) (shape_of ty.now) }
+    written: &RawInitial,
+) -> Option<TypeCode>
+    ensures { result ≡ scalar_limit table.now.list (view.storage storage) (shape_of ty.now)
+        written.now }
 {
     match storage {
         Storage::File => None,
         Storage::Function => {
-            if has_few_scalars(table, ty) {
+            if stores_few(table, ty, written) {
                 None
             } else {
                 Some(TypeCode::TooManyScalars)
             }
         }
-    }
-}
-
-// What is read after a place, with a code that the place says if that is refused.
-fn after_limit(
-    place: Place,
-    limit: Option<TypeCode>,
-    read: Result<Initial, TypeRefusal>,
-) -> Result<Initial, TypeRefusal>
-    ensures { (v : Verdict Reading) (following : Literals)
-        → AnswersWith reading v read following
-        → AnswersWith reading (after_limit place limit v) result following }
-{
-    let Some(code) = limit else {
-        return read;
-    };
-    match read {
-        Ok(found) => Ok(found),
-        Err(refusal) => match refusal {
-            TypeRefusal::Code(_, _) => Err(TypeRefusal::Code(code, place)),
-            TypeRefusal::Memory => Err(TypeRefusal::Memory),
-        },
     }
 }
 
@@ -303,9 +312,5 @@ pub fn initial_typed(
         return form_refused(alloc, context, literals, storage, place, ty, written);
     }
     let read = whole_read(alloc, context, literals, storage, place, ty, written)?;
-    let found = judged(alloc, context, storage, place, ty, read)?;
-    if storage == Storage::Function && !stores_few(&context.table, ty, &found) {
-        return Err(TypeRefusal::Code(TypeCode::TooManyScalars, place));
-    }
-    Ok(found)
+    judged(alloc, context, storage, place, ty, read)
 }

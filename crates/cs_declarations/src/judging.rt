@@ -53,7 +53,24 @@ fn is_braceless(ty: &CType, value: &CType) -> bool
     }
 }
 
-/// The code that the `=` says of the value of an item of a list, if it says one. A conversion keeps a constant constant.
+/// The code that the `=` says of a value, if it says one. A conversion keeps a constant constant.
+pub fn value_fault(
+    context: &Context,
+    storage: Storage,
+    ty: &CType,
+    value: &Expr,
+) -> Option<TypeCode>
+    ensures { (at : AnyPlace) → result ≡ code_in (value_judged context.now.model
+        (view.storage storage) at (shape_of ty.now) (typed value.now)) }
+{
+    match conversion_fault(context.model, value, ty) {
+        Some(code) => Some(code),
+        None if is_admitted(context.model, storage, value) => None,
+        None => Some(TypeCode::Initializer),
+    }
+}
+
+/// The same of the value of an item of a list.
 pub fn item_fault(context: &Context, storage: Storage, ty: &CType, value: &Expr) -> Option<TypeCode>
     ensures { (at : AnyPlace) → result ≡ code_in (item_judged context.now.model
         (view.storage storage) at (shape_of ty.now) (typed value.now)) }
@@ -61,11 +78,7 @@ pub fn item_fault(context: &Context, storage: Storage, ty: &CType, value: &Expr)
     if is_braceless(ty, &value.ty) {
         return Some(TypeCode::Initializer);
     }
-    match conversion_fault(context.model, value, ty) {
-        Some(code) => Some(code),
-        None if is_admitted(context.model, storage, value) => None,
-        None => Some(TypeCode::Initializer),
-    }
+    value_fault(context, storage, ty, value)
 }
 
 // What the `=` says of an item of a list.

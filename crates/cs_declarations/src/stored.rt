@@ -1,34 +1,54 @@
-//! How many scalars an initializer stores.
-ghost use Rattle.std.specs.Prelude.{◌≡◌, is_some};
+//! How many scalars an initializer stores, whatever its values are.
+ghost use Rattle.std.specs.Prelude.{◌≡◌, is_some, length};
 ghost use Rattle.cs_types.specs.Shape.{shape_of};
-ghost use Rattle.cs_ast.specs.TypedView.{initial, initial_list};
-ghost use Rattle.cs_declarations.specs.Initializers.{bytes_stored, stored, stored_parts};
+ghost use Rattle.cs_declarations.specs.Initializers.{text_of, bytes_stored, value_stored, stored, list_stored};
 ghost use Rattle.cs_declarations.specs.View.{types_of};
 
 use crate::forms::{Parts, parts_of};
-use cs_ast::typed::statement::Initial;
+use cs_ast::raw::declaration::RawInitial;
+use cs_ast::raw::expression::RawExprKind;
 use cs_scopes::{few, scalars_in};
 use cs_types::{CType, StructTable};
 
-// The bytes that a text stores: with its zero byte where that has room.
-fn bytes_stored(ty: &CType, bytes: u64) -> Option<u64>
-    ensures { result ≡ bytes_stored (shape_of ty.now) bytes }
+// How many bytes an expression has that is a text.
+fn text_length(tree: &RawExprKind) -> u64
+    ensures { result ≡ length (text_of tree.now) }
+{
+    match tree {
+        RawExprKind::Text(bytes) => bytes.as_bytes().len() as u64,
+        _ => 0,
+    }
+}
+
+// The bytes that a text stores in an array of so many: with its zero byte where that has room.
+fn bytes_stored(count: u64, bytes: u64) -> Option<u64>
+    ensures { result ≡ bytes_stored count bytes }
+{
+    if bytes < count {
+        few(bytes + 1)
+    } else {
+        few(bytes)
+    }
+}
+
+// The scalars that a value stores.
+fn value_stored(table: &StructTable, ty: &CType, tree: &RawExprKind) -> Option<u64>
+    ensures { result ≡ value_stored table.now.list (shape_of ty.now) tree.now }
 {
     match ty {
-        CType::Array(_, count) if bytes < *count => few(bytes + 1),
-        _ => few(bytes),
+        CType::Array(_, count) => bytes_stored(*count, text_length(tree)),
+        _ => scalars_in(table, ty),
     }
 }
 
 // How many scalars an initializer stores, if they are few; what it leaves out isn't counted.
 #[cycle(stored)]
-fn stored(table: &StructTable, ty: &CType, found: &Initial) -> Option<u64>
-    ensures { result ≡ stored table.now.list (shape_of ty.now) (initial found.now) }
+fn stored(table: &StructTable, ty: &CType, written: &RawInitial) -> Option<u64>
+    ensures { result ≡ stored table.now.list (shape_of ty.now) written.now }
 {
-    match found {
-        Initial::Value(_) => scalars_in(table, ty),
-        Initial::Text(bytes) => bytes_stored(ty, bytes.as_bytes().len() as u64),
-        Initial::List(items) => match parts_of(table, ty) {
+    match written {
+        RawInitial::Value(tree) => value_stored(table, ty, &*tree.kind),
+        RawInitial::List(items, _) => match parts_of(table, ty) {
             Some(parts) => stored_parts(table, parts, items),
             None => Some(0),
         },
@@ -37,9 +57,8 @@ fn stored(table: &StructTable, ty: &CType, found: &Initial) -> Option<u64>
 
 // The same of the items of a list.
 #[cycle(stored)]
-fn stored_parts(table: &StructTable, parts: Parts, items: &[Initial]) -> Option<u64>
-    ensures { result ≡ stored_parts table.now.list (types_of parts.entry)
-        (initial_list items.now) }
+fn stored_parts(table: &StructTable, parts: Parts, items: &[RawInitial]) -> Option<u64>
+    ensures { result ≡ list_stored table.now.list (types_of parts.entry) items.now }
 {
     let mut all = 0;
     let mut number = 0;
@@ -54,8 +73,8 @@ fn stored_parts(table: &StructTable, parts: Parts, items: &[Initial]) -> Option<
 }
 
 /// Whether an initializer stores so few scalars that one declaration may.
-pub fn stores_few(table: &StructTable, ty: &CType, found: &Initial) -> bool
-    ensures { result ≡ is_some (stored table.now.list (shape_of ty.now) (initial found.now)) }
+pub fn stores_few(table: &StructTable, ty: &CType, written: &RawInitial) -> bool
+    ensures { result ≡ is_some (stored table.now.list (shape_of ty.now) written.now) }
 {
-    stored(table, ty, found).is_some()
+    stored(table, ty, written).is_some()
 }

@@ -1,6 +1,6 @@
 //! What comes of a state: the states directly after its next events, and its ends.
 ghost use Rattle.std.specs.Prelude.{◌≡◌, map};
-ghost use Rattle.cs_run_state.specs.Prepared.{IsReady};
+ghost use Rattle.cs_objects.specs.Prepared.{IsReady};
 ghost use Rattle.cs_engine.specs.Answering.{constant, leads_on};
 
 use crate::engine::Exploration;

@@ -1,6 +1,6 @@
 //! The exploration of an entry, row by row.
 ghost use Rattle.std.specs.Prelude.{◌≡◌, ◌≤◌, map, length, IfOk, OnOk};
-ghost use Rattle.cs_run_state.specs.Prepared.{IsReady};
+ghost use Rattle.cs_objects.specs.Prepared.{IsReady};
 ghost use Rattle.cs_engine.specs.Found.{IsSound, Grows, AreLinked, AreOfRows};
 
 use crate::children::Children;

@@ -5,15 +5,15 @@ ghost use Rattle.cs_types.specs.Layout.{IsLaidOut};
 ghost use Rattle.cs_ast.specs.TypedProgram.{typed_program, variable, routine};
 ghost use Rattle.cs_meaning.specs.Machine.{routine_of};
 ghost use Rattle.cs_meaning.specs.Steps as meaning;
-ghost use Rattle.cs_run_state.specs.Prepared.{IsReady};
+ghost use Rattle.cs_objects.specs.Prepared.{IsReady};
 ghost use Rattle.cs_state.specs.Starting.{HaveSizes, HasSizes, DifferInName};
 ghost use Rattle.cs_engine.specs.Parameters.{DiffersFromBefore};
 
 use cs_ast::typed::program::{Function, Local, Program};
-use cs_run_state::types::is_small;
 use cs_state::{State, Tables};
 use cs_steps::Context;
 use cs_types::CType;
+use cs_values::types::is_small;
 use std::alloc::AllocError;
 
 /// The state in which an entry begins, at a spot where something else stands than a jump. An entry that can't begin is want of memory.

@@ -65,7 +65,7 @@ compare_shows model sets op left right = record {
   from_guess = λ v number h. h;
 }
 
-over_one : (sets : Sets) (left right : Lin) (other : Option Sym) → other ≡ right.sym → ¬ HaveTwoSymbols left.sym other → AreOverOne sets left right
+pub over_one : (sets : Sets) (left right : Lin) (other : Option Sym) → other ≡ right.sym → ¬ HaveTwoSymbols left.sym other → AreOverOne sets left right
 over_one sets left right other same h = by left.sym other refl refl h
   where
     by : (a b : Option Sym) → left.sym ≡ a → other ≡ b → ¬ HaveTwoSymbols a b → AreOverOne sets left right
@@ -78,7 +78,7 @@ over_one sets left right other same h = by left.sym other refl refl h
       | inr differ ↦ absurd (n (λ (z : s ≡ t). differ (ap (λ (y : Sym). y.0) z)))
     ]
 
-not_over_one : (sets : Sets) (left right : Lin) (other : Option Sym) → other ≡ right.sym → IsSeveral sets left → IsSeveral sets right
+pub not_over_one : (sets : Sets) (left right : Lin) (other : Option Sym) → other ≡ right.sym → IsSeveral sets left → IsSeveral sets right
     → HaveTwoSymbols left.sym other → ¬ AreOverOne sets left right
 not_over_one sets left right other same l r two over = by left.sym other refl refl two over
   where
@@ -103,12 +103,12 @@ compare_split model sets guess op left right term followed pieces l r first seco
     (record {
       over = λ n v. inl (over_one sets left right term.second.sym second
           (subst (λ (t : Lin). ¬ HaveTwoSymbols t.sym term.second.sym) first n));
-      decided = λ d v. inr (same_decision sets op (λ w. value_of_sum w term) (λ w. value_of w left -ℤ value_of w right) value d);
+      decided = λ d v. inr (same_decision sets op (λ w. value_of_sum w term) (λ w. value_of w left -ℤ value_of w right) (λ w fits. value w) d);
       not_else = λ two n v both. elim both [
         | inl over ↦
             not_over_one sets left right term.second.sym second l.several r.several
             (subst (λ (t : Lin). HaveTwoSymbols t.sym term.second.sym) first two) over
-        | inr d ↦ n (same_decision sets op (λ w. value_of w left -ℤ value_of w right) (λ w. value_of_sum w term) (λ w. sym (value w)) d)
+        | inr d ↦ n (same_decision sets op (λ w. value_of w left -ℤ value_of w right) (λ w. value_of_sum w term) (λ w fits. sym (value w)) d)
       ];
       mentioned = λ s e. elim e [
         | inl a ↦ inl (subst (λ (t : Lin). t.sym ≡ Some s) first a)

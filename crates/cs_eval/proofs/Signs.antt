@@ -125,11 +125,11 @@ module _ (sets : Sets) (number : Numbers) (ends : Interval) (v w : Valuation) (v
   undecided Differs e f d = open_equation e d
 
 -- a decision speaks of the numbers alone
-pub same_decision : (sets : Sets) (op : CmpOp) (f g : Numbers) → ((v : Valuation) → f v ≡ g v) → IsDecided sets op f → IsDecided sets op g
+pub same_decision : (sets : Sets) (op : CmpOp) (f g : Numbers) → ((v : Valuation) → Fits v sets → f v ≡ g v) → IsDecided sets op f → IsDecided sets op g
 same_decision sets op f g same d = by op d
   where
     moved : (o : CmpOp) (b : Bool) → Always sets o f b → Always sets o g b
-    moved o b a = λ v fits. ap (λ (n : ℤ). compares o n (pos 0)) (sym (same v)) ∙ a v fits
+    moved o b a = λ v fits. ap (λ (n : ℤ). compares o n (pos 0)) (sym (same v fits)) ∙ a v fits
 
     by : (o : CmpOp) → IsDecided sets o f → IsDecided sets o g
     by Less (inl a) = inl (moved Less true a)

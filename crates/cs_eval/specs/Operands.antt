@@ -1,7 +1,10 @@
 -- Operands of questions: terms over declared symbols, with bounds for their values.
-use Rattle.std.specs.Prelude.{◌≡◌, ◌≢◌, ◌⊎◌, ◌^◌, ℤ, pos, neg_ℤ, ◌≤ℤ◌, IsTrue, IsNone, List, Option, None, Some}
+use Rattle.std.specs.Prelude.{◌≡◌, ◌≢◌, ◌⊎◌, ◌^◌, ℤ, pos, neg_ℤ, ◌+ℤ◌, ◌≤ℤ◌, IsTrue, IsNone, List, Option, None, Some}
 use Rattle.cs_ranges.specs.declared.range_set.Interval.{Interval}
 use Rattle.cs_ranges.specs.RangeSet.{contains}
+use Rattle.cs_types.specs.declared.data_model.DataModel.{DataModel}
+use Rattle.cs_types.specs.declared.int_type.IntType.{IntType}
+use Rattle.cs_types.specs.IntType.{least_of, greatest_of}
 use Rattle.cs_terms.specs.declared.symbol.Sym.{Sym}
 use Rattle.cs_terms.specs.declared.term.Lin.{Lin}
 use Rattle.cs_terms.specs.declared.term.Lin2.{Lin2}
@@ -24,6 +27,30 @@ pub record IsTermBetween (sets : Sets) (low high : ℤ) (term : Lin) : Type 0 wh
 -- a term whose values lie from -2^126 to 2^126, as those of sets do
 abbrev pub IsTermInside : Sets → Lin → Type 0
 IsTermInside sets term = IsTermBetween sets (neg_ℤ (pos (2 ^ 126))) (pos (2 ^ 126)) term
+
+-- a term whose values lie in a type
+abbrev pub IsTermInType : DataModel → Sets → IntType → Lin → Type 0
+IsTermInType model sets ty term = IsTermBetween sets (least_of model ty) (greatest_of model ty) term
+
+-- the number of a constant
+abbrev pub constant_with : Option Sym → ℤ → Option ℤ
+constant_with None value = Some value
+constant_with (Some sym) value = None
+
+-- the number of a term that is a constant
+abbrev pub constant_of : Lin → Option ℤ
+constant_of term = constant_with term.sym term.value
+
+-- not both terms are constants
+abbrev pub HaveSymbol : Lin → Lin → Type 0
+HaveSymbol left right = ¬ ((left.sym ≡ None) × (right.sym ≡ None))
+
+-- the same affine function, with a number added to its values
+pub record IsRaised (given : Lin) (by : ℤ) (made : Lin) : Type 0 where
+  pub symbol : made.sym ≡ given.sym
+  pub slope : made.slope ≡ given.slope
+  pub place : made.at ≡ given.at
+  pub value : made.value ≡ given.value +ℤ by
 
 -- the term is a constant, or its symbol has one number left
 abbrev pub IsFixed : Sets → Lin → Type 0

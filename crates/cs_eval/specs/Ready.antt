@@ -1,13 +1,21 @@
 -- Operands in the form that arithmetic on terms asks for.
+use Rattle.std.specs.Prelude.{◌≡◌, ℕ, None}
 use Rattle.cs_terms.specs.declared.term.Lin.{Lin}
-use Rattle.cs_constraints.specs.Constraints.{Sets}
+use Rattle.cs_constraints.specs.Constraints.{Sets, set_of}
 use Rattle.cs_eval.specs.declared.question.Question.{Question}
 use Rattle.cs_eval.specs.declared.question.Question.TheVariants as question
-use Rattle.cs_eval.specs.Operands.{IsTermBetween, IsReadyOperand, IsSeveral, LOWEST, HIGHEST}
+use Rattle.cs_eval.specs.Operands.{IsTermBetween, HaveSymbol, IsReadyOperand, IsSeveral, LOWEST, HIGHEST}
 
 -- a part of an order test: over a symbol that has two numbers, if over any, with values within the bounds of these parts
 abbrev pub IsReadyPart : Sets → Lin → Type 0
 IsReadyPart sets term = IsTermBetween sets LOWEST HIGHEST term × IsSeveral sets term
+
+-- two prepared operands that aren't both constants, and a guess symbol that isn't declared yet
+pub record IsBinary (sets : Sets) (guess : ℕ) (left right : Lin) : Type 0 where
+  pub left_ready : IsReadyOperand sets left
+  pub right_ready : IsReadyOperand sets right
+  pub symbol : HaveSymbol left right
+  pub fresh : set_of sets guess ≡ None
 
 -- the operands of a question have that form
 abbrev pub HasReadyOperands : Sets → Question → Type 0

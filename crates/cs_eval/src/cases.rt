@@ -1,4 +1,8 @@
 //! Which case of a `switch` a number takes.
+ghost use Rattle.std.specs.Prelude.{◌≡◌, pos, IfOk};
+ghost use Rattle.cs_eval.specs.Cases.{AreCases, IsCasePushed};
+ghost use Rattle.cs_eval.specs.Operands.{IsTermBetween, LOWEST, HIGHEST};
+ghost use Rattle.cs_eval.specs.Parts.{number_term};
 
 use crate::checked::{check_inside, check_wide};
 use crate::operands::constant;
@@ -17,26 +21,49 @@ pub fn select(
     constraints: &Constraints,
     term: Lin,
     cases: &[SwitchCase],
-) -> Result<Vec<Piece>, AllocError> {
+) -> Result<Vec<Piece>, AllocError>
+    ensures { IfOk result (λ pieces. AreCases constraints.now term cases.now pieces.items) }
+{
     check_wide(constraints, term)?;
     let mut pieces = Vec::new(alloc);
     let mut left = RangeSet::of(alloc, LEAST, GREATEST)?;
     for (number, case) in cases.iter().enumerate() {
-        if left.contains(case.value) {
-            check_inside(case.value)?;
-            let taken = RangeSet::of(alloc, case.value, case.value)?;
-            left = left.minus(&taken)?;
-            let kept = constraints.assume(term, &taken)?;
-            push_exact(&mut pieces, case_shown(number)?, kept)?;
-        }
+        left = push_case(constraints, term, number, case.value, left, &mut pieces)?;
     }
     let kept = constraints.assume(term, &left)?;
     push_exact(&mut pieces, case_shown(cases.len())?, kept)?;
     Ok(pieces)
 }
 
+// Adds the piece of a case, if a number that takes none of the cases before it may take it. The numbers that take none of these cases are left.
+fn push_case(
+    constraints: &Constraints,
+    term: Lin,
+    number: usize,
+    value: i128,
+    left: RangeSet,
+    pieces: &mut Vec<Piece>,
+) -> Result<RangeSet, AllocError>
+    requires { IsTermBetween constraints.now LOWEST HIGHEST term }
+    ensures { IfOk result (λ rest. IsCasePushed constraints.now term number value left rest
+        pieces.old.items pieces.new.items) }
+{
+    if !left.contains(value) {
+        return Ok(left);
+    }
+    check_inside(value)?;
+    let taken = RangeSet::of(*pieces.allocator(), value, value)?;
+    let rest = left.minus(&taken)?;
+    let kept = constraints.assume(term, &taken)?;
+    push_exact(pieces, case_shown(number)?, kept)?;
+    Ok(rest)
+}
+
 // What the number of a case shows: it leads on to no number.
-fn case_shown(number: usize) -> Result<Shown, AllocError> {
+fn case_shown(number: usize) -> Result<Shown, AllocError>
+    ensures label { IfOk result (λ shown. shown.label ≡ Label.Case number) }
+    ensures answer { IfOk result (λ shown. shown.answer ≡ number_term (pos 0)) }
+{
     let Ok(number) = u32::try_from(number) else {
         return Err(AllocError);
     };

@@ -7,11 +7,14 @@ ghost use Rattle.cs_types.specs.IntType.{IsIntegerOfC};
 ghost use Rattle.cs_terms.specs.Conditions.{CanAdd, CanScale, FitTogether, HaveOneSymbol};
 ghost use Rattle.cs_terms.specs.Term.{value_at, IsTerm};
 ghost use Rattle.cs_constraints.specs.Prepared.{HasIntegers};
-ghost use Rattle.cs_eval.specs.Operands.{IsBetween, IsTermBetween, IsTermInside, IsReadyOperand, IsSeveral, LOWEST, HIGHEST};
+ghost use Rattle.cs_eval.specs.Forms.{IsFormOf};
+ghost use Rattle.cs_eval.specs.Operands.{IsBetween, IsRaised, IsTermBetween, IsTermInside, IsTermInType, IsReadyOperand, IsSeveral, LOWEST, HIGHEST};
 
+use crate::setting::Setting;
 use cs_constraints::Constraints;
 use cs_ranges::{GREATEST, Interval, LEAST, RangeSet};
-use cs_terms::{Lin, Sym};
+use cs_terms::{Lin, Sym, greatest_of_type, least_of_type};
+use cs_types::IntType;
 use std::alloc::AllocError;
 
 // 2^100.
@@ -25,7 +28,8 @@ const GREATEST_INTEGER: i128 = 0xffff_ffff_ffff_ffff;
 /// An operand, which is a term with integers of C as values, in the form that arithmetic asks for: one whose symbol has one number left is
 /// a constant.
 pub(crate) fn ready(constraints: &Constraints, term: Lin) -> Result<Lin, AllocError>
-    ensures { IfOk result (IsReadyOperand constraints.now) }
+    ensures ready { IfOk result (IsReadyOperand constraints.now) }
+    ensures form { IfOk result (IsFormOf constraints.now term) }
 {
     check_integers(constraints, term)?;
     let operand = constraints.prepared(term);
@@ -37,6 +41,7 @@ pub(crate) fn ready(constraints: &Constraints, term: Lin) -> Result<Lin, AllocEr
 pub(crate) fn ready_part(constraints: &Constraints, term: Lin) -> Result<Lin, AllocError>
     ensures term { IfOk result (IsTermBetween constraints.now LOWEST HIGHEST) }
     ensures several { IfOk result (IsSeveral constraints.now) }
+    ensures form { IfOk result (IsFormOf constraints.now term) }
 {
     check_wide(constraints, term)?;
     let part = constraints.prepared(term);
@@ -59,6 +64,15 @@ pub(crate) fn check_wide(constraints: &Constraints, term: Lin) -> Result<(), All
     check_between(constraints, term, -WIDEST, WIDEST)
 }
 
+/// The values of a term lie in a type.
+pub(crate) fn check_in_type(setting: &Setting, ty: IntType, term: Lin) -> Result<(), AllocError>
+    ensures { OnOk result (IsTermInType setting.now.model setting.now.constraints.now ty term) }
+{
+    let low = least_of_type(setting.model, ty);
+    let high = greatest_of_type(setting.model, ty);
+    check_between(setting.constraints, term, low, high)
+}
+
 /// The values of a term lie from -2^126 to 2^126, as those of sets do.
 pub(crate) fn check_inside_values(constraints: &Constraints, term: Lin) -> Result<(), AllocError>
     ensures { OnOk result (IsTermInside constraints.now term) }
@@ -66,8 +80,8 @@ pub(crate) fn check_inside_values(constraints: &Constraints, term: Lin) -> Resul
     check_between(constraints, term, LEAST, GREATEST)
 }
 
-// The values of a term, whose symbol is declared if it has one, lie between the bounds.
-fn check_between(
+/// The values of a term, whose symbol is declared if it has one, lie between the bounds.
+pub(crate) fn check_between(
     constraints: &Constraints,
     term: Lin,
     low: i128,
@@ -242,8 +256,10 @@ pub(crate) fn check_interval(numbers: Interval) -> Result<(), AllocError>
     }
 }
 
-/// The term moved by a number.
-pub(crate) fn moved(term: Lin, by: i128) -> Result<Lin, AllocError> {
+/// The term with a number added to its values.
+pub(crate) fn moved(term: Lin, by: i128) -> Result<Lin, AllocError>
+    ensures { IfOk result (IsRaised term by) }
+{
     let value = term.value.checked_add(by).ok_or(AllocError)?;
     Ok(Lin { value, ..term })
 }

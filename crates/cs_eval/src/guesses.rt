@@ -1,6 +1,7 @@
 //! What a guess is asked for, and the numbers that may be guessed.
-ghost use Rattle.std.specs.Prelude.{IfOk};
+ghost use Rattle.std.specs.Prelude.{◌≡◌, None, IfOk, IfSome};
 ghost use Rattle.cs_ranges.specs.Interval.{IsProper};
+ghost use Rattle.cs_eval.specs.Guesses.{HasNumbers, AreNumbers, AreOfBinary, AreOfType, AreRemainders};
 
 use crate::checked::check_interval;
 use crate::operands::number;
@@ -25,7 +26,9 @@ pub(crate) struct Inexact {
 
 impl Inexact {
     /// An operation without a fact.
-    pub fn new(asks: Asks, left: Lin, right: Lin) -> Inexact {
+    pub fn new(asks: Asks, left: Lin, right: Lin) -> Inexact
+        ensures { result ≡ record { asks = asks; left = left; right = right; fact = None } }
+    {
         Inexact {
             asks,
             left,
@@ -50,7 +53,8 @@ impl Inexact {
 
     /// The numbers that may be guessed.
     pub fn numbers(&self, model: DataModel) -> Result<Interval, AllocError>
-        ensures { IfOk result IsProper }
+        ensures proper { IfOk result IsProper }
+        ensures numbers { IfOk result (HasNumbers model self.now) }
     {
         let numbers = self.bounds(model).ok_or(AllocError)?;
         check_interval(numbers)?;
@@ -58,7 +62,9 @@ impl Inexact {
     }
 
     // The least and the greatest number that may be guessed.
-    fn bounds(&self, model: DataModel) -> Option<Interval> {
+    fn bounds(&self, model: DataModel) -> Option<Interval>
+        ensures { IfSome result (AreNumbers model self.now.asks self.now.left self.now.right) }
+    {
         match self.asks {
             Asks::Binary(op, ty) => numbers_of_binary(model, op, ty, self.left, self.right),
             Asks::Convert(ty) => Some(numbers_of(model, ty)),
@@ -95,7 +101,9 @@ fn numbers_of_binary(
     ty: IntType,
     left: Lin,
     right: Lin,
-) -> Option<Interval> {
+) -> Option<Interval>
+    ensures { IfSome result (AreOfBinary model op ty left right) }
+{
     match op {
         BinOp::Rem => match number(right) {
             Some(divisor) => remainders(ty, divisor),
@@ -110,7 +118,9 @@ fn numbers_of_binary(
 }
 
 // The remainders of divisions by a number.
-fn remainders(ty: IntType, divisor: i128) -> Option<Interval> {
+fn remainders(ty: IntType, divisor: i128) -> Option<Interval>
+    ensures { IfSome result (AreRemainders ty divisor) }
+{
     let size = if divisor < 0 {
         divisor.checked_neg()?
     } else {
@@ -129,7 +139,9 @@ fn remainders(ty: IntType, divisor: i128) -> Option<Interval> {
 }
 
 // The numbers of a type.
-fn numbers_of(model: DataModel, ty: IntType) -> Interval {
+fn numbers_of(model: DataModel, ty: IntType) -> Interval
+    ensures { AreOfType model ty result }
+{
     Interval {
         low: least_of_type(model, ty),
         high: greatest_of_type(model, ty),

@@ -1,6 +1,7 @@
 //! The operands of a question.
-ghost use Rattle.std.specs.Prelude.{◌≡◌, IfOk};
-ghost use Rattle.cs_eval.specs.Operands.{IsReadyOperand};
+ghost use Rattle.std.specs.Prelude.{◌≡◌, IfOk, MatchOption};
+ghost use Rattle.cs_eval.specs.Forms.{IsFormOf, IsFormOfQuestion, AreConstants, IsConstantOperation};
+ghost use Rattle.cs_eval.specs.Operands.{IsReadyOperand, constant_of};
 ghost use Rattle.cs_eval.specs.Parts.{number_term};
 ghost use Rattle.cs_eval.specs.Ready.{HasReadyOperands};
 
@@ -16,7 +17,8 @@ pub(crate) fn prepared(
     constraints: &Constraints,
     question: &Question,
 ) -> Result<Question, AllocError>
-    ensures { IfOk result (HasReadyOperands constraints.now) }
+    ensures ready { IfOk result (HasReadyOperands constraints.now) }
+    ensures form { IfOk result (IsFormOfQuestion constraints.now question.now) }
 {
     match *question {
         Question::Binary(op, ty, left, right) => {
@@ -53,8 +55,10 @@ pub(crate) fn prepared(
 
 // Both operands in that form.
 fn both(constraints: &Constraints, left: Lin, right: Lin) -> Result<(Lin, Lin), AllocError>
-    ensures { IfOk result (λ both. IsReadyOperand constraints.now both.0
+    ensures ready { IfOk result (λ both. IsReadyOperand constraints.now both.0
         × IsReadyOperand constraints.now both.1) }
+    ensures form { IfOk result (λ both. IsFormOf constraints.now left both.0
+        × IsFormOf constraints.now right both.1) }
 {
     let left = ready(constraints, left)?;
     let right = ready(constraints, right)?;
@@ -62,7 +66,9 @@ fn both(constraints: &Constraints, left: Lin, right: Lin) -> Result<(Lin, Lin), 
 }
 
 /// The operation of a question whose operands are constants.
-pub(crate) fn constant_operation(question: &Question) -> Option<Operation> {
+pub(crate) fn constant_operation(question: &Question) -> Option<Operation>
+    ensures { MatchOption result (¬ AreConstants question.now) (IsConstantOperation question.now) }
+{
     match *question {
         Question::Binary(op, ty, left, right) => Some(Operation::Binary(
             op,
@@ -94,7 +100,9 @@ pub(crate) fn constant_operation(question: &Question) -> Option<Operation> {
 }
 
 /// The number of a term that is a constant.
-pub(crate) fn number(term: Lin) -> Option<i128> {
+pub(crate) fn number(term: Lin) -> Option<i128>
+    ensures { result ≡ constant_of term }
+{
     match term.sym {
         Some(_) => None,
         None => Some(term.value),

@@ -1,6 +1,10 @@
 //! What an operation may show, and under which numbers of the symbols.
-ghost use Rattle.std.specs.Prelude.{◌≡◌, None};
-ghost use Rattle.cs_constraints.specs.Constraints.{set_of};
+ghost use Rattle.std.specs.Prelude.{◌≡◌, None, IfOk};
+ghost use Rattle.cs_constraints.specs.Constraints.{set_of, AreInhabited};
+ghost use Rattle.cs_events.specs.Operations as operations;
+ghost use Rattle.cs_values.specs.Results.{IsOwn};
+ghost use Rattle.cs_eval.specs.Followed.{AreAnswers};
+ghost use Rattle.cs_eval.specs.Forms.{AreConstants, operation_pieces};
 ghost use Rattle.cs_eval.specs.Ready.{HasReadyOperands};
 
 use crate::checked::check_adds;
@@ -15,9 +19,9 @@ use crate::tested::test;
 use crate::truths::{comparison, order_test, product_test};
 use cs_constraints::Constraints;
 use cs_events::{Label, Operation};
-use cs_run_state::arithmetic::{Computed, compute, is_true};
 use cs_terms::Sym;
 use cs_types::DataModel;
+use cs_values::arithmetic::{Computed, compute, is_true};
 use std::alloc::{AllocError, Global};
 
 /// What the operation may show, a piece for each label, no two alike. A number that is guessed is that of the given symbol, which isn't
@@ -28,7 +32,10 @@ pub fn answers(
     constraints: &Constraints,
     question: &Question,
     guess: Sym,
-) -> Result<Vec<Piece>, AllocError> {
+) -> Result<Vec<Piece>, AllocError>
+    ensures { IfOk result (λ pieces.
+        AreAnswers model constraints.now guess.0 question.now pieces.items) }
+{
     if constraints.range_of(guess).is_some() {
         return Err(AllocError);
     }
@@ -46,7 +53,11 @@ pub fn answers(
 }
 
 // An operation on constants.
-fn computed(setting: &Setting, operation: Operation) -> Result<Vec<Piece>, AllocError> {
+fn computed(setting: &Setting, operation: Operation) -> Result<Vec<Piece>, AllocError>
+    ensures piece { IfOk result (λ pieces. pieces.items ≡ operation_pieces setting.now.model
+        operation setting.now.constraints.now) }
+    ensures inhabited { IfOk result (λ pieces. AreInhabited setting.now.constraints.now) }
+{
     let Some(own) = compute(setting.model, operation) else {
         return Err(AllocError);
     };
@@ -59,20 +70,31 @@ fn computed(setting: &Setting, operation: Operation) -> Result<Vec<Piece>, Alloc
     )
 }
 
-// What an operation on constants shows.
-fn shown(operation: Operation, own: Computed) -> Label {
+// What an operation shows that isn't guessed.
+fn shown(operation: Operation, own: Computed) -> Label
+    ensures { (model : DataModel) → IsOwn model operation own
+        → result ≡ operations.shows model operation None }
+{
     match operation {
+        Operation::Show(what) => what,
         Operation::Compare(_, _, _) | Operation::Order(_, _) | Operation::Product(_, _) => {
             Label::Truth(is_true(own.number))
         }
-        _ => Label::Wrap(own.wrap),
+        Operation::Binary(_, _, _, _)
+        | Operation::Unary(_, _, _)
+        | Operation::Convert(_, _)
+        | Operation::Sum(_, _, _)
+        | Operation::Difference(_, _, _) => Label::Wrap(own.wrap),
     }
 }
 
 // A question with prepared operands, not all of which are constants.
 fn followed(setting: &Setting, question: Question) -> Result<Vec<Piece>, AllocError>
     requires ready { HasReadyOperands setting.now.constraints.now question }
+    requires mixed { ¬ AreConstants question }
     requires fresh { set_of setting.now.constraints.now setting.now.guess.0 ≡ None }
+    ensures { IfOk result (λ pieces. AreAnswers setting.now.model setting.now.constraints.now
+        setting.now.guess.0 question pieces.items) }
 {
     match question {
         Question::Binary(op, ty, left, right) => binary(setting, op, ty, left, right),

@@ -1,5 +1,5 @@
 //! Operations that show a truth: comparisons, order tests, the order test of `calloc`.
-ghost use Rattle.std.specs.Prelude.{◌≡◌, ℤ, IsTrue, None, IfOk};
+ghost use Rattle.std.specs.Prelude.{◌≡◌, ℤ, pos, int_le, ◌≤ℤ◌, ◌*ℤ◌, IsTrue, None, IfOk, OnOk};
 ghost use Rattle.cs_ranges.specs.RangeSet.{contains, IsInhabited};
 ghost use Rattle.cs_terms.specs.Conditions.{CanAdd};
 ghost use Rattle.cs_terms.specs.Term.{value_at, IsTerm};
@@ -8,11 +8,12 @@ ghost use Rattle.cs_eval.specs.declared.question.Question.{Question};
 ghost use Rattle.cs_eval.specs.Followed.{AreAnswers};
 ghost use Rattle.cs_eval.specs.Operands.{IsBetween, IsTermBetween, LOWEST, HIGHEST};
 ghost use Rattle.cs_eval.specs.Operands.{HasEnds, HasEndsOver, IsEndsOfSum, IsReadyOperand, IsSeveral};
+ghost use Rattle.cs_eval.specs.ProductTests.{IsTermOfCounts, IsFollowedByEnds, IsFollowedByFactor, IsFollowedByProduct};
 ghost use Rattle.cs_eval.specs.Truths as truths;
 ghost use Rattle.cs_events.specs.Operations.{truth_number};
 ghost use Rattle.cs_eval.specs.Truths.{IsReady, ArePiecesOf, AreOfGuess, IsGuessOf, IsSignBetween, IsFollowedBySign};
 
-use crate::checked::{check_inside_values, check_wide, moved};
+use crate::checked::{check_between, check_inside_values, moved};
 use crate::guesses::Inexact;
 use crate::halves::{opposite, split_by_sign};
 use crate::operands::number;
@@ -98,7 +99,15 @@ pub(crate) fn product_test(
     setting: &Setting,
     count: Lin,
     size: Lin,
-) -> Result<Vec<Piece>, AllocError> {
+) -> Result<Vec<Piece>, AllocError>
+    requires count { IsSeveral setting.now.constraints.now count }
+    requires size { IsSeveral setting.now.constraints.now size }
+    requires fresh { set_of setting.now.constraints.now setting.now.guess.0 ≡ None }
+    ensures { IfOk result (λ pieces. AreAnswers setting.now.model setting.now.constraints.now
+        setting.now.guess.0 (Question.Product count size) pieces.items) }
+{
+    check_counts(setting.constraints, count)?;
+    check_counts(setting.constraints, size)?;
     let followed = followed_by_product(setting, count, size)?;
     let inexact = Inexact::new(Asks::Product, count, size);
     truth_split(setting, followed, &inexact)
@@ -221,9 +230,21 @@ fn holds_between(op: CmpOp, ends: Interval) -> bool
     }
 }
 
+// The values of a term are integers of C that aren't below 0, as those of `size_t` are.
+fn check_counts(constraints: &Constraints, term: Lin) -> Result<(), AllocError>
+    ensures { OnOk result (IsTermOfCounts constraints.now term) }
+{
+    check_between(constraints, term, 0, i128::from(u64::MAX))
+}
+
 // How far it is followed whether a product is at most the bound of one allocation.
 fn followed_by_product(setting: &Setting, count: Lin, size: Lin) -> Result<Followed, AllocError>
-    ensures { IfOk result (IsReady setting.now.constraints.now) }
+    requires count { IsTermOfCounts setting.now.constraints.now count }
+    requires size { IsTermOfCounts setting.now.constraints.now size }
+    requires several { IsSeveral setting.now.constraints.now count
+        × IsSeveral setting.now.constraints.now size }
+    ensures { IfOk result
+        (IsFollowedByProduct setting.now.model setting.now.constraints.now count size) }
 {
     if let Some(factor) = number(size) {
         return followed_by_factor(setting, count, factor);
@@ -231,40 +252,50 @@ fn followed_by_product(setting: &Setting, count: Lin, size: Lin) -> Result<Follo
     if let Some(factor) = number(count) {
         return followed_by_factor(setting, size, factor);
     }
-    check_wide(setting.constraints, count)?;
-    check_wide(setting.constraints, size)?;
+    Ok(followed_by_ends(setting, count, size))
+}
+
+// A product whose factors are over symbols is followed as far as the ends decide.
+fn followed_by_ends(setting: &Setting, count: Lin, size: Lin) -> Followed
+    requires count { IsTermOfCounts setting.now.constraints.now count }
+    requires size { IsTermOfCounts setting.now.constraints.now size }
+    ensures { IsFollowedByEnds setting.now.model setting.now.constraints.now count size result }
+{
     let count = values_of(setting.constraints, count);
     let size = values_of(setting.constraints, size);
     let bound = i128::from(product_bound(setting.model));
     if is_product_within(bound, count.high, size.high) {
-        Ok(Followed::Always(true))
+        Followed::Always(true)
     } else if is_product_within(bound, count.low, size.low) {
-        Ok(Followed::No)
+        Followed::No
     } else {
-        Ok(Followed::Always(false))
+        Followed::Always(false)
     }
 }
 
 // A term times a constant factor is within the bound exactly where the term is at most their quotient.
 fn followed_by_factor(setting: &Setting, term: Lin, factor: i128) -> Result<Followed, AllocError>
-    ensures { IfOk result (IsReady setting.now.constraints.now) }
+    requires { IsTermOfCounts setting.now.constraints.now term }
+    ensures { IfOk result
+        (IsFollowedByFactor setting.now.model setting.now.constraints.now term factor) }
 {
     if factor <= 0 {
         return Ok(Followed::Always(true));
     }
     let bound = i128::from(product_bound(setting.model));
-    let greatest = bound.checked_div(factor).ok_or(AllocError)?;
-    let below = greatest.checked_neg().ok_or(AllocError)?;
-    let above = moved(term, below)?;
+    let greatest = bound / factor;
+    let above = moved(term, -greatest)?;
     check_inside_values(setting.constraints, above)?;
     Ok(Followed::Where(CmpOp::AtMost, above))
 }
 
-// Whether the product of two numbers that aren't below 0 is within the bound. The product itself may need more than 128 bits.
-fn is_product_within(bound: i128, count: i128, size: i128) -> bool {
-    match bound.checked_div(count) {
-        Some(greatest) if 0 < count => size <= greatest,
-        _ => true,
+// Whether the product of two numbers that aren't below 0 is within the bound. One that 128 bits don't hold is past it.
+fn is_product_within(bound: i128, count: i128, size: i128) -> bool
+    ensures { pos 0 ≤ℤ count → pos 0 ≤ℤ size → result ≡ int_le (count *ℤ size) bound }
+{
+    match count.checked_mul(size) {
+        Some(product) => product <= bound,
+        None => false,
     }
 }
 

@@ -1,8 +1,15 @@
 //! Operations whose exact results wrap: sums, products, conversions.
-ghost use Rattle.std.specs.Prelude.{ℤ, IsTrue};
+ghost use Rattle.std.specs.Prelude.{◌≡◌, ◌↔◌, ℤ, pos, neg_ℤ, IsTrue, Some, None, IfOk, OnOk, MatchOption, option_copied};
 ghost use Rattle.cs_ranges.specs.Interval.{IsInside};
-ghost use Rattle.cs_ranges.specs.RangeSet.{contains};
+ghost use Rattle.cs_ranges.specs.RangeSet.{contains, IsEmpty, IsInhabited};
+ghost use Rattle.cs_types.specs.IntType.{modulus_of};
+ghost use Rattle.cs_terms.specs.Pieces.{IsFar, AreProductPieces};
 ghost use Rattle.cs_terms.specs.Term.{value_at, IsTerm};
+ghost use Rattle.cs_constraints.specs.Constraints.{AreInhabited};
+ghost use Rattle.cs_events.specs.Operations as operations;
+ghost use Rattle.cs_eval.specs.Operands.{IsRaised};
+ghost use Rattle.cs_eval.specs.Wraps.{IsExtended, IsOfPart, IsOfFar, AreOfParts, IsWrapGuess, IsWholeGuess};
+ghost use Rattle.cs_eval.specs.Wraps.{IsConvertedConstant, AreConverted, constant_pieces};
 
 use crate::checked::{check_inside, check_wide, moved};
 use crate::guesses::Inexact;
@@ -10,6 +17,7 @@ use crate::operands::constant;
 use crate::piece::Piece;
 use crate::pieces::{Shown, exact_piece, guessed_piece, narrowed, one_piece};
 use crate::setting::Setting;
+use cs_constraints::Constraints;
 use cs_events::{Label, Wrap};
 use cs_ranges::RangeSet;
 use cs_terms::{
@@ -24,9 +32,12 @@ pub(crate) fn converted(
     ty: IntType,
     exact: Lin,
     asked: Option<&Inexact>,
-) -> Result<Vec<Piece>, AllocError> {
+) -> Result<Vec<Piece>, AllocError>
+    ensures { IfOk result (λ pieces. AreConverted setting.now.model setting.now.constraints.now
+        setting.now.guess.0 ty exact (option_copied asked.entry) pieces.items) }
+{
     let Some(sym) = exact.sym else {
-        return constant_converted(setting, ty, exact.value);
+        return constant_converted(setting, ty, exact.value, asked);
     };
     check_wide(setting.constraints, exact)?;
     let Some(range) = setting.constraints.range_of(sym) else {
@@ -45,7 +56,10 @@ pub(crate) fn wrap_split(
     sym: Sym,
     parts: Parts,
     asked: Option<&Inexact>,
-) -> Result<Vec<Piece>, AllocError> {
+) -> Result<Vec<Piece>, AllocError>
+    ensures { IfOk result (λ pieces. AreOfParts setting.now.model setting.now.constraints.now
+        setting.now.guess.0 sym parts (option_copied asked.entry) pieces.items) }
+{
     let Parts {
         under,
         same,
@@ -56,35 +70,52 @@ pub(crate) fn wrap_split(
     push_part(setting, &mut pieces, sym, Wrap::Under, under)?;
     push_part(setting, &mut pieces, sym, Wrap::Same, same)?;
     push_part(setting, &mut pieces, sym, Wrap::Past, past)?;
-    if let Some(inexact) = asked {
-        push_far(setting, &mut pieces, sym, far, inexact)?;
-    }
+    push_far(setting, &mut pieces, sym, far, asked)?;
     Ok(pieces)
 }
 
 /// The one piece of an operation that is guessed as a whole.
-pub(crate) fn wrap_guess(setting: &Setting, inexact: &Inexact) -> Result<Vec<Piece>, AllocError> {
+pub(crate) fn wrap_guess(setting: &Setting, inexact: &Inexact) -> Result<Vec<Piece>, AllocError>
+    ensures { IfOk result (λ pieces. IsWholeGuess setting.now.model setting.now.constraints.now
+        setting.now.guess.0 inexact.now pieces.items) }
+{
+    let constraints = setting.constraints.copy()?;
+    let piece = guess_of(setting, constraints, inexact)?;
     let mut pieces = Vec::new(setting.alloc);
-    pieces.push(guessed_piece(
-        setting,
-        setting.constraints.copy()?,
-        Label::Wrap(Wrap::Guessed),
-        inexact.numbers(setting.model)?,
-        inexact.guessed(setting.constraints),
-    )?)?;
+    pieces.push(piece)?;
     Ok(pieces)
 }
 
+// The piece of a guess under constraints.
+fn guess_of(
+    setting: &Setting,
+    constraints: Constraints,
+    inexact: &Inexact,
+) -> Result<Piece, AllocError>
+    ensures { IfOk result (IsWrapGuess setting.now.model constraints setting.now.guess.0
+        inexact.now) }
+{
+    let numbers = inexact.numbers(setting.model)?;
+    let guessed = inexact.guessed(setting.constraints);
+    let label = Label::Wrap(Wrap::Guessed);
+    guessed_piece(setting, constraints, label, numbers, guessed)
+}
+
 /// A result that lies in its type.
-pub(crate) fn unwrapped(answer: Lin) -> Shown {
+pub(crate) fn unwrapped(answer: Lin) -> Shown
+    ensures label { result.label ≡ Label.Wrap Wrap.Same }
+    ensures answer { result.answer ≡ answer }
+{
     Shown {
         label: Label::Wrap(Wrap::Same),
         answer,
     }
 }
 
-/// What a wrap quotient shows.
-pub(crate) fn wrap_of(quotient: i128) -> Wrap {
+// What a wrap quotient shows.
+fn wrap_of(quotient: i128) -> Wrap
+    ensures { result ≡ operations.wrap_of quotient }
+{
     match quotient {
         0 => Wrap::Same,
         1 => Wrap::Past,
@@ -93,13 +124,50 @@ pub(crate) fn wrap_of(quotient: i128) -> Wrap {
     }
 }
 
-// A number converted to a type.
+// A number converted to a type. One with a far quotient is guessed where a guess is asked for, as where the terms of a sum are over a symbol
+// that their sum isn't over.
 fn constant_converted(
     setting: &Setting,
     ty: IntType,
     number: i128,
-) -> Result<Vec<Piece>, AllocError> {
+    asked: Option<&Inexact>,
+) -> Result<Vec<Piece>, AllocError>
+    ensures { IfOk result (λ pieces. IsConvertedConstant setting.now.model
+        setting.now.constraints.now setting.now.guess.0 ty number
+        (option_copied asked.entry) pieces.items) }
+{
     check_inside(number)?;
+    match asked {
+        Some(inexact) => near_or_guessed(setting, ty, number, inexact),
+        None => constant_piece(setting, ty, number),
+    }
+}
+
+// A number converted to a type, which is guessed where its quotient is far.
+fn near_or_guessed(
+    setting: &Setting,
+    ty: IntType,
+    number: i128,
+    inexact: &Inexact,
+) -> Result<Vec<Piece>, AllocError>
+    requires { IsInside number }
+    ensures { IfOk result (λ pieces. IsConvertedConstant setting.now.model
+        setting.now.constraints.now setting.now.guess.0 ty number (Some inexact.now)
+        pieces.items) }
+{
+    if is_far(quotient(setting.model, ty, number)) {
+        return wrap_guess(setting, inexact);
+    }
+    constant_piece(setting, ty, number)
+}
+
+// The one piece of a number converted to a type.
+fn constant_piece(setting: &Setting, ty: IntType, number: i128) -> Result<Vec<Piece>, AllocError>
+    requires { IsInside number }
+    ensures piece { IfOk result (λ pieces. pieces.items
+        ≡ constant_pieces setting.now.model ty number setting.now.constraints.now) }
+    ensures inhabited { IfOk result (λ pieces. AreInhabited setting.now.constraints.now) }
+{
     let shown = wrap_of(quotient(setting.model, ty, number));
     one_piece(
         setting,
@@ -108,6 +176,13 @@ fn constant_converted(
             answer: constant(wrap(setting.model, ty, number)),
         },
     )
+}
+
+// A wrap quotient other than -1, 0 and 1.
+fn is_far(quotient: i128) -> bool
+    ensures { IsTrue result ↔ IsFar quotient }
+{
+    quotient != -1 && quotient != 0 && quotient != 1
 }
 
 // The numbers of a symbol by the wrap quotient of an exact result over it.
@@ -119,6 +194,7 @@ fn converted_parts(
 ) -> Result<Parts, AllocError>
     requires term { IsTerm exact }
     requires values { (x : ℤ) → IsTrue (contains range.now x) → IsInside (value_at exact x) }
+    ensures { IfOk result (AreProductPieces setting.now.model ty exact (pos 1) range.now) }
 {
     let Pieces {
         under,
@@ -127,9 +203,8 @@ fn converted_parts(
         far,
     } = wrap_pieces(setting.alloc, setting.model, ty, exact, range)?;
     let modulus = modulus(setting.model, ty);
-    let back = modulus.checked_neg().ok_or(AllocError)?;
     let under = part(under, moved(exact, modulus)?);
-    let past = part(past, moved(exact, back)?);
+    let past = part(past, moved_back(exact, modulus)?);
     Ok(Parts {
         under,
         same: part(same, exact),
@@ -138,8 +213,19 @@ fn converted_parts(
     })
 }
 
+// The term with a number taken from its values.
+fn moved_back(term: Lin, by: i128) -> Result<Lin, AllocError>
+    ensures { IfOk result (IsRaised term (neg_ℤ by)) }
+{
+    let value = term.value.checked_sub(by).ok_or(AllocError)?;
+    Ok(Lin { value, ..term })
+}
+
 // Some numbers of a symbol, with the wrapped result there; none where there are no numbers.
-fn part(range: RangeSet, product: Lin) -> Option<Part> {
+fn part(range: RangeSet, product: Lin) -> Option<Part>
+    ensures { MatchOption result (IsEmpty range)
+        (λ part. (part.range ≡ range) × (part.product ≡ product) × IsInhabited range) }
+{
     if range.is_empty() {
         None
     } else {
@@ -148,7 +234,9 @@ fn part(range: RangeSet, product: Lin) -> Option<Part> {
 }
 
 // How many numbers a type has.
-fn modulus(model: DataModel, ty: IntType) -> i128 {
+fn modulus(model: DataModel, ty: IntType) -> i128
+    ensures { result ≡ pos (modulus_of model ty) }
+{
     match bytes(model, ty) {
         1 => 1 << 8,
         2 => 1 << 16,
@@ -164,7 +252,10 @@ fn push_part(
     sym: Sym,
     shown: Wrap,
     part: Option<Part>,
-) -> Result<(), AllocError> {
+) -> Result<(), AllocError>
+    ensures { OnOk result (IsExtended pieces.old.items
+        (IsOfPart setting.now.constraints.now sym shown part) pieces.new.items) }
+{
     let Some(Part { range, product }) = part else {
         return Ok(());
     };
@@ -182,24 +273,26 @@ fn push_part(
     Ok(())
 }
 
-// The piece of the far wrap quotients.
+// The piece of the far wrap quotients. An operation that none is asked for has no such number: it isn't dropped, but treated as want of memory.
 fn push_far(
     setting: &Setting,
     pieces: &mut Vec<Piece>,
     sym: Sym,
     far: RangeSet,
-    inexact: &Inexact,
-) -> Result<(), AllocError> {
+    asked: Option<&Inexact>,
+) -> Result<(), AllocError>
+    ensures { OnOk result (IsExtended pieces.old.items
+        (IsOfFar setting.now.model setting.now.constraints.now setting.now.guess.0 sym far
+        (option_copied asked.entry)) pieces.new.items) }
+{
     if far.is_empty() {
         return Ok(());
     }
+    let Some(inexact) = asked else {
+        return Err(AllocError);
+    };
     let constraints = narrowed(setting.constraints, sym, far)?;
-    pieces.push(guessed_piece(
-        setting,
-        constraints,
-        Label::Wrap(Wrap::Guessed),
-        inexact.numbers(setting.model)?,
-        inexact.guessed(setting.constraints),
-    )?)?;
+    let piece = guess_of(setting, constraints, inexact)?;
+    pieces.push(piece)?;
     Ok(())
 }

@@ -18,10 +18,10 @@ use Rattle.cs_declarations.specs.Bodies.{Typing, specs_type, typedefs_added}
 use Rattle.cs_declarations.specs.Environment.{meaning_here, entered}
 use Rattle.cs_declarations.specs.Parameters.{Head, parameters_typed}
 use Rattle.cs_statements.specs.Statements.{no_statements, body_typed}
+use Rattle.cs_file_scope.specs.Functions.{is_result, same_types, types_of, may_be_function, Routed, function_of, declared_once}
+use Rattle.cs_file_scope.specs.Objects.{Filed, with_known}
 use Rattle.cs_typing.specs.Files.{specs_of, external_declared, external_typed, file_typed}
-use Rattle.cs_typing.specs.Functions.{is_result, same_types, types_of, may_be_function, Routed, function_of, declared_inside, at_beginning, where_in}
-use Rattle.cs_typing.specs.Functions.{completed, outside_of, declared_once, headed, function_typed}
-use Rattle.cs_typing.specs.Objects.{Filed, with_known}
+use Rattle.cs_typing.specs.Functions.{declared_inside, at_beginning, where_in, completed, outside_of, headed, function_typed}
 use Rattle.cs_first_faults.specs.Failures.{FailingPlace, failing_at, unless, codes_of, if_typed, IsFirst}
 use Rattle.cs_first_faults.specs.Files.{declared_function, head_codes, routed_failures, headed_failures, function_failures}
 use Rattle.cs_first_faults.specs.Files.{declared_failures, external_failures, file_failures}

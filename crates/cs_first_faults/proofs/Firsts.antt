@@ -115,7 +115,8 @@ IsLed (Some code) at (Fine value) = ⊥
 IsLed (Some code) at (Fault other place) = (lesser code other ≡ other) × (place ≡ at)
 
 -- an operator between two parts: what it asks of the left one alone, and what it asks of both
-pub first-asked : (at : Place) (asks : Shape → Option TypeCode) (rule : Typed → Typed → Verdict Typed) (v w : Verdict Typed) (one other : List FailingPlace)
+pub first-asked : (at : Place) (asks : Shape → Option TypeCode) (rule : Typed → Typed
+    → Verdict Typed) (v w : Verdict Typed) (one other : List FailingPlace)
     → IsFirst v one → IsFirst w other → ((l r : Typed) → IsLed (asks (type_of l)) at (rule l r))
     → IsFirst (between at asks rule v w)
     (one ++ failing_at at (if_typed (λ l. option_to_list (asks (type_of l))) v ++ if_both_typed (λ l r. codes_of (rule l r)) v w) ++ other)

@@ -1,5 +1,6 @@
 -- The laws of this crate.
-use Rattle.cs_typing.specs.Files.{typed_file, begun}
+use Rattle.cs_file_scope.specs.Beginning.{begun}
+use Rattle.cs_typing.specs.Files.{typed_file}
 use Rattle.cs_first_faults.specs.Laws.{ExpressionsAreRefusedWhereTheyFailFirst, ConstantsAreRefusedWhereTheyFailFirst}
 use Rattle.cs_first_faults.specs.Laws.{InitializersAreRefusedWhereTheyFailFirst, DeclarationsAreRefusedWhereTheyFailFirst}
 use Rattle.cs_first_faults.specs.Laws.{StatementsAreRefusedWhereTheyFailFirst, FunctionsAreRefusedWhereTheyFailFirst, FilesAreRefusedWhereTheyFailFirst}

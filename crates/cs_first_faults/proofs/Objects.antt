@@ -25,7 +25,7 @@ use Rattle.cs_declarations.specs.Parameters.{Head, Passed, place_of, name_in, is
 use Rattle.cs_declarations.specs.Parameters.{parameter_passed, parameters_after, parameters_typed}
 use Rattle.cs_declarations.specs.Sizes.{fault_in}
 use Rattle.cs_statements.specs.Locals.{Inside, with_local, local_initialized, local_added, TypedStatements, after_local, locals_added}
-use Rattle.cs_typing.specs.Objects.{Filed, Object, may_be_object, is_completed, object_of, object_initialized, object_added, objects_added}
+use Rattle.cs_file_scope.specs.Objects.{Filed, Object, may_be_object, is_completed, object_of, object_initialized, object_added, objects_added}
 use Rattle.cs_first_faults.specs.Failures.{FailingPlace, first_failure, failing_at, unless, codes_of, if_typed, IsFirst}
 use Rattle.cs_first_faults.specs.Declarators.{bounds_failures, object_codes, parameter_codes}
 use Rattle.cs_first_faults.specs.Objects.{parameters_failures, parameter_list_failures, file_initial_failures}

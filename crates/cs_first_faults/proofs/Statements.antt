@@ -1,8 +1,11 @@
 -- Statements are typed by their first failing place.
-use Rattle.std.proofs.Common.{refl, sym, subst, Bool, true, false, if◌then◌else◌, List, [], ◌∷◌, ◌++◌, Option, Some, None, append-nil}
+use Rattle.std.proofs.Common.{◌≡◌, refl, sym, ap, subst, Bool, true, false, if◌then◌else◌, List, [], ◌∷◌, ◌++◌, Option, Some, None}
+use Rattle.std.proofs.Common.{append-nil}
 use Rattle.std.proofs.Common.{append_assoc}
+use Rattle.std.specs.Prelude.{option_to_list}
 use mathlib.Core.Former.{Count}
 use Rattle.cs_types.specs.Shape.{Shape}
+use Rattle.cs_types.specs.Kinds.{is_scalar}
 use Rattle.cs_ast.specs.declared.place.Place.{Place}
 use Rattle.cs_ast.specs.declared.raw.declaration.RawInit.{RawInit}
 use Rattle.cs_ast.specs.declared.raw.declaration.RawSpecs.{RawSpecs}
@@ -16,23 +19,29 @@ use Rattle.cs_ast.specs.declared.raw.statement.RawStmtKind.{RawStmtKind}
 use Rattle.cs_ast.specs.declared.raw.statement.RawStmtKind.TheVariants as kind
 use Rattle.cs_ast.specs.declared.raw.statement.RawSwitchItem as switches
 use Rattle.cs_ast.specs.TypedTree.{Typed, Statement}
+use Rattle.cs_scopes.specs.declared.refusal.TypeCode.{TypeCode}
 use Rattle.cs_scopes.specs.declared.refusal.TypeCode.TheVariants.{Jump, Return}
+use Rattle.cs_scopes.specs.Faults.{code_in}
 use Rattle.cs_scopes.specs.Verdicts.{Verdict, Fine, Fault, lift}
 use Rattle.cs_folding.specs.TypedParts.{type_of}
-use Rattle.cs_consts.specs.Roles.{value_of, assigned_value, test_of, selector_of, discarded_value}
+use Rattle.cs_expressions.specs.Operators.{tested}
+use Rattle.cs_consts.specs.Roles.{operand_of, value_of, testing_fault, test_fault, assigned_value, test_of, selector_of, discarded_value}
 use Rattle.cs_declarations.specs.Bodies.{Typing, specs_type}
+use Rattle.cs_declarations.specs.Environment.{with_literals}
 use Rattle.cs_statements.specs.Locals.{Inside, knowing, TypedStatements}
-use Rattle.cs_statements.specs.Statements.{Where, in_loop, in_switch, Part, tested_in, tested_if, dropped_in, dropped_if, is_void, returned, value_returned}
+use Rattle.cs_statements.specs.Statements.{Where, in_loop, in_switch, Part, tested_in, tested_if, word_fault, after_word}
+use Rattle.cs_statements.specs.Statements.{dropped_in, dropped_if, is_void, returned, value_returned}
 use Rattle.cs_statements.specs.Statements.{label_number, goto_typed, is_first, meeting, in_block, first_place, declaration_typed, no_statements, first_typed}
 use Rattle.cs_statements.specs.Statements.{Switching, case_added, constant_case, selected, statement_typed, item_typed, items_typed, switch_item_typed}
 use Rattle.cs_statements.specs.Statements.{switch_typed, body_typed}
-use Rattle.cs_first_faults.specs.Failures.{FailingPlace, failing_at, unless, if_typed, IsFirst}
+use Rattle.cs_first_faults.specs.Failures.{FailingPlace, failing_at, unless, failing, if_typed, fails, IsFirst}
 use Rattle.cs_first_faults.specs.Objects.{locals_failures}
 use Rattle.cs_first_faults.specs.Roles.{value_asked_failures, assigned_failures, test_failures, selector_failures, dropped_failures}
-use Rattle.cs_first_faults.specs.Statements.{dropped_if_failures, word_failures, tested_failures, return_failures, declaration_failures, first_failures}
+use Rattle.cs_first_faults.specs.Statements.{dropped_if_failures, word_failures, tested_failures, known_at_test, return_failures, declaration_failures}
+use Rattle.cs_first_faults.specs.Statements.{first_failures}
 use Rattle.cs_first_faults.specs.Statements.{statement_failures, item_failures, block_failures, switch_item_failures, switch_failures, items_in_body_failures}
 use Rattle.cs_first_faults.specs.Types.{specs_failures}
-use Rattle.cs_first_faults.proofs.Firsts.{no_some, no_none, first-failing, first-ahead, first-then}
+use Rattle.cs_first_faults.proofs.Firsts.{no_some, no_none, IsAt, if_at, first-failing, first-ahead, first-then}
 use Rattle.cs_first_faults.proofs.Names.{first-made, value_of-first, assigned-first, test-first, selector-first, dropped-first}
 use Rattle.cs_first_faults.proofs.Objects.{locals-first}
 use Rattle.cs_first_faults.proofs.Types.{specs-first}
@@ -85,15 +94,41 @@ first_part-first i first_part.Empty = refl
 first_part-first i (first_part.Run e) = first-made _ (dropped_in i e) _ (dropped_in-first i e)
 first_part-first i (first_part.Declare s objects) = declaration-first s objects.items (no_statements i)
 
--- a word asks something of what stands after another part
-first-across : {A B : Type 0} (rule : A → Verdict B) (v : Verdict A) (failures : List FailingPlace) (asked next : A → List FailingPlace)
-    → IsFirst v failures → ((a : A) → IsFirst (rule a) (asked a ++ next a))
-    → IsFirst (lift rule v) (if_typed asked v ++ failures ++ if_typed next v)
+-- a word asks something of what stands after another part, of which it says a code before if that is refused
+first-across : {A B : Type 0} (rule : A → Verdict B) (v : Verdict A) (at : Place) (fault : Option TypeCode) (failures : List FailingPlace)
+    (asked : Verdict A → List FailingPlace) (next : A → List FailingPlace) → IsFirst v failures
+    → ((code : TypeCode) (place : Place) → asked (Fault code place) ≡ failing_at at (option_to_list fault))
+    → ((a : A) → IsFirst (rule a) (asked (Fine a) ++ next a))
+    → IsFirst (lift rule (after_word at fault v)) (asked v ++ failures ++ if_typed next v)
 unfolding lift
-first-across {B = B} rule (Fine a) [] asked next h k = subst (λ xs. IsFirst {A = B} (rule a) (xs ++ next a)) (sym (append-nil (asked a))) (k a)
-first-across rule (Fine a) (f ∷ fs) asked next h k = no_some _ h
-first-across rule (Fault code place) [] asked next h k = no_none _ h
-first-across rule (Fault code place) (f ∷ fs) asked next h k = h
+first-across {B = B} rule (Fine a) at None [] asked next h refuses k =
+    subst (λ xs. IsFirst {A = B} (rule a) (xs ++ next a)) (sym (append-nil (asked (Fine a)))) (k a)
+first-across {B = B} rule (Fine a) at (Some said) [] asked next h refuses k =
+    subst (λ xs. IsFirst {A = B} (rule a) (xs ++ next a)) (sym (append-nil (asked (Fine a)))) (k a)
+first-across rule (Fine a) at fault (f ∷ fs) asked next h refuses k = no_some _ h
+first-across rule (Fault code place) at fault [] asked next h refuses k = no_none _ h
+first-across {B = B} rule (Fault code place) at None (f ∷ fs) asked next h refuses k =
+    subst (λ xs. IsFirst {A = B} (Fault code place) ((xs ++ (f ∷ fs)) ++ [])) (sym (refuses code place)) h
+first-across {B = B} rule (Fault code place) at (Some said) (f ∷ fs) asked next h refuses k =
+    subst (λ xs. IsFirst {A = B} (Fault said at) ((xs ++ (f ∷ fs)) ++ [])) (sym (refuses code place)) refl
+
+tested-at : (at : Place) (v : Typed) → IsAt at (tested at v)
+unfolding tested
+tested-at at v = if_at at (is_scalar (type_of v)) _ _ tt refl
+
+-- what a word says of its test in what is known before the part between them
+word-said : (at : Place) (i : Inside) (e : Option RawExpr)
+    → word_failures at (knowing (with_literals [] i.known) i) e ≡ failing_at at (option_to_list (word_fault at i e))
+unfolding test_fault
+word-said at i None = refl
+word-said at i (Some e) = by_value (operand_of i.known.context [] None e) where
+  by_verdict : (v : Verdict Typed) → IsAt at v → failing v ≡ failing_at at (option_to_list (code_in v))
+  by_verdict (Fine value) is = refl
+  by_verdict (Fault code place) is = ap (λ p. failing_at p (code ∷ [])) is
+
+  by_value : (v : Verdict Typed) → fails (tested at) v ≡ failing_at at (option_to_list (testing_fault at v))
+  by_value (Fine value) = by_verdict (tested at value) (tested-at at value)
+  by_value (Fault code place) = refl
 
 unless-jump : {A : Type 0} (at : Place) (met : Bool) (v : Verdict A) (failures : List FailingPlace) → IsFirst v failures
     → IsFirst (if met then v else Fault Jump at) (failing_at at (unless met Jump) ++ failures)
@@ -134,20 +169,21 @@ mutual
       (λ (t : Part Typed). statement_failures (in_loop w) t.inside place body) (tested_in-first at i test)
       (λ t. first-made _ (statement_typed (in_loop w) t.inside place body) _ (statement-first (in_loop w) t.inside place body))
   statement-first w i at (kind.Do' place p body test) =
-      first-across _ (statement_typed (in_loop w) i place body) (statement_failures (in_loop w) i place body)
-      (λ (one : Part Statement). word_failures at one.inside (Some test)) (λ (one : Part Statement). tested_failures one.inside (Some test))
-      (statement-first (in_loop w) i place body)
+      first-across _ (statement_typed (in_loop w) i place body) at (word_fault at i (Some test)) (statement_failures (in_loop w) i place body)
+      (λ b. word_failures at (known_at_test (λ (one : Part Statement). one.inside) i b) (Some test))
+      (λ (one : Part Statement). tested_failures one.inside (Some test)) (statement-first (in_loop w) i place body)
+      (λ code place. word-said at i (Some test))
       (λ one. first-made _ (tested_in at one.inside test) _ (tested_in-first at one.inside test))
   statement-first w i at (kind.For' first test last place p body) =
-      first-across _ (first_typed (in_block i) first) (first_failures (in_block i) first)
-      (λ (one : TypedStatements). word_failures at one.inside test)
+      first-across _ (first_typed (in_block i) first) at (word_fault at (in_block i) test) (first_failures (in_block i) first)
+      (λ f. word_failures at (known_at_test (λ (one : TypedStatements). one.inside) (in_block i) f) test)
       (λ (one : TypedStatements).
       tested_failures one.inside test
       ++ if_typed (λ (t : Part (Option Typed)).
       dropped_if_failures t.inside last
       ++ if_typed (λ (l : Part (Option Typed)). statement_failures (in_loop w) l.inside place body) (dropped_if t.inside last))
       (tested_if at one.inside test))
-      (first_part-first (in_block i) first)
+      (first_part-first (in_block i) first) (λ code place. word-said at (in_block i) test)
       (λ one. first-split _ (tested_if at one.inside test) (word_failures at one.inside test) (tested_failures one.inside test)
       (λ (t : Part (Option Typed)).
       dropped_if_failures t.inside last

@@ -16,9 +16,10 @@ use Rattle.cs_declarations.specs.Bodies.{Typing, specs_type}
 use Rattle.cs_declarations.specs.Environment.{meaning_here, entered}
 use Rattle.cs_declarations.specs.Parameters.{Head, parameters_typed}
 use Rattle.cs_statements.specs.Statements.{no_statements}
+use Rattle.cs_file_scope.specs.Functions.{is_result, may_be_function, Routed, function_of, declared_once}
+use Rattle.cs_file_scope.specs.Objects.{Filed, with_known}
 use Rattle.cs_typing.specs.Files.{specs_of, external_typed}
-use Rattle.cs_typing.specs.Functions.{is_result, may_be_function, Routed, function_of, declared_inside, at_beginning, where_in, outside_of, declared_once}
-use Rattle.cs_typing.specs.Objects.{Filed, with_known}
+use Rattle.cs_typing.specs.Functions.{declared_inside, at_beginning, where_in, outside_of}
 use Rattle.cs_first_faults.specs.Failures.{FailingPlace, failing_at, unless, codes_of, if_typed}
 use Rattle.cs_first_faults.specs.Objects.{parameter_list_failures, objects_failures}
 use Rattle.cs_first_faults.specs.Statements.{items_in_body_failures}

@@ -8,10 +8,9 @@ use Rattle.cs_ast.specs.declared.raw.expression.RawExpr.{RawExpr}
 use Rattle.cs_scopes.specs.declared.context.Context.{Context}
 use Rattle.cs_scopes.specs.declared.refusal.TypeCode.{TypeCode}
 use Rattle.cs_scopes.specs.declared.refusal.TypeCode.TheVariants.{Initializer}
-use Rattle.cs_scopes.specs.Verdicts.{Verdict, Fine, Fault, lift}
 use Rattle.cs_expressions.specs.Primary.{Literals}
 use Rattle.cs_declarations.specs.Initializers.{Storage, part_types, has_form, Reading, expression_read, types_or_none, initial_read, part_judged}
-use Rattle.cs_declarations.specs.Initializers.{initial_judged, literals_read, value_limit, limited}
+use Rattle.cs_declarations.specs.Initializers.{initial_judged, literals_read, scalar_limit}
 use Rattle.cs_first_faults.specs.Failures.{FailingPlace, failing_at, codes_of, if_typed}
 use Rattle.cs_first_faults.specs.Roles.{value_asked_failures}
 
@@ -36,15 +35,13 @@ list_codes c literals storage at ty (first_value.TheVariants.Value e) = []
 list_codes c literals storage at ty (first_value.TheVariants.List' shape row comma) =
     items_codes c literals storage at (types_or_none (part_types c.table.list ty)) row
 
--- where no item of a list is wrong: a value goes to the object as if by assignment (4, 9), a file-scope object holds constants (13), and
--- a local initializer stores at most 4,096 scalars (18), which of a single value is asked also where that is refused itself
-abbrev pub whole_codes : Context → Storage → Place → Shape → RawInitial → Verdict Reading → List TypeCode
-whole_codes c storage at ty written (Fine r) = codes_of (lift (limited c.table.list storage at ty) (initial_judged c storage at ty r.0))
-whole_codes c storage at ty written (Fault code place) = option_to_list (value_limit c.table.list storage ty written)
-
-abbrev pub or_whole_codes : Context → Storage → Place → Shape → RawInitial → Verdict Reading → List TypeCode → List TypeCode
-or_whole_codes c storage at ty written read [] = whole_codes c storage at ty written read
-or_whole_codes c storage at ty written read (code ∷ others) = code ∷ others
+-- the same of an initializer of the right form: a single value that has a type goes to the object as if by assignment (4, 9), and a
+-- file-scope object holds constants (13)
+abbrev pub whole_codes : Context → Literals → Storage → Place → Shape → RawInitial → List TypeCode
+whole_codes c literals storage at ty (first_value.TheVariants.Value e) =
+    if_typed (λ (r : Reading). codes_of (initial_judged c storage at ty r.0)) (expression_read c literals ty e)
+whole_codes c literals storage at ty (first_value.TheVariants.List' shape row comma) =
+    items_codes c literals storage at (types_or_none (part_types c.table.list ty)) row
 
 -- a value by itself; a text for an array is none
 abbrev pub expression_failures : Context → Literals → Shape → RawExpr → List FailingPlace
@@ -64,11 +61,11 @@ abbrev mutual
   items_failures c literals (ty ∷ types) (first_value.more_of-RawInitial first others) =
       read_failures c literals ty first ++ items_failures c (literals_read (initial_read c literals ty first)) types others
 
--- the initializer after an `=`: it has the form that the type asks for (13), or else only items of a list are judged besides
+-- the initializer after an `=`: it has the form that the type asks for (13), or else only items of a list are judged besides; one of a local
+-- stores at most 4,096 scalars, whatever its values are (18)
 abbrev pub initial_failures : Context → Literals → Storage → Place → Shape → RawInitial → List FailingPlace
 initial_failures c literals storage at ty written =
     if has_form c.table.list storage ty written
-    then failing_at at
-    (or_whole_codes c storage at ty written (initial_read c literals ty written) (list_codes c literals storage at ty written))
+    then failing_at at (option_to_list (scalar_limit c.table.list storage ty written) ++ whole_codes c literals storage at ty written)
     ++ read_failures c literals ty written
     else failing_at at (Initializer ∷ list_codes c literals storage at ty written)

@@ -24,9 +24,10 @@ use Rattle.cs_declarations.specs.Environment.{Environment}
 use Rattle.cs_declarations.specs.Initializers.{Storage, initial_typed}
 use Rattle.cs_statements.specs.Locals.{Inside, TypedStatements}
 use Rattle.cs_statements.specs.Statements.{Where, declaration_typed, statement_typed}
-use Rattle.cs_typing.specs.Files.{begun, file_typed}
+use Rattle.cs_file_scope.specs.Objects.{Filed, objects_added}
+use Rattle.cs_file_scope.specs.Beginning.{begun}
+use Rattle.cs_typing.specs.Files.{file_typed}
 use Rattle.cs_typing.specs.Functions.{function_typed}
-use Rattle.cs_typing.specs.Objects.{Filed, objects_added}
 use Rattle.cs_typing.specs.Programs.{typed}
 use Rattle.cs_first_faults.specs.Declarators.{named_failures}
 use Rattle.cs_first_faults.specs.Expressions.{failures}

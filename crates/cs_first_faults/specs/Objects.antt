@@ -16,7 +16,7 @@ use Rattle.cs_declarations.specs.Initializers.{InFile, InFunction}
 use Rattle.cs_declarations.specs.Objects.{object_type}
 use Rattle.cs_declarations.specs.Parameters.{Head, place_of, is_free_name, parameter_typed, no_parameter}
 use Rattle.cs_statements.specs.Locals.{Inside, with_local, local_added, TypedStatements, after_local}
-use Rattle.cs_typing.specs.Objects.{Filed, Object, may_be_object, is_completed, object_of, marked, object_added}
+use Rattle.cs_file_scope.specs.Objects.{Filed, Object, may_be_object, is_completed, object_of, marked, object_added}
 use Rattle.cs_first_faults.specs.Failures.{FailingPlace, failing_at, unless, codes_of, if_typed}
 use Rattle.cs_first_faults.specs.Declarators.{bounds_failures, object_codes, parameter_codes}
 use Rattle.cs_first_faults.specs.Initials.{initial_failures}

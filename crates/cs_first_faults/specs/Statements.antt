@@ -1,5 +1,6 @@
 -- The failing places of statements (C11 6.8). What follows a statement is judged where the statement is right: it may declare names and
--- tags. So the test of a `do` and that of a `for`, which come after a body and a first part, are judged where those are right.
+-- tags. What the word of a `do` or a `for` asks of a test that comes after a body or a first part is judged in what is known after that
+-- where it is right, and else in what is known before it.
 use Rattle.std.specs.Prelude.{if◌then◌else◌, [], ◌∷◌, ◌++◌, List, Option, Some, None}
 use Rattle.cs_types.specs.Shape.{Shape}
 use Rattle.cs_ast.specs.declared.place.Place.{Place}
@@ -16,10 +17,12 @@ use Rattle.cs_ast.specs.declared.raw.statement.RawStmtKind.TheVariants as kind
 use Rattle.cs_ast.specs.declared.raw.statement.RawSwitchItem as switches
 use Rattle.cs_ast.specs.TypedTree.{Typed, Statement}
 use Rattle.cs_scopes.specs.declared.refusal.TypeCode.TheVariants.{Jump, Return}
+use Rattle.cs_scopes.specs.Verdicts.{Verdict, Fine, Fault}
 use Rattle.cs_folding.specs.TypedParts.{type_of}
 use Rattle.cs_expressions.specs.Operators.{tested}
 use Rattle.cs_consts.specs.Roles.{operand_of, value_of}
 use Rattle.cs_declarations.specs.Bodies.{Typing, specs_type}
+use Rattle.cs_declarations.specs.Environment.{with_literals}
 use Rattle.cs_statements.specs.Locals.{Inside, knowing, TypedStatements}
 use Rattle.cs_statements.specs.Statements.{Where, in_loop, in_switch, Part, tested_in, tested_if, dropped_if, is_void, label_number, goto_typed, is_first}
 use Rattle.cs_statements.specs.Statements.{meeting, in_block, first_place, no_statements, first_typed, Switching, case_added, constant_case, selected}
@@ -42,6 +45,12 @@ word_failures at i (Some e) = fails (tested at) (operand_of i.known.context i.kn
 abbrev pub tested_failures : Inside → Option RawExpr → List FailingPlace
 tested_failures i None = []
 tested_failures i (Some e) = value_asked_failures i.known.context i.known.literals None e
+
+-- what is known where a test stands for the word before it: what the part between them leaves if that is right, and else what is known
+-- before the part, where no string literals count, since the file is refused
+abbrev pub known_at_test : {A : Type 0} → (A → Inside) → Inside → Verdict A → Inside
+known_at_test after before (Fine value) = after value
+known_at_test after before (Fault code place) = knowing (with_literals [] before.known) before
 
 -- a `return`: with a value just where the function has a result (17), to whose type the value converts (4, 9)
 abbrev pub return_failures : Where → Place → Inside → Option RawExpr → List FailingPlace
@@ -80,18 +89,18 @@ abbrev mutual
       statement_failures w t.inside place body
       ++ if_typed (λ (one : Part Statement). statement_failures w one.inside place' other) (statement_typed w t.inside place body))
       (tested_in at i test)
-  -- C11 6.8.5
+  -- C11 6.8.5: the same
   statement_failures w i at (kind.While' test place p body) =
       test_failures i.known.context i.known.literals at test
       ++ if_typed (λ (t : Part Typed). statement_failures (in_loop w) t.inside place body) (tested_in at i test)
   statement_failures w i at (kind.Do' place p body test) =
       let b = statement_typed (in_loop w) i place body in
-      if_typed (λ (one : Part Statement). word_failures at one.inside (Some test)) b
+      word_failures at (known_at_test (λ (one : Part Statement). one.inside) i b) (Some test)
       ++ statement_failures (in_loop w) i place body
       ++ if_typed (λ (one : Part Statement). tested_failures one.inside (Some test)) b
   statement_failures w i at (kind.For' first test last place p body) =
       let f = first_typed (in_block i) first in
-      if_typed (λ (one : TypedStatements). word_failures at one.inside test) f
+      word_failures at (known_at_test (λ (one : TypedStatements). one.inside) (in_block i) f) test
       ++ first_failures (in_block i) first
       ++ if_typed (λ (one : TypedStatements).
       tested_failures one.inside test

@@ -18,8 +18,8 @@ use Rattle.cs_cfg.proofs.Fitting.{adds_both, adds_past, adds_silent, then_nothin
 use Rattle.cs_cfg.proofs.Meeting.{does_meets, same_meets}
 use Rattle.cs_cfg.proofs.Pieces.{points_same}
 use Rattle.cs_cfg.proofs.Starting.{stores_meet}
-use Rattle.cs_run_state.specs.declared.blocks.Piece.{Piece as CodePiece}
-use Rattle.cs_run_state.specs.MemoryView.{piece_of}
+use Rattle.cs_objects.specs.declared.blocks.Piece.{Piece as CodePiece}
+use Rattle.cs_objects.specs.BlockView.{piece_of}
 use Rattle.cs_lower.specs.Allocations.{InitialHasArguments, InitialsHaveArguments, PiecesHaveArguments}
 use Rattle.cs_lower.specs.Building.{Built}
 use Rattle.cs_lower.specs.Expressions.{Uses}

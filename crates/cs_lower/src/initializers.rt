@@ -5,7 +5,7 @@ ghost use Rattle.cs_ast.specs.TypedView.{typed, initial};
 ghost use Rattle.cs_meaning.specs.Initials as initials;
 ghost use Rattle.cs_meaning.specs.Types as types;
 ghost use Rattle.cs_cfg.specs.Executing.{type_in};
-ghost use Rattle.cs_run_state.specs.MemoryView.{type_of, piece_of};
+ghost use Rattle.cs_objects.specs.BlockView.{type_of, piece_of};
 ghost use Rattle.cs_lower.specs.Building.{point_of, built_of};
 ghost use Rattle.cs_lower.specs.Statements.{Declares, StoresPieces};
 ghost use Rattle.cs_lower.specs.Builds.{program_of, function_of};
@@ -18,9 +18,9 @@ use cs_ast::typed::expression::Expr;
 use cs_ast::typed::statement::Initial;
 use cs_cfg::Work;
 use cs_names::Bytes;
-use cs_run_state::access::is_scalar;
-use cs_run_state::blocks::{BlockType, Piece};
-use cs_run_state::pieces::pieces;
+use cs_objects::access::is_scalar;
+use cs_objects::blocks::{BlockType, Piece};
+use cs_objects::pieces::pieces;
 use std::alloc::AllocError;
 
 impl Lowering<'_> {

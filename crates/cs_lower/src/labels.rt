@@ -8,7 +8,7 @@ ghost use Rattle.cs_meaning.specs.CountedPoints as meaning;
 ghost use Rattle.cs_lower.specs.Labels.{label_in, label_among};
 
 use cs_ast::typed::statement::{Stmt, StmtKind};
-use cs_run_state::counted_points::{counted_points_in, together};
+use cs_objects::counted_points::{counted_points_in, together};
 use std::alloc::AllocError;
 use std::collections::BTreeMap;
 

@@ -19,7 +19,7 @@ use cs_ast::typed::expression::Expr;
 use cs_ast::typed::statement::Stmt;
 use cs_cfg::Work;
 use cs_events::PointKind;
-use cs_run_state::counted_points::{counted_points, counted_points_in, together};
+use cs_objects::counted_points::{counted_points, counted_points_in, together};
 use std::alloc::AllocError;
 
 impl Lowering<'_> {

@@ -18,7 +18,7 @@ use cs_ast::typed::expression::Expr;
 use cs_ast::typed::statement::{Stmt, StmtKind};
 use cs_cfg::{BlockEnd, Work};
 use cs_events::PointKind;
-use cs_run_state::counted_points::counted_points;
+use cs_objects::counted_points::counted_points;
 use std::alloc::AllocError;
 
 /// The blocks to which `break` and `continue` lead.

@@ -18,10 +18,10 @@ use crate::strips::Strip;
 use cs_ast::typed::expression::{Expr, ExprKind};
 use cs_ast::typed::operator::{Allocator, BinOp, Direction, Gives};
 use cs_cfg::{Access, Work};
-use cs_run_state::access::access_of;
-use cs_run_state::constants::{integer_of, target_size};
-use cs_run_state::types::size_of;
+use cs_objects::access::access_of;
 use cs_types::{CType, IntType};
+use cs_values::constants::{integer_of, target_size};
+use cs_values::types::size_of;
 use std::alloc::AllocError;
 
 impl Lowering<'_> {
@@ -192,7 +192,7 @@ impl Lowering<'_> {
 }
 
 // How many arguments there are.
-#[tactic(auto, using(cs_run_state::proofs::StatementForms::counted))]
+#[tactic(auto, using(cs_objects::proofs::StatementForms::counted))]
 fn count_of(arguments: &[Expr]) -> Result<u32, AllocError>
     ensures { IfOk result (λ count. count ≡ count_all (typed_list arguments.now)) }
 {

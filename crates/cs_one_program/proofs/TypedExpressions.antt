@@ -148,7 +148,8 @@ mutual
       (arguments_same c purpose (literals_same literals e i) types others i)
 
   argument_faults_same : (c : Context) (purpose : Purpose) (literals : Literals) (at : Place) (types : List Shape) {n m : Count} {row : Row_of-RawExpr n}
-      {row' : Row_of-RawExpr m} → SameRow n m row row' → arguments_fault c purpose literals at types row ≡ arguments_fault c purpose literals at types row'
+      {row' : Row_of-RawExpr m} → SameRow n m row row'
+      → arguments_fault c purpose literals at types row ≡ arguments_fault c purpose literals at types row'
   argument_faults_same c purpose literals at types End = refl
   argument_faults_same c purpose literals at [] (More place e others) = refl
   argument_faults_same c purpose literals at (ty ∷ types) (More place e others) = λ i.

@@ -24,12 +24,14 @@ use Rattle.cs_declarations.specs.Bodies.{Typing}
 use Rattle.cs_declarations.specs.Parameters.{Head}
 use Rattle.cs_statements.specs.Locals.{TypedStatements}
 use Rattle.cs_statements.specs.Statements.{in_a_row, no_statements, body_typed}
-use Rattle.cs_typing.specs.Objects.{Filed, changed, with_known}
-use Rattle.cs_typing.specs.Functions.{is_result, same_types, types_of, may_be_function, numbered, number_in, Routed, function_of, declared_inside, at_beginning}
-use Rattle.cs_typing.specs.Functions.{where_in, body_added, completed, outside_of, declared_once, headed, resulted, function_typed, function_added}
-use Rattle.cs_typing.specs.Order.{is_of_library, defines, is_defined, placed, all_placed, order_of}
-use Rattle.cs_typing.specs.Files.{specs_of, external_declared, external_typed, file_typed, beginning, begun}
-use Rattle.cs_typing.specs.Tags.{tags_declared}
+use Rattle.cs_file_scope.specs.Objects.{Filed, changed, with_known}
+use Rattle.cs_file_scope.specs.Functions.{is_result, same_types, types_of, may_be_function, numbered, number_in, Routed, function_of, declared_once}
+use Rattle.cs_file_scope.specs.Order.{is_of_library, defines, is_defined, placed, all_placed, order_of}
+use Rattle.cs_file_scope.specs.Beginning.{beginning, begun}
+use Rattle.cs_file_scope.specs.Tags.{tags_declared}
+use Rattle.cs_typing.specs.Functions.{declared_inside, at_beginning}
+use Rattle.cs_typing.specs.Functions.{where_in, body_added, completed, outside_of, headed, resulted, function_typed, function_added}
+use Rattle.cs_typing.specs.Files.{specs_of, external_declared, external_typed, file_typed}
 use Rattle.cs_typing.specs.Programs.{program_of, typed}
 use Rattle.cs_one_program.specs.SameExpressions.{none, more, IfBoth, absent, present}
 use Rattle.cs_one_program.specs.SameDeclarations.{SameBefore, SameFunction}

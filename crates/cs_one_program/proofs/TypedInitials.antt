@@ -1,9 +1,9 @@
 -- What objects hold at first, and the bounds and types of their declarators, are typed alike where they have the same parts at the same
 -- places.
-use Rattle.std.proofs.Common.{◌≡◌, ℕ, suc, ◌&&◌, if◌then◌else◌, List, [], ◌∷◌, Option, Some, None, refl, ap, ◌∙◌}
+use Rattle.std.proofs.Common.{◌≡◌, ℕ, suc, ◌&&◌, if◌then◌else◌, List, [], ◌∷◌, length, Option, Some, None, is_some, refl, ap, ◌∙◌}
 use Rattle.std.specs.Option.{option_or}
 use mathlib.Core.Former.{Count}
-use Rattle.cs_types.specs.Shape.{Shape, array}
+use Rattle.cs_types.specs.Shape.{Shape, void, integer, pointer, array, struct}
 use Rattle.cs_types.specs.declared.structs.StructType.{StructType}
 use Rattle.cs_ast.specs.declared.place.Place.{Place}
 use Rattle.cs_ast.specs.declared.raw.expression.RawExpr.{RawExpr}
@@ -15,7 +15,7 @@ use Rattle.cs_ast.specs.declared.raw.declaration.RawFirstValue.{RawFirstValue}
 use Rattle.cs_ast.specs.declared.raw.declaration.RawInit.{RawInit}
 use Rattle.cs_ast.specs.TypedTree.{Bytes, Value as Holds}
 use Rattle.cs_scopes.specs.declared.context.Context.{Context}
-use Rattle.cs_scopes.specs.declared.refusal.TypeCode.TheVariants.{Initializer}
+use Rattle.cs_scopes.specs.declared.refusal.TypeCode.TheVariants.{Initializer, TooManyScalars}
 use Rattle.cs_scopes.specs.TypeNames.{starred, complete_at}
 use Rattle.cs_scopes.specs.Verdicts.{Fine, Fault, lift}
 use Rattle.cs_scopes.specs.Faults.{least, least_code, unless_fault}
@@ -27,11 +27,11 @@ use Rattle.cs_expressions.specs.Primary.{Literals}
 use Rattle.cs_consts.specs.declared.purpose.Purpose.{Purpose}
 use Rattle.cs_consts.specs.declared.purpose.Purpose.TheVariants.{Run, Constant}
 use Rattle.cs_consts.specs.Typing.{done, value_in, operand_in, formed}
-use Rattle.cs_consts.specs.Roles.{number_of_constant, value_of, operand_of, assigned_value, test_of, selector_of, discarded_value}
+use Rattle.cs_consts.specs.Roles.{number_of_constant, value_of, operand_of, assigned_value, test_of, testing_fault, test_fault, selector_of, discarded_value}
 use Rattle.cs_declarations.specs.Initializers.{Storage, InFile, InFunction, part_types, text_of, takes_expression, has_form, have_forms, Reading}
-use Rattle.cs_declarations.specs.Initializers.{expression_read, types_or_none, parts_read, one_more, initial_read, items_read, initial_judged, limited}
-use Rattle.cs_declarations.specs.Initializers.{literals_read, reading_fault, item_fault, items_fault, initial_fault, value_limit, after_limit}
-use Rattle.cs_declarations.specs.Initializers.{whole_read, kept_with, initial_typed}
+use Rattle.cs_declarations.specs.Initializers.{expression_read, types_or_none, parts_read, one_more, initial_read, items_read, part_judged, initial_judged}
+use Rattle.cs_declarations.specs.Initializers.{literals_read, reading_fault, item_fault, items_fault, initial_fault, whole_fault}
+use Rattle.cs_declarations.specs.Initializers.{together, bytes_stored, value_stored, stored, row_stored, scalar_limit, whole_read, kept_with, initial_typed}
 use Rattle.cs_declarations.specs.Initializers.{row_count, text_count, elements_given}
 use Rattle.cs_declarations.specs.Sizes.{size_said, size_or_one, sizes_said, fault_in, refused_bound, unless_refused, bounded, extent_of, filled}
 use Rattle.cs_declarations.specs.Bodies.{declarator_type}
@@ -67,6 +67,10 @@ assigned_same c literals at target h = λ i.
 pub test_same : (c : Context) (literals : Literals) (at : Place) {e e' : RawExpr} → SameExpr e e' → test_of c literals at e ≡ test_of c literals at e'
 unfolding test_of
 test_same c literals at h = λ i. lift (tested at) (operand_in c Run (formed_at c Run literals None h i))
+
+pub test_fault_same : (c : Context) (at : Place) {e e' : RawExpr} → SameExpr e e' → test_fault c at e ≡ test_fault c at e'
+unfolding test_fault
+test_fault_same c at h = ap (testing_fault at) (operand_same c [] None h)
 
 pub selector_same : (c : Context) (literals : Literals) (at : Place) {e e' : RawExpr} → SameExpr e e'
     → selector_of c literals at e ≡ selector_of c literals at e'
@@ -132,7 +136,7 @@ mutual
 mutual
   item_fault_same : (c : Context) (literals : Literals) (storage : Storage) (at : Place) (ty : Shape) {v v' : RawInitial} → SameInitial v v'
       → item_fault c literals storage at ty v ≡ item_fault c literals storage at ty v'
-  item_fault_same c literals storage at ty (Value e) = ap (reading_fault c storage at ty) (read_same c literals ty e)
+  item_fault_same c literals storage at ty (Value e) = ap (reading_fault (part_judged c storage at ty)) (read_same c literals ty e)
   item_fault_same c literals storage at ty (Listed row) = items_fault_same c literals storage at (types_or_none (part_types c.table.list ty)) row
 
   items_fault_same : (c : Context) (literals : Literals) (storage : Storage) (at : Place) (types : List Shape) {n m : Count}
@@ -149,25 +153,51 @@ fault_same : (c : Context) (literals : Literals) (storage : Storage) (at : Place
 fault_same c literals storage at ty (Value e) = refl
 fault_same c literals storage at ty (Listed row) = items_fault_same c literals storage at (types_or_none (part_types c.table.list ty)) row
 
+whole_fault_same : (c : Context) (literals : Literals) (storage : Storage) (at : Place) (ty : Shape) {v v' : RawInitial} → SameInitial v v'
+    → whole_fault c literals storage at ty v ≡ whole_fault c literals storage at ty v'
+whole_fault_same c literals storage at ty (Value e) = ap (reading_fault (initial_judged c storage at ty)) (read_same c literals ty e)
+whole_fault_same c literals storage at ty (Listed row) = items_fault_same c literals storage at (types_or_none (part_types c.table.list ty)) row
+
+-- how much they store
+value_stored_same : (table : List StructType) (ty : Shape) {k k' : RawExprKind} → SameKind k k' → value_stored table ty k ≡ value_stored table ty k'
+value_stored_same table (array element count) h = ap (λ bytes. bytes_stored count (length bytes)) (text_same h)
+value_stored_same table void h = refl
+value_stored_same table (integer t) h = refl
+value_stored_same table (pointer t) h = refl
+value_stored_same table (struct n) h = refl
+
+mutual
+  stored_same : (table : List StructType) (ty : Shape) {v v' : RawInitial} → SameInitial v v' → stored table ty v ≡ stored table ty v'
+  stored_same table ty (Value e) = value_stored_same table ty e.is
+  stored_same table ty (Listed row) = row_stored_same table (types_or_none (part_types table ty)) row
+
+  row_stored_same : (table : List StructType) (types : List Shape) {n m : Count} {row : first_value.Row_of-RawInitial n}
+      {row' : first_value.Row_of-RawInitial m} → SameInitials n m row row' → row_stored table types row ≡ row_stored table types row'
+  row_stored_same table types NoItem = refl
+  row_stored_same table [] (MoreItems first others) = refl
+  row_stored_same table (ty ∷ types) (MoreItems first others) = λ i.
+      together (stored_same table ty first i) (row_stored_same table types others i)
+
 limit_same : (table : List StructType) (storage : Storage) (ty : Shape) {v v' : RawInitial} → SameInitial v v'
-    → value_limit table storage ty v ≡ value_limit table storage ty v'
-limit_same table storage ty (Value e) = refl
-limit_same table storage ty (Listed row) = refl
+    → scalar_limit table storage ty v ≡ scalar_limit table storage ty v'
+limit_same table InFile ty h = refl
+limit_same table InFunction ty h = ap (λ s. if is_some s then None else Some TooManyScalars) (stored_same table ty h)
 
 whole_same : (c : Context) (literals : Literals) (storage : Storage) (ty : Shape) {v v' : RawFirstValue} → SameFirstValue v v'
     → whole_read c literals storage v.place ty v.initial ≡ whole_read c literals storage v'.place ty v'.initial
 whole_same c literals storage ty {v = v} {v' = v'} h =
     ap (λ at. whole_read c literals storage at ty v.initial) h.at
     ∙ (λ i.
-    unless_fault v'.place (fault_same c literals storage v'.place ty h.initial i)
-    (after_limit v'.place (limit_same c.table.list storage ty h.initial i) (initial_read_same c literals ty h.initial i)))
+    unless_fault v'.place
+    (least_code (limit_same c.table.list storage ty h.initial i) (whole_fault_same c literals storage v'.place ty h.initial i))
+    (initial_read_same c literals ty h.initial i))
 
 -- the initializer after an `=`
 pub initial_same : (c : Context) (literals : Literals) (storage : Storage) (ty : Shape) {v v' : RawFirstValue} → SameFirstValue v v'
     → initial_typed c literals storage v.place ty v.initial ≡ initial_typed c literals storage v'.place ty v'.initial
 initial_same c literals storage ty {v = v} {v' = v'} h = λ i.
     if form_same c.table.list storage ty h.initial i
-    then lift (λ (r : Reading). lift (kept_with r.1) (lift (limited c.table.list storage (h.at i) ty) (initial_judged c storage (h.at i) ty r.0)))
+    then lift (λ (r : Reading). lift (kept_with r.1) (initial_judged c storage (h.at i) ty r.0))
     (whole_same c literals storage ty h i)
     else Fault (least Initializer (placed_fault i)) (h.at i)
   where

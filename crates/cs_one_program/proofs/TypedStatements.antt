@@ -26,21 +26,23 @@ use Rattle.cs_declarations.specs.Initializers.{InFile, InFunction}
 use Rattle.cs_declarations.specs.Bodies.{Typing}
 use Rattle.cs_statements.specs.Locals.{Inside, knowing, with_local, local_held, local_initialized}
 use Rattle.cs_statements.specs.Locals.{local_added, TypedStatements, after_local, locals_added}
-use Rattle.cs_statements.specs.Statements.{Where, in_loop, in_switch, Part, part, past, tested_in, dropped_in, some_found, tested_if, dropped_if, is_void}
+use Rattle.cs_statements.specs.Statements.{Where, in_loop, in_switch, Part, part, past, tested_in, dropped_in, some_found, tested_if, word_fault, after_word}
+use Rattle.cs_statements.specs.Statements.{dropped_if, is_void}
 use Rattle.cs_statements.specs.Statements.{returned, label_number, is_first, meeting, in_block, first_place, declaration_typed, no_statements, telling}
 use Rattle.cs_statements.specs.Statements.{ran_first, first_typed, Switching, with_statements, labels_of, labels_of_item, labels_in, labels_of_switch_item}
 use Rattle.cs_statements.specs.Statements.{labels_in_switch, block_made, run_made, if_made, if_else_made, while_made, do_made, for_made, switch_made}
 use Rattle.cs_statements.specs.Statements.{return_made, label_made, constant_case, selected, statement_typed, item_typed, items_typed, switch_item_typed}
 use Rattle.cs_statements.specs.Statements.{switch_typed, body_typed, labels_of_items}
-use Rattle.cs_typing.specs.Objects.{Filed, may_be_object, Object, with_globals, object_of, changed, made_constant, with_initial}
-use Rattle.cs_typing.specs.Objects.{object_initialized, object_added, objects_added}
+use Rattle.cs_file_scope.specs.Objects.{Filed, may_be_object, Object, with_globals, object_of, changed, made_constant, with_initial}
+use Rattle.cs_file_scope.specs.Objects.{object_initialized, object_added, objects_added}
 use Rattle.cs_one_program.specs.SameExpressions.{SameExpr, Pairwise, none, more, IfBoth, absent, present}
 use Rattle.cs_one_program.specs.SameDeclarations.{SameBefore, SameDeclarator, SameFirstValue, SameInit}
 use Rattle.cs_one_program.specs.SameTrees.{SameFirst, Nothing, Ran, Declared, SameStatement, Block, Empty, Run, If, IfElse, While, Do, For, Switch, Goto}
 use Rattle.cs_one_program.specs.SameTrees.{Continue, Break, Return, Label, SameItem, Declare, Does, SameItems, NoItem, MoreItems, SameSwitchItem, Case}
 use Rattle.cs_one_program.specs.SameTrees.{Default, Inside as Within, SameSwitchItems, NoSwitchItem, MoreSwitchItems}
 use Rattle.cs_one_program.proofs.TypedExpressions.{literals_same}
-use Rattle.cs_one_program.proofs.TypedInitials.{value_same, assigned_same, test_same, selector_same, discarded_same, initial_same, object_type_same}
+use Rattle.cs_one_program.proofs.TypedInitials.{value_same, assigned_same, test_same, test_fault_same, selector_same, discarded_same, initial_same}
+use Rattle.cs_one_program.proofs.TypedInitials.{object_type_same}
 use Rattle.cs_one_program.proofs.TypedDeclarations.{specs_same, constant_object_same}
 
 -- ---- objects of files
@@ -139,6 +141,10 @@ tested_same at i h = λ j. lift (part (past_same i h j)) (test_same i.known.cont
 dropped_same : (i : Inside) {e e' : RawExpr} → SameExpr e e' → dropped_in i e ≡ dropped_in i e'
 dropped_same i h = λ j. lift (part (past_same i h j)) (discarded_same i.known.context i.known.literals h j)
 
+word_same : (at : Place) (i : Inside) {e e' : Option RawExpr} → IfBoth SameExpr e e' → word_fault at i e ≡ word_fault at i e'
+word_same at i absent = refl
+word_same at i (present h) = test_fault_same i.known.context at h
+
 tested_if_same : (at : Place) (i : Inside) {e e' : Option RawExpr} → IfBoth SameExpr e e' → tested_if at i e ≡ tested_if at i e'
 tested_if_same at i absent = refl
 tested_if_same at i (present h) = λ j. lift some_found (tested_same at i h j)
@@ -220,7 +226,8 @@ mutual
   statement_same w i at (While place test body) = λ j.
       lift (λ (t : Part Typed). lift (while_made at t.found) (statement_same (in_loop w) t.inside place body j)) (tested_same at i test j)
   statement_same w i at (Do place test body) = λ j.
-      lift (λ (b : Part Statement). lift (do_made at b.found) (tested_same at b.inside test j)) (statement_same (in_loop w) i place body j)
+      lift (λ (b : Part Statement). lift (do_made at b.found) (tested_same at b.inside test j))
+      (after_word at (test_fault_same i.known.context at test j) (statement_same (in_loop w) i place body j))
   statement_same w i at (For place first test last body) = λ j.
       lift (λ (f : TypedStatements).
       lift (λ (t : Part (Option Typed)).
@@ -228,7 +235,7 @@ mutual
       lift (for_made at i f.statements t.found l.found) (statement_same (in_loop w) l.inside place body j))
       (dropped_if_same t.inside last j))
       (tested_if_same at f.inside test j))
-      (begun_same (in_block i) first j)
+      (after_word at (word_same at (in_block i) test j) (begun_same (in_block i) first j))
   statement_same w i at (Switch value row) = λ j.
       lift (λ (v : Part Typed).
       lift (switch_made at i v.found)

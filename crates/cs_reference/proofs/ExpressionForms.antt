@@ -19,7 +19,7 @@ use Rattle.cs_meaning.specs.Access.{access_of}
 use Rattle.cs_meaning.specs.Expressions.{act, act_form, fetch, fetch_form}
 use Rattle.cs_meaning.specs.Machine.{State}
 use Rattle.cs_run_state.specs.Updates.{fetch_number_act, update_act, move_act}
-use Rattle.cs_run_state.proofs.StatementForms.{count_all-list}
+use Rattle.cs_objects.proofs.StatementForms.{count_all-list}
 use Rattle.cs_reference.specs.Acting.{size_of_target}
 
 module _ (program : TypedProgram) (budgets : RunBudgets) (e : Expr) (m : State) where

@@ -8,7 +8,7 @@ use Rattle.cs_ast.specs.TypedTree.{Block, Empty}
 use Rattle.cs_ast.specs.TypedView.{statement}
 use Rattle.cs_ast.specs.TypedProgram.{typed_program}
 use Rattle.cs_meaning.specs.Machine.{NOWHERE, routine_of, body_of}
-use Rattle.cs_reference.proofs.Calling.{routine_is, routine_none}
+use Rattle.cs_frames.proofs.Calling.{routine_is, routine_none}
 
 -- one without a body
 pub bodiless : (program : Program) (number : ℕ) (f : Function) → slice_get program.functions.items number ≡ Some f → f.body ≡ None

@@ -1,14 +1,4 @@
-pub mod Leaving
-pub mod MachineStates
-pub mod Overwriting
-pub mod Stacks
-pub mod Locals
-pub mod InRows
-pub mod Remaining
 pub mod Declaring
 pub mod ExpressionForms
 pub mod Functions
-pub mod Rows
-pub mod Beginning
-pub mod Writing
-pub mod Calling
+pub mod Remaining

@@ -1,6 +1,6 @@
 -- What a run begins with.
 use Rattle.cs_meaning.specs.ProgramRuns.{ProgramRun}
-use Rattle.cs_run_state.specs.declared.settings.Setting.{Setting}
+use Rattle.cs_objects.specs.declared.settings.Setting.{Setting}
 
 abbrev pub run_of : Setting → ProgramRun
 run_of setting = record { inputs = setting.inputs.now; guesses = setting.guesses.now }

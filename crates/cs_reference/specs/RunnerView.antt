@@ -4,10 +4,10 @@ use Rattle.cs_ast.specs.TypedProgram.{TypedProgram, typed_program}
 use Rattle.cs_events.specs.declared.outcome.RunBudgets.{RunBudgets}
 use Rattle.cs_events.specs.Acts.{Act}
 use Rattle.cs_meaning.specs.Machine.{State}
-use Rattle.cs_run_state.specs.declared.logs.Stop.{Stop}
-use Rattle.cs_run_state.specs.Prepared as settings
+use Rattle.cs_run_log.specs.declared.logs.Stop.{Stop}
+use Rattle.cs_objects.specs.Prepared as settings
 use Rattle.cs_run_state.specs.MachineView.{state_of}
-use Rattle.cs_run_state.specs.Pieces as pieces
+use Rattle.cs_run_log.specs.Pieces as pieces
 use Rattle.cs_reference.specs.declared.runner.Runner.{Runner}
 
 -- the program that runs

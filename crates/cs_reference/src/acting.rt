@@ -7,24 +7,25 @@ ghost use Rattle.cs_meaning.specs.Expressions as expressions;
 ghost use Rattle.cs_events.specs.Objects.{NumberCell};
 ghost use Rattle.cs_events.specs.Acts.{Goes};
 ghost use Rattle.cs_meaning.specs.Access as loads;
-ghost use Rattle.cs_run_state.specs.View.{cell_of};
+ghost use Rattle.cs_values.specs.View.{cell_of};
 ghost use Rattle.cs_run_state.specs.MachineView.{state_of};
 ghost use Rattle.cs_run_state.specs.Updates.{load_act, assign_act, update_act, move_act};
 ghost use Rattle.cs_reference.specs.RunnerView.{program_of, budgets_of, state_in, IsReady, Performs};
 ghost use Rattle.cs_reference.specs.Acting.{local_place, member_place, index_act, arrow_act, convert_act, unary_act, not_act, binary_act, compare_act, sum_act, difference_act, size_of_target, free_act};
 
-use crate::frames::number_of;
 use crate::runner::Runner;
 use cs_ast::Place;
 use cs_ast::typed::expression::{Expr, ExprKind};
 use cs_ast::typed::operator::{BinOp, CmpOp, Direction, Gives, Order, UnOp};
 use cs_events::Label;
-use cs_run_state::access::access_of;
-use cs_run_state::constants::{integer_of, target_size, truth_cell, unary_operation};
+use cs_frames::frames::number_of;
+use cs_objects::access::access_of;
+use cs_run_log::Stop;
 use cs_run_state::machine::Machine;
-use cs_run_state::types::size_of;
-use cs_run_state::{Cell, Object, Operand, Stop, stride_of};
 use cs_types::{CType, IntType};
+use cs_values::constants::{integer_of, target_size, truth_cell, unary_operation};
+use cs_values::types::size_of;
+use cs_values::{Cell, Object, Operand, stride_of};
 
 impl<'a> Runner<'a> {
     /// Does what an expression does with its parts.

@@ -8,10 +8,10 @@ ghost use Rattle.cs_meaning.specs.Calls as calls;
 ghost use Rattle.cs_meaning.specs.Machine as machine;
 ghost use Rattle.cs_meaning.specs.Machine.{State};
 ghost use Rattle.cs_meaning.specs.Memory as meaning;
-ghost use Rattle.cs_run_state.specs.View.{cell_of, object_of};
-ghost use Rattle.cs_run_state.specs.MemoryView.{block_of, fill_of};
+ghost use Rattle.cs_values.specs.View.{cell_of, object_of};
+ghost use Rattle.cs_objects.specs.BlockView.{block_of, fill_of};
 ghost use Rattle.cs_run_state.specs.MachineView.{state_of};
-ghost use Rattle.cs_run_state.specs.Pieces.{or_fault};
+ghost use Rattle.cs_run_log.specs.Pieces.{or_fault};
 ghost use Rattle.cs_reference.specs.RunnerView.{program_of, state_in, Performs};
 
 use crate::runner::Runner;
@@ -20,14 +20,15 @@ use cs_ast::typed::operator::{Allocator, BinOp};
 use cs_events::{Label, Operation};
 use cs_inputs::Root;
 use cs_model::{Kind, Standing};
-use cs_run_state::arithmetic::is_true;
-use cs_run_state::blocks::{Block, Change, Fill};
-use cs_run_state::inputs::element_of;
+use cs_objects::blocks::{Block, Change, Fill};
+use cs_objects::inputs::element_of;
+use cs_run_log::Stop;
+use cs_run_log::operators::fault;
 use cs_run_state::machine::Machine;
-use cs_run_state::operators::fault;
-use cs_run_state::paths::root_path;
-use cs_run_state::{Cell, Object, Operand, Stop};
 use cs_types::{CType, size_type};
+use cs_values::arithmetic::is_true;
+use cs_values::paths::root_path;
+use cs_values::{Cell, Object, Operand};
 use std::alloc::AllocError;
 
 impl<'a> Runner<'a> {

@@ -3,22 +3,23 @@ ghost use Rattle.std.specs.Prelude.{◌≡◌, [], length, OnOk, IfErr, IfOk, If
 ghost use Rattle.cs_ast.specs.TypedProgram.{routine};
 ghost use Rattle.cs_meaning.specs.Calls as calls;
 ghost use Rattle.cs_meaning.specs.Machine as machine;
-ghost use Rattle.cs_run_state.specs.View.{operand_of};
-ghost use Rattle.cs_run_state.specs.MemoryView.{type_of, block_at};
+ghost use Rattle.cs_values.specs.View.{operand_of};
+ghost use Rattle.cs_objects.specs.BlockView.{type_of, block_at};
 ghost use Rattle.cs_run_state.specs.MachineView.{state_of, frame_of};
-ghost use Rattle.cs_reference.specs.Calling.{call_returning, inside_with, called_by, back_in};
+ghost use Rattle.cs_frames.specs.Calling.{call_returning, inside_with, called_by, back_in};
 ghost use Rattle.cs_reference.specs.RunnerView.{program_of, budgets_of, state_in, IsReady, Performs};
 
-use crate::frames::{local_blocks, new_frame};
-use crate::operands::pop_newest;
-use crate::outside::{outside_result, write_arguments};
 use crate::runner::Runner;
 use cs_ast::Place;
 use cs_ast::typed::program::Function;
 use cs_events::{Budget, Label, Outcome};
-use cs_run_state::blocks::{Block, BlockType};
+use cs_frames::frames::{local_blocks, new_frame};
+use cs_frames::operands::pop_newest;
+use cs_frames::outside::{outside_result, write_arguments};
+use cs_objects::blocks::{Block, BlockType};
+use cs_run_log::Stop;
 use cs_run_state::machine::{Frame, Machine};
-use cs_run_state::{Operand, Stop};
+use cs_values::Operand;
 use std::alloc::AllocError;
 
 impl<'a> Runner<'a> {

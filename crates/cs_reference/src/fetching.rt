@@ -9,8 +9,8 @@ ghost use Rattle.cs_reference.specs.RunnerView.{program_of, state_in, IsReady, P
 use crate::runner::Runner;
 use cs_ast::Place;
 use cs_ast::typed::expression::{Expr, ExprKind};
-use cs_run_state::Stop;
-use cs_run_state::access::access_of;
+use cs_objects::access::access_of;
+use cs_run_log::Stop;
 use cs_types::IntType;
 
 impl<'a> Runner<'a> {

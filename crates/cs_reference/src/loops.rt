@@ -1,24 +1,22 @@
 //! The ways that tests and loops take (C11 6.8.4, 6.8.5).
-ghost use Rattle.std.specs.Prelude.{◌≡◌, ◌+◌, ◌∷◌, OnOk, IfOk, IfErr, option_map, option_copied};
-ghost use Rattle.cs_ast.specs.TypedView.{typed, statement, statement_list};
+ghost use Rattle.std.specs.Prelude.{◌+◌, ◌∷◌};
+ghost use Rattle.cs_ast.specs.TypedView.{typed, statement};
 ghost use Rattle.cs_meaning.specs.Machine as machine;
 ghost use Rattle.cs_meaning.specs.CountedPoints as points;
 ghost use Rattle.cs_meaning.specs.Statements as meaning;
-ghost use Rattle.cs_run_state.specs.MachineView.{state_of};
 ghost use Rattle.cs_reference.specs.Deciding.{decides, turns};
 ghost use Rattle.cs_reference.specs.RunnerView.{budgets_of, state_in, Performs};
 
-use crate::putting::{put_body, put_stmt, put_test};
 use crate::runner::Runner;
 use cs_ast::Place;
 use cs_ast::typed::expression::Expr;
 use cs_ast::typed::statement::{Stmt, StmtKind};
 use cs_events::PointKind;
-use cs_run_state::Stop;
-use cs_run_state::counted_points::{counted_points, counted_points_in, together};
-use cs_run_state::items::{ExprStep, Item, StmtStep};
-use cs_run_state::machine::Machine;
-use std::alloc::AllocError;
+use cs_frames::putting::{put_body, put_stmt, put_test};
+use cs_frames::rounds::point_of_body;
+use cs_objects::counted_points::{counted_points, together};
+use cs_run_log::Stop;
+use cs_run_state::items::StmtStep;
 
 impl<'a> Runner<'a> {
     /// The newest value, which is a test's or a `switch`'s, says the way.
@@ -180,52 +178,4 @@ impl<'a> Runner<'a> {
         put_body(&mut self.machine, s, counted_point, body, inner)?;
         self.reach_counted_point(s.place, PointKind::Head, counted_point)
     }
-}
-
-/// What comes after the body of a loop.
-pub fn go_again<'a>(
-    state: &mut Machine<'a>,
-    s: &'a Stmt,
-    counted_point: u64,
-) -> Result<(), AllocError>
-    ensures { OnOk result (state_of state.new
-        ≡ machine.to_do (meaning.again (statement s.now) counted_point
-        (state_of state.old).frame.todo) (state_of state.old)) }
-{
-    match &*s.kind {
-        StmtKind::While(_, _) => put_stmt(state, StmtStep::Turn, s, counted_point),
-        StmtKind::Do(_, test) => put_test(state, test, s, counted_point),
-        StmtKind::For(_, _, last, _) => {
-            put_stmt(state, StmtStep::Turn, s, counted_point)?;
-            put_last(state, last.as_ref())
-        }
-        StmtKind::Block(_) | StmtKind::Declare(_, _) | StmtKind::Run(_) => Ok(()),
-        StmtKind::If(_, _) | StmtKind::IfElse(_, _, _) | StmtKind::Switch(_, _, _) => Ok(()),
-        StmtKind::Goto(_) | StmtKind::Label(_, _) | StmtKind::Break => Ok(()),
-        StmtKind::Continue | StmtKind::Return(_) => Ok(()),
-    }
-}
-
-// The last part of a `for`, whose value is dropped.
-fn put_last<'a>(state: &mut Machine<'a>, last: Option<&'a Expr>) -> Result<(), AllocError>
-    ensures { OnOk result (state_of state.new
-        ≡ machine.to_do (meaning.last_part (option_map typed (option_copied last.entry))
-        (state_of state.old).frame.todo) (state_of state.old)) }
-{
-    match last {
-        Some(last) => {
-            state.put(Item::Discard)?;
-            state.put_expr(ExprStep::Evaluate, last)?;
-            Ok(())
-        }
-        None => Ok(()),
-    }
-}
-
-/// The number of the first counted point of a `for`'s body, which follows its head and its first part.
-pub fn point_of_body(counted_point: u64, first: &[Stmt]) -> Result<u64, AllocError>
-    ensures { IfOk result (λ inner.
-        inner ≡ counted_point + 1 + points.counted_points_in (statement_list first.now)) }
-{
-    together(together(counted_point, 1)?, counted_points_in(first)?)
 }

@@ -1,7 +1,8 @@
 //! A run on its way.
 
+use cs_objects::Setting;
+use cs_run_log::Log;
 use cs_run_state::machine::Machine;
-use cs_run_state::{Log, Setting};
 
 /// A run on its way: its state, what it has shown, and what it goes by.
 #[derive(Drop)]

@@ -2,14 +2,15 @@
 ghost use Rattle.std.specs.Prelude.{IfOk};
 ghost use Rattle.cs_ast.specs.TypedProgram.{typed_program};
 ghost use Rattle.cs_meaning.specs.ProgramRuns.{RunGives};
-ghost use Rattle.cs_run_state.specs.Prepared.{IsReady};
-ghost use Rattle.cs_run_state.specs.View.{log_of};
+ghost use Rattle.cs_objects.specs.Prepared.{IsReady};
+ghost use Rattle.cs_run_log.specs.LogView.{log_of};
 ghost use Rattle.cs_reference.specs.RunView.{run_of};
 
 use crate::runner::Runner;
-use crate::starting::start;
 use cs_events::Outcome;
-use cs_run_state::{Log, Setting, Stop};
+use cs_frames::starting::start;
+use cs_objects::Setting;
+use cs_run_log::{Log, Stop};
 use std::alloc::{AllocError, Global};
 
 /// A run that has ended: how, and what it has shown, read and touched.

@@ -8,17 +8,18 @@ ghost use Rattle.cs_meaning.specs.Steps as steps;
 ghost use Rattle.cs_run_state.specs.MachineView.{state_of};
 ghost use Rattle.cs_reference.specs.RunnerView.{program_of, budgets_of, state_in, IsReady, Performs};
 
-use crate::jumps::{break_out, go_on};
-use crate::putting::{put_all, put_loop, put_stmt, put_test};
 use crate::runner::Runner;
 use cs_ast::Place;
 use cs_ast::typed::expression::Expr;
 use cs_ast::typed::statement::{Stmt, StmtKind};
 use cs_events::PointKind;
-use cs_run_state::counted_points::together;
+use cs_frames::landing::{break_out, go_on};
+use cs_frames::putting::{put_all, put_loop, put_stmt, put_test};
+use cs_objects::counted_points::together;
+use cs_run_log::Stop;
 use cs_run_state::items::{ExprStep, Item, StmtStep};
 use cs_run_state::machine::Machine;
-use cs_run_state::{Operand, Stop};
+use cs_values::Operand;
 use std::alloc::AllocError;
 
 impl<'a> Runner<'a> {

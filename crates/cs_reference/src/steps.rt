@@ -4,23 +4,24 @@ ghost use Rattle.cs_ast.specs.TypedView.{typed, statement};
 ghost use Rattle.cs_meaning.specs.Calls as calls;
 ghost use Rattle.cs_meaning.specs.Machine as machine;
 ghost use Rattle.cs_meaning.specs.Steps as steps;
-ghost use Rattle.cs_run_state.specs.View.{operand_of};
-ghost use Rattle.cs_run_state.specs.MemoryView.{type_of};
+ghost use Rattle.cs_values.specs.View.{operand_of};
+ghost use Rattle.cs_objects.specs.BlockView.{type_of};
 ghost use Rattle.cs_run_state.specs.MachineView.{state_of, item_of, expression_item, statement_item};
 ghost use Rattle.cs_reference.specs.RunnerView.{program_of, budgets_of, state_in, IsReady, Performs};
 
-use crate::declarations::spell_local;
-use crate::loops::go_again;
 use crate::runner::Runner;
 use cs_ast::Place;
 use cs_ast::typed::expression::Expr;
 use cs_ast::typed::statement::Stmt;
 use cs_events::PointKind;
-use cs_run_state::blocks::BlockType;
+use cs_frames::locals::spell_local;
+use cs_frames::rounds::go_again;
+use cs_objects::blocks::BlockType;
+use cs_run_log::{Stop, Touch};
 use cs_run_state::items::{ExprStep, Item, StmtStep};
 use cs_run_state::machine::Machine;
-use cs_run_state::{Cell, Operand, Stop, Touch};
 use cs_types::CType;
+use cs_values::{Cell, Operand};
 use std::alloc::AllocError;
 
 impl<'a> Runner<'a> {

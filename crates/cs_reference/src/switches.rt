@@ -1,30 +1,16 @@
 //! The ways of a `switch` (C11 6.8.4.2).
-ghost use Rattle.std.specs.Prelude.{◌≡◌, ℕ, OnOk, IfErr, IfOk, None, option_map, unwrap_or};
-ghost use Rattle.cs_ast.specs.TypedTree as typed;
 ghost use Rattle.cs_ast.specs.TypedView.{statement_list};
 ghost use Rattle.cs_meaning.specs.Initials.{number_in};
 ghost use Rattle.cs_meaning.specs.Machine as machine;
 ghost use Rattle.cs_meaning.specs.Statements as meaning;
-ghost use Rattle.cs_run_state.specs.MachineView.{state_of};
-ghost use Rattle.cs_reference.specs.Switching.{chosen_of};
 ghost use Rattle.cs_reference.specs.RunnerView.{state_in, Performs};
 
-use crate::putting::put_all;
 use crate::runner::Runner;
 use cs_ast::Place;
 use cs_ast::typed::statement::{Case, Stmt};
 use cs_events::{Label, PointKind};
-use cs_run_state::counted_points::{counted_points_in, together};
-use cs_run_state::machine::Machine;
-use cs_run_state::{Stop, Touch};
-use std::alloc::AllocError;
-
-/// A case that was found: its number among those with a value, and the number of the statement that it leads to.
-#[derive(Clone, Copy)]
-pub struct Chosen {
-    pub number: u32,
-    pub item: u32,
-}
+use cs_frames::cases::{chosen_case, put_from};
+use cs_run_log::{Stop, Touch};
 
 impl<'a> Runner<'a> {
     /// The newest value says which case a `switch` takes: the case shows, and the statements from it on are executed.
@@ -49,105 +35,4 @@ impl<'a> Runner<'a> {
         put_from(&mut self.machine, statements, chosen.item, counted_point)?;
         Ok(())
     }
-}
-
-// Statements from the one with a number on are to be executed.
-fn put_from<'a>(
-    state: &mut Machine<'a>,
-    statements: &'a [Stmt],
-    number: u32,
-    counted_point: u64,
-) -> Result<(), AllocError>
-    ensures { OnOk result (state_of state.new
-        ≡ machine.to_do (meaning.executes_from number (statement_list statements.now)
-        counted_point (state_of state.old).frame.todo) (state_of state.old)) }
-{
-    let number = number as usize;
-    if number <= statements.len() {
-        let before = counted_points_in(&statements[..number])?;
-        put_all(
-            state,
-            &statements[number..],
-            together(counted_point, before)?,
-        )?;
-    }
-    Ok(())
-}
-
-// The case that a `switch` takes: that of its number, else `default`, else none, which leads after all statements.
-fn chosen_case(cases: &[Case], statements: &[Stmt], number: i128) -> Result<Chosen, AllocError>
-    ensures { IfOk result (λ chosen.
-        chosen_of chosen ≡ meaning.chosen_case cases.now (statement_list statements.now)
-        (meaning.case_of cases.now number 0)) }
-{
-    match case_of(cases, number)? {
-        Some(chosen) => Ok(chosen),
-        None => otherwise(cases, statements),
-    }
-}
-
-// The case that a `switch` takes where none stands for its number.
-fn otherwise(cases: &[Case], statements: &[Stmt]) -> Result<Chosen, AllocError>
-    ensures { IfOk result (λ chosen.
-        chosen_of chosen ≡ meaning.chosen_case cases.now (statement_list statements.now) None) }
-{
-    let number = values_in(cases)?;
-    let following = count_of(statements)?;
-    let item = default_item(cases).unwrap_or(following);
-    Ok(Chosen { number, item })
-}
-
-// How many statements there are.
-#[tactic(auto, using(crate::proofs::InRows::in_rows))]
-fn count_of(statements: &[Stmt]) -> Result<u32, AllocError>
-    ensures { IfOk result (λ count. count ≡ typed.count_of (statement_list statements.now)) }
-{
-    u32::try_from(statements.len()).ok().ok_or(AllocError)
-}
-
-// The case that stands for a number.
-fn case_of(cases: &[Case], number: i128) -> Result<Option<Chosen>, AllocError>
-    ensures { IfOk result (λ found.
-        option_map chosen_of found ≡ meaning.case_of cases.now number 0) }
-{
-    let mut count: u32 = 0;
-    for case in cases {
-        if let Some(value) = case.value {
-            if value == number {
-                let item = case.item;
-                return Ok(Some(Chosen {
-                    number: count,
-                    item,
-                }));
-            }
-            count = count.checked_add(1).ok_or(AllocError)?;
-        }
-    }
-    Ok(None)
-}
-
-// How many cases have a value.
-fn values_in(cases: &[Case]) -> Result<u32, AllocError>
-    ensures { IfOk result (λ count. count ≡ meaning.values_in cases.now) }
-{
-    let mut count: u32 = 0;
-    for case in cases {
-        if case.value.is_some() {
-            count = count.checked_add(1).ok_or(AllocError)?;
-        }
-    }
-    Ok(count)
-}
-
-// Where `default` leads, if there is one.
-fn default_item(cases: &[Case]) -> Option<u32>
-    ensures { (otherwise : ℕ)
-        → meaning.default_item cases.now otherwise ≡ unwrap_or result otherwise }
-{
-    for case in cases {
-        if case.value.is_none() {
-            return Some(case.item);
-        }
-    }
-    None
 }

@@ -7,12 +7,12 @@ ghost use Rattle.cs_reference.specs.RunnerView.{budgets_of, state_in, Performs};
 use crate::runner::Runner;
 use cs_ast::Place;
 use cs_events::{Budget, Outcome, PointKind};
+use cs_run_log::{Stop, Touch};
 use cs_run_state::machine::Machine;
-use cs_run_state::{Stop, Touch};
 
 impl<'a> Runner<'a> {
     /// A counted point is reached once more, unless the budget of visits is used up; one that has no count is over.
-    #[tactic(auto, using(cs_run_state::proofs::Performing::silent, std::proofs::lemmas::Option::slice_get_within))]
+    #[tactic(auto, using(cs_run_log::proofs::Performing::silent, std::proofs::lemmas::Option::slice_get_within))]
     pub fn reach_counted_point(
         &mut self,
         place: Place,

@@ -7,9 +7,9 @@ use Rattle.cs_events.specs.Runs as runs
 use Rattle.cs_events.specs.Runs.{Log, Performed, Continues, Finishes, perform, empty, Leads, stays, goes}
 use Rattle.cs_events.proofs.RunLaws.{leads_on}
 use Rattle.cs_meaning.specs.ProgramRuns as meaning
-use Rattle.cs_run_state.specs.Prepared as settings
-use Rattle.cs_run_state.specs.declared.settings.Setting.{Setting}
-use Rattle.cs_run_state.specs.View.{setting_of, log_of}
+use Rattle.cs_objects.specs.Prepared as settings
+use Rattle.cs_objects.specs.declared.settings.Setting.{Setting}
+use Rattle.cs_run_log.specs.LogView.{setting_of, log_of}
 use Rattle.cs_cfg.specs.declared.code.Code.{Code}
 use Rattle.cs_cfg.specs.CodeSteps.{code_step, code_start, CodeGives}
 use Rattle.cs_cfg.specs.GraphView as view

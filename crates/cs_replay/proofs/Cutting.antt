@@ -3,7 +3,7 @@ use Rattle.std.proofs.Common.{◌≡◌, ℕ, ◌-◌, ◌≤◌, nat_le, Bool, 
 use Rattle.std.proofs.Common.{arith}
 use Rattle.std.proofs.lemmas.Bool.Decides.{nat_tests}
 use Rattle.std.proofs.lemmas.List.{length-map, length-reverse, take_all}
-use Rattle.cs_reference.proofs.Stacks.{older_of}
+use Rattle.cs_frames.proofs.Stacks.{older_of}
 
 -- the first elements are those that are left without as many as there are more
 first_are : {X : Type 0} (xs : List X) (n : ℕ) → take (length xs - (length xs - n)) xs ≡ take n xs

@@ -13,7 +13,7 @@ use Rattle.cs_cfg.specs.Lowered.{is_there}
 use Rattle.cs_cfg.specs.Working.{CodeState, code_frame, call_flow}
 use Rattle.cs_replay.specs.CodeStates.{at_point, begun}
 use Rattle.cs_replay.specs.FrameChanges.{inside_with}
-use Rattle.cs_reference.proofs.Locals.{locals_are}
+use Rattle.cs_frames.proofs.NewLocals.{locals_are}
 
 -- the run in a new frame, which is as it should be
 pub entered_is : (code : Code) (program : TypedProgram) (function : ℕ) (flow : Flow) (routine : Routine) (arguments : List Operand) (frame : Frame)

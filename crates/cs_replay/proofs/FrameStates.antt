@@ -3,8 +3,8 @@ use Rattle.std.proofs.Common.{◌≡◌, ℕ, ◌+◌, List, ◌∷◌, length, 
 use Rattle.cs_meaning.specs.Memory as meaning
 use Rattle.cs_run_state.specs.declared.machine.Frame.{Frame}
 use Rattle.cs_run_state.specs.declared.machine.Machine.{Machine}
-use Rattle.cs_run_state.specs.declared.memory.Memory.{Memory}
-use Rattle.cs_run_state.specs.MemoryView.{memory_of, with_frame}
+use Rattle.cs_memory.specs.declared.memory.Memory.{Memory}
+use Rattle.cs_memory.specs.MemoryView.{memory_of, with_frame}
 use Rattle.cs_run_state.specs.MachineView.{frame_of, state_of}
 use Rattle.cs_cfg.specs.declared.code.Code.{Code}
 use Rattle.cs_replay.specs.declared.positions.Position.{Position}

@@ -12,10 +12,10 @@ use Rattle.cs_meaning.specs.Access.{shows_then}
 use Rattle.cs_meaning.specs.Operators.{branch}
 use Rattle.cs_meaning.specs.Calls.{leave}
 use Rattle.cs_meaning.specs.Machine.{Operand, CallFrame, State, with_stack}
-use Rattle.cs_run_state.specs.declared.logs.Stop.{Stop}
-use Rattle.cs_run_state.specs.declared.logs.Stop.TheVariants as stop
-use Rattle.cs_run_state.specs.Pieces.{finished}
-use Rattle.cs_run_state.proofs.Performing.{perform-Goes}
+use Rattle.cs_run_log.specs.declared.logs.Stop.{Stop}
+use Rattle.cs_run_log.specs.declared.logs.Stop.TheVariants as stop
+use Rattle.cs_run_log.specs.Pieces.{finished}
+use Rattle.cs_run_log.proofs.Performing.{perform-Goes}
 use Rattle.cs_cfg.specs.Graph.{Point}
 use Rattle.cs_cfg.specs.Working.{CodeState}
 use Rattle.cs_replay.specs.CodeStates.{code_state}

@@ -4,10 +4,10 @@ use Rattle.std.specs.Prelude.{⊤}
 use Rattle.std.specs.Borrow.{Bor}
 use Rattle.cs_events.specs.Acts.{Act}
 use Rattle.cs_events.specs.Runs.{Continues, perform}
-use Rattle.cs_run_state.specs.declared.logs.Log.{Log}
-use Rattle.cs_run_state.specs.declared.logs.Stop.{Stop}
-use Rattle.cs_run_state.specs.declared.settings.Setting.{Setting}
-use Rattle.cs_run_state.specs.View.{setting_of, log_of}
+use Rattle.cs_run_log.specs.declared.logs.Log.{Log}
+use Rattle.cs_run_log.specs.declared.logs.Stop.{Stop}
+use Rattle.cs_objects.specs.declared.settings.Setting.{Setting}
+use Rattle.cs_run_log.specs.LogView.{setting_of, log_of}
 use Rattle.cs_cfg.specs.Working.{CodeState}
 use Rattle.cs_replay.specs.declared.replayer.Replayer.{Replayer}
 use Rattle.cs_replay.specs.ReplayerView.{state_in, ended, KeepsSetting, Performs}

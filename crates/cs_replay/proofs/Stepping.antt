@@ -7,8 +7,8 @@ use Rattle.cs_events.specs.Acts.{Act}
 use Rattle.cs_events.specs.Runs.{perform}
 use Rattle.cs_meaning.specs.Machine.{Scalar, to_do}
 use Rattle.cs_meaning.specs.Calls.{leave}
-use Rattle.cs_run_state.specs.declared.logs.Stop.{Stop}
-use Rattle.cs_run_state.specs.View.{setting_of, log_of}
+use Rattle.cs_run_log.specs.declared.logs.Stop.{Stop}
+use Rattle.cs_run_log.specs.LogView.{setting_of, log_of}
 use Rattle.cs_run_state.specs.MachineView.{state_of}
 use Rattle.cs_cfg.specs.Graph.{Operation, BlockEnd, Point, Code, before, no_point}
 use Rattle.cs_cfg.specs.Working.{CodeState}

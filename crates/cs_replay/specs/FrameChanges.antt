@@ -3,7 +3,7 @@ use Rattle.std.specs.Prelude.{ℕ, ◌+◌, ◌∷◌, Option}
 use Rattle.cs_meaning.specs.Memory.{Block}
 use Rattle.cs_meaning.specs.Calls.{without_locals}
 use Rattle.cs_meaning.specs.Machine.{CallFrame, Operand, Frame}
-use Rattle.cs_run_state.specs.MemoryView.{with_frame}
+use Rattle.cs_memory.specs.MemoryView.{with_frame}
 use Rattle.cs_cfg.specs.Graph.{Point}
 use Rattle.cs_cfg.specs.Working.{CodeState}
 use Rattle.cs_replay.specs.CodeStates.{at_point}

@@ -6,9 +6,9 @@ use Rattle.cs_events.specs.Acts.{Act}
 use Rattle.cs_events.specs.Runs as runs
 use Rattle.cs_events.specs.Runs.{Performed, Continues, Finishes, perform}
 use Rattle.cs_meaning.specs.Machine.{CallFrame}
-use Rattle.cs_run_state.specs.declared.logs.Stop.{Stop}
-use Rattle.cs_run_state.specs.declared.logs.Stop.TheVariants as stop
-use Rattle.cs_run_state.specs.View.{setting_of, log_of}
+use Rattle.cs_run_log.specs.declared.logs.Stop.{Stop}
+use Rattle.cs_run_log.specs.declared.logs.Stop.TheVariants as stop
+use Rattle.cs_run_log.specs.LogView.{setting_of, log_of}
 use Rattle.cs_run_state.specs.MachineView.{frame_of}
 use Rattle.cs_reference.specs.RunnerView as runner
 use Rattle.cs_cfg.specs.declared.code.Code.{Code}

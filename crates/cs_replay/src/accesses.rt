@@ -1,6 +1,6 @@
 //! Loads, stores and updates (C11 6.3.2.1, 6.5.16).
 ghost use Rattle.std.specs.Prelude.{◌≡◌};
-ghost use Rattle.cs_run_state.specs.AccessView as view;
+ghost use Rattle.cs_objects.specs.AccessView as view;
 ghost use Rattle.cs_cfg.specs.Graph as graph;
 ghost use Rattle.cs_cfg.specs.GraphView.{access};
 ghost use Rattle.cs_reference.specs.RunnerView.{program_of, budgets_of, state_in, IsReady, Performs};
@@ -9,8 +9,9 @@ ghost use Rattle.cs_replay.specs.Works.{works};
 use cs_ast::Place;
 use cs_ast::typed::operator::{BinOp, Direction, Gives};
 use cs_cfg::Access;
+use cs_objects::access;
 use cs_reference::runner::Runner;
-use cs_run_state::{Stop, access};
+use cs_run_log::Stop;
 use cs_types::IntType;
 
 /// A load (C11 6.3.2.1).

@@ -6,8 +6,8 @@ ghost use Rattle.cs_cfg.specs.GraphView as view;
 ghost use Rattle.cs_cfg.specs.Working as working;
 ghost use Rattle.cs_meaning.specs.Calls as calls;
 ghost use Rattle.cs_meaning.specs.Machine as machine;
-ghost use Rattle.cs_run_state.specs.View.{operand_of};
-ghost use Rattle.cs_run_state.specs.MemoryView.{block_at};
+ghost use Rattle.cs_values.specs.View.{operand_of};
+ghost use Rattle.cs_objects.specs.BlockView.{block_at};
 ghost use Rattle.cs_run_state.specs.MachineView.{state_of, frame_of};
 ghost use Rattle.cs_replay.specs.FrameChanges.{inside_with, called_by, back_in};
 ghost use Rattle.cs_replay.specs.ReplayerView.{program_of, budgets_of, code_of, caller_of, state_in, IsReady, KeepsSetting, Performs};
@@ -20,11 +20,12 @@ use cs_ast::Place;
 use cs_ast::typed::program::{Local, Program};
 use cs_cfg::Flow;
 use cs_events::{Budget, Label, Outcome};
-use cs_reference::frames::local_blocks;
-use cs_reference::operands::pop_newest;
-use cs_run_state::blocks::Block;
+use cs_frames::frames::local_blocks;
+use cs_frames::operands::pop_newest;
+use cs_objects::blocks::Block;
+use cs_run_log::Stop;
 use cs_run_state::machine::{Frame, Machine};
-use cs_run_state::{Operand, Stop};
+use cs_values::Operand;
 use std::alloc::AllocError;
 
 impl<'a> Replayer<'a> {

@@ -7,8 +7,8 @@ ghost use Rattle.cs_meaning.specs.Access as access;
 ghost use Rattle.cs_meaning.specs.Machine as machine;
 ghost use Rattle.cs_meaning.specs.Memory as memory;
 ghost use Rattle.cs_meaning.specs.Statements as meaning;
-ghost use Rattle.cs_run_state.specs.Prepared as settings;
-ghost use Rattle.cs_run_state.specs.MemoryView.{fill_of};
+ghost use Rattle.cs_objects.specs.Prepared as settings;
+ghost use Rattle.cs_objects.specs.BlockView.{fill_of};
 ghost use Rattle.cs_run_state.specs.MachineView.{state_of};
 ghost use Rattle.cs_cfg.specs.Graph as graph;
 ghost use Rattle.cs_cfg.specs.Working as working;
@@ -16,14 +16,16 @@ ghost use Rattle.cs_reference.specs.RunnerView.{program_of, budgets_of, state_in
 ghost use Rattle.cs_replay.specs.Works.{works};
 
 use cs_ast::Place;
-use cs_reference::declarations::spell_local;
-use cs_reference::frames::number_of;
+use cs_frames::frames::number_of;
+use cs_frames::locals::spell_local;
+use cs_memory::access::touch_store;
+use cs_objects::Setting;
+use cs_objects::blocks::{Change, Fill};
 use cs_reference::runner::Runner;
-use cs_run_state::access::touch_store;
-use cs_run_state::blocks::{Change, Fill};
+use cs_run_log::{Stop, Touch};
 use cs_run_state::machine::Machine;
-use cs_run_state::{Object, Setting, Stop, Touch};
 use cs_types::CType;
+use cs_values::Object;
 use std::alloc::AllocError;
 
 /// A local becomes unset, which is a touch where it is a scalar (C11 6.2.4, paragraph 6).

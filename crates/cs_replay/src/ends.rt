@@ -12,7 +12,8 @@ use crate::ways::way_of;
 use cs_ast::Place;
 use cs_cfg::{BlockEnd, SwitchCase};
 use cs_events::{Label, PointKind};
-use cs_run_state::{Cell, Operand, Stop, Touch};
+use cs_run_log::{Stop, Touch};
+use cs_values::{Cell, Operand};
 
 impl<'a> Replayer<'a> {
     /// The end of a block: to another one, or out of the frame.

@@ -3,7 +3,7 @@ ghost use Rattle.std.specs.Prelude.{◌≡◌, IfOk};
 ghost use Rattle.cs_run_state.specs.MachineView.{frame_of};
 ghost use Rattle.cs_replay.specs.CodeStates.{begun};
 
-use cs_reference::frames::zeros;
+use cs_frames::frames::zeros;
 use cs_run_state::machine::Frame;
 use std::alloc::{AllocError, Global};
 

@@ -1,5 +1,5 @@
 //! The replayer: it runs the code of a program from given inputs, operation by operation.
-#![tactic(auto, using(cs_run_state::proofs::Performing::silent))]
+#![tactic(auto, using(cs_run_log::proofs::Performing::silent))]
 
 mod accesses;
 mod calls;

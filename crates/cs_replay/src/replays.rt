@@ -7,8 +7,8 @@ ghost use Rattle.cs_meaning.specs.ProgramRuns as meaning;
 ghost use Rattle.cs_cfg.specs.CodeSteps.{code_step, code_start, CodeGives};
 ghost use Rattle.cs_cfg.specs.GraphView as view;
 ghost use Rattle.cs_cfg.specs.Lowered.{HasGraphs, IsLowered};
-ghost use Rattle.cs_run_state.specs.Prepared.{IsReady};
-ghost use Rattle.cs_run_state.specs.View.{log_of};
+ghost use Rattle.cs_objects.specs.Prepared.{IsReady};
+ghost use Rattle.cs_run_log.specs.LogView.{log_of};
 ghost use Rattle.cs_reference.specs.RunView.{run_of};
 ghost use Rattle.cs_replay.specs.RunLengths.{HasLength, HasLength-prop};
 
@@ -17,7 +17,8 @@ use crate::refusal::ReplayRefusal;
 use crate::starting::begin;
 use cs_cfg::Code;
 use cs_events::Outcome;
-use cs_run_state::{Log, Setting, Stop};
+use cs_objects::Setting;
+use cs_run_log::{Log, Stop};
 use std::alloc::{AllocError, Global};
 
 /// A replay that has ended: how, and what the run has shown, read and touched.

@@ -12,7 +12,8 @@ use crate::replayer::Replayer;
 use crate::working::{takes, work};
 use cs_ast::Place;
 use cs_cfg::{CountedPoint, Operation, Work};
-use cs_run_state::{Cell, Operand, Stop};
+use cs_run_log::Stop;
+use cs_values::{Cell, Operand};
 use std::alloc::AllocError;
 
 impl<'a> Replayer<'a> {

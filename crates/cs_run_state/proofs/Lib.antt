@@ -1,14 +1,1 @@
-pub mod Performing
-pub mod Numbers
-pub mod Chains
-pub mod Rows
-pub mod Starts
-pub mod Layouts
-pub mod Changes
-pub mod PartOffsets
-pub mod Searching
-pub mod Statics
-pub mod Nested
-pub mod Reading
 pub mod States
-pub mod StatementForms

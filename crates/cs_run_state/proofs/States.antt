@@ -3,7 +3,7 @@ use Rattle.std.proofs.Common.{◌≡◌, ℕ, zero, suc, ◌+◌, List, [], ◌�
 use Rattle.std.specs.Prelude.{slice_get}
 use Rattle.std.proofs.lemmas.List.{reverse-append}
 use Rattle.cs_meaning.specs.Machine.{Operand, State, with_stack, pop, pop_many}
-use Rattle.cs_run_state.proofs.Performing.{map-push}
+use Rattle.cs_objects.proofs.Pushing.{map-push}
 
 -- one more at the end is one more at the beginning of what is read from the end
 pub reverse-map-push : {A B : Type 0} (f : A → B) (xs : List A) (x : A) → reverse (map f (xs ++ x ∷ [])) ≡ f x ∷ reverse (map f xs)

@@ -1,12 +1,3 @@
-pub mod Results
-pub mod View
-pub mod Pieces
-pub mod PieceOrder
-pub mod MemoryView
-pub mod Prepared
-pub mod TypeView
-pub mod FoundView
-pub mod AccessView
-pub mod MachineView
 pub mod Choosing
+pub mod MachineView
 pub mod Updates

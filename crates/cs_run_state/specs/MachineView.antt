@@ -14,8 +14,9 @@ use Rattle.cs_run_state.specs.declared.items.StmtStep.{StmtStep}
 use Rattle.cs_run_state.specs.declared.items.StmtStep.TheVariants as stmt_step
 use Rattle.cs_run_state.specs.declared.machine.Frame.{Frame}
 use Rattle.cs_run_state.specs.declared.machine.Machine.{Machine}
-use Rattle.cs_run_state.specs.View.{operand_of}
-use Rattle.cs_run_state.specs.MemoryView.{memory_of, type_of}
+use Rattle.cs_values.specs.View.{operand_of}
+use Rattle.cs_memory.specs.MemoryView.{memory_of}
+use Rattle.cs_objects.specs.BlockView.{type_of}
 
 -- what is done with an expression
 abbrev pub expression_item : ExprStep → Typed → machine.Item

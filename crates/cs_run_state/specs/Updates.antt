@@ -15,6 +15,7 @@ use Rattle.cs_meaning.specs.Types.{integer_of}
 use Rattle.cs_meaning.specs.Access.{Access, load_object, store_object}
 use Rattle.cs_meaning.specs.Operators.{operate, convert_number, sum}
 use Rattle.cs_meaning.specs.Expressions.{given, number_at, stores_to}
+use Rattle.cs_run_log.specs.Computing.{computes}
 use Rattle.cs_meaning.specs.Machine.{State, Scalar, cell_at, cell_of, operand_at, pop, push, push_cell, with_memory}
 
 -- a load
@@ -53,12 +54,6 @@ abbrev pub move_act : TypedProgram → Place → Access → ℕ → Direction �
 move_act program at access bytes direction gives m =
     sum program.model at (cell_at m 1) (directed direction (number_at m 0)) bytes (λ cell.
     stores_to program at access 2 (Scalar cell) 3 (given gives (operand_at m 1) (Scalar cell)) m)
-
--- the number that an update computes, in the type of the object
-abbrev pub computes : TypedProgram → Place → BinOp → Access → IntType → ℤ → ℤ → (ℤ → Act State) → Act State
-computes program at op access works_in left right onward =
-    operate program.model at op works_in left right (λ number.
-    convert_number program.model at (integer works_in) (integer_of access.ty) number onward)
 
 -- what an update computes is stored in a frame's object
 abbrev pub stores_computed : TypedProgram → Memory → ℕ → Place → BinOp → Access → IntType → Cell → ℤ → ℤ

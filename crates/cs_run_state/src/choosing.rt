@@ -6,23 +6,23 @@ ghost use Rattle.cs_meaning.specs.Machine as machine;
 ghost use Rattle.cs_meaning.specs.Machine.{State};
 ghost use Rattle.cs_meaning.specs.Operators as operators;
 ghost use Rattle.cs_meaning.specs.Expressions as expressions;
-ghost use Rattle.cs_run_state.specs.View.{operand_of};
+ghost use Rattle.cs_values.specs.View.{operand_of};
 ghost use Rattle.cs_run_state.specs.MachineView.{state_of};
 ghost use Rattle.cs_run_state.specs.Choosing.{result_act};
-ghost use Rattle.cs_run_state.specs.Pieces.{LeadsTo, EndsBy, Gives, StopsIn, or_fault};
+ghost use Rattle.cs_run_log.specs.Pieces.{LeadsTo, EndsBy, Gives, StopsIn, or_fault};
 
-use crate::access::refused_use;
-use crate::constants::truth_cell;
 use crate::items::{ExprStep, Item};
-use crate::logs::{Log, Stop};
 use crate::machine::Machine;
-use crate::objects::Operand;
-use crate::operators::fault;
-use crate::settings::Setting;
 use cs_ast::Place;
 use cs_ast::typed::expression::{Expr, ExprKind};
 use cs_events::Label;
+use cs_memory::access::refused_use;
 use cs_model::Kind;
+use cs_objects::Setting;
+use cs_run_log::operators::fault;
+use cs_run_log::{Log, Stop};
+use cs_values::Operand;
+use cs_values::constants::truth_cell;
 use std::alloc::AllocError;
 
 impl<'a> Machine<'a> {

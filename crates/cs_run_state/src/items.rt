@@ -1,9 +1,9 @@
 //! What is still to be done in a frame.
 
-use crate::blocks::BlockType;
 use cs_ast::Place;
 use cs_ast::typed::expression::Expr;
 use cs_ast::typed::statement::Stmt;
+use cs_objects::blocks::BlockType;
 use cs_types::CType;
 
 /// A thing to do.

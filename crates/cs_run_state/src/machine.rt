@@ -6,20 +6,20 @@ ghost use Rattle.cs_ast.specs.TypedProgram.{typed_program};
 ghost use Rattle.cs_meaning.specs.Access as loads;
 ghost use Rattle.cs_meaning.specs.Expressions as expressions;
 ghost use Rattle.cs_meaning.specs.Machine as machine;
-ghost use Rattle.cs_run_state.specs.Prepared.{IsReady};
-ghost use Rattle.cs_run_state.specs.View.{cell_of, operand_of};
-ghost use Rattle.cs_run_state.specs.AccessView.{access_of};
+ghost use Rattle.cs_objects.specs.Prepared.{IsReady};
+ghost use Rattle.cs_values.specs.View.{cell_of, operand_of};
+ghost use Rattle.cs_objects.specs.AccessView.{access_of};
 ghost use Rattle.cs_run_state.specs.MachineView.{item_of, state_of};
-ghost use Rattle.cs_run_state.specs.Pieces.{Gives, StopsIn, GivesBoth, StopsInBoth};
+ghost use Rattle.cs_run_log.specs.Pieces.{Gives, StopsIn, GivesBoth, StopsInBoth};
 
-use crate::access::Access;
 use crate::items::Item;
-use crate::logs::{Log, Stop};
-use crate::memory::Memory;
-use crate::objects::{Cell, Operand};
-use crate::settings::Setting;
 use cs_ast::Place;
 use cs_ast::typed::operator::Order;
+use cs_memory::memory::Memory;
+use cs_objects::Setting;
+use cs_objects::access::Access;
+use cs_run_log::{Log, Stop};
+use cs_values::{Cell, Operand};
 use std::alloc::AllocError;
 
 /// A call of a function that has not ended.

@@ -1,29 +1,27 @@
 //! Loads, assignments and updates of objects, whose operands are on the stack (C11 6.3.2.1, 6.5.2.4, 6.5.3.1, 6.5.16).
-ghost use Rattle.std.specs.Prelude.{◌≡◌, IfOk, OnOk, IfErr};
+ghost use Rattle.std.specs.Prelude.{◌≡◌, IfOk, IfErr};
 ghost use Rattle.cs_ast.specs.TypedProgram.{typed_program};
 ghost use Rattle.cs_events.specs.Objects.{NumberCell};
 ghost use Rattle.cs_meaning.specs.Access as loads;
 ghost use Rattle.cs_meaning.specs.Expressions as expressions;
 ghost use Rattle.cs_meaning.specs.Initials.{directed};
 ghost use Rattle.cs_meaning.specs.Machine as machine;
-ghost use Rattle.cs_run_state.specs.Prepared.{IsReady};
-ghost use Rattle.cs_run_state.specs.AccessView.{access_of};
+ghost use Rattle.cs_objects.specs.Prepared.{IsReady};
+ghost use Rattle.cs_objects.specs.AccessView.{access_of};
 ghost use Rattle.cs_run_state.specs.MachineView.{state_of};
-ghost use Rattle.cs_run_state.specs.Pieces as pieces;
-ghost use Rattle.cs_run_state.specs.Pieces.{StopsIn, GivesBoth, StopsInBoth, LeadsOrEnds};
-ghost use Rattle.cs_run_state.specs.Updates.{load_act, assign_act, fetch_number_act, fetch_pointer_act, update_act, move_act, computes, stores_computed, stores_moved};
-ghost use Rattle.cs_run_state.specs.View.{cell_of, operand_of};
+ghost use Rattle.cs_run_log.specs.Pieces.{GivesBoth, StopsInBoth, LeadsOrEnds};
+ghost use Rattle.cs_run_state.specs.Updates.{load_act, assign_act, fetch_number_act, fetch_pointer_act, update_act, move_act, stores_computed, stores_moved};
+ghost use Rattle.cs_values.specs.View.{cell_of, operand_of};
 
-use crate::access::Access;
-use crate::constants::integer_of;
-use crate::logs::{Log, Stop};
 use crate::machine::Machine;
-use crate::objects::{Cell, Operand, let_go_of_cell, let_go_of_operand};
-use crate::operations::stride_of;
-use crate::settings::Setting;
 use cs_ast::Place;
 use cs_ast::typed::operator::{BinOp, Direction, Gives};
-use cs_types::{CType, IntType};
+use cs_objects::Setting;
+use cs_objects::access::Access;
+use cs_run_log::{Log, Stop};
+use cs_types::IntType;
+use cs_values::objects::{let_go_of_cell, let_go_of_operand};
+use cs_values::{Cell, Operand, stride_of};
 
 impl<'a> Machine<'a> {
     /// A load from the object whose place is the newest operand.
@@ -313,34 +311,6 @@ impl<'a> Machine<'a> {
         let value = self.pop();
         let target = self.pop_cell();
         (target, value)
-    }
-}
-
-impl Log {
-    // The number that an update computes, in the type of the object.
-    fn compute(
-        &mut self,
-        setting: &Setting,
-        place: Place,
-        operator: BinOp,
-        access: Access,
-        works_in: IntType,
-        left: &i128,
-        right: &i128,
-    ) -> Result<i128, Stop>
-        ensures ok { IfOk result
-            (pieces.Gives setting.now self.old self.new
-            (computes (typed_program setting.now.program.now) place operator
-            (access_of access.entry) works_in left.now right.now)) }
-        ensures err { IfErr result
-            (StopsIn setting.now self.old self.new
-            (computes (typed_program setting.now.program.now) place operator
-            (access_of access.entry) works_in left.now right.now)) }
-    {
-        let number = self.operate(setting, place, operator, works_in, left, right)?;
-        let (from, to) = (CType::Int(works_in), integer_of(access.ty));
-        let stored = self.convert_number(setting, place, &from, to, &number)?;
-        Ok(stored)
     }
 }
 

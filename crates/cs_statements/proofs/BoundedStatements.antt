@@ -41,6 +41,7 @@ use Rattle.cs_declarations.specs.Environment.{is_declared_here}
 use Rattle.cs_declarations.specs.Objects.{object_type}
 use Rattle.cs_statements.specs.Locals.{Inside, LocalDeclared, TypedStatements, with_local, local_held, local_initialized, local_added, after_local}
 use Rattle.cs_statements.specs.Locals.{locals_added}
+use Rattle.cs_statements.specs.Statements.{word_fault, after_word}
 use Rattle.cs_statements.specs.Statements.{Where, Part, Switching, in_loop, in_switch, in_a_row, part, past, tested_in, dropped_in, some_found, tested_if}
 use Rattle.cs_statements.specs.Statements.{dropped_if, is_void, value_returned, returned, label_number, goto_typed, is_first, meeting, in_block, declared_in}
 use Rattle.cs_statements.specs.Statements.{declaration_typed, first_place, no_statements, telling, ran_first, first_typed, is_case, case_put, case_added}
@@ -58,6 +59,7 @@ use Rattle.cs_statements.proofs.BoundedParts.{nodes_known, assigned-bounded, tes
 use Rattle.cs_statements.proofs.BoundedParts.{IsTyping, words-bounded, grows-by}
 use Rattle.cs_well_formed.proofs.TextSizes.{size-text, size-initial, size-specs}
 use Rattle.cs_statements.proofs.BoundedTexts.{some_size, declarator_size}
+use Rattle.cs_statements.proofs.AfterWords.{after_word-then}
 
 -- the nodes that a function has so far, and what is known in it
 abbrev pub weight : Inside → ℕ
@@ -364,8 +366,10 @@ module _ (Is : Place → Type 0) where
         let Whole = GivesStatement (weight i + 24 * length_of (kind.Do' place p body test) rest) (text_size rest) in
         let following = word_text keyword.While (test_text (written test) (punctuator_text punctuator.Semicolon rest)) in
         let long = test-size test (punctuator_text punctuator.Semicolon rest) in
-        lift-then (GivesStatement (weight i + 24 * length_of body following) (text_size following)) Whole _ (statement_typed (in_loop w) i place body)
-        (statement-fits (in_loop w) i place body following among.1)
+        let Body = GivesStatement (weight i + 24 * length_of body following) (text_size following) in
+        lift-then Body Whole _ (after_word at (word_fault at i (Some test)) (statement_typed (in_loop w) i place body))
+        (after_word-then Body at (word_fault at i (Some test)) (statement_typed (in_loop w) i place body)
+        (statement-fits (in_loop w) i place body following among.1))
         (λ b k.
         lift-then (GivesExpression b.inside (written_length test)) Whole (do_made at b.found) (tested_in at b.inside test)
         (tested_in-gives at b.inside test among.2)
@@ -377,8 +381,9 @@ module _ (Is : Place → Type 0) where
         let following = some_text (option_map written test) second in
         let long = some_size (option_map written test) second in
         let long' = some_size (option_map written last) third in
-        lift-then (HasRoom (weight i + 24 * text_size (first_text (first_of first) following)) (text_size following)) Whole _ (first_typed (in_block i) first)
-        (first-room (in_block i) first following among.1)
+        let Begun = HasRoom (weight i + 24 * text_size (first_text (first_of first) following)) (text_size following) in
+        lift-then Begun Whole _ (after_word at (word_fault at (in_block i) test) (first_typed (in_block i) first))
+        (after_word-then Begun at (word_fault at (in_block i) test) (first_typed (in_block i) first) (first-room (in_block i) first following among.1))
         (λ f g.
         lift-then (GivesAny f.inside (any_length test)) Whole _ (tested_if at f.inside test) (tested_if-gives at f.inside test among.2)
         (λ t k.

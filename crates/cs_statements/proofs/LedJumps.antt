@@ -31,6 +31,7 @@ use Rattle.cs_declarations.specs.Environment.{is_declared_here}
 use Rattle.cs_declarations.specs.Objects.{object_type}
 use Rattle.cs_statements.specs.Locals.{Inside, LocalDeclared, TypedStatements, with_local, local_held, local_initialized, local_added, after_local}
 use Rattle.cs_statements.specs.Locals.{locals_added}
+use Rattle.cs_statements.specs.Statements.{word_fault, after_word}
 use Rattle.cs_statements.specs.Statements.{Where, Part, Switching, in_loop, in_switch, in_a_row, part, past, tested_in, dropped_in, some_found, tested_if}
 use Rattle.cs_statements.specs.Statements.{dropped_if, is_void, value_returned, returned, label_number, goto_typed, is_first, meeting, in_block, declared_in}
 use Rattle.cs_statements.specs.Statements.{declaration_typed, first_place, no_statements, telling, ran_first, first_typed, case_put, case_added}
@@ -39,6 +40,7 @@ use Rattle.cs_statements.specs.Statements.{block_made, run_made, if_made, if_els
 use Rattle.cs_statements.specs.Statements.{selected, statement_typed, item_typed, items_typed, switch_item_typed, switch_typed, body_typed}
 use Rattle.cs_well_formed.specs.Statements.{label_count, label_counts, AreNumbered, AllAreNumbered, JumpsLead, AllJumpsLead}
 use Rattle.cs_well_formed.proofs.Verdicts.{IfFine, if_fine-any, if_fine-weaker, lift-then, cond-then}
+use Rattle.cs_statements.proofs.AfterWords.{after_word-then}
 
 -- how many labels stand in statements
 abbrev row_labels : List Statement → ℕ
@@ -278,13 +280,16 @@ mutual
       record { count = led.count; met = led.met; numbered = led.numbered; jumps = led.jumps }))
   statement_typed-led w i at (kind.Do' place p body test) =
       let n = length (labels_of body) in
-      lift-then (PartIsLed (in_loop w) i n) (PartIsLed w i n) _ _ (statement_typed-led (in_loop w) i place body)
+      lift-then (PartIsLed (in_loop w) i n) (PartIsLed w i n) _ (after_word at (word_fault at i (Some test)) (statement_typed (in_loop w) i place body))
+      (after_word-then (PartIsLed (in_loop w) i n) at (word_fault at i (Some test)) (statement_typed (in_loop w) i place body)
+      (statement_typed-led (in_loop w) i place body))
       (λ b h. lift-then (PartSameMet b.inside) (PartIsLed w i n) (do_made at b.found) (tested_in at b.inside test) (tested_in-same at b.inside test)
       (λ t same. record { count = h.count; met = same ∙ h.met; numbered = h.numbered; jumps = h.jumps }))
   statement_typed-led w i at (kind.For' first test last place p body) =
       let n = length (labels_of body) in
-      lift-then (ReportedIsLed (no_loop w) (no_statements (in_block i)) 0) (PartIsLed w i n) _ (first_typed (in_block i) first)
-      (first_typed-led (no_loop w) (in_block i) first)
+      let Begun = ReportedIsLed (no_loop w) (no_statements (in_block i)) 0 in
+      lift-then Begun (PartIsLed w i n) _ (after_word at (word_fault at (in_block i) test) (first_typed (in_block i) first))
+      (after_word-then Begun at (word_fault at (in_block i) test) (first_typed (in_block i) first) (first_typed-led (no_loop w) (in_block i) first))
       (λ f begun. lift-then (PartSameMet f.inside) (PartIsLed w i n) _ (tested_if at f.inside test) (tested_if-same at f.inside test)
       (λ t one. lift-then (PartSameMet t.inside) (PartIsLed w i n) _ (dropped_if t.inside last) (dropped_if-same t.inside last)
       (λ l other.

@@ -1,3 +1,4 @@
+pub mod AfterWords
 pub mod CasesInTurn
 pub mod ConstantNumbers
 pub mod DeclarationsAfter

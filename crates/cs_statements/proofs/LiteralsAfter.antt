@@ -9,12 +9,13 @@ use Rattle.cs_ast.specs.declared.raw.declaration.RawInitial as first_value
 use Rattle.cs_scopes.specs.declared.context.Context.{Context}
 use Rattle.cs_consts.specs.Roles.{operand_of}
 use Rattle.cs_expressions.specs.Primary.{Literals}
+use Rattle.cs_scopes.specs.Faults.{least_code}
 use Rattle.cs_scopes.specs.Verdicts.{lift}
 use Rattle.cs_declarations.specs.Initializers.{Storage, has_form, part_types, types_or_none, Reading, Readings, value_read, expression_read, parts_read}
-use Rattle.cs_declarations.specs.Initializers.{one_more, initial_read, items_read, initial_fault, value_limit, whole_read, limited}
+use Rattle.cs_declarations.specs.Initializers.{one_more, initial_read, items_read, whole_fault, scalar_limit, whole_read}
 use Rattle.cs_declarations.specs.Initializers.{initial_judged, kept_with, initial_typed}
 use Rattle.cs_well_formed.proofs.Names.{Begins, begins-self, begins-trans, literals-begin}
-use Rattle.cs_well_formed.proofs.Verdicts.{IfFine, if_fine-any, lift-then, cond-then, unless_fault-then, after_limit-then}
+use Rattle.cs_well_formed.proofs.Verdicts.{IfFine, if_fine-any, lift-then, cond-then, unless_fault-then}
 
 -- what is read begins with these literals
 abbrev pub GoesOnFrom : Literals → Reading → Type 0
@@ -59,10 +60,10 @@ module _ (c : Context) where
   initial_typed-begins literals storage at ty raw =
       cond-then (GoesOnFrom literals) (has_form c.table.list storage ty raw) _ _
       (λ _. lift-then (GoesOnFrom literals) (GoesOnFrom literals) _ (whole_read c literals storage at ty raw)
-      (unless_fault-then (GoesOnFrom literals) at (initial_fault c literals storage at ty raw) _
-      (λ _. after_limit-then (GoesOnFrom literals) at (value_limit c.table.list storage ty raw) (initial_read c literals ty raw)
-      (initial-begins literals ty raw)))
+      (unless_fault-then (GoesOnFrom literals) at
+      (least_code (scalar_limit c.table.list storage ty raw) (whole_fault c literals storage at ty raw)) (initial_read c literals ty raw)
+      (λ _. initial-begins literals ty raw))
       (λ r h.
-      lift-then (λ _. Unit {0}) (GoesOnFrom literals) (kept_with r.1) _
-      (if_fine-any (lift (limited c.table.list storage at ty) (initial_judged c storage at ty r.0))) (λ found _. h)))
+      lift-then (λ _. Unit {0}) (GoesOnFrom literals) (kept_with r.1) (initial_judged c storage at ty r.0)
+      (if_fine-any (initial_judged c storage at ty r.0)) (λ found _. h)))
       (λ _. tt)

@@ -29,10 +29,12 @@ use Rattle.cs_declarations.proofs.FineVerdicts.{IfFine, IfFine-lift, IfFine-lift
 use Rattle.cs_declarations.proofs.SoundBodies.{TypeGoesOn, specs_type-GoesOn}
 use Rattle.cs_declarations.proofs.SoundStructs.{GoesOn}
 use Rattle.cs_statements.specs.Locals.{Inside, LocalDeclared, TypedStatements, with_local, local_initialized, local_added, locals_added}
+use Rattle.cs_statements.specs.Statements.{word_fault, after_word}
 use Rattle.cs_statements.specs.Statements.{Where, Part, Switching, in_loop, in_switch, part, past, tested_in, dropped_in, tested_if, dropped_if, is_void}
 use Rattle.cs_statements.specs.Statements.{value_returned, returned, label_number, goto_typed, is_first, meeting, in_block, declaration_typed, first_place}
 use Rattle.cs_statements.specs.Statements.{no_statements, first_typed, case_put, case_added, selected, statement_typed, item_typed, items_typed}
 use Rattle.cs_statements.specs.Statements.{switch_item_typed, switch_typed, body_typed}
+use Rattle.cs_statements.proofs.AfterWords.{after_word-sound}
 
 -- the structs that are known are laid out, under this data model
 abbrev pub IsLaidUnder : DataModel → Environment → Type 0
@@ -152,10 +154,13 @@ module _ (m : DataModel) where
         IfFine-lift _ (statement_typed (in_loop w) t.inside place body) PartIsSound PartIsSound (statement_typed-sound (in_loop w) t.inside place body g)
         (λ b g'. g'))
     statement_typed-sound w i at (kind.Do' place p body test) h =
-        IfFine-lift _ (statement_typed (in_loop w) i place body) PartIsSound PartIsSound (statement_typed-sound (in_loop w) i place body h)
+        IfFine-lift _ (after_word at (word_fault at i (Some test)) (statement_typed (in_loop w) i place body)) PartIsSound PartIsSound
+        (after_word-sound PartIsSound at (word_fault at i (Some test)) (statement_typed (in_loop w) i place body)
+        (statement_typed-sound (in_loop w) i place body h))
         (λ b g. IfFine-lift _ (tested_in at b.inside test) PartIsSound PartIsSound (tested_in-sound at b.inside test g) (λ t g'. g'))
     statement_typed-sound w i at (kind.For' first test last place p body) h =
-        IfFine-lift _ (first_typed (in_block i) first) ReportedIsSound PartIsSound (first_typed-sound (in_block i) first h)
+        IfFine-lift _ (after_word at (word_fault at (in_block i) test) (first_typed (in_block i) first)) ReportedIsSound PartIsSound
+        (after_word-sound ReportedIsSound at (word_fault at (in_block i) test) (first_typed (in_block i) first) (first_typed-sound (in_block i) first h))
         (λ f g. IfFine-lift _ (tested_if at f.inside test) PartIsSound PartIsSound (tested_if-sound at f.inside test g)
         (λ t g'. IfFine-lift _ (dropped_if t.inside last) PartIsSound PartIsSound (dropped_if-sound t.inside last g')
         (λ l g''.

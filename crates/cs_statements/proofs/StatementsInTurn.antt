@@ -1,5 +1,6 @@
 -- What the rules of statements come to, one part after the other: for the cycle of statements.
-use Rattle.std.proofs.Common.{◌≡◌, ℕ, true, cond, List, [], ◌∷◌, ◌++◌, Option, map, refl, sym, ap, subst, ◌∙◌, Result, Ok, Err}
+use Rattle.std.proofs.Common.{◌≡◌, ℕ, true, cond, List, [], ◌∷◌, ◌++◌, Option, Some, None, map, refl, sym, ap, subst, ◌∙◌, Result, Ok}
+use Rattle.std.proofs.Common.{Err, Vec, Global}
 use Rattle.std.specs.Prelude.{OnOk}
 use Rattle.std.proofs.lemmas.List.{map-append}
 use Rattle.cs_ast.specs.declared.place.Place.{Place}
@@ -15,7 +16,9 @@ use Rattle.cs_ast.specs.declared.typed.statement.StmtKind.{StmtKind}
 use Rattle.cs_ast.specs.TypedTree.{Typed, Statement, Block}
 use Rattle.cs_ast.specs.TypedView.{typed, statement}
 use Rattle.cs_scopes.specs.declared.refusal.TypeCode.TheVariants.{Jump}
+use Rattle.cs_scopes.specs.declared.refusal.TypeCode.{TypeCode}
 use Rattle.cs_scopes.specs.declared.refusal.TypeRefusal.{TypeRefusal}
+use Rattle.cs_scopes.specs.declared.refusal.TypeRefusal.TheVariants.{Code, Memory}
 use Rattle.cs_folding.specs.TypedParts.{type_of}
 use Rattle.cs_expressions.specs.Primary.{Literals}
 use Rattle.cs_consts.specs.Typing.{literals_after}
@@ -29,7 +32,8 @@ use Rattle.cs_declarations.specs.Environment.{ScopeSnapshot, snapshot_of, left_t
 use Rattle.cs_declarations.specs.View.{environment_of}
 use Rattle.cs_statements.specs.declared.inside.Inside.{Inside as HeldInside}
 use Rattle.cs_statements.specs.Locals.{Inside, knowing, TypedStatements}
-use Rattle.cs_statements.specs.Statements.{Where, in_loop, in_switch, in_a_row, Part, part, past, tested_in, tested_if, dropped_if, label_number, in_block}
+use Rattle.cs_statements.specs.Statements.{Where, in_loop, in_switch, in_a_row, Part, part, past, tested_in, tested_if, word_fault, after_word}
+use Rattle.cs_statements.specs.Statements.{answer_after, dropped_if, label_number, in_block}
 use Rattle.cs_statements.specs.Statements.{after_block, meeting, is_first, no_statements, Switching, no_cases, closed, first_typed, body_typed, block_typed}
 use Rattle.cs_statements.specs.Statements.{block_made, if_made, if_else_made, while_made, do_made, for_made, switch_made, label_made, selected, statement_typed}
 use Rattle.cs_statements.specs.Statements.{switch_list_typed, switch_whole, while_typed, do_typed, for_typed, label_typed}
@@ -49,6 +53,34 @@ typed_after i tree v (Err refusal) literals now reported texts is = lift-refused
 pub answers_as : {A B C : Type 0} (view : A → B → C) (v w : Verdict C) (result : Result A TypeRefusal) (changed : B) → v ≡ w
     → AnswersWith view w result changed → AnswersWith view v result changed
 answers_as view v w result changed e h = subst (λ x. AnswersWith view x result changed) (sym e) h
+
+-- what a function answers that stands between a word and its test
+pub answers_after : {A B C : Type 0} (view : A → B → C) (at : Place) (fault said : Option TypeCode) (v : Verdict C) (read result : Result A TypeRefusal)
+    (changed : B) → fault ≡ said → result ≡ answer_after at fault read → AnswersWith view v read changed
+    → AnswersWith view (after_word at said v) result changed
+answers_after view at fault said v read result changed same is h =
+    subst (λ f. AnswersWith view (after_word at f v) result changed) same
+    (subst (λ x. AnswersWith view (after_word at fault v) x changed) (sym is) (by_fault fault read h))
+  where
+    by_fault : (fault : Option TypeCode) (read : _) → AnswersWith view v read changed
+        → AnswersWith view (after_word at fault v) (answer_after at fault read) changed
+    by_fault None read h = h
+    by_fault (Some code) (Ok value) h = ap (after_word at (Some code)) h
+    by_fault (Some code) (Err (Code other place)) h = ap (after_word at (Some code)) h
+    by_fault (Some code) (Err Memory) h = tt
+
+-- statements that a function answers in a list
+abbrev pub listed : Vec Stmt Global → HeldInside → TypedStatements
+listed list following = typed_statements_of list.items following
+
+-- the same where it is refused, and where it isn't
+pub refused_after : {A B C : Type 0} (view : A → B → C) (v : Verdict C) (result : Result A TypeRefusal) (changed : B) (r : TypeRefusal) → result ≡ Err r
+    → AnswersWith view v result changed → IsRefused v r
+refused_after view v result changed r was h = subst (λ x. AnswersWith view v x changed) was h
+
+pub given_after : {A B C : Type 0} (view : A → B → C) (v : Verdict C) (result : Result A TypeRefusal) (changed : B) (value : A) → result ≡ Ok value
+    → AnswersWith view v result changed → v ≡ Fine (view value changed)
+given_after view v result changed value was h = subst (λ x. AnswersWith view v x changed) was h
 
 -- a block by what it has, with what is known after it
 abbrev pub block_after : Place → TypedStatements → Verdict (Part Statement)
@@ -96,14 +128,16 @@ module _ (w : Where) (i : Inside) (at : Place) (test : RawExpr) (body : RawStmt)
     while_taken one runs = while_tested ∙ lift_is (while_made at t.found) _ one runs
 
   module _ (within : Where) (is : within ≡ in_loop w) where
-    do_entered : do_typed w i at test body.place body.kind.value ≡ lift (do_after at test) (statement_typed within i body.place body.kind.value)
-    do_entered = ap (λ x. lift (do_after at test) (statement_typed x i body.place body.kind.value)) (sym is)
+    abbrev pub do_body : Verdict (Part Statement)
+    do_body = after_word at (word_fault at i (Some test)) (statement_typed within i body.place body.kind.value)
 
-    pub do_body_stops : (r : TypeRefusal) → IsRefused (statement_typed within i body.place body.kind.value) r
-        → IsRefused (do_typed w i at test body.place body.kind.value) r
+    do_entered : do_typed w i at test body.place body.kind.value ≡ lift (do_after at test) do_body
+    do_entered = ap (λ x. lift (do_after at test) (after_word at (word_fault at i (Some test)) (statement_typed x i body.place body.kind.value))) (sym is)
+
+    pub do_body_stops : (r : TypeRefusal) → IsRefused do_body r → IsRefused (do_typed w i at test body.place body.kind.value) r
     do_body_stops r h = refused_as r do_entered (lift-refused (do_after at test) _ r h)
 
-    module _ (one : Part Statement) (runs : statement_typed within i body.place body.kind.value ≡ Fine one) where
+    module _ (one : Part Statement) (runs : do_body ≡ Fine one) where
       pub do_test_stops : (r : TypeRefusal) → IsRefused (tested_in at one.inside test) r → IsRefused (do_typed w i at test body.place body.kind.value) r
       do_test_stops r h = refused_as r (do_entered ∙ lift_is (do_after at test) _ one runs) (lift-refused (do_made at one.found) _ r h)
 
@@ -124,13 +158,16 @@ for_first w i at test last place body f = lift (for_test w i at last place body 
 
 module _ (w : Where) (i : Inside) (at : Place) (first : RawFirst) (test last : Option RawExpr) (place : Place) (body : RawStmtKind) (inner : Inside)
     (enters : inner ≡ in_block i) where
-  for_entered : for_typed w i at first test last place body ≡ lift (for_first w i at test last place body) (first_typed inner first)
-  for_entered = ap (λ x. lift (for_first w i at test last place body) (first_typed x first)) (sym enters)
+  abbrev pub for_begins : Verdict TypedStatements
+  for_begins = after_word at (word_fault at inner test) (first_typed inner first)
 
-  pub for_first_stops : (r : TypeRefusal) → IsRefused (first_typed inner first) r → IsRefused (for_typed w i at first test last place body) r
+  for_entered : for_typed w i at first test last place body ≡ lift (for_first w i at test last place body) for_begins
+  for_entered = ap (λ x. lift (for_first w i at test last place body) (after_word at (word_fault at x test) (first_typed x first))) (sym enters)
+
+  pub for_first_stops : (r : TypeRefusal) → IsRefused for_begins r → IsRefused (for_typed w i at first test last place body) r
   for_first_stops r h = refused_as r for_entered (lift-refused (for_first w i at test last place body) _ r h)
 
-  module _ (f : TypedStatements) (begins : first_typed inner first ≡ Fine f) where
+  module _ (f : TypedStatements) (begins : for_begins ≡ Fine f) where
     for_begun : for_typed w i at first test last place body ≡ for_first w i at test last place body f
     for_begun = for_entered ∙ lift_is (for_first w i at test last place body) _ f begins
 

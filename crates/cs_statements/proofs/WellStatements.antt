@@ -36,6 +36,7 @@ use Rattle.cs_declarations.specs.Environment.{Environment, model_of, table_of, d
 use Rattle.cs_declarations.specs.Objects.{object_type}
 use Rattle.cs_statements.specs.Locals.{Inside, knowing, LocalDeclared, TypedStatements, with_local, local_held, local_initialized, local_added, after_local}
 use Rattle.cs_statements.specs.Locals.{locals_added}
+use Rattle.cs_statements.specs.Statements.{word_fault, after_word}
 use Rattle.cs_statements.specs.Statements.{Where, Part, Switching, in_loop, in_switch, in_a_row, part, past, tested_in, dropped_in, some_found, tested_if}
 use Rattle.cs_statements.specs.Statements.{dropped_if, is_void, value_returned, returned, label_number, goto_typed, is_first, meeting, in_block, after_block}
 use Rattle.cs_statements.specs.Statements.{declared_in, declaration_typed, first_place, no_statements, telling, ran_first, first_typed, is_case, case_put}
@@ -63,6 +64,7 @@ use Rattle.cs_statements.proofs.HeldConstants.{ItemHasConstants, RowHasConstants
 use Rattle.cs_statements.proofs.NumberedCases.{count-length, new-case, wrapped_in-number, void-is}
 use Rattle.cs_statements.proofs.LedJumps.{label_number-below}
 use Rattle.cs_statements.proofs.LiteralsAfter.{GoesOnFrom, initial_typed-begins}
+use Rattle.cs_statements.proofs.AfterWords.{after_word-then}
 
 -- ---- rules under a premise
 
@@ -610,14 +612,18 @@ module _ (s : Setting) (laid_out : IsLaidOut s.program.model s.program.table) wh
         (statement_typed-well (in_loop w) t.inside place body fits (g.knows knows) fit.1)
         (λ b h. so i b.inside (both i t.inside b.inside g h) (λ r. (r.0.0, r.0.1, r.1))))
     statement_typed-well w i at (kind.Do' place p body test) fits knows fit =
-        lift-then (GivesStatement i) (GivesStatement i) _ _ (statement_typed-well (in_loop w) i place body fits knows fit.0)
+        lift-then (GivesStatement i) (GivesStatement i) _ (after_word at (word_fault at i (Some test)) (statement_typed (in_loop w) i place body))
+        (after_word-then (GivesStatement i) at (word_fault at i (Some test)) (statement_typed (in_loop w) i place body)
+        (statement_typed-well (in_loop w) i place body fits knows fit.0))
         (λ b g.
         lift-then (GivesPart b.inside IsTest) (GivesStatement i) (do_made at b.found) (tested_in at b.inside test)
         (tested_in-well at b.inside test (g.knows knows) fit.1)
         (λ t h. so i t.inside (both i b.inside t.inside g h) (λ r. (r.1.0, r.1.1, r.0))))
     statement_typed-well w i at (kind.For' first test last place p body) fits knows fit =
-        lift-then (λ (f : TypedStatements). Gives (in_block i) f.inside (Row f.statements)) (GivesStatement i) _ (first_typed (in_block i) first)
-        (first_typed-well (in_block i) first (block-knows i knows) fit.0)
+        let Begun = λ (f : TypedStatements). Gives (in_block i) f.inside (Row f.statements) in
+        lift-then Begun (GivesStatement i) _ (after_word at (word_fault at (in_block i) test) (first_typed (in_block i) first))
+        (after_word-then Begun at (word_fault at (in_block i) test) (first_typed (in_block i) first)
+        (first_typed-well (in_block i) first (block-knows i knows) fit.0))
         (λ f g.
         lift-then (GivesPart f.inside (IsTestIfAny s)) (GivesStatement i) _ (tested_if at f.inside test)
         (tested_if-well at f.inside test (g.knows (block-knows i knows)) fit.1)

@@ -1,5 +1,6 @@
 -- The typing of statements (C11 6.8): each at its place, in the scope in which it stands.
 use Rattle.std.specs.Prelude.{ℕ, ◌+◌, nat_eq, ℤ, Bool, true, false, if◌then◌else◌, List, [], ◌∷◌, ◌++◌, length, Option, Some, None}
+use Rattle.std.specs.Prelude.{Result, Ok, Err}
 use Rattle.std.specs.List.{list_any, position}
 use Rattle.std.specs.Ordering.{int_eq}
 use Rattle.std.specs.Cmp.Lexicographic.{pointwise}
@@ -21,11 +22,14 @@ use Rattle.cs_ast.specs.declared.typed.statement.Case.{Case}
 use Rattle.cs_ast.specs.TypedTree.{Typed, Statement, Block, Run, If, IfElse, While, Do, For, Switch, Goto, Label, Break, Continue, Return as Returns}
 use Rattle.cs_ast.specs.TypedTree.{Statements, Empty, Then}
 use Rattle.cs_types.specs.Wrap.{wrapped}
+use Rattle.cs_scopes.specs.declared.refusal.TypeCode.{TypeCode}
 use Rattle.cs_scopes.specs.declared.refusal.TypeCode.TheVariants.{Jump, CaseTwice, Return}
+use Rattle.cs_scopes.specs.declared.refusal.TypeRefusal.{TypeRefusal}
+use Rattle.cs_scopes.specs.declared.refusal.TypeRefusal.TheVariants.{Code, Memory}
 use Rattle.cs_scopes.specs.Verdicts.{Verdict, Fine, Fault, lift}
 use Rattle.cs_folding.specs.TypedParts.{type_of}
 use Rattle.cs_consts.specs.Typing.{literals_after}
-use Rattle.cs_consts.specs.Roles.{value_of, assigned_value, test_of, selector_of, discarded_value}
+use Rattle.cs_consts.specs.Roles.{value_of, assigned_value, test_of, test_fault, selector_of, discarded_value}
 use Rattle.cs_declarations.specs.Environment.{model_of, entered, left, with_literals}
 use Rattle.cs_declarations.specs.Bodies.{Typing, specs_type}
 use Rattle.cs_statements.specs.Locals.{Inside, knowing, TypedStatements, locals_added}
@@ -75,6 +79,24 @@ some_found p = Fine (record { found = Some p.found; inside = p.inside })
 abbrev pub tested_if : Place → Inside → Option RawExpr → Verdict (Part (Option Typed))
 tested_if at i None = part i None
 tested_if at i (Some e) = lift some_found (tested_in at i e)
+
+-- the code with which a word at a place refuses its test, by what is known before something that stands between them
+abbrev pub word_fault : Place → Inside → Option RawExpr → Option TypeCode
+word_fault at i None = None
+word_fault at i (Some e) = test_fault i.known.context at e
+
+-- what stands between them: if that is refused, what the word says of the test counts before
+abbrev pub after_word : {A : Type 0} → Place → Option TypeCode → Verdict A → Verdict A
+after_word at None v = v
+after_word at (Some code) (Fine value) = Fine value
+after_word at (Some code) (Fault other place) = Fault code at
+
+-- the same of a function's answer
+abbrev pub answer_after : {A : Type 0} → Place → Option TypeCode → Result A TypeRefusal → Result A TypeRefusal
+answer_after at None answer = answer
+answer_after at (Some code) (Ok value) = Ok value
+answer_after at (Some code) (Err (Code other place)) = Err (Code code at)
+answer_after at (Some code) (Err Memory) = Err Memory
 
 abbrev pub dropped_if : Inside → Option RawExpr → Verdict (Part (Option Typed))
 dropped_if i None = part i None
@@ -266,7 +288,8 @@ abbrev mutual
   statement_typed w i at (kind.While' test place p body) =
       lift (λ (t : Part Typed). lift (while_made at t.found) (statement_typed (in_loop w) t.inside place body)) (tested_in at i test)
   statement_typed w i at (kind.Do' place p body test) =
-      lift (λ (b : Part Statement). lift (do_made at b.found) (tested_in at b.inside test)) (statement_typed (in_loop w) i place body)
+      lift (λ (b : Part Statement). lift (do_made at b.found) (tested_in at b.inside test))
+      (after_word at (word_fault at i (Some test)) (statement_typed (in_loop w) i place body))
   statement_typed w i at (kind.For' first test last place p body) =
       lift (λ (f : TypedStatements).
       lift (λ (t : Part (Option Typed)).
@@ -274,7 +297,7 @@ abbrev mutual
       lift (for_made at i f.statements t.found l.found) (statement_typed (in_loop w) l.inside place body))
       (dropped_if t.inside last))
       (tested_if at f.inside test))
-      (first_typed (in_block i) first)
+      (after_word at (word_fault at (in_block i) test) (first_typed (in_block i) first))
   -- C11 6.8.4.2
   statement_typed w i at (kind.Switch' value shape row) =
       lift (λ (v : Part Typed).
@@ -344,7 +367,8 @@ while_typed w i at test place body =
 -- `do`
 abbrev pub do_typed : Where → Inside → Place → RawExpr → Place → RawStmtKind → Verdict (Part Statement)
 do_typed w i at test place body =
-    lift (λ (b : Part Statement). lift (do_made at b.found) (tested_in at b.inside test)) (statement_typed (in_loop w) i place body)
+    lift (λ (b : Part Statement). lift (do_made at b.found) (tested_in at b.inside test))
+    (after_word at (word_fault at i (Some test)) (statement_typed (in_loop w) i place body))
 
 -- `for`
 abbrev pub for_typed : Where → Inside → Place → RawFirst → Option RawExpr → Option RawExpr → Place → RawStmtKind → Verdict (Part Statement)
@@ -355,7 +379,7 @@ for_typed w i at first test last place body =
     lift (for_made at i f.statements t.found l.found) (statement_typed (in_loop w) l.inside place body))
     (dropped_if t.inside last))
     (tested_if at f.inside test))
-    (first_typed (in_block i) first)
+    (after_word at (word_fault at (in_block i) test) (first_typed (in_block i) first))
 
 -- a `switch` without cases or statements
 abbrev pub no_cases : Inside → Switching

@@ -1,9 +1,10 @@
 //! The inside of a function so far.
 ghost use Rattle.std.specs.Prelude.{◌≡◌, length, IfOk, OnOk};
 ghost use Rattle.cs_types.specs.Shape.{shape_of};
+ghost use Rattle.cs_ast.specs.declared.place.Place.{Place as AnyPlace};
 ghost use Rattle.cs_declarations.specs.Answered.{AnswersWith};
 ghost use Rattle.cs_statements.specs.Locals.{local_added, local_initialized, locals_added, with_local};
-ghost use Rattle.cs_statements.specs.Statements.{in_loop, in_switch, tested_in, dropped_in, selected, tested_if, dropped_if, first_place, declaration_typed};
+ghost use Rattle.cs_statements.specs.Statements.{in_loop, in_switch, tested_in, dropped_in, selected, tested_if, word_fault, dropped_if, first_place, declaration_typed};
 ghost use Rattle.cs_statements.specs.View.{inside_of, where_of, typed_part, optional_part, local_of, typed_statements_of};
 
 use crate::labels::Labels;
@@ -13,7 +14,7 @@ use cs_ast::raw::expression::RawExpr;
 use cs_ast::typed::expression::Expr;
 use cs_ast::typed::program::Local;
 use cs_ast::typed::statement::{Stmt, StmtKind};
-use cs_consts::{discarded, selector, test};
+use cs_consts::{discarded, selector, test, test_fault};
 use cs_declarations::{Environment, Storage, initial_typed, object_type, specs_type};
 use cs_names::Name;
 use cs_scopes::{Meaning, TypeCode, TypeRefusal};
@@ -119,6 +120,22 @@ impl Inside {
     {
         match tree {
             Some(tree) => Ok(Some(self.tested(alloc, place, tree)?)),
+            None => Ok(None),
+        }
+    }
+
+    /// The code with which a word refuses such a test, by what is known here.
+    pub fn word_fault(
+        &self,
+        alloc: Global,
+        tree: &Option<RawExpr>,
+    ) -> Result<Option<TypeCode>, AllocError>
+        ensures { IfOk result (λ code.
+            (at : AnyPlace) → code ≡ word_fault at (inside_of self.now)
+            tree.now) }
+    {
+        match tree {
+            Some(tree) => test_fault(alloc, &self.known.context, tree),
             None => Ok(None),
         }
     }

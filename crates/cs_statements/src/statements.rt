@@ -3,7 +3,7 @@ ghost use Rattle.std.specs.Prelude.{◌≡◌, if◌then◌else◌};
 ghost use Rattle.cs_types.specs.Shape.{shape_of};
 ghost use Rattle.cs_declarations.specs.Answered.{AnswersWith};
 ghost use Rattle.cs_statements.specs.Locals.{Inside as InsideOf};
-ghost use Rattle.cs_statements.specs.Statements.{no_statements, statement_typed, while_typed, do_typed, for_typed, first_typed, block_typed, body_typed, item_typed, returned, value_returned, is_void, label_number, goto_typed, label_typed};
+ghost use Rattle.cs_statements.specs.Statements.{no_statements, statement_typed, while_typed, do_typed, answer_after, for_typed, first_typed, block_typed, body_typed, item_typed, returned, value_returned, is_void, label_number, goto_typed, label_typed};
 ghost use Rattle.cs_statements.specs.View.{inside_of, where_of, typed_statements_of, statement_part, kind_part, kind_at, typed_part, optional_part};
 ghost use Rattle.cs_scopes.specs.Verdicts.{Answers, Fine, Fault};
 ghost use Rattle.cs_scopes.specs.declared.refusal.TypeCode.TheVariants.{Jump};
@@ -15,7 +15,7 @@ use cs_ast::raw::expression::RawExpr;
 use cs_ast::raw::statement::{RawFirst, RawItem, RawStmt, RawStmtKind};
 use cs_ast::typed::expression::Expr;
 use cs_ast::typed::statement::{Stmt, StmtKind};
-use cs_consts::assigned_value;
+use cs_consts::{assigned_value, test_fault};
 use cs_names::Name;
 use cs_scopes::{TypeCode, TypeRefusal};
 use cs_types::CType;
@@ -117,9 +117,25 @@ fn do_typed(
         (do_typed (where_of at.entry) (inside_of inside.old) place test.now body.now.place
         body.now.kind.value) result inside.new }
 {
-    let body = statement_typed(alloc, inside, at.in_loop(), body)?;
+    let fault = test_fault(alloc, &inside.known.context, test)?;
+    let typed = statement_typed(alloc, inside, at.in_loop(), body);
+    let body = after_word(place, fault, typed)?;
     let test = inside.tested(alloc, place, test)?;
     Ok(StmtKind::Do(body, test))
+}
+
+// What stands between a word and its test: if that is refused, what the word says of the test counts before.
+fn after_word<T>(
+    place: Place,
+    fault: Option<TypeCode>,
+    typed: Result<T, TypeRefusal>,
+) -> Result<T, TypeRefusal>
+    ensures { result ≡ answer_after place fault typed }
+{
+    match (fault, typed) {
+        (Some(code), Err(TypeRefusal::Code(_, _))) => Err(TypeRefusal::Code(code, place)),
+        (_, typed) => typed,
+    }
 }
 
 // `for`, whose parts are a scope (C11 6.8.5, paragraph 5; 6.8.5.3).
@@ -139,7 +155,8 @@ fn for_typed(
         body.now.place body.now.kind.value) result inside.new }
 {
     let around = inside.known.enter();
-    let first = first_typed(alloc, inside, first)?;
+    let fault = inside.word_fault(alloc, test)?;
+    let first = after_word(place, fault, first_typed(alloc, inside, first))?;
     let test = inside.tested_if(alloc, place, test)?;
     let last = inside.dropped_if(alloc, last)?;
     let body = statement_typed(alloc, inside, at.in_loop(), body)?;

@@ -1,5 +1,5 @@
 //! Loads and stores (C11 6.3.2.1, 6.5.16).
-ghost use Rattle.cs_run_state.specs.Prepared.{IsReady};
+ghost use Rattle.cs_objects.specs.Prepared.{IsReady};
 
 use crate::cells::read;
 use crate::context::Context;
@@ -208,7 +208,7 @@ pub fn spell(
     for (number, byte) in bytes.iter().enumerate() {
         let at = from.checked_add(number as u64).ok_or(Pause::Memory)?;
         let scalar = object(context, state, tables, base)?.scalar(context, at)?;
-        let cell = cs_run_state::pieces::byte_cell(model, scalar, *byte);
+        let cell = cs_objects::pieces::byte_cell(model, scalar, *byte);
         state.bind(base, at, Value::Number(constant(cell.number())))?;
     }
     Ok(())

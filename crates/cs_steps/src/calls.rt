@@ -1,5 +1,5 @@
 //! Calls of functions (C11 6.5.2.2), with a body and without one.
-ghost use Rattle.cs_run_state.specs.Prepared.{IsReady};
+ghost use Rattle.cs_objects.specs.Prepared.{IsReady};
 
 use crate::cells::{kind_of, received};
 use crate::context::Context;
@@ -17,9 +17,9 @@ use cs_events::{Budget, Outcome, Returned};
 use cs_inputs::Root;
 use cs_model::Standing;
 use cs_regions::Base;
-use cs_run_state::paths::root_path;
 use cs_state::{Counters, Frame, State, Tables, Temporaries, Temporary, Visits};
 use cs_store::{Fill, Value};
+use cs_values::paths::root_path;
 use std::alloc::AllocError;
 
 /// A call with so many arguments, after which the caller goes on.

@@ -1,5 +1,5 @@
 //! What cells hold: what was bound, else what fills their object.
-ghost use Rattle.cs_run_state.specs.Prepared.{IsReady};
+ghost use Rattle.cs_objects.specs.Prepared.{IsReady};
 ghost use Rattle.std.specs.Prelude.{IfOk};
 ghost use Rattle.cs_ranges.specs.RangeSet.{IsInhabited};
 
@@ -10,16 +10,16 @@ use crate::terms::{constant, own};
 use cs_events::numbers_of;
 use cs_inputs::{Path, Root};
 use cs_model::Standing;
+use cs_objects::blocks::{self, BlockType};
+use cs_objects::pieces::zero_of;
 use cs_ranges::{GREATEST, LEAST, RangeSet};
 use cs_regions::Base;
-use cs_run_state::blocks::{self, BlockType};
-use cs_run_state::paths::root_path;
-use cs_run_state::pieces::zero_of;
-use cs_run_state::{Cell, Object};
 use cs_state::{Block, State, Tables};
 use cs_store::{Fill, Found, Value};
 use cs_terms::{Sym, SymName};
 use cs_types::{CType, IntType, start_extent};
+use cs_values::paths::root_path;
+use cs_values::{Cell, Object};
 use std::alloc::{AllocError, Global};
 
 // What a cell is found to hold: a value, or an input that isn't looked up yet, by its path.

@@ -1,15 +1,16 @@
 //! What an exploration goes by.
-ghost use Rattle.cs_run_state.specs.Prepared.{IsReady};
+ghost use Rattle.cs_objects.specs.Prepared.{IsReady};
 
 use cs_ast::typed::program::Program;
 use cs_cfg::Code;
-use cs_run_state::blocks::BlockType;
-use cs_run_state::initializers::Initializer;
-use cs_run_state::inputs::element_of;
-use cs_run_state::prepared::{Offsets, scalar_offsets};
-use cs_run_state::types::size_of;
-use cs_run_state::{Cell, Setting};
+use cs_objects::Setting;
+use cs_objects::blocks::BlockType;
+use cs_objects::initializers::Initializer;
+use cs_objects::inputs::element_of;
+use cs_objects::prepared::{Offsets, scalar_offsets};
 use cs_types::{CType, DataModel};
+use cs_values::Cell;
+use cs_values::types::size_of;
 use std::alloc::{AllocError, Global};
 
 /// The code of a program, and what its runs go by, but for their inputs and guesses. Nothing of it changes in an exploration.

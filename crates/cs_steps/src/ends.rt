@@ -1,5 +1,5 @@
 //! What the end of a block does, and what a loop head or a label does.
-ghost use Rattle.cs_run_state.specs.Prepared.{IsReady};
+ghost use Rattle.cs_objects.specs.Prepared.{IsReady};
 
 use crate::calls::leave;
 use crate::context::Context;

@@ -1,5 +1,5 @@
 //! Allocations and releases (C11 7.22.3).
-ghost use Rattle.cs_run_state.specs.Prepared.{IsReady};
+ghost use Rattle.cs_objects.specs.Prepared.{IsReady};
 
 use crate::cells::declare;
 use crate::context::Context;
@@ -17,11 +17,11 @@ use cs_eval::{Question, Tested};
 use cs_inputs::Root;
 use cs_model::Standing;
 use cs_regions::Base;
-use cs_run_state::paths::root_path;
 use cs_state::{Block, Counters, State, Tables, Temporary};
 use cs_store::{Fill, Value};
 use cs_terms::{Lin, Sym, SymName};
 use cs_types::{CType, size_type};
+use cs_values::paths::root_path;
 
 /// A call of `malloc` or `calloc`, whose block has elements of a type.
 pub fn allocate(

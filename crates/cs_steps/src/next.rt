@@ -1,5 +1,5 @@
 //! What stands first in what is left of an operation.
-ghost use Rattle.cs_run_state.specs.Prepared.{IsReady};
+ghost use Rattle.cs_objects.specs.Prepared.{IsReady};
 
 use crate::calls::leave;
 use crate::context::Context;

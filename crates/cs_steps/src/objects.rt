@@ -1,13 +1,13 @@
 //! What is known of the object that a base region is.
-ghost use Rattle.cs_run_state.specs.Prepared.{IsReady};
+ghost use Rattle.cs_objects.specs.Prepared.{IsReady};
 
 use crate::context::Context;
 use crate::pointers::block;
 use crate::terms::constant;
 use cs_ast::typed::program::Local;
 use cs_model::{Freeable, Standing};
+use cs_objects::blocks::BlockType;
 use cs_regions::Base;
-use cs_run_state::blocks::BlockType;
 use cs_state::{Frame, State, Tables};
 use cs_terms::Lin;
 use cs_types::CType;

@@ -1,5 +1,5 @@
 //! What operators do with their operands (C11 6.3, 6.5.3 to 6.5.10).
-ghost use Rattle.cs_run_state.specs.Prepared.{IsReady};
+ghost use Rattle.cs_objects.specs.Prepared.{IsReady};
 
 use crate::context::Context;
 use crate::operands::number_in;

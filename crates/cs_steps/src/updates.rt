@@ -1,5 +1,5 @@
 //! Conversions, and updates of objects in place (C11 6.3, 6.5.2.4, 6.5.16.2).
-ghost use Rattle.cs_run_state.specs.Prepared.{IsReady};
+ghost use Rattle.cs_objects.specs.Prepared.{IsReady};
 
 use crate::access::{load, store};
 use crate::context::Context;
@@ -10,10 +10,10 @@ use crate::progress::Progress;
 use cs_ast::Place;
 use cs_ast::typed::operator::{BinOp, Direction, Gives};
 use cs_cfg::Access;
-use cs_run_state::constants::integer_of;
 use cs_state::{State, Tables, Temporary};
 use cs_store::Value;
 use cs_types::{CType, IntType};
+use cs_values::constants::integer_of;
 
 /// A conversion of a value of a type: only that of a number to an integer type changes it; of a void value nothing is left (C11 6.3.2.2).
 pub fn convert(

@@ -1,5 +1,5 @@
 //! What each operation of the code does.
-ghost use Rattle.cs_run_state.specs.Prepared.{IsReady};
+ghost use Rattle.cs_objects.specs.Prepared.{IsReady};
 
 use crate::access::{Reached, load, spell, store, write};
 use crate::calls::call;

@@ -28,11 +28,12 @@ use Rattle.cs_grammar.specs.FileText.{externals_text, file_text}
 use Rattle.cs_grammar.proofs.FileTexts.{declared_append, items_append, head_append}
 use Rattle.cs_scopes.specs.Verdicts.{Verdict, Fine}
 use Rattle.cs_declarations.specs.Bodies.{Typing, specs_type, typedefs_added}
-use Rattle.cs_typing.specs.Objects.{Filed, with_known, objects_added}
-use Rattle.cs_typing.specs.Order.{is_of_library, is_defined, placed, all_placed, order_of}
-use Rattle.cs_typing.specs.Files.{blank, beginning, specs_of, external_declared, external_read, external_typed, file_typed, begun, typed_file}
+use Rattle.cs_file_scope.specs.Objects.{Filed, with_known, objects_added}
+use Rattle.cs_file_scope.specs.Order.{is_of_library, is_defined, placed, all_placed, order_of}
+use Rattle.cs_file_scope.specs.Beginning.{blank, beginning, begun}
+use Rattle.cs_file_scope.specs.Tags.{tags_declared}
+use Rattle.cs_typing.specs.Files.{specs_of, external_declared, external_read, external_typed, file_typed, typed_file}
 use Rattle.cs_typing.specs.Programs.{number_before, numbers_in, constants_in, program_of, typed}
-use Rattle.cs_typing.specs.Tags.{tags_declared}
 use Rattle.cs_well_formed.specs.Files.{IsFileTree}
 use Rattle.cs_well_formed.specs.Nodes.{all_nodes, routine_nodes, program_nodes}
 use Rattle.cs_well_formed.specs.Places.{IsOfFiles, ObjectStandsAmong, RoutineStandsAmong, ProgramStandsAmong}

@@ -29,10 +29,11 @@ use Rattle.cs_declarations.specs.Environment.{Environment, meaning_here, entered
 use Rattle.cs_declarations.specs.Parameters.{Head, with_parameter, parameter_passed, parameter_typed, parameters_after}
 use Rattle.cs_declarations.specs.Parameters.{no_parameter, parameters_typed, after_twice, twice_after}
 use Rattle.cs_statements.specs.Statements.{in_a_row, no_statements, body_typed}
-use Rattle.cs_typing.specs.Objects.{Filed}
-use Rattle.cs_typing.specs.Functions.{is_result, same_types, types_of, may_be_function, bodiless, number_in, Routed, new_function, function_of, declared_inside}
+use Rattle.cs_file_scope.specs.Objects.{Filed}
+use Rattle.cs_file_scope.specs.Functions.{is_result, same_types, types_of, may_be_function, bodiless, number_in, Routed, new_function, function_of}
+use Rattle.cs_file_scope.specs.Functions.{declared_once}
+use Rattle.cs_typing.specs.Functions.{declared_inside}
 use Rattle.cs_typing.specs.Functions.{bodied, with_body, at_beginning, where_in, body_added, completed, outside_of, headed, resulted, function_added}
-use Rattle.cs_typing.specs.Functions.{declared_once}
 use Rattle.cs_well_formed.specs.Bounded.{texts_nodes}
 use Rattle.cs_well_formed.specs.Nodes.{statements_nodes, routine_nodes}
 use Rattle.cs_well_formed.specs.Places.{RoutineStandsAmong}

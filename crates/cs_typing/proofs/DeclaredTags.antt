@@ -9,10 +9,10 @@ use Rattle.cs_ast.specs.declared.token.TokenKind.TheVariants as token
 use Rattle.cs_declarations.specs.Environment.{Environment, table_of}
 use Rattle.cs_declarations.specs.Bodies.{empty_struct, with_tagged_struct}
 use Rattle.cs_declarations.proofs.SoundStructs.{with_tagged_struct-GoesOn}
-use Rattle.cs_typing.specs.declared.tags.TagWord.{TagWord}
-use Rattle.cs_typing.specs.declared.tags.TagWord.TheVariants.{Struct, Enum}
-use Rattle.cs_typing.specs.Objects.{Filed, with_known}
-use Rattle.cs_typing.specs.Tags.{Tagging, is_named, with_new_tag, tag_named, tag_word, token_read, tokens_read, tags_declared}
+use Rattle.cs_file_scope.specs.Objects.{Filed, with_known}
+use Rattle.cs_file_scope.specs.declared.tags.TagWord.{TagWord}
+use Rattle.cs_file_scope.specs.declared.tags.TagWord.TheVariants.{Struct, Enum}
+use Rattle.cs_file_scope.specs.Tags.{Tagging, is_named, with_new_tag, tag_named, tag_word, token_read, tokens_read, tags_declared}
 use Rattle.cs_well_formed.specs.Expressions.{Setting}
 use Rattle.cs_well_formed.specs.Leading.{Leads}
 use Rattle.cs_well_formed.specs.Nodes.{struct_nodes}

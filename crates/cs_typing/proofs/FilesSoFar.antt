@@ -14,9 +14,9 @@ use Rattle.cs_scopes.specs.declared.scope.Callee.TheVariants.{Malloc, Calloc, Fr
 use Rattle.cs_scopes.specs.Meanings.{Meaning, Typedef, Constant, Global, Local, Function, Declaration}
 use Rattle.cs_scopes.specs.Scopes.{newest}
 use Rattle.cs_declarations.specs.Environment.{Environment, model_of, table_of, declarations_of}
-use Rattle.cs_typing.specs.Objects.{Filed, with_known, changed}
-use Rattle.cs_typing.specs.Functions.{number_in}
-use Rattle.cs_typing.specs.Files.{allocators}
+use Rattle.cs_file_scope.specs.Objects.{Filed, with_known, changed}
+use Rattle.cs_file_scope.specs.Functions.{number_in}
+use Rattle.cs_file_scope.specs.Beginning.{allocators}
 use Rattle.cs_well_formed.specs.Structs.{NamesStructs, HasNamedTypes, TypesAreNamed}
 use Rattle.cs_well_formed.specs.Expressions.{Setting, parameter_types}
 use Rattle.cs_well_formed.specs.Programs.{outside, IsWellGlobal, IsWellRoutine}

@@ -1,13 +1,9 @@
 pub mod BodiedFunctions
-pub mod ChangedParts
 pub mod ConstantsSoFar
 pub mod DeclaredTags
 pub mod FilesSoFar
-pub mod FunctionAgain
-pub mod FunctionNumbers
+pub mod FunctionResults
 pub mod OrderedNames
-pub mod ParameterTypes
-pub mod PlacedFunctions
 pub mod ProgramsLaidOut
 pub mod RepeatedNames
 pub mod SoundFiles

@@ -11,8 +11,8 @@ use Rattle.cs_names.proofs.Comparisons.{same_bytes, equal_to_same}
 use Rattle.cs_ast.specs.declared.raw.external.RawExternalKind.{RawExternalKind}
 use Rattle.cs_ast.specs.declared.raw.external.RawExternalKind.TheVariants as external
 use Rattle.cs_ast.specs.declared.raw.external.RawExternal.{RawExternal}
-use Rattle.cs_typing.specs.Functions.{number_in}
-use Rattle.cs_typing.specs.Order.{is_of_library, defines, is_defined, placed, all_placed, order_of}
+use Rattle.cs_file_scope.specs.Functions.{number_in}
+use Rattle.cs_file_scope.specs.Order.{is_of_library, defines, is_defined, placed, all_placed, order_of}
 
 -- the function has a place in the order
 abbrev pub IsOrdered : List (List ℕ) → List ℕ → Type 0

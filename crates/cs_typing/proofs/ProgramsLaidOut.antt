@@ -10,7 +10,7 @@ use Rattle.cs_scopes.specs.Verdicts.{Fine, lift}
 use Rattle.cs_scopes.proofs.Lifting.{lift-fine}
 use Rattle.cs_declarations.proofs.FineVerdicts.{IfFine, IfFine-lift, IfFine-at}
 use Rattle.cs_declarations.specs.Environment.{table_of}
-use Rattle.cs_typing.specs.Objects.{Filed}
+use Rattle.cs_file_scope.specs.Objects.{Filed}
 use Rattle.cs_typing.specs.Files.{typed_file}
 use Rattle.cs_typing.specs.Programs.{program_of, constants_in, typed}
 use Rattle.cs_typing.proofs.SoundFiles.{FiledIsSound, typed_file-sound}

@@ -31,12 +31,13 @@ use Rattle.cs_declarations.proofs.SoundBodies.{TypeGoesOn, specs_type-GoesOn}
 use Rattle.cs_declarations.proofs.SoundParameters.{HeadGoesOn, typedefs_added-GoesOn, parameters_typed-GoesOn}
 use Rattle.cs_declarations.proofs.SoundStructs.{GoesOn, none-AreSound}
 use Rattle.cs_statements.specs.Statements.{body_typed, no_statements}
-use Rattle.cs_typing.specs.Objects.{Filed, Object, with_known, is_completed, may_be_object, object_of, object_initialized, marked, object_added, objects_added}
-use Rattle.cs_typing.specs.Order.{order_of}
-use Rattle.cs_typing.specs.Functions.{Routed, same_types, types_of, function_of, may_be_function, where_in, at_beginning, declared_inside, body_added}
-use Rattle.cs_typing.specs.Functions.{completed, outside_of, headed, is_result, resulted, function_added}
-use Rattle.cs_typing.specs.Functions.{declared_once}
-use Rattle.cs_typing.specs.Files.{beginning, external_declared, external_typed, specs_of, file_typed, begun, typed_file}
+use Rattle.cs_file_scope.specs.Objects.{Filed, Object, with_known, is_completed, may_be_object, object_of, object_initialized, marked, object_added}
+use Rattle.cs_file_scope.specs.Objects.{objects_added}
+use Rattle.cs_file_scope.specs.Functions.{Routed, same_types, types_of, function_of, may_be_function, is_result, declared_once}
+use Rattle.cs_file_scope.specs.Order.{order_of}
+use Rattle.cs_file_scope.specs.Beginning.{beginning, begun}
+use Rattle.cs_typing.specs.Functions.{where_in, at_beginning, declared_inside, body_added, completed, outside_of, headed, resulted, function_added}
+use Rattle.cs_typing.specs.Files.{external_declared, external_typed, specs_of, file_typed, typed_file}
 use Rattle.cs_statements.proofs.SoundStatements.{IsLaidUnder, following, ReportedIsSound, body_typed-sound}
 use Rattle.cs_typing.proofs.DeclaredTags.{tags-sound}
 use Rattle.cs_typing.proofs.RepeatedNames.{once-fine}

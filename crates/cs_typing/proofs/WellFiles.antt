@@ -20,10 +20,10 @@ use Rattle.cs_declarations.specs.Bodies.{Typing, specs_type, typedefs_added}
 use Rattle.cs_declarations.specs.Environment.{Environment, table_of}
 use Rattle.cs_declarations.specs.LaidOut.{IsOfTable}
 use Rattle.cs_declarations.proofs.FineVerdicts.{IfFine-at}
-use Rattle.cs_typing.specs.Objects.{Filed, with_known}
-use Rattle.cs_typing.specs.Order.{order_of}
-use Rattle.cs_typing.specs.Files.{allocators, blank, beginning, specs_of, external_declared, external_read, external_typed, file_typed, begun}
-use Rattle.cs_typing.specs.Files.{typed_file}
+use Rattle.cs_file_scope.specs.Objects.{Filed, with_known}
+use Rattle.cs_file_scope.specs.Order.{order_of}
+use Rattle.cs_file_scope.specs.Beginning.{allocators, blank, beginning, begun}
+use Rattle.cs_typing.specs.Files.{specs_of, external_declared, external_read, external_typed, file_typed, typed_file}
 use Rattle.cs_typing.specs.Programs.{program_of, typed}
 use Rattle.cs_well_formed.specs.Structs.{NamesStructs, MembersName, HasNamedTypes, TypesAreNamed}
 use Rattle.cs_well_formed.specs.Expressions.{IsScalar, IsWhole}

@@ -29,13 +29,13 @@ use Rattle.cs_declarations.specs.Environment.{table_of, declarations_of, meaning
 use Rattle.cs_declarations.specs.Parameters.{Head, parameters_typed}
 use Rattle.cs_statements.specs.Locals.{TypedStatements, Inside}
 use Rattle.cs_statements.specs.Statements.{in_a_row, no_statements, body_typed, labels_of_items}
-use Rattle.cs_typing.specs.Objects.{Filed, changed}
-use Rattle.cs_typing.specs.Order.{is_of_library}
-use Rattle.cs_typing.specs.Functions.{is_result, same_types, types_of, has_body, may_be_function, bodiless, numbered, number_in, Routed, new_function}
-use Rattle.cs_typing.specs.Functions.{function_of, declared_inside, bodied, with_body, at_beginning, where_in, body_added, completed, outside_of, headed}
+use Rattle.cs_file_scope.specs.Objects.{Filed, changed}
+use Rattle.cs_file_scope.specs.Functions.{is_result, same_types, types_of, has_body, may_be_function, bodiless, numbered, number_in, Routed, new_function}
+use Rattle.cs_file_scope.specs.Functions.{function_of, declared_once}
+use Rattle.cs_file_scope.specs.Order.{is_of_library}
+use Rattle.cs_file_scope.specs.Beginning.{allocators}
+use Rattle.cs_typing.specs.Functions.{declared_inside, bodied, with_body, at_beginning, where_in, body_added, completed, outside_of, headed}
 use Rattle.cs_typing.specs.Functions.{resulted, function_added}
-use Rattle.cs_typing.specs.Functions.{declared_once}
-use Rattle.cs_typing.specs.Files.{allocators}
 use Rattle.cs_well_formed.specs.Structs.{NamesStructs, VariablesName, HasNamedTypes}
 use Rattle.cs_well_formed.specs.Expressions.{Setting, IsScalar, IsWhole, parameter_types}
 use Rattle.cs_well_formed.specs.Statements.{label_counts}

@@ -18,9 +18,9 @@ use Rattle.cs_scopes.specs.Verdicts.{Fault}
 use Rattle.cs_declarations.specs.Initializers.{InFile, Reading, initial_typed}
 use Rattle.cs_declarations.specs.Environment.{table_of, declarations_of, with_literals, meaning_here}
 use Rattle.cs_declarations.specs.Objects.{is_constant_object, object_type}
-use Rattle.cs_typing.specs.Objects.{Filed, Object, with_globals, is_completed, may_be_object, new_object, object_of, changed, made_constant, holding}
-use Rattle.cs_typing.specs.Objects.{with_initial, object_initialized, marked, object_added, objects_added}
-use Rattle.cs_typing.specs.Files.{allocators}
+use Rattle.cs_file_scope.specs.Objects.{Filed, Object, with_globals, is_completed, may_be_object, new_object, object_of, changed, made_constant, holding}
+use Rattle.cs_file_scope.specs.Objects.{with_initial, object_initialized, marked, object_added, objects_added}
+use Rattle.cs_file_scope.specs.Beginning.{allocators}
 use Rattle.cs_well_formed.specs.Structs.{NamesStructs}
 use Rattle.cs_well_formed.specs.Expressions.{IsWhole}
 use Rattle.cs_well_formed.specs.Initials.{IsWellInitial, HasConstantValues}

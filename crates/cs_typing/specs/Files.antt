@@ -1,64 +1,18 @@
 -- The typing of files (C11 6.9): the program that written declarations and functions are, or the first failing place.
-use Rattle.std.specs.Prelude.{ℕ, List, [], ◌∷◌, codes, map, Some, None}
+use Rattle.std.specs.Prelude.{List, [], ◌∷◌, Some, None}
 use Rattle.cs_types.specs.declared.data_model.DataModel.{DataModel}
-use Rattle.cs_types.specs.DataModel.{size_type_of}
-use Rattle.cs_types.specs.Shape.{Shape, void, integer, pointer}
+use Rattle.cs_types.specs.Shape.{Shape}
 use Rattle.cs_ast.specs.declared.place.Place.{Place}
 use Rattle.cs_ast.specs.declared.token.Token.{Token}
 use Rattle.cs_ast.specs.declared.raw.declaration.RawSpecs.{RawSpecs}
 use Rattle.cs_ast.specs.declared.raw.external.RawExternalKind.{RawExternalKind}
 use Rattle.cs_ast.specs.declared.raw.external.RawExternalKind.TheVariants as external
 use Rattle.cs_ast.specs.declared.raw.external.RawExternal.{RawExternal}
-use Rattle.cs_ast.specs.TypedProgram.{Routine}
-use Rattle.cs_scopes.specs.declared.scope.Callee.{Callee}
-use Rattle.cs_scopes.specs.declared.scope.Callee.TheVariants.{Malloc, Calloc, Free}
 use Rattle.cs_scopes.specs.Verdicts.{Verdict, Fine, lift}
-use Rattle.cs_scopes.specs.Meanings.{Declaration, Function}
 use Rattle.cs_declarations.specs.Bodies.{Typing, specs_type, typedefs_added}
-use Rattle.cs_typing.specs.Order.{order_of}
-use Rattle.cs_typing.specs.Tags.{tags_declared}
-use Rattle.cs_typing.specs.Objects.{Filed, with_known, objects_added}
+use Rattle.cs_file_scope.specs.Objects.{Filed, with_known, objects_added}
+use Rattle.cs_file_scope.specs.Beginning.{begun}
 use Rattle.cs_typing.specs.Functions.{function_added}
-
--- a function of the library, which is declared before a file begins
-abbrev pub library_function : List ℕ → Callee → Shape → List Shape → Declaration
-library_function name callee result parameters =
-    record { name = name; meaning = Function (record { callee = callee; result = result; parameters = parameters }) }
-
--- the functions that are declared before a file begins (C11 7.22.3)
-abbrev pub allocators : DataModel → List Declaration
-allocators model =
-    library_function (codes "malloc") Malloc (pointer void) (integer (size_type_of model) ∷ [])
-    ∷ library_function (codes "calloc") Calloc (pointer void) (integer (size_type_of model) ∷ integer (size_type_of model) ∷ [])
-    ∷ library_function (codes "free") Free void (pointer void ∷ [])
-    ∷ []
-
--- a function that isn't declared yet
-abbrev pub blank : List ℕ → Routine
-blank name = record {
-  name = name;
-  at = record { file = 0; line = 1; column = 1 };
-  returns = void;
-  parameters = 0;
-  variables = [];
-  body = None;
-  closes = record { file = 0; line = 1; column = 1 };
-  written = [];
-}
-
--- a file whose functions stand in this order, and of which nothing was read yet
-abbrev pub beginning : DataModel → List (List ℕ) → Filed
-beginning model order = record {
-  known = record {
-    context = record { model = model; table = record { list = [] }; scope = record { declarations = allocators model; tags = [] } };
-    reading = [];
-    outer = 0;
-    literals = [];
-  };
-  globals = [];
-  order = order;
-  routines = map blank order;
-}
 
 -- what stands before the declarators of a part of a file
 abbrev pub specs_of : RawExternalKind → RawSpecs
@@ -87,11 +41,6 @@ external_typed at kind f = lift (external_read kind f) (specs_type f.known at (s
 abbrev pub file_typed : List RawExternal → Filed → Verdict Filed
 file_typed [] f = Fine f
 file_typed (e ∷ es) f = lift (file_typed es) (external_typed e.place e.kind f)
-
--- a file with these tokens before its parts are read: its functions are numbered, and the tags of its structs are known
-abbrev pub begun : DataModel → List Token → List RawExternal → Filed
-begun model tokens file =
-    with_known (tags_declared tokens (beginning model (order_of file)).known) (beginning model (order_of file))
 
 -- a typed file
 abbrev pub typed_file : DataModel → List Token → List RawExternal → Verdict Filed

@@ -10,7 +10,7 @@ use Rattle.cs_ast.specs.declared.raw.external.RawExternal.{RawExternal}
 use Rattle.cs_ast.specs.TypedProgram.{TypedProgram}
 use Rattle.cs_scopes.specs.Verdicts.{Verdict, Fine, lift}
 use Rattle.cs_declarations.specs.Environment.{table_of}
-use Rattle.cs_typing.specs.Objects.{Filed}
+use Rattle.cs_file_scope.specs.Objects.{Filed}
 use Rattle.cs_typing.specs.Files.{typed_file}
 
 -- the value of an integer constant, before other numbers

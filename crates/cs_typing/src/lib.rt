@@ -1,13 +1,8 @@
-//! The typing of files (C11 6.9): objects, functions and their bodies.
+//! The typing of files (C11 6.9): functions with their bodies, the parts of a file, and the typed program.
 #![tactic(auto)]
 
 mod bodies;
 mod file;
-mod filed;
-mod functions;
-mod objects;
-mod order;
 mod program;
-mod tags;
 
 pub use program::typed;

@@ -8,11 +8,11 @@ ghost use Rattle.cs_well_formed.specs.Files.{IsFileTree};
 ghost use Rattle.cs_well_formed.specs.Programs.{IsWellFormed};
 
 use crate::file::typed_file;
-use crate::filed::Filed;
 use cs_ast::raw::external::RawExternal;
 use cs_ast::typed::program::Program;
 use cs_ast::{Token, TokenKind};
 use cs_declarations::Environment;
+use cs_file_scope::Filed;
 use cs_names::Name;
 use cs_scopes::TypeRefusal;
 use cs_types::DataModel;

@@ -1,5 +1,6 @@
 -- Calls are well formed: the rules of calls.
-use Rattle.std.proofs.Common.{◌≡◌, ℕ, Bool, true, false, cond, ◌&&◌, not, List, [], ◌∷◌, length, Option, Some, None, eqb, refl, sym, subst, eqb-true}
+use Rattle.std.proofs.Common.{◌≡◌, ℕ, Bool, true, false, cond, ◌&&◌, not, List, [], ◌∷◌, length, Option, Some, None, eqb, refl, sym, subst}
+use Rattle.std.proofs.Common.{eqb-true}
 use Rattle.std.specs.Prelude.{IfSome, take}
 use Rattle.std.proofs.lemmas.List.Elements.{All-take}
 use Rattle.cs_types.specs.declared.data_model.DataModel.{DataModel}

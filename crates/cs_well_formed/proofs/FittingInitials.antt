@@ -21,14 +21,15 @@ use Rattle.cs_expressions.specs.Primary.{Literals}
 use Rattle.cs_consts.specs.Roles.{operand_of}
 use Rattle.cs_declarations.specs.Initializers.{Storage, InFile, InFunction, part_types, text_of, is_admitted, has_form, Reading, Readings, value_read}
 use Rattle.cs_declarations.specs.Initializers.{expression_read, types_or_none, parts_read, one_more, initial_read, items_read, is_braceless, value_held}
-use Rattle.cs_declarations.specs.Initializers.{value_judged, before_others, part_judged, parts_judged, initial_judged, stored, limited, kept_with}
-use Rattle.cs_declarations.specs.Initializers.{initial_fault, value_limit, whole_read, initial_typed}
+use Rattle.cs_scopes.specs.Faults.{least_code}
+use Rattle.cs_declarations.specs.Initializers.{value_judged, before_others, part_judged, parts_judged, initial_judged, kept_with}
+use Rattle.cs_declarations.specs.Initializers.{whole_fault, scalar_limit, whole_read, initial_typed}
 use Rattle.cs_well_formed.specs.Nodes.{expression_nodes, initial_nodes, initials_nodes}
 use Rattle.cs_well_formed.specs.Places.{StandsAmong, InitialStandsAmong, InitialsStandAmong}
 use Rattle.cs_well_formed.specs.WrittenPlaces.{ExpressionAmong, ValuesAmong, AllValuesAmong}
 use Rattle.cs_well_formed.specs.Sizes.{size_of}
 use Rattle.cs_well_formed.specs.Bounded.{texts_nodes, IsBoundedInitial, InitialsAreBounded}
-use Rattle.cs_well_formed.proofs.Verdicts.{IfFine, if_fine-at, lift-then, cond-then, unless_fault-then, after_limit-then}
+use Rattle.cs_well_formed.proofs.Verdicts.{IfFine, if_fine-at, lift-then, cond-then, unless_fault-then}
 use Rattle.cs_well_formed.proofs.TextSizes.{size-initial, size-initials}
 use Rattle.cs_well_formed.proofs.LiteralsAfter.{sized, literals-grow}
 use Rattle.cs_well_formed.proofs.FittingValues.{Fits, converted-fits}
@@ -161,10 +162,6 @@ module _ (Is : Place → Type 0) where
       judged ty (Bytes bytes) h = part-judged ty (Bytes bytes) h
       judged ty (Parts parts) h = part-judged ty (Parts parts) h
 
-      limited-judged : (ty : Shape) (place : Storage) (i found : Initial) → IsJudged i found → IfFine (limited c.table.list place at ty found) (IsJudged i)
-      limited-judged ty InFile i found h = h
-      limited-judged ty InFunction i found h = cond-then (IsJudged i) (is_some (stored c.table.list ty found)) _ _ (λ _. h) (λ _. tt)
-
       -- an initializer
       pub initial-fits : (literals : Literals) (ty : Shape) (raw : RawInitial) → ValuesAmong Is raw
           → IfFine (initial_typed c literals storage at ty raw)
@@ -174,11 +171,11 @@ module _ (Is : Place → Type 0) where
           cond-then (λ (r : Reading). IsBoundedInitial Is literals r.1 size r.0) (has_form c.table.list storage ty raw) _ _
           (λ _.
           lift-then (IsReadBy literals size) (λ (r : Reading). IsBoundedInitial Is literals r.1 size r.0) _ (whole_read c literals storage at ty raw)
-          (unless_fault-then (IsReadBy literals size) at (initial_fault c literals storage at ty raw) _
-          (λ _. after_limit-then (IsReadBy literals size) at (value_limit c.table.list storage ty raw) (initial_read c literals ty raw)
-          (initial-read literals ty raw among)))
+          (unless_fault-then (IsReadBy literals size) at
+          (least_code (scalar_limit c.table.list storage ty raw) (whole_fault c literals storage at ty raw)) (initial_read c literals ty raw)
+          (λ _. initial-read literals ty raw among))
           (λ r h. lift-then (IsJudged r.0) (λ (found : Reading). IsBoundedInitial Is literals found.1 size found.0) (kept_with r.1) _
-          (lift-then (IsJudged r.0) (IsJudged r.0) (limited c.table.list storage at ty) _ (judged ty r.0 h.stands) (limited-judged ty storage r.0))
+          (judged ty r.0 h.stands)
           (λ found k. record {
             stands = k.stands;
             nodes = omega (arith, k.nodes, h.no_more, h.no_fewer);

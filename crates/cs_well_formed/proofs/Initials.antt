@@ -25,8 +25,8 @@ use Rattle.cs_consts.specs.Roles.{operand_of}
 use Rattle.cs_declarations.specs.Initializers.{Storage, InFile, InFunction, is_character, copies, member_types, part_types, text_of, is_admitted}
 use Rattle.cs_declarations.specs.Initializers.{takes_expression, has_form, have_forms, Reading, Readings, value_read, expression_read, types_or_none}
 use Rattle.cs_declarations.specs.Initializers.{parts_read, one_more, initial_read, items_read, is_braceless, value_held, value_judged, item_judged}
-use Rattle.cs_declarations.specs.Initializers.{before_others, part_judged, parts_judged, initial_judged, initial_fault, value_limit, whole_read}
-use Rattle.cs_declarations.specs.Initializers.{stored, limited}
+use Rattle.cs_scopes.specs.Faults.{least_code}
+use Rattle.cs_declarations.specs.Initializers.{before_others, part_judged, parts_judged, initial_judged, whole_fault, scalar_limit, whole_read}
 use Rattle.cs_declarations.specs.Initializers.{kept_with, initial_typed}
 use Rattle.cs_well_formed.specs.Structs.{NamesStructs, MembersName}
 use Rattle.cs_well_formed.specs.Expressions.{Setting, IsWell, IsValue, IsValueOf, IsWhole}
@@ -34,7 +34,7 @@ use Rattle.cs_well_formed.specs.Initials.{HasParts, TakesBytes, IsWellInitial, A
 use Rattle.cs_well_formed.specs.Constants.{HasConstants, InitialHasConstants, InitialsHaveConstants}
 use Rattle.cs_well_formed.specs.Agreement.{Agrees, AreFirst}
 use Rattle.cs_well_formed.specs.Laws.{InitialsAreWell, FileInitialsAreConstant}
-use Rattle.cs_well_formed.proofs.Verdicts.{IfFine, if_fine-at, if_fine-any, lift-then, cond-then, unless_fault-then, after_limit-then, both_true}
+use Rattle.cs_well_formed.proofs.Verdicts.{IfFine, if_fine-at, if_fine-any, lift-then, cond-then, unless_fault-then, both_true}
 use Rattle.cs_well_formed.proofs.Conversions.{converted-well}
 use Rattle.cs_well_formed.proofs.Names.{Begins, begins-self, begins-trans, first-part, literals-begin}
 use Rattle.cs_well_formed.proofs.Typing.{IsWellValue}
@@ -228,28 +228,22 @@ module _ (s : Setting) (c : Context) (agrees : Agrees s c) where
     judged-well ty (Bytes bytes) whole names read = part-well ty (Bytes bytes) whole names read
     judged-well ty (Parts parts) whole names read = part-well ty (Parts parts) whole names read
 
-    limited-well : (ty : Shape) (place : Storage) (found : Initial) → IsWellInitial s ty found
-        → IfFine (limited c.table.list place at ty found) (IsWellInitial s ty)
-    limited-well ty InFile found well = well
-    limited-well ty InFunction found well = cond-then (IsWellInitial s ty) (is_some (stored c.table.list ty found)) _ _ (λ _. well) (λ _. tt)
-
     -- an initializer
     pub initial-well : (literals : Literals) (ty : Shape) (raw : RawInitial) → IsWhole s.program ty → NamesStructs s.program.table ty
         → InitialHasConstants (initial raw) →
         IfFine (initial_typed c literals storage at ty raw) (λ r. AreFirst s.program r.1 → IsWellInitial s ty r.0)
     initial-well literals ty raw whole names fit =
         cond-then (λ (r : Reading). AreFirst s.program r.1 → IsWellInitial s ty r.0) (has_form c.table.list storage ty raw) _ _
-        (λ h. lift-then (IsReading literals ty) (λ (r : Reading). AreFirst s.program r.1 → IsWellInitial s ty r.0) _ (whole_read c literals storage at ty raw)
-        (unless_fault-then (IsReading literals ty) at (initial_fault c literals storage at ty raw) _
-        (λ _. after_limit-then (IsReading literals ty) at (value_limit c.table.list storage ty raw) (initial_read c literals ty raw)
-        (initial-reading storage literals ty raw names fit h)))
+        (λ h.
+        lift-then (IsReading literals ty) (λ (r : Reading). AreFirst s.program r.1 → IsWellInitial s ty r.0) _ (whole_read c literals storage at ty raw)
+        (unless_fault-then (IsReading literals ty) at
+        (least_code (scalar_limit c.table.list storage ty raw) (whole_fault c literals storage at ty raw)) (initial_read c literals ty raw)
+        (λ _. initial-reading storage literals ty raw names fit h))
         (λ r held.
         lift-then (λ found. AreFirst s.program r.1 → IsWellInitial s ty found) (λ (r : Reading). AreFirst s.program r.1 → IsWellInitial s ty r.0)
         (kept_with r.1) _
-        (under (AreFirst s.program r.1) (IsWellInitial s ty) (lift (limited c.table.list storage at ty) (initial_judged c storage at ty r.0))
-        (λ texts.
-        lift-then (IsWellInitial s ty) (IsWellInitial s ty) (limited c.table.list storage at ty) _ (judged-well ty r.0 whole names (held.0 texts))
-        (limited-well ty storage)))
+        (under (AreFirst s.program r.1) (IsWellInitial s ty) (initial_judged c storage at ty r.0)
+        (λ texts. judged-well ty r.0 whole names (held.0 texts)))
         (λ found well. well)))
         (λ _. tt)
 
@@ -298,8 +292,7 @@ module _ (c : Context) (at : Place) where
       (λ _.
       lift-then (λ _. Unit {0}) (λ (r : Reading). HasConstantValues c.model r.0) _ (whole_read c literals InFile at ty raw)
       (if_fine-any (whole_read c literals InFile at ty raw))
-      (λ r _. lift-then (HasConstantValues c.model) (λ (r : Reading). HasConstantValues c.model r.0) (kept_with r.1) _
-      (lift-then (HasConstantValues c.model) (HasConstantValues c.model) (limited c.table.list InFile at ty) _ (judged-constant ty r.0) (λ found h. h))
+      (λ r _. lift-then (HasConstantValues c.model) (λ (r : Reading). HasConstantValues c.model r.0) (kept_with r.1) _ (judged-constant ty r.0)
       (λ found h. h)))
       (λ _. tt)
 

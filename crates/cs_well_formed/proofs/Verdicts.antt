@@ -9,7 +9,6 @@ use Rattle.cs_types.specs.Shape.{Shape}
 use Rattle.cs_folding.specs.TypedParts.{type_of}
 use Rattle.cs_expressions.specs.Stores.{weighed, led}
 use Rattle.cs_consts.specs.Typing.{between}
-use Rattle.cs_declarations.specs.Initializers.{Reading, after_limit}
 use Rattle.cs_declarations.specs.Sizes.{unless_refused}
 use Rattle.cs_declarations.specs.Parameters.{after_twice}
 
@@ -87,12 +86,6 @@ unless_fault-then P at (Some code) v held = tt
 pub first-none : (code other : Option TypeCode) → least_code code other ≡ None → code ≡ None
 first-none None other h = refl
 first-none (Some code) other h = absurd cc
-
--- of a value after a place at which a code may hold
-pub after_limit-then : (P : Reading → Type 0) (at : Place) (limit : Option TypeCode) (v : Verdict Reading) → IfFine v P → IfFine (after_limit at limit v) P
-after_limit-then P at None v held = held
-after_limit-then P at (Some code) (Fine r) held = held
-after_limit-then P at (Some code) (Fault other place) held = tt
 
 -- of what a name declares, after which bounds stand
 pub unless_refused-then : {A : Type 0} (P : A → Type 0) (refused : Option (TypeCode × Place)) (found : A) → P found

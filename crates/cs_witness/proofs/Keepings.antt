@@ -9,8 +9,8 @@ use Rattle.cs_events.specs.PendingEvents as pending
 use Rattle.cs_events.specs.Runs.{Log}
 use Rattle.cs_meaning.specs.Steps.{step}
 use Rattle.cs_meaning.specs.ProgramRuns.{ProgramRun, RunGives, setting_of}
-use Rattle.cs_run_state.specs.declared.logs.Pending.{Pending}
-use Rattle.cs_run_state.specs.View.{pending_of}
+use Rattle.cs_run_log.specs.declared.logs.Pending.{Pending}
+use Rattle.cs_run_log.specs.LogView.{pending_of}
 use Rattle.cs_results.specs.declared.budgets.Budgets.{Budgets}
 use Rattle.cs_findings.specs.Runs.{run_budgets}
 use Rattle.cs_findings.specs.GoodFindings.{IsEach}

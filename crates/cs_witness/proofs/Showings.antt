@@ -13,7 +13,7 @@ use Rattle.cs_events.proofs.RunLaws.{one_end}
 use Rattle.cs_meaning.specs.Machine.{routine_of}
 use Rattle.cs_meaning.specs.ProgramRuns.{RunReads, setting_of}
 use Rattle.cs_meaning.specs.Steps.{step, parameters_of, parameter_path}
-use Rattle.cs_run_state.specs.View.{log_of}
+use Rattle.cs_run_log.specs.LogView.{log_of}
 use Rattle.cs_replay.specs.declared.replays.Replayed.{Replayed}
 use Rattle.cs_results.specs.declared.finding.Finding.{Finding}
 use Rattle.cs_results.specs.declared.finding.Ground.{Ground}

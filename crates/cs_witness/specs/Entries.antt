@@ -6,8 +6,8 @@ use Rattle.cs_events.specs.declared.outcome.RunBudgets.{RunBudgets}
 use Rattle.cs_meaning.specs.ProgramRuns.{ProgramRun, RunGives}
 use Rattle.cs_cfg.specs.GraphView as view
 use Rattle.cs_cfg.specs.Lowered.{IsLowered}
-use Rattle.cs_run_state.specs.Prepared.{IsPrepared}
-use Rattle.cs_run_state.specs.View.{log_of}
+use Rattle.cs_objects.specs.Prepared.{IsPrepared}
+use Rattle.cs_run_log.specs.LogView.{log_of}
 use Rattle.cs_replay.specs.declared.replays.Replayed.{Replayed}
 use Rattle.cs_results.specs.declared.budgets.Budgets.{Budgets}
 use Rattle.cs_findings.specs.Runs.{run_budgets}

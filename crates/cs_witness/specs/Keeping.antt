@@ -6,8 +6,8 @@ use Rattle.cs_events.specs.declared.event.Event.{Event}
 use Rattle.cs_events.specs.declared.operation.Operation.{Operation}
 use Rattle.cs_events.specs.PendingEvents as pending
 use Rattle.cs_meaning.specs.ProgramRuns.{ProgramRun}
-use Rattle.cs_run_state.specs.declared.logs.Pending.{Pending}
-use Rattle.cs_run_state.specs.View.{pending_of}
+use Rattle.cs_run_log.specs.declared.logs.Pending.{Pending}
+use Rattle.cs_run_log.specs.LogView.{pending_of}
 use Rattle.cs_findings.specs.Runs.{run_of, run_budgets}
 use Rattle.cs_judge.specs.declared.pool.Kept.{Kept}
 use Rattle.cs_judge.specs.declared.pool.Kept.TheVariants as kept

@@ -3,7 +3,7 @@
 use cs_ast::typed::program::Program;
 use cs_cfg::Code;
 use cs_findings::Budgets;
-use cs_run_state::prepared::Prepared;
+use cs_objects::prepared::Prepared;
 
 /// A function of a program, with what its runs go by.
 #[derive(Drop)]

@@ -4,14 +4,14 @@ ghost use Rattle.cs_ast.specs.TypedProgram.{typed_program};
 ghost use Rattle.cs_findings.specs.Runs.{run_budgets};
 ghost use Rattle.cs_judge.specs.Pools.{IsKept};
 ghost use Rattle.cs_witness.specs.Entries.{CanRun};
-ghost use Rattle.cs_run_state.specs.View.{pending_of};
+ghost use Rattle.cs_run_log.specs.LogView.{pending_of};
 ghost use Rattle.cs_witness.specs.Keeping.{AreKeptOf, IsKeptAt};
 
 use crate::entry::Entry;
 use crate::replaying::replayed;
 use cs_findings::Run;
 use cs_judge::{Kept, Replay};
-use cs_run_state::Pending;
+use cs_run_log::Pending;
 use std::alloc::{AllocError, Global};
 
 /// What was pending at the events of a run, as the judge keeps it.

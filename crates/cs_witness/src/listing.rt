@@ -10,7 +10,7 @@ use crate::entry::Entry;
 use cs_ast::typed::program::{Function, Local};
 use cs_events::Lookup;
 use cs_inputs::{Inputs, Path, Root};
-use cs_run_state::paths::root_path;
+use cs_values::paths::root_path;
 use std::alloc::{AllocError, Global};
 use std::cmp::Ordering;
 

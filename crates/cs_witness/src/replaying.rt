@@ -3,14 +3,14 @@ ghost use Rattle.std.specs.Prelude.{◌≡◌, IfOk};
 ghost use Rattle.cs_ast.specs.TypedProgram.{typed_program};
 ghost use Rattle.cs_findings.specs.Runs.{run_of};
 ghost use Rattle.cs_meaning.specs.ProgramRuns.{RunGives};
-ghost use Rattle.cs_run_state.specs.View.{log_of};
+ghost use Rattle.cs_run_log.specs.LogView.{log_of};
 ghost use Rattle.cs_witness.specs.Entries.{CanRun, up_to};
 
 use crate::entry::Entry;
 use cs_events::{Guess, RunBudgets};
 use cs_inputs::Inputs;
+use cs_objects::Setting;
 use cs_replay::{Replayed, replay};
-use cs_run_state::Setting;
 use std::alloc::{AllocError, Global};
 
 /// The replay of a run of an entry under a budget of so many events. The error comes where memory runs out, or where the function has no

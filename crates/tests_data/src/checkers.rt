@@ -5,6 +5,7 @@ use cs_checks::{
     DoubleFreeChecker, FreedChecker, NullChecker, ShiftChecker, UnrelatedChecker, UnsetChecker,
 };
 use cs_terms::Lin;
+use std::alloc::{AllocError, Global};
 use std::process::Abort;
 use std::test::Fail;
 
@@ -19,28 +20,35 @@ fn assert_asked(rt: &impl Abort, checkers: &[Box<dyn Checker>], answers: &[Answe
     assert_eq!(rt; number, 11);
 }
 
+fn add_first(alloc: Global, checkers: &mut Vec<Box<dyn Checker>>) -> Result<(), AllocError> {
+    add(checkers, Box::new(alloc, NullChecker::new())?)?;
+    add(checkers, Box::new(alloc, DivideChecker::new())?)?;
+    add(checkers, Box::new(alloc, UnsetChecker::new())?)?;
+    add(checkers, Box::new(alloc, BoundsChecker::new())?)?;
+    add(checkers, Box::new(alloc, DoubleFreeChecker::new())?)?;
+    add(checkers, Box::new(alloc, FreedChecker::new())?)
+}
+
+fn add_others(alloc: Global, checkers: &mut Vec<Box<dyn Checker>>) -> Result<(), AllocError> {
+    add(checkers, Box::new(alloc, BadFreeChecker::new())?)?;
+    add(checkers, Box::new(alloc, DeadLocalChecker::new())?)?;
+    add(checkers, Box::new(alloc, ShiftChecker::new())?)?;
+    add(checkers, Box::new(alloc, UnrelatedChecker::new())?)?;
+    add(checkers, Box::new(alloc, ConstWriteChecker::new())?)
+}
+
 #[test]
 fn each_kind_is_asked_once(rt: HostRuntime) -> Result<(), Fail> {
-    let alloc = rt.alloc();
-    let mut checkers: Vec<Box<dyn Checker>> = Vec::new(alloc);
-    add(&mut checkers, Box::new(alloc, NullChecker::new())?)?;
-    add(&mut checkers, Box::new(alloc, DivideChecker::new())?)?;
-    add(&mut checkers, Box::new(alloc, UnsetChecker::new())?)?;
-    add(&mut checkers, Box::new(alloc, BoundsChecker::new())?)?;
-    add(&mut checkers, Box::new(alloc, DoubleFreeChecker::new())?)?;
-    add(&mut checkers, Box::new(alloc, FreedChecker::new())?)?;
-    add(&mut checkers, Box::new(alloc, BadFreeChecker::new())?)?;
-    add(&mut checkers, Box::new(alloc, DeadLocalChecker::new())?)?;
-    add(&mut checkers, Box::new(alloc, ShiftChecker::new())?)?;
-    add(&mut checkers, Box::new(alloc, UnrelatedChecker::new())?)?;
-    add(&mut checkers, Box::new(alloc, ConstWriteChecker::new())?)?;
+    let mut checkers: Vec<Box<dyn Checker>> = Vec::new(rt.alloc());
+    add_first(rt.alloc(), &mut checkers)?;
+    add_others(rt.alloc(), &mut checkers)?;
     let term = Lin {
         sym: None,
         slope: 0,
         at: 0,
         value: 0,
     };
-    let answers = ask_each(alloc, &mut checkers, &Subject::Divisor { term })?;
+    let answers = ask_each(rt.alloc(), &mut checkers, &Subject::Divisor { term })?;
     assert_asked(&rt, &checkers, &answers);
     Ok(())
 }

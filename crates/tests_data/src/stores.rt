@@ -2,6 +2,7 @@
 use cs_store::{Fill, Found, Store, Value, Write, replayed};
 use cs_terms::Lin;
 use std::alloc::{AllocError, Global};
+use std::process::Abort;
 use std::test::Fail;
 
 fn number(value: i128) -> Value {
@@ -27,58 +28,69 @@ fn written(alloc: Global) -> Result<Store, AllocError> {
     Ok(store)
 }
 
+fn assert_held(rt: &impl Abort, store: &Store) {
+    assert!(rt; store.load(1, 0) == Found::Direct(Value::Null));
+    assert!(rt; store.load(1, 4) == Found::Fill(Fill::Input));
+    assert!(rt; store.load(1, 8) == Found::Direct(number(5)));
+    assert!(rt; store.load(2, 0) == Found::Direct(number(3)));
+    assert!(rt; store.load(2, 4) == Found::Direct(Value::Start(6, 16)));
+    assert!(rt; store.load(2, 8) == Found::Fill(Fill::Unset));
+    assert!(rt; store.load(3, 0) == Found::Fill(Fill::Unset));
+}
+
 #[test]
 fn loads_the_last_binding_or_the_fill(rt: HostRuntime) -> Result<(), Fail> {
     let store = written(rt.alloc())?;
-    for (base, offset, found) in [
-        (1, 0, Found::Direct(Value::Null)),
-        (1, 4, Found::Fill(Fill::Input)),
-        (1, 8, Found::Direct(number(5))),
-        (2, 0, Found::Direct(number(3))),
-        (2, 4, Found::Direct(Value::Start(6, 16))),
-        (2, 8, Found::Fill(Fill::Unset)),
-        (3, 0, Found::Fill(Fill::Unset)),
-    ] {
-        assert_eq!(rt; store.load(base, offset), found);
-    }
+    assert_held(&rt, &store);
     Ok(())
+}
+
+// The bindings of a region, each with its offset.
+fn bindings_text(alloc: Global, store: &Store, base: u64) -> Result<String, AllocError> {
+    let mut text = String::new(alloc);
+    for (offset, value) in store.bindings(base)? {
+        write!(text, "{offset} {value:?};")?;
+    }
+    Ok(text)
 }
 
 #[test]
 fn lists_the_bindings_of_a_region(rt: HostRuntime) -> Result<(), Fail> {
     let store = written(rt.alloc())?;
-    let mut listed = Vec::new(rt.alloc());
-    for binding in store.bindings(1)? {
-        listed.push(binding)?;
-    }
-    assert_eq!(rt;
-        listed.as_slice(),
-        [(0, Value::Null), (8, number(5))].as_slice()
-    );
-    assert!(rt; store.bindings(3)?.next().is_none());
+    let listed = bindings_text(rt.alloc(), &store, 1)?;
+    let five = "Number(Lin { sym: None, slope: 0, at: 0, value: 5 })";
+    let wanted = format!(in rt.alloc(); "0 Null;8 {five};")?;
+    assert_eq!(rt; listed, wanted);
+    let listed = bindings_text(rt.alloc(), &store, 3)?;
+    assert_eq!(rt; listed.as_str(), "");
     Ok(())
+}
+
+// The regions, each with its fill and what it holds at 0.
+fn regions_text(alloc: Global, store: &Store) -> Result<String, AllocError> {
+    let mut text = String::new(alloc);
+    for (base, region) in store.regions()? {
+        write!(text, "{base} {:?} {:?};", region.fill(), region.at(0))?;
+    }
+    Ok(text)
+}
+
+fn fill_more(store: &mut Store) -> Result<(), AllocError> {
+    store.bind_default(7, Fill::Zero)?;
+    store.bind_default(0, Fill::Wrote(3, 1))?;
+    store.bind_default(5, Fill::Unset)?;
+    store.drop_frame(&[7])
 }
 
 #[test]
 fn lists_the_regions_that_hold_something(rt: HostRuntime) -> Result<(), Fail> {
     let mut store = written(rt.alloc())?;
-    store.bind_default(7, Fill::Zero)?;
-    store.bind_default(0, Fill::Wrote(3, 1))?;
-    store.bind_default(5, Fill::Unset)?;
-    store.drop_frame(&[7])?;
-    let mut listed = Vec::new(rt.alloc());
-    for (base, region) in store.regions()? {
-        listed.push((base, region.fill(), region.at(0)))?;
-    }
-    assert_eq!(rt;
-        listed.as_slice(),
-        [
-            (0, Fill::Wrote(3, 1), Found::Fill(Fill::Wrote(3, 1))),
-            (1, Fill::Input, Found::Direct(Value::Null)),
-            (2, Fill::Unset, Found::Direct(number(3))),
-        ]
-        .as_slice()
-    );
+    fill_more(&mut store)?;
+    let listed = regions_text(rt.alloc(), &store)?;
+    let three = "Number(Lin { sym: None, slope: 0, at: 0, value: 3 })";
+    let first = "0 Wrote(3, 1) Fill(Wrote(3, 1));1 Input Direct(Null);";
+    let wanted = format!(in rt.alloc(); "{first}2 Unset Direct({three});")?;
+    assert_eq!(rt; listed, wanted);
     Ok(())
 }
 
@@ -87,9 +99,9 @@ fn a_dropped_frame_is_gone_from_one_copy_alone(rt: HostRuntime) -> Result<(), Fa
     let store = written(rt.alloc())?;
     let mut other = store.copy()?;
     other.drop_frame(&[5, 1])?;
-    assert_eq!(rt; other.load(1, 8), Found::Fill(Fill::Unset));
-    assert_eq!(rt; other.load(2, 0), Found::Direct(number(3)));
-    assert_eq!(rt; store.load(1, 8), Found::Direct(number(5)));
+    assert!(rt; other.load(1, 8) == Found::Fill(Fill::Unset));
+    assert!(rt; other.load(2, 0) == Found::Direct(number(3)));
+    assert!(rt; store.load(1, 8) == Found::Direct(number(5)));
     Ok(())
 }
 
@@ -107,7 +119,7 @@ fn replays_writes_in_order(rt: HostRuntime) -> Result<(), Fail> {
         bind(0, 8, number(3)),
     ];
     let store = replayed(rt.alloc(), &writes)?;
-    assert_eq!(rt; store.load(0, 4), Found::Fill(fill));
-    assert_eq!(rt; store.load(0, 8), Found::Direct(number(3)));
+    assert!(rt; store.load(0, 4) == Found::Fill(fill));
+    assert!(rt; store.load(0, 8) == Found::Direct(number(3)));
     Ok(())
 }

@@ -37,6 +37,12 @@ fn offsets_are_followed_over_one_symbol(rt: HostRuntime) -> Result<(), Fail> {
             pieces: "Wrap(Guessed) x 0..9 y 0..1 guess -9223372036854775808..9223372036854775807 gives 1*guess+0 of 8*x+12 0..9 and 8 0..0\n",
         },
         Row {
+            question: Question::Difference(x(1, 3), x(1, 0), 2),
+            x: (0, 9),
+            y: (0, 1),
+            pieces: "Wrap(Guessed) x 0..9 y 0..1 guess -9223372036854775808..9223372036854775807 gives 1*guess+0 of 1*x+3 0..9 and 1*x+0 0..9\n",
+        },
+        Row {
             question: Question::Difference(number(1), number(8), 4),
             x: (0, 9),
             y: (0, 1),

@@ -11,7 +11,7 @@ use std::alloc::{AllocError, Global};
 use std::process::Abort;
 
 /// A question over the symbols x and y, which stand for the numbers from the first to the second.
-#[derive(Drop)]
+#[derive(Clone, Copy)]
 pub struct Row<'a> {
     pub question: Question,
     pub x: (i128, i128),
@@ -50,13 +50,18 @@ pub fn y(slope: i128, value: i128) -> Lin {
     }
 }
 
+fn assert_row(rt: &impl Abort, alloc: Global, row: &Row, place: usize) -> Result<(), AllocError> {
+    let constraints = constraints(alloc, row.x, row.y)?;
+    let pieces = answers(alloc, DataModel::Lp64, &constraints, &row.question, Sym(2))?;
+    let found = text(alloc, &pieces)?;
+    assert_eq!(rt; found.as_str(), row.pieces, "row {place}");
+    Ok(())
+}
+
 /// Each row has the pieces that are written.
 pub fn assert_rows(rt: &impl Abort, alloc: Global, rows: &[Row]) -> Result<(), AllocError> {
     for (place, row) in rows.iter().enumerate() {
-        let constraints = constraints(alloc, row.x, row.y)?;
-        let pieces = answers(alloc, DataModel::Lp64, &constraints, &row.question, Sym(2))?;
-        let found = text(alloc, &pieces)?;
-        assert_eq!(rt; found.as_str(), row.pieces, "row {place}");
+        assert_row(rt, alloc, row, place)?;
     }
     Ok(())
 }
@@ -87,46 +92,36 @@ fn numbers(alloc: Global, low: i128, high: i128) -> Result<RangeSet, AllocError>
 pub fn text(alloc: Global, pieces: &[Piece]) -> Result<String, AllocError> {
     let mut text = String::new(alloc);
     for piece in pieces {
-        let line = format!(in alloc; "{:?}", piece.label)?;
-        text.push_str(&line)?;
-        push_ranges(alloc, &mut text, &piece.constraints)?;
+        write!(text, "{:?}", piece.label)?;
+        push_ranges(&mut text, &piece.constraints)?;
         text.push_str(" gives ")?;
-        push_term(alloc, &mut text, piece.answer)?;
+        push_term(&mut text, piece.answer)?;
         if let Some(guessed) = &piece.guessed {
-            push_guessed(alloc, &mut text, guessed)?;
+            push_guessed(&mut text, guessed)?;
         }
         text.push_str("\n")?;
     }
     Ok(text)
 }
 
-fn push_ranges(
-    alloc: Global,
-    text: &mut String,
-    constraints: &Constraints,
-) -> Result<(), AllocError> {
+fn push_ranges(text: &mut String, constraints: &Constraints) -> Result<(), AllocError> {
     for (sym, name) in [(Sym(0), " x"), (Sym(1), " y"), (Sym(2), " guess")] {
         if let Some(range) = constraints.range_of(sym) {
             text.push_str(name)?;
-            push_intervals(alloc, text, range.intervals())?;
+            push_intervals(text, range.intervals())?;
         }
     }
     Ok(())
 }
 
-fn push_intervals(
-    alloc: Global,
-    text: &mut String,
-    intervals: &[Interval],
-) -> Result<(), AllocError> {
+fn push_intervals(text: &mut String, intervals: &[Interval]) -> Result<(), AllocError> {
     for interval in intervals {
-        let shown = format!(in alloc; " {}..{}", interval.low, interval.high)?;
-        text.push_str(&shown)?;
+        write!(text, " {}..{}", interval.low, interval.high)?;
     }
     Ok(())
 }
 
-fn push_term(alloc: Global, text: &mut String, term: Lin) -> Result<(), AllocError> {
+fn push_term(text: &mut String, term: Lin) -> Result<(), AllocError> {
     let name = match term.sym {
         None => "",
         Some(Sym(0)) => "*x",
@@ -135,26 +130,24 @@ fn push_term(alloc: Global, text: &mut String, term: Lin) -> Result<(), AllocErr
     };
     let moved = term.slope.checked_mul(term.at).ok_or(AllocError)?;
     let at_zero = term.value.checked_sub(moved).ok_or(AllocError)?;
-    let shown = match term.sym {
-        None => format!(in alloc; "{}", term.value)?,
-        Some(_) => format!(in alloc; "{}{name}+{at_zero}", term.slope)?,
-    };
-    text.push_str(&shown)?;
-    Ok(())
+    match term.sym {
+        None => write!(text, "{}", term.value),
+        Some(_) => write!(text, "{}{name}+{at_zero}", term.slope),
+    }
 }
 
-fn push_guessed(alloc: Global, text: &mut String, guessed: &Guessed) -> Result<(), AllocError> {
+fn push_guessed(text: &mut String, guessed: &Guessed) -> Result<(), AllocError> {
     text.push_str(" of ")?;
-    push_term(alloc, text, guessed.left)?;
-    push_intervals(alloc, text, &[guessed.ends.left])?;
+    push_term(text, guessed.left)?;
+    push_intervals(text, &[guessed.ends.left])?;
     text.push_str(" and ")?;
-    push_term(alloc, text, guessed.right)?;
-    push_intervals(alloc, text, &[guessed.ends.right])?;
+    push_term(text, guessed.right)?;
+    push_intervals(text, &[guessed.ends.right])?;
     if let Some(fact) = &guessed.fact {
         text.push_str(" fact ")?;
-        push_term(alloc, text, fact.term.first)?;
+        push_term(text, fact.term.first)?;
         text.push_str(" + ")?;
-        push_term(alloc, text, fact.term.second)?;
+        push_term(text, fact.term.second)?;
     }
     Ok(())
 }

@@ -263,9 +263,10 @@ def refused(tokens):
 
 
 def table(change, all):
-    """The numbers of the refused tokens, and for which changes they are unsupported."""
+    """A row of the table: the numbers of the refused tokens, and for which changes they are unsupported."""
     found = [refused(tokens) for tokens in all]
-    print(change, [number for number, _ in found], "unsupported", [at for at, (_, out) in enumerate(found) if out])
+    numbers = ["A" if number == ACCEPTED else str(number) for number, _ in found]
+    print(f"{change}: {' '.join(numbers)}: {' '.join(str(at) for at, (_, out) in enumerate(found) if out)}")
 
 
 def changed(random, tokens):
@@ -327,7 +328,7 @@ def main():
     table("removed", [tokens[:n] + tokens[n + 1 :] for n in range(count)])
     table("twice", [tokens[: n + 1] + tokens[n:] for n in range(count)])
     for other in [";", "(", "x", ","]:
-        table(f"by {other}", [tokens[:n] + [other] + tokens[n + 1 :] for n in range(count)])
+        table(other, [tokens[:n] + [other] + tokens[n + 1 :] for n in range(count)])
 
 
 main()

@@ -1,9 +1,10 @@
-//! Tests of the front end on whole files, and what tests and benchmarks share: the program of a text.
+//! Tests of the front end on whole files.
 #![tactic(auto)]
 
 #[cfg(test)]
 mod edited;
-pub mod front;
+#[cfg(test)]
+mod front;
 #[cfg(test)]
 mod ordered;
 #[cfg(test)]

@@ -10,22 +10,18 @@ use std::alloc::{AllocError, Global};
 use std::test::Fail;
 
 // The tokens of a text, if it has some; the column of a token is its number.
-fn tokens_of(alloc: Global, text: &str) -> Result<Option<Vec<Token>>, AllocError> {
-    let Ok(lexed) = lexed(alloc, text.as_bytes()) else {
-        return Ok(None);
-    };
-    let mut numbered = Vec::new(alloc);
+fn tokens_of(alloc: Global, text: &str) -> Option<Vec<Token>> {
+    let mut list = lexed(alloc, text.as_bytes()).ok()?.list;
     let mut column = 0;
-    for Token { kind, .. } in lexed.list {
-        let place = Place {
+    for token in list.iter_mut() {
+        token.place = Place {
             file: 0,
             line: 1,
             column,
         };
-        numbered.push(Token { kind, place })?;
         column = column.saturating_add(1);
     }
-    Ok(Some(numbered))
+    Some(list)
 }
 
 fn type_text(out: &mut String, ty: &WrittenType) -> Result<(), AllocError> {
@@ -137,24 +133,31 @@ fn show_reason(reason: Reason) -> &'static str {
 // What the parser says of the words: the tree, its height, the number after it and why the token there is refused, or the
 // refusal.
 fn answer(alloc: Global, words: &str, limit: u32, level: ExprLevel) -> Result<String, AllocError> {
-    let Some(tokens) = tokens_of(alloc, words)? else {
-        return String::from_str(alloc, "no tokens");
-    };
+    match tokens_of(alloc, words) {
+        Some(tokens) => answer_of(alloc, &tokens, limit, level),
+        None => String::from_str(alloc, "no tokens"),
+    }
+}
+
+fn answer_of(
+    alloc: Global,
+    tokens: &[Token],
+    limit: u32,
+    level: ExprLevel,
+) -> Result<String, AllocError> {
     if tokens.len() > 99 {
         return String::from_str(alloc, "too many tokens");
     }
     let mut names = TypedefNames::new(alloc);
-    let typedef_name = Name::from_slice(alloc, b"T".as_slice())?;
-    names.add(typedef_name)?;
+    names.add(Name::from_slice(alloc, b"T")?)?;
     let end = Place {
         file: 0,
         line: 1,
         column: 99,
     };
-    let said = expression(alloc, tokens.as_slice(), end, 0, &names, limit, level);
-    match &said {
-        Ok(phrase) => phrase_text(alloc, phrase),
-        Err(refusal) => refusal_text(alloc, refusal),
+    match expression(alloc, tokens, end, 0, &names, limit, level) {
+        Ok(phrase) => phrase_text(alloc, &phrase),
+        Err(refusal) => refusal_text(alloc, &refusal),
     }
 }
 
@@ -183,16 +186,25 @@ fn place_text(alloc: Global, why: &str, place: Place) -> Result<String, AllocErr
     format!(in alloc; "{why} {column}")
 }
 
-/// Of a table of words, limits, levels and answers, the words that are answered otherwise, with the answer.
-fn answered_otherwise(
-    alloc: Global,
-    table: &[(&str, u32, ExprLevel, &str)],
-) -> Result<String, AllocError> {
+fn level(name: &str) -> ExprLevel {
+    match name {
+        "Cond" => ExprLevel::Cond,
+        "Assign" => ExprLevel::Assign,
+        _ => ExprLevel::Expr,
+    }
+}
+
+/// Of a table of limits, levels, words and answers, the words that are answered otherwise, with the answer.
+fn answered_otherwise(alloc: Global, table: &str) -> Result<String, AllocError> {
     let mut found = String::new(alloc);
-    for (words, limit, level, expected) in table {
-        let given = answer(alloc, words, *limit, *level)?;
-        if given.as_str() != *expected {
-            let reported = format!(in alloc; "{words} gives {given}")?;
+    for row in table.trim().lines() {
+        let (limit, rest) = row.split_once(' ').unwrap_or(("", row));
+        let (level_name, rest) = rest.split_once(' ').unwrap_or(("", rest));
+        let (words, expected) = rest.split_once(" => ").unwrap_or((rest, ""));
+        let limit = limit.parse::<u32>().unwrap_or(0);
+        let given = answer(alloc, words, limit, level(level_name))?;
+        if given.as_str() != expected {
+            let reported = format!(in alloc; "{words} gives {given}\n")?;
             found.push_str(reported.as_str())?;
         }
     }
@@ -200,237 +212,112 @@ fn answered_otherwise(
 }
 
 /// Expressions with their trees, and what follows them.
-const TREES: [(&str, u32, ExprLevel, &str); 35] = [
-    ("a", 200, ExprLevel::Expr, "x@0 1 1 syntax"),
-    (
-        "a < b < c ;",
-        200,
-        ExprLevel::Expr,
-        "in@3 in@1 x@4 3 5 syntax",
-    ),
-    (
-        "a + b * c",
-        200,
-        ExprLevel::Expr,
-        "in@1 x@0 in@3 3 5 syntax",
-    ),
-    (
-        "a * b + c",
-        200,
-        ExprLevel::Expr,
-        "in@3 in@1 x@4 3 5 syntax",
-    ),
-    (
-        "a || b && c == d",
-        200,
-        ExprLevel::Cond,
-        "in@1 x@0 in@3 4 7 syntax",
-    ),
-    (
-        "a = b = c",
-        200,
-        ExprLevel::Expr,
-        "ass@1 x@0 ass@3 3 5 syntax",
-    ),
-    (
-        "a , b , c",
-        200,
-        ExprLevel::Expr,
-        "com@3 com@1 x@4 3 5 syntax",
-    ),
-    ("a , b", 200, ExprLevel::Assign, "x@0 1 1 syntax"),
-    ("a = b", 200, ExprLevel::Cond, "x@0 1 1 syntax"),
-    ("a + b = c", 200, ExprLevel::Expr, "in@1 x@0 x@2 2 3 syntax"),
-    (
-        "( T ) a = b",
-        200,
-        ExprLevel::Expr,
-        "cast@0 T x@3 2 4 syntax",
-    ),
-    ("* a = b", 200, ExprLevel::Expr, "ass@2 op@0 x@3 3 4 syntax"),
-    (
-        "a ? b , c : d ? e : f",
-        200,
-        ExprLevel::Expr,
-        "cho@1 x@0 com@3 cho@7 3 11 syntax",
-    ),
-    (
-        "a ? b : c = d",
-        200,
-        ExprLevel::Expr,
-        "cho@1 x@0 x@2 x@4 2 5 syntax",
-    ),
-    ("f ( )", 200, ExprLevel::Expr, "call@1 x@0 2 3 syntax"),
-    (
-        "f ( a , b = 1 )",
-        200,
-        ExprLevel::Expr,
-        "call@1 x@0 x@2 ass@5 4 8 syntax",
-    ),
-    (
-        "a [ b ] [ 1 ] . T -> c ++",
-        200,
-        ExprLevel::Expr,
-        "post@11 arr@9 6 12 syntax",
-    ),
-    ("- ++ a", 200, ExprLevel::Expr, "op@0 pre@1 3 3 syntax"),
-    (
-        "sizeof a [ 1 ]",
-        200,
-        ExprLevel::Expr,
-        "size@0 idx@2 3 5 syntax",
-    ),
-    (
-        "sizeof ( a ) [ 1 ]",
-        200,
-        ExprLevel::Expr,
-        "size@0 idx@4 4 7 syntax",
-    ),
-    (
-        "sizeof ( int )",
-        200,
-        ExprLevel::Expr,
-        "sizet@0 i 2 4 syntax",
-    ),
-    (
-        "sizeof ( int ) ( a )",
-        200,
-        ExprLevel::Expr,
-        "sizet@0 i 2 4 syntax",
-    ),
-    (
-        "sizeof ( int ) * a",
-        200,
-        ExprLevel::Expr,
-        "in@4 sizet@0 x@5 3 6 syntax",
-    ),
-    (
-        "sizeof ( T * const [ 1 + 1 ] ) {",
-        200,
-        ExprLevel::Expr,
-        "sizet@0 T** in@7 3 11 unsupported",
-    ),
-    (
-        "a + sizeof ( T ) {",
-        200,
-        ExprLevel::Expr,
-        "in@1 x@0 sizet@2 3 6 unsupported",
-    ),
-    ("a {", 200, ExprLevel::Expr, "x@0 1 1 syntax"),
-    (
-        "f ( a ) {",
-        200,
-        ExprLevel::Expr,
-        "call@1 x@0 x@2 3 4 syntax",
-    ),
-    ("a ...", 200, ExprLevel::Expr, "x@0 1 1 unsupported"),
-    ("a static", 200, ExprLevel::Expr, "x@0 1 1 unsupported"),
-    (
-        "( const unsigned long const int ) ( T ) a",
-        200,
-        ExprLevel::Expr,
-        "cast@0 iiiii cast@7 3 11 syntax",
-    ),
-    (
-        "( struct s * ) \"a\"",
-        200,
-        ExprLevel::Expr,
-        "cast@0 s* t@5 2 6 syntax",
-    ),
-    (
-        "( a ) ( 'c' )",
-        200,
-        ExprLevel::Expr,
-        "call@3 par@0 c@4 3 6 syntax",
-    ),
-    (
-        "( T ) ( a )",
-        200,
-        ExprLevel::Expr,
-        "cast@0 T par@3 3 6 syntax",
-    ),
-    ("a T", 200, ExprLevel::Expr, "x@0 1 1 syntax"),
-    ("& a & b", 200, ExprLevel::Expr, "in@2 op@0 x@3 3 4 syntax"),
-];
+const TREES: &str = r#"
+200 Expr a => x@0 1 1 syntax
+200 Expr a < b < c ; => in@3 in@1 x@4 3 5 syntax
+200 Expr a + b * c => in@1 x@0 in@3 3 5 syntax
+200 Expr a * b + c => in@3 in@1 x@4 3 5 syntax
+200 Cond a || b && c == d => in@1 x@0 in@3 4 7 syntax
+200 Expr a = b = c => ass@1 x@0 ass@3 3 5 syntax
+200 Expr a , b , c => com@3 com@1 x@4 3 5 syntax
+200 Assign a , b => x@0 1 1 syntax
+200 Cond a = b => x@0 1 1 syntax
+200 Expr a + b = c => in@1 x@0 x@2 2 3 syntax
+200 Expr ( T ) a = b => cast@0 T x@3 2 4 syntax
+200 Expr * a = b => ass@2 op@0 x@3 3 4 syntax
+200 Expr a ? b , c : d ? e : f => cho@1 x@0 com@3 cho@7 3 11 syntax
+200 Expr a ? b : c = d => cho@1 x@0 x@2 x@4 2 5 syntax
+200 Expr f ( ) => call@1 x@0 2 3 syntax
+200 Expr f ( a , b = 1 ) => call@1 x@0 x@2 ass@5 4 8 syntax
+200 Expr a [ b ] [ 1 ] . T -> c ++ => post@11 arr@9 6 12 syntax
+200 Expr - ++ a => op@0 pre@1 3 3 syntax
+200 Expr sizeof a [ 1 ] => size@0 idx@2 3 5 syntax
+200 Expr sizeof ( a ) [ 1 ] => size@0 idx@4 4 7 syntax
+200 Expr sizeof ( int ) => sizet@0 i 2 4 syntax
+200 Expr sizeof ( int ) ( a ) => sizet@0 i 2 4 syntax
+200 Expr sizeof ( int ) * a => in@4 sizet@0 x@5 3 6 syntax
+200 Expr sizeof ( T * const [ 1 + 1 ] ) { => sizet@0 T** in@7 3 11 unsupported
+200 Expr a + sizeof ( T ) { => in@1 x@0 sizet@2 3 6 unsupported
+200 Expr a { => x@0 1 1 syntax
+200 Expr f ( a ) { => call@1 x@0 x@2 3 4 syntax
+200 Expr a ... => x@0 1 1 unsupported
+200 Expr a static => x@0 1 1 unsupported
+200 Expr ( const unsigned long const int ) ( T ) a => cast@0 iiiii cast@7 3 11 syntax
+200 Expr ( struct s * ) "a" => cast@0 s* t@5 2 6 syntax
+200 Expr ( a ) ( 'c' ) => call@3 par@0 c@4 3 6 syntax
+200 Expr ( T ) ( a ) => cast@0 T par@3 3 6 syntax
+200 Expr a T => x@0 1 1 syntax
+200 Expr & a & b => in@2 op@0 x@3 3 4 syntax
+"#;
 
 #[test]
 fn expressions_have_these_trees(rt: HostRuntime) -> Result<(), Fail> {
-    let found = answered_otherwise(rt.alloc(), &TREES)?;
+    let found = answered_otherwise(rt.alloc(), TREES)?;
     assert_eq!(rt; found.as_str(), "");
     Ok(())
 }
 
 /// Texts that are refused or end early, each with the limit for its tree.
-const REFUSED: [(&str, u32, ExprLevel, &str); 54] = [
-    ("+", 200, ExprLevel::Expr, "syntax 99"),
-    ("T", 200, ExprLevel::Expr, "syntax 0"),
-    ("a", 0, ExprLevel::Expr, "deep 0"),
-    ("; a", 0, ExprLevel::Expr, "syntax 0"),
-    ("float", 9, ExprLevel::Expr, "unsupported 0"),
-    ("( int", 200, ExprLevel::Expr, "syntax 99"),
-    ("( int T )", 200, ExprLevel::Expr, "syntax 2"),
-    ("( int char )", 200, ExprLevel::Expr, "syntax 2"),
-    ("( long long long )", 200, ExprLevel::Expr, "syntax 3"),
-    ("( const )", 200, ExprLevel::Expr, "syntax 2"),
-    ("( const * )", 200, ExprLevel::Expr, "syntax 2"),
-    ("( struct )", 200, ExprLevel::Expr, "syntax 2"),
-    ("( struct {", 200, ExprLevel::Expr, "unsupported 2"),
-    ("( struct s {", 200, ExprLevel::Expr, "unsupported 3"),
-    ("( int struct {", 200, ExprLevel::Expr, "syntax 2"),
-    ("( int ) {", 200, ExprLevel::Expr, "unsupported 3"),
-    ("( int ) ;", 200, ExprLevel::Expr, "syntax 3"),
-    ("( int * * a )", 200, ExprLevel::Expr, "syntax 4"),
-    ("( int [ ] )", 200, ExprLevel::Expr, "syntax 3"),
-    ("( int [ a = 1 ] )", 200, ExprLevel::Expr, "syntax 4"),
-    ("( sizeof ( int ) {", 200, ExprLevel::Expr, "unsupported 5"),
-    ("( f ( a ) {", 200, ExprLevel::Expr, "syntax 5"),
-    ("( static", 200, ExprLevel::Expr, "unsupported 1"),
-    ("a [ b ;", 200, ExprLevel::Expr, "syntax 3"),
-    ("a . 1", 200, ExprLevel::Expr, "syntax 2"),
-    ("f ( a , )", 200, ExprLevel::Expr, "syntax 4"),
-    ("f ( , )", 200, ExprLevel::Expr, "syntax 2"),
-    ("a ? b ;", 200, ExprLevel::Expr, "syntax 3"),
-    ("++ ( int ) a", 200, ExprLevel::Expr, "syntax 2"),
-    ("a + T", 200, ExprLevel::Expr, "syntax 2"),
-    ("a + * ;", 200, ExprLevel::Expr, "syntax 3"),
-    ("( a )", 1, ExprLevel::Expr, "deep 0"),
-    ("sizeof a", 1, ExprLevel::Expr, "deep 0"),
-    ("sizeof ( a )", 2, ExprLevel::Expr, "deep 2"),
-    ("sizeof ( ; )", 2, ExprLevel::Expr, "syntax 2"),
-    ("sizeof ( int )", 2, ExprLevel::Expr, "sizet@0 i 2 4 syntax"),
-    ("a + b + c", 2, ExprLevel::Expr, "in@1 x@0 x@2 2 3 deep"),
-    ("a + b * c", 2, ExprLevel::Expr, "in@1 x@0 x@2 2 3 deep"),
-    ("a + - c", 2, ExprLevel::Expr, "deep 2"),
-    ("f ( a )", 2, ExprLevel::Expr, "deep 2"),
-    ("f ( )", 2, ExprLevel::Expr, "call@1 x@0 2 3 syntax"),
-    ("f ( )", 1, ExprLevel::Expr, "x@0 1 1 deep"),
-    ("f ( ) ( )", 2, ExprLevel::Expr, "call@1 x@0 2 3 deep"),
-    ("a = b = c", 2, ExprLevel::Expr, "ass@1 x@0 x@2 2 3 deep"),
-    (
-        "a ? b : c , d",
-        2,
-        ExprLevel::Expr,
-        "cho@1 x@0 x@2 x@4 2 5 deep",
-    ),
-    ("a ? b , c : d", 2, ExprLevel::Expr, "deep 3"),
-    ("( ( a ) )", 2, ExprLevel::Expr, "deep 1"),
-    ("( a + b )", 2, ExprLevel::Expr, "deep 2"),
-    ("a . b . c", 2, ExprLevel::Expr, "dot@1 x@0 2 3 deep"),
-    ("( int ) - a", 2, ExprLevel::Expr, "deep 3"),
-    ("( int [ - 1 ] ) a", 2, ExprLevel::Expr, "deep 3"),
-    (
-        "sizeof ( int ) ( a )",
-        2,
-        ExprLevel::Expr,
-        "sizet@0 i 2 4 syntax",
-    ),
-    ("a , b = c", 2, ExprLevel::Expr, "com@1 x@0 x@2 2 3 deep"),
-    ("a + b = c", 2, ExprLevel::Expr, "in@1 x@0 x@2 2 3 syntax"),
-];
+const REFUSED: &str = r#"
+200 Expr + => syntax 99
+200 Expr T => syntax 0
+0 Expr a => deep 0
+0 Expr ; a => syntax 0
+9 Expr float => unsupported 0
+200 Expr ( int => syntax 99
+200 Expr ( int T ) => syntax 2
+200 Expr ( int char ) => syntax 2
+200 Expr ( long long long ) => syntax 3
+200 Expr ( const ) => syntax 2
+200 Expr ( const * ) => syntax 2
+200 Expr ( struct ) => syntax 2
+200 Expr ( struct { => unsupported 2
+200 Expr ( struct s { => unsupported 3
+200 Expr ( int struct { => syntax 2
+200 Expr ( int ) { => unsupported 3
+200 Expr ( int ) ; => syntax 3
+200 Expr ( int * * a ) => syntax 4
+200 Expr ( int [ ] ) => syntax 3
+200 Expr ( int [ a = 1 ] ) => syntax 4
+200 Expr ( sizeof ( int ) { => unsupported 5
+200 Expr ( f ( a ) { => syntax 5
+200 Expr ( static => unsupported 1
+200 Expr a [ b ; => syntax 3
+200 Expr a . 1 => syntax 2
+200 Expr f ( a , ) => syntax 4
+200 Expr f ( , ) => syntax 2
+200 Expr a ? b ; => syntax 3
+200 Expr ++ ( int ) a => syntax 2
+200 Expr a + T => syntax 2
+200 Expr a + * ; => syntax 3
+1 Expr ( a ) => deep 0
+1 Expr sizeof a => deep 0
+2 Expr sizeof ( a ) => deep 2
+2 Expr sizeof ( ; ) => syntax 2
+2 Expr sizeof ( int ) => sizet@0 i 2 4 syntax
+2 Expr a + b + c => in@1 x@0 x@2 2 3 deep
+2 Expr a + b * c => in@1 x@0 x@2 2 3 deep
+2 Expr a + - c => deep 2
+2 Expr f ( a ) => deep 2
+2 Expr f ( ) => call@1 x@0 2 3 syntax
+1 Expr f ( ) => x@0 1 1 deep
+2 Expr f ( ) ( ) => call@1 x@0 2 3 deep
+2 Expr a = b = c => ass@1 x@0 x@2 2 3 deep
+2 Expr a ? b : c , d => cho@1 x@0 x@2 x@4 2 5 deep
+2 Expr a ? b , c : d => deep 3
+2 Expr ( ( a ) ) => deep 1
+2 Expr ( a + b ) => deep 2
+2 Expr a . b . c => dot@1 x@0 2 3 deep
+2 Expr ( int ) - a => deep 3
+2 Expr ( int [ - 1 ] ) a => deep 3
+2 Expr sizeof ( int ) ( a ) => sizet@0 i 2 4 syntax
+2 Expr a , b = c => com@1 x@0 x@2 2 3 deep
+2 Expr a + b = c => in@1 x@0 x@2 2 3 syntax
+"#;
 
 #[test]
 fn other_tokens_are_refused_here(rt: HostRuntime) -> Result<(), Fail> {
-    let found = answered_otherwise(rt.alloc(), &REFUSED)?;
+    let found = answered_otherwise(rt.alloc(), REFUSED)?;
     assert_eq!(rt; found.as_str(), "");
     Ok(())
 }

@@ -1,10 +1,8 @@
-//! Words that mean a command, with their values, and words that are refused, with the number of the word, with ample memory.
-use cs_events::RunBudgets;
-use cs_model::Kind;
-use cs_results::Budgets;
+//! Command lines that are valid, each with what it means, and invalid ones, with the number of the word, with ample memory.
 use cs_types::DataModel;
-use cs_words::{Command, ReplayWords, WordsRefusal, words_of};
+use cs_words::{AnalyzeWords, Command, ReplayWords, WordsRefusal, words_of};
 use std::alloc::{AllocError, Global};
+use std::str;
 use std::test::Fail;
 
 // The words of a line, cut at its spaces.
@@ -16,415 +14,253 @@ fn words_in(alloc: Global, line: &str) -> Result<Vec<String>, AllocError> {
     Ok(words)
 }
 
-/// Every kind of fault, by number.
-const EVERY_KIND: [Kind; 11] = [
-    Kind::Null,
-    Kind::Divide,
-    Kind::Unset,
-    Kind::Bounds,
-    Kind::DoubleFree,
-    Kind::Freed,
-    Kind::BadFree,
-    Kind::DeadLocal,
-    Kind::Shift,
-    Kind::Unrelated,
-    Kind::ConstWrite,
-];
+fn model_name(model: DataModel) -> &'static str {
+    match model {
+        DataModel::Lp64 => "lp64",
+        DataModel::Ilp32 => "ilp32",
+    }
+}
 
-/// Words of `analyze` with what they mean: the five budgets, the kinds, the entry, whether the output is JSON, and the data model.
-const ANALYSES: [(
-    &str,
-    (u32, u32, u64, u64, u64),
-    &[Kind],
-    Option<&str>,
-    bool,
-    DataModel,
-); 9] = [
-    (
-        "analyze",
-        (4, 5, 20_000, 150_000, 64),
-        &EVERY_KIND,
-        None,
-        false,
-        DataModel::Lp64,
-    ),
-    (
-        "analyze --model ilp32",
-        (4, 5, 20_000, 150_000, 64),
-        &EVERY_KIND,
-        None,
-        false,
-        DataModel::Ilp32,
-    ),
-    (
-        "analyze --visits 1 --depth=64 --events 1000000 --nodes=200000 --splits 4096",
-        (1, 64, 1_000_000, 200_000, 4_096),
-        &EVERY_KIND,
-        None,
-        false,
-        DataModel::Lp64,
-    ),
-    (
-        "analyze --nodes 1 --splits=1",
-        (4, 5, 20_000, 1, 1),
-        &EVERY_KIND,
-        None,
-        false,
-        DataModel::Lp64,
-    ),
-    (
-        "analyze --kinds null,divide",
-        (4, 5, 20_000, 150_000, 64),
-        &[Kind::Null, Kind::Divide],
-        None,
-        false,
-        DataModel::Lp64,
-    ),
-    (
-        "analyze --kinds=const-write,const-write --entry kinds",
-        (4, 5, 20_000, 150_000, 64),
-        &[Kind::ConstWrite, Kind::ConstWrite],
-        Some("kinds"),
-        false,
-        DataModel::Lp64,
-    ),
-    (
-        "analyze --entry=_f1 --format=text",
-        (4, 5, 20_000, 150_000, 64),
-        &EVERY_KIND,
-        Some("_f1"),
-        false,
-        DataModel::Lp64,
-    ),
-    (
-        "analyze --format json --model=lp64",
-        (4, 5, 20_000, 150_000, 64),
-        &EVERY_KIND,
-        None,
-        true,
-        DataModel::Lp64,
-    ),
-    (
-        "analyze --model=ilp32 --format=json --kinds bad-free --splits 7 --entry while --visits 9",
-        (9, 5, 20_000, 150_000, 7),
-        &[Kind::BadFree],
-        Some("while"),
-        true,
-        DataModel::Ilp32,
-    ),
-];
+// The budgets of visits, depth, events, nodes and splits, the data model, the form, the entry and the kinds.
+fn analysis_text(out: &mut String, read: &AnalyzeWords) -> Result<(), AllocError> {
+    let budgets = read.budgets;
+    let (visits, depth, events) = (budgets.visits, budgets.depth, budgets.events);
+    let (nodes, splits) = (budgets.nodes, budgets.splits);
+    let form = if read.json { "json" } else { "text" };
+    let model = model_name(read.model);
+    write!(
+        out,
+        "analyze {visits} {depth} {events} {nodes} {splits} {model} {form} "
+    )?;
+    match &read.entry {
+        Some(name) => out.push_str(str::from_utf8(name.as_bytes()).unwrap_or("?"))?,
+        None => out.push_str("every entry")?,
+    }
+    for kind in read.kinds.as_slice() {
+        out.push(' ')?;
+        out.push_str(kind.name())?;
+    }
+    Ok(())
+}
+
+// The budgets of visits, depth and events, the data model, the entry and the numbers of the inputs, in the order of their paths.
+fn replay_text(out: &mut String, read: &ReplayWords) -> Result<(), AllocError> {
+    let budgets = read.budgets;
+    let (visits, depth, events) = (budgets.visits, budgets.depth, budgets.events);
+    let model = model_name(read.model);
+    let entry = str::from_utf8(read.entry.as_bytes()).unwrap_or("?");
+    write!(out, "replay {visits} {depth} {events} {model} {entry}")?;
+    for (_path, number) in read.inputs.list() {
+        write!(out, " {number}")?;
+    }
+    Ok(())
+}
+
+fn command_text(out: &mut String, command: &Command) -> Result<(), AllocError> {
+    match command {
+        Command::Analyze(read) => analysis_text(out, read),
+        Command::Flow(read) => write!(out, "flow {}", model_name(read.model)),
+        Command::Replay(read) => replay_text(out, read),
+        Command::Generate(read) => write!(out, "generate {} {}", read.seed, read.size),
+    }
+}
+
+// What words mean, or which of them is refused.
+fn said_text(out: &mut String, words: &[String], alloc: Global) -> Result<(), AllocError> {
+    match words_of(alloc, words) {
+        Ok(command) => command_text(out, &command),
+        Err(WordsRefusal::Words(number)) => write!(out, "{number}"),
+        Err(WordsRefusal::Memory) => Err(AllocError),
+    }
+}
+
+fn said(alloc: Global, line: &str) -> Result<String, AllocError> {
+    let words = words_in(alloc, line)?;
+    let mut out = String::new(alloc);
+    said_text(&mut out, &words, alloc)?;
+    Ok(out)
+}
+
+// Of a table of lines and what they mean, or which of their words is refused, the lines that are read otherwise, with that.
+fn read_otherwise(alloc: Global, table: &str) -> Result<String, AllocError> {
+    let mut found = String::new(alloc);
+    for row in table.lines() {
+        let (line, expected) = row.split_once(" => ").unwrap_or((row, ""));
+        let said = said(alloc, line)?;
+        if said.as_str() != expected {
+            let reported = format!(in alloc; "{line} is {said}\n")?;
+            found.push_str(reported.as_str())?;
+        }
+    }
+    Ok(found)
+}
+
+/// Words of `analyze` with what they mean: the five budgets, the data model, the form of the output, the entry, and the kinds.
+const ANALYSES: &str =
+    "analyze => analyze 4 5 20000 150000 64 lp64 text every entry null divide unset bounds double-free freed bad-free dead-local shift unrelated const-write
+analyze --model ilp32 => analyze 4 5 20000 150000 64 ilp32 text every entry null divide unset bounds double-free freed bad-free dead-local shift unrelated const-write
+analyze --visits 1 --depth=64 --events 1000000 --nodes=200000 --splits 4096 => analyze 1 64 1000000 200000 4096 lp64 text every entry null divide unset bounds double-free freed bad-free dead-local shift unrelated const-write
+analyze --nodes 1 --splits=1 => analyze 4 5 20000 1 1 lp64 text every entry null divide unset bounds double-free freed bad-free dead-local shift unrelated const-write
+analyze --kinds null,divide => analyze 4 5 20000 150000 64 lp64 text every entry null divide
+analyze --kinds=const-write,const-write --entry kinds => analyze 4 5 20000 150000 64 lp64 text kinds const-write const-write
+analyze --entry=_f1 --format=text => analyze 4 5 20000 150000 64 lp64 text _f1 null divide unset bounds double-free freed bad-free dead-local shift unrelated const-write
+analyze --format json --model=lp64 => analyze 4 5 20000 150000 64 lp64 json every entry null divide unset bounds double-free freed bad-free dead-local shift unrelated const-write
+analyze --model=ilp32 --format=json --kinds bad-free --splits 7 --entry while --visits 9 => analyze 9 5 20000 150000 7 ilp32 json while bad-free";
 
 #[test]
 fn reads_words_of_analyze(rt: HostRuntime) -> Result<(), Fail> {
-    let alloc = rt.alloc();
-    for (line, (visits, depth, events, nodes, splits), kinds, entry, json, model) in ANALYSES {
-        let words = words_in(alloc, line)?;
-        match words_of(alloc, words.as_slice())? {
-            Command::Analyze(read) => {
-                let budgets = Budgets {
-                    visits,
-                    depth,
-                    events,
-                    nodes,
-                    splits,
-                };
-                assert_eq!(rt; read.budgets, budgets, "{line}");
-                assert_eq!(rt; read.kinds.as_slice(), kinds, "{line}");
-                let found = read.entry.as_ref().map(|name| name.as_bytes());
-                assert!(rt; found == entry.map(|name| name.as_bytes()), "{line}");
-                assert_eq!(rt; read.json, json, "{line}");
-                assert_eq!(rt; read.model, model, "{line}");
-            }
-            Command::Flow(_) | Command::Replay(_) | Command::Generate(_) => {
-                assert!(rt; false, "{line}")
-            }
-        }
-    }
+    let found = read_otherwise(rt.alloc(), ANALYSES)?;
+    assert_eq!(rt; found.as_str(), "");
     Ok(())
 }
+
+/// Words of `generate` with the seed and the size.
+const GENERATED: &str = "generate 0 6 => generate 0 6
+generate 999999999 4000 => generate 999999999 4000
+generate 000000007 0000 => generate 7 0";
 
 #[test]
 fn reads_words_of_generate(rt: HostRuntime) -> Result<(), Fail> {
-    let alloc = rt.alloc();
-    for (line, seed, size) in [
-        ("generate 0 6", 0, 6),
-        ("generate 999999999 4000", 999_999_999, 4_000),
-        ("generate 000000007 0000", 7, 0),
-    ] {
-        let words = words_in(alloc, line)?;
-        match words_of(alloc, words.as_slice())? {
-            Command::Generate(read) => assert_eq!(rt;
-                (read.seed, read.size),
-                (seed, size),
-                "{line}"
-            ),
-            Command::Analyze(_) | Command::Flow(_) | Command::Replay(_) => {
-                assert!(rt; false, "{line}")
-            }
-        }
-    }
+    let found = read_otherwise(rt.alloc(), GENERATED)?;
+    assert_eq!(rt; found.as_str(), "");
     Ok(())
 }
+
+/// Words of `flow` with the data model.
+const FLOWS: &str = "flow => flow lp64
+flow --model ilp32 => flow ilp32";
 
 #[test]
 fn reads_words_of_flow(rt: HostRuntime) -> Result<(), Fail> {
-    let alloc = rt.alloc();
-    for (line, model) in [
-        ("flow", DataModel::Lp64),
-        ("flow --model ilp32", DataModel::Ilp32),
-    ] {
-        let words = words_in(alloc, line)?;
-        match words_of(alloc, words.as_slice())? {
-            Command::Flow(read) => assert_eq!(rt; read.model, model, "{line}"),
-            Command::Analyze(_) | Command::Replay(_) | Command::Generate(_) => {
-                assert!(rt; false, "{line}")
-            }
-        }
-    }
+    let found = read_otherwise(rt.alloc(), FLOWS)?;
+    assert_eq!(rt; found.as_str(), "");
     Ok(())
 }
 
-/// Words of `replay` with what they mean: the budgets of visits, depth and events, the data model, the entry, and how many inputs.
-const REPLAYS: [(&str, (u32, u32, u64), DataModel, &str, usize); 10] = [
-    ("replay f", (4, 5, 20_000), DataModel::Lp64, "f", 0),
-    ("replay f x=3", (4, 5, 20_000), DataModel::Lp64, "f", 1),
-    (
-        "replay int int=3 $g@0=-1 int=4",
-        (4, 5, 20_000),
-        DataModel::Lp64,
-        "int",
-        2,
-    ),
-    (
-        "replay --model=ilp32 _f1",
-        (4, 5, 20_000),
-        DataModel::Ilp32,
-        "_f1",
-        0,
-    ),
-    (
-        "replay --visits 1 f",
-        (1, 5, 20_000),
-        DataModel::Lp64,
-        "f",
-        0,
-    ),
-    (
-        "replay --visits=000001000 f",
-        (1_000, 5, 20_000),
-        DataModel::Lp64,
-        "f",
-        0,
-    ),
-    (
-        "replay --depth 6 f n=5",
-        (4, 6, 20_000),
-        DataModel::Lp64,
-        "f",
-        1,
-    ),
-    (
-        "replay --depth=64 f",
-        (4, 64, 20_000),
-        DataModel::Lp64,
-        "f",
-        0,
-    ),
-    (
-        "replay --events 1000000 f",
-        (4, 5, 1_000_000),
-        DataModel::Lp64,
-        "f",
-        0,
-    ),
-    (
-        "replay --events=1 --model ilp32 --depth 1 --visits=7 f",
-        (7, 1, 1),
-        DataModel::Ilp32,
-        "f",
-        0,
-    ),
-];
-
-// What `replay` reads of the words of a line.
-fn replay_of(alloc: Global, line: &str) -> Result<Option<ReplayWords>, AllocError> {
-    let words = words_in(alloc, line)?;
-    match words_of(alloc, words.as_slice()) {
-        Ok(Command::Replay(read)) => Ok(Some(read)),
-        _ => Ok(None),
-    }
-}
-
-// Of a table of lines and meanings, the lines that mean something else.
-fn meant_otherwise(
-    alloc: Global,
-    table: &[(&str, (u32, u32, u64), DataModel, &str, usize)],
-) -> Result<String, AllocError> {
-    let mut found = String::new(alloc);
-    for (line, (visits, depth, events), model, entry, inputs) in table {
-        let budgets = RunBudgets {
-            visits: *visits,
-            depth: *depth,
-            events: *events,
-        };
-        let as_meant = replay_of(alloc, line)?.is_some_and(|read| {
-            read.budgets == budgets
-                && read.model == *model
-                && read.entry.as_bytes() == entry.as_bytes()
-                && read.inputs.list().len() == *inputs
-        });
-        if !as_meant {
-            found.push_str(line)?;
-            found.push('\n')?;
-        }
-    }
-    Ok(found)
-}
+/// Words of `replay` with what they mean: the budgets of visits, depth and events, the data model, the entry, and the inputs.
+const REPLAYS: &str = "replay f => replay 4 5 20000 lp64 f
+replay f x=3 => replay 4 5 20000 lp64 f 3
+replay int int=3 $g@0=-1 int=4 => replay 4 5 20000 lp64 int 4 -1
+replay --model=ilp32 _f1 => replay 4 5 20000 ilp32 _f1
+replay --visits 1 f => replay 1 5 20000 lp64 f
+replay --visits=000001000 f => replay 1000 5 20000 lp64 f
+replay --depth 6 f n=5 => replay 4 6 20000 lp64 f 5
+replay --depth=64 f => replay 4 64 20000 lp64 f
+replay --events 1000000 f => replay 4 5 1000000 lp64 f
+replay --events=1 --model ilp32 --depth 1 --visits=7 f => replay 7 1 1 ilp32 f";
 
 #[test]
 fn reads_words_of_replay(rt: HostRuntime) -> Result<(), Fail> {
-    let found = meant_otherwise(rt.alloc(), &REPLAYS)?;
+    let found = read_otherwise(rt.alloc(), REPLAYS)?;
     assert_eq!(rt; found.as_str(), "");
     Ok(())
 }
+
+/// Inputs of which one is set three times.
+const REPEATED: &str = "replay f y=1 x=2 x=-3 x=007 => replay 4 5 20000 lp64 f 7 1";
 
 #[test]
 fn the_last_of_one_path_holds(rt: HostRuntime) -> Result<(), Fail> {
-    let alloc = rt.alloc();
-    let words = words_in(alloc, "replay f y=1 x=2 x=-3 x=007")?;
-    match words_of(alloc, words.as_slice())? {
-        Command::Replay(read) => {
-            let inputs = read.inputs.list();
-            assert_eq!(rt; inputs.len(), 2);
-            assert_eq!(rt; inputs[0].1, 7);
-            assert_eq!(rt; inputs[1].1, 1);
-        }
-        Command::Analyze(_) | Command::Flow(_) | Command::Generate(_) => assert!(rt; false),
-    }
+    let found = read_otherwise(rt.alloc(), REPEATED)?;
+    assert_eq!(rt; found.as_str(), "");
     Ok(())
 }
 
-// The refusal of the words of a line, if they are refused.
-fn refusal_of(alloc: Global, line: &str) -> Result<Option<WordsRefusal>, AllocError> {
-    let words = words_in(alloc, line)?;
-    Ok(words_of(alloc, words.as_slice()).err())
-}
-
-// Of a table of lines and numbers, the lines that aren't refused for the word of that number.
-fn refused_otherwise(alloc: Global, table: &[(&str, u64)]) -> Result<String, AllocError> {
-    let mut found = String::new(alloc);
-    for (line, number) in table {
-        if refusal_of(alloc, line)? != Some(WordsRefusal::Words(*number)) {
-            found.push_str(line)?;
-            found.push('\n')?;
-        }
-    }
-    Ok(found)
-}
-
 /// Words that begin no command, or that a command without a function doesn't take.
-const COMMANDS: [(&str, u64); 13] = [
-    ("", 1),
-    ("Analyze", 1),
-    ("analyze ", 2),
-    ("analyze f", 2),
-    ("analyze --visits 0", 3),
-    ("analyze --model", 3),
-    ("analyze --model lp32", 3),
-    ("analyze --model=", 2),
-    ("analyze --model lp64 lp64", 4),
-    ("analyze --model lp64 --model=lp64", 4),
-    ("flow f", 2),
-    ("flow --visits 1", 2),
-    ("replay --nodes 1 f", 2),
-];
+const COMMANDS: &str = " => 1
+Analyze => 1
+analyze  => 2
+analyze f => 2
+analyze --visits 0 => 3
+analyze --model => 3
+analyze --model lp32 => 3
+analyze --model= => 2
+analyze --model lp64 lp64 => 4
+analyze --model lp64 --model=lp64 => 4
+flow f => 2
+flow --visits 1 => 2
+replay --nodes 1 f => 2";
 
 #[test]
 fn refuses_commands(rt: HostRuntime) -> Result<(), Fail> {
-    let alloc = rt.alloc();
-    assert_eq!(rt; words_of(alloc, &[]).err(), Some(WordsRefusal::Words(1)));
-    let found = refused_otherwise(alloc, &COMMANDS)?;
+    let found = read_otherwise(rt.alloc(), COMMANDS)?;
     assert_eq!(rt; found.as_str(), "");
+    let none = words_of(rt.alloc(), &[]).err();
+    assert!(rt; none == Some(WordsRefusal::Words(1)));
     Ok(())
 }
 
 /// Budgets that are out of range, cut off, or said twice.
-const SETTINGS: [(&str, u64); 17] = [
-    ("replay --visits 0", 3),
-    ("replay --visits 0 f", 3),
-    ("replay --visits 1001 f", 3),
-    ("replay --visits=1001 f", 2),
-    ("replay --visits 0000000001 f", 3),
-    ("replay --visits +1 f", 3),
-    ("replay --visits --depth 1 f", 3),
-    ("replay --visits", 3),
-    ("replay --visits 1", 4),
-    ("replay --visits 1 --visits 1 f", 4),
-    ("replay --visits 1 --visits=x f", 4),
-    ("replay --depth 65 f", 3),
-    ("replay --depth 0 f", 3),
-    ("replay --events 1000001 f", 3),
-    ("replay --events=0 f", 2),
-    ("replay --event 1 f", 2),
-    ("replay -visits 1 f", 2),
-];
+const SETTINGS: &str = "replay --visits 0 => 3
+replay --visits 0 f => 3
+replay --visits 1001 f => 3
+replay --visits=1001 f => 2
+replay --visits 0000000001 f => 3
+replay --visits +1 f => 3
+replay --visits --depth 1 f => 3
+replay --visits => 3
+replay --visits 1 => 4
+replay --visits 1 --visits 1 f => 4
+replay --visits 1 --visits=x f => 4
+replay --depth 65 f => 3
+replay --depth 0 f => 3
+replay --events 1000001 f => 3
+replay --events=0 f => 2
+replay --event 1 f => 2
+replay -visits 1 f => 2";
 
 #[test]
 fn refuses_settings(rt: HostRuntime) -> Result<(), Fail> {
-    let found = refused_otherwise(rt.alloc(), &SETTINGS)?;
+    let found = read_otherwise(rt.alloc(), SETTINGS)?;
     assert_eq!(rt; found.as_str(), "");
     Ok(())
 }
 
 /// Options of `analyze` whose values aren't any, and generated files without their numbers.
-const ANALYSES_AND_FILES: [(&str, u64); 24] = [
-    ("analyze --nodes 0", 3),
-    ("analyze --nodes 200001", 3),
-    ("analyze --nodes=200001", 2),
-    ("analyze --splits 4097", 3),
-    ("analyze --splits", 3),
-    ("analyze --kinds nul", 3),
-    ("analyze --kinds=", 2),
-    ("analyze --kinds null,", 3),
-    ("analyze --kinds ,null", 3),
-    ("analyze --kinds null,,divide", 3),
-    ("analyze --kinds null, divide", 3),
-    ("analyze --kinds Null", 3),
-    ("analyze --kinds null --kinds null", 4),
-    ("analyze --entry 1f", 3),
-    ("analyze --entry f --format xml", 5),
-    ("analyze --format JSON", 3),
-    ("analyze --entry", 3),
-    ("generate", 2),
-    ("generate 0", 3),
-    ("generate 1000000000 0", 2),
-    ("generate x 0", 2),
-    ("generate 0 4001", 3),
-    ("generate 0 6 6", 4),
-    ("generate --model lp64 0 6", 2),
-];
+const ANALYSES_AND_FILES: &str = "analyze --nodes 0 => 3
+analyze --nodes 200001 => 3
+analyze --nodes=200001 => 2
+analyze --splits 4097 => 3
+analyze --splits => 3
+analyze --kinds nul => 3
+analyze --kinds= => 2
+analyze --kinds null, => 3
+analyze --kinds ,null => 3
+analyze --kinds null,,divide => 3
+analyze --kinds null, divide => 3
+analyze --kinds Null => 3
+analyze --kinds null --kinds null => 4
+analyze --entry 1f => 3
+analyze --entry f --format xml => 5
+analyze --format JSON => 3
+analyze --entry => 3
+generate => 2
+generate 0 => 3
+generate 1000000000 0 => 2
+generate x 0 => 2
+generate 0 4001 => 3
+generate 0 6 6 => 4
+generate --model lp64 0 6 => 2";
 
 #[test]
 fn refuses_analyses_and_files(rt: HostRuntime) -> Result<(), Fail> {
-    let found = refused_otherwise(rt.alloc(), &ANALYSES_AND_FILES)?;
+    let found = read_otherwise(rt.alloc(), ANALYSES_AND_FILES)?;
     assert_eq!(rt; found.as_str(), "");
     Ok(())
 }
 
 /// Runs of no function, and inputs that aren't any.
-const ENTRIES: [(&str, u64); 7] = [
-    ("replay", 2),
-    ("replay 1f", 2),
-    ("replay f@0=1", 2),
-    ("replay f x=", 3),
-    ("replay f x=1 y", 4),
-    ("replay f x=1 --depth 6", 4),
-    ("replay f x=18446744073709551616", 3),
-];
+const ENTRIES: &str = "replay => 2
+replay 1f => 2
+replay f@0=1 => 2
+replay f x= => 3
+replay f x=1 y => 4
+replay f x=1 --depth 6 => 4
+replay f x=18446744073709551616 => 3";
 
 #[test]
 fn refuses_entries_and_inputs(rt: HostRuntime) -> Result<(), Fail> {
-    let found = refused_otherwise(rt.alloc(), &ENTRIES)?;
+    let found = read_otherwise(rt.alloc(), ENTRIES)?;
     assert_eq!(rt; found.as_str(), "");
     Ok(())
 }

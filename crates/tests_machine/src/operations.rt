@@ -2,15 +2,17 @@
 use cs_ast::Place;
 use cs_ast::typed::operator::BinOp;
 use cs_ast::typed::program::Program;
-use cs_events::{Budget, Event, Guess, Label, Outcome, RunBudgets, Wrap};
+use cs_events::{Event, Guess, Outcome, RunBudgets};
 use cs_inputs::Inputs;
-use cs_model::{Kind, Standing};
-use cs_run_state::blocks::{Block, BlockType, Change, Fill};
-use cs_run_state::memory::Memory;
-use cs_run_state::prepared::Prepared;
-use cs_run_state::{Log, Object, Setting, Stop};
+use cs_memory::memory::Memory;
+use cs_model::Standing;
+use cs_objects::Setting;
+use cs_objects::blocks::{Block, BlockType, Change, Fill};
+use cs_objects::prepared::Prepared;
+use cs_run_log::{Log, Stop};
 use cs_types::{DataModel, IntType, StructTable, Structs};
-use std::alloc::Global;
+use cs_values::Object;
+use std::alloc::{AllocError, Global};
 use std::process::Abort;
 use std::test::Fail;
 
@@ -89,74 +91,110 @@ fn answered_in(
     (answer, log)
 }
 
-/// What operators of two `int` give, what shows of it, and where a run ends.
+/// An operator of two `int`, its operands, the number of events, and a guess: the event and the number. What the operator gives, and what
+/// shows of it; or where a run ends.
+const OPERATIONS: &str = "+ 2147483647 1 1 => Ok(-2147483648) Wrap(Past)
+- -2147483648 1 1 => Ok(2147483647) Wrap(Under)
+* 65536 1048576 1 => Ok(0) Wrap(Far)
+/ -7 2 1 => Ok(-3) Wrap(Same)
+% -7 2 1 => Ok(-1) Wrap(Same)
+/ -2147483648 -1 1 => Ok(-2147483648) Wrap(Past)
+>> -7 1 1 => Ok(-4) Wrap(Same)
+& -2 7 1 => Ok(6) Wrap(Same)
+^ -2 7 1 => Ok(-7) Wrap(Same)
+/ 7 0 1 => fault divide 0:1:1
+<< 1 32 1 => fault shift 0:1:1
++ 1 1 1 1 9 => Ok(9) Wrap(Guessed)
++ 1 1 1 1 2147483648 => Ok(2) Wrap(Same)
++ 1 1 1 2 9 => Ok(2) Wrap(Same)
++ 1 1 0 1 9 => over events 0:1:1";
+
+fn operator(word: Option<&str>) -> BinOp {
+    match word.unwrap_or("") {
+        "-" => BinOp::Sub,
+        "*" => BinOp::Mul,
+        "/" => BinOp::Div,
+        "%" => BinOp::Rem,
+        ">>" => BinOp::Shr,
+        "<<" => BinOp::Shl,
+        "&" => BinOp::And,
+        "^" => BinOp::Xor,
+        _ => BinOp::Add,
+    }
+}
+
+fn number(word: Option<&str>) -> i128 {
+    word.unwrap_or("").parse::<i128>().unwrap_or(0)
+}
+
+fn count(word: Option<&str>) -> u64 {
+    word.unwrap_or("").parse::<u64>().unwrap_or(0)
+}
+
+// What an operation gives, or where the run ends.
+fn answer_text(out: &mut String, answer: Result<i128, Stop>) -> Result<(), AllocError> {
+    match answer {
+        Err(Stop::Outcome(Outcome::Fault(kind, at))) => {
+            write!(
+                out,
+                "fault {} {}:{}:{}",
+                kind.name(),
+                at.file,
+                at.line,
+                at.column
+            )
+        }
+        Err(Stop::Outcome(Outcome::Over(budget, at))) => {
+            write!(
+                out,
+                "over {} {}:{}:{}",
+                budget.name(),
+                at.file,
+                at.line,
+                at.column
+            )
+        }
+        other => write!(out, "{other:?}"),
+    }
+}
+
+// The same with what shows, each event at the place of the operation.
+fn said(alloc: Global, answer: Result<i128, Stop>, events: &[Event]) -> Result<String, AllocError> {
+    let mut out = String::new(alloc);
+    answer_text(&mut out, answer)?;
+    for event in events {
+        let label = event.label;
+        let elsewhere = if event.place == HERE {
+            ""
+        } else {
+            " elsewhere"
+        };
+        write!(out, " {label:?}{elsewhere}")?;
+    }
+    Ok(out)
+}
+
+fn assert_operation(rt: &impl Abort, alloc: Global, row: &str) -> Result<(), AllocError> {
+    let (operation, wanted) = row.split_once(" => ").unwrap_or((row, ""));
+    let mut words = operation.split_ascii_whitespace();
+    let operator = operator(words.next());
+    let (left, right) = (number(words.next()), number(words.next()));
+    let events = count(words.next());
+    let guess = Guess {
+        event: count(words.next()),
+        number: number(words.next()),
+    };
+    let (answer, log) = answered(alloc, &[guess], events, operator, left, right);
+    let said = said(alloc, answer, log.events.as_slice())?;
+    assert_eq!(rt; said.as_str(), wanted, "{operation}");
+    Ok(())
+}
+
+/// No event has the number 0, so a row without a guess has none.
 #[test]
 fn an_operator_gives_what_it_gives_in_c(rt: HostRuntime) -> Result<(), Fail> {
-    let alloc = rt.alloc();
-    let nine = [Guess {
-        event: 1,
-        number: 9,
-    }];
-    let too_wide = [Guess {
-        event: 1,
-        number: 1 << 31,
-    }];
-    let later = [Guess {
-        event: 2,
-        number: 9,
-    }];
-    let over = Err(Stop::Outcome(Outcome::Over(Budget::Events, HERE)));
-    let by_zero = Err(Stop::Outcome(Outcome::Fault(Kind::Divide, HERE)));
-    let too_far = Err(Stop::Outcome(Outcome::Fault(Kind::Shift, HERE)));
-    for (operator, left, right, guesses, events, wanted, shown) in [
-        (
-            BinOp::Add,
-            2147483647,
-            1,
-            [].as_slice(),
-            1,
-            Ok(-2147483648),
-            Some(Wrap::Past),
-        ),
-        (
-            BinOp::Sub,
-            -2147483648,
-            1,
-            &[],
-            1,
-            Ok(2147483647),
-            Some(Wrap::Under),
-        ),
-        (BinOp::Mul, 65536, 1048576, &[], 1, Ok(0), Some(Wrap::Far)),
-        (BinOp::Div, -7, 2, &[], 1, Ok(-3), Some(Wrap::Same)),
-        (BinOp::Rem, -7, 2, &[], 1, Ok(-1), Some(Wrap::Same)),
-        (
-            BinOp::Div,
-            -2147483648,
-            -1,
-            &[],
-            1,
-            Ok(-2147483648),
-            Some(Wrap::Past),
-        ),
-        (BinOp::Shr, -7, 1, &[], 1, Ok(-4), Some(Wrap::Same)),
-        (BinOp::And, -2, 7, &[], 1, Ok(6), Some(Wrap::Same)),
-        (BinOp::Xor, -2, 7, &[], 1, Ok(-7), Some(Wrap::Same)),
-        (BinOp::Div, 7, 0, &[], 1, by_zero, None),
-        (BinOp::Shl, 1, 32, &[], 1, too_far, None),
-        (BinOp::Add, 1, 1, &nine, 1, Ok(9), Some(Wrap::Guessed)),
-        (BinOp::Add, 1, 1, &too_wide, 1, Ok(2), Some(Wrap::Same)),
-        (BinOp::Add, 1, 1, &later, 1, Ok(2), Some(Wrap::Same)),
-        (BinOp::Add, 1, 1, &nine, 0, over, None),
-    ] {
-        let (answer, log) = answered(alloc, guesses, events, operator, left, right);
-        assert_eq!(rt; answer, wanted, "{operator:?} of {left} and {right}");
-        let mut wanted_events = Vec::new(alloc);
-        if let Some(wrap) = shown {
-            let label = Label::Wrap(wrap);
-            wanted_events.push(Event { place: HERE, label })?;
-        }
-        assert_eq!(rt; log.events.as_slice(), wanted_events.as_slice());
+    for row in OPERATIONS.lines() {
+        assert_operation(&rt, rt.alloc(), row)?;
     }
     Ok(())
 }
@@ -169,26 +207,37 @@ fn memory_keeps_what_was_freed(rt: HostRuntime) -> Result<(), Fail> {
     frees_for_good(&rt, alloc, &prepared)
 }
 
+// A block of bytes with so many of them.
+fn bytes<'a>(alloc: Global, extent: u64, fill: Fill<'a>) -> Block<'a> {
+    Block::new(alloc, BlockType::Integer(IntType::UChar), extent, fill)
+}
+
+fn fill_and_free(memory: &mut Memory<'_>, alloc: Global) -> Result<(), AllocError> {
+    memory.allocate(bytes(alloc, 4, Fill::Unset))?;
+    memory.allocate_none()?;
+    memory.allocate(bytes(alloc, 8, Fill::Zero))?;
+    memory.change(&Object::Heap(1), Change::Stand(Standing::Freed))
+}
+
+fn assert_block(
+    rt: &impl Abort,
+    memory: &Memory<'_>,
+    number: u64,
+    wanted: Option<(u64, Standing)>,
+) {
+    let found = memory.block(&Object::Heap(number));
+    let found = found.map(|block| (block.extent, block.standing));
+    assert!(rt; found == wanted, "block {number}");
+}
+
 // The same with what the runs of a program share.
 fn frees_for_good(rt: &impl Abort, alloc: Global, prepared: &Prepared) -> Result<(), Fail> {
     let mut memory = Memory::new(alloc, prepared);
-    memory.allocate(Block::new(alloc, BlockType::Integer(IntType::UChar), 4, Fill::Unset))?;
-    memory.allocate_none()?;
-    memory.allocate(Block::new(alloc, BlockType::Integer(IntType::UChar), 8, Fill::Zero))?;
-    memory.change(&Object::Heap(1), Change::Stand(Standing::Freed))?;
-    for (number, wanted) in [
-        (0, None),
-        (1, Some((4, Standing::Freed))),
-        (2, None),
-        (3, Some((8, Standing::Live))),
-        (4, None),
-    ] {
-        let found = memory.block(&Object::Heap(number));
-        assert_eq!(rt;
-            found.map(|block| (block.extent, block.standing)),
-            wanted,
-            "block {number}"
-        );
-    }
+    fill_and_free(&mut memory, alloc)?;
+    assert_block(rt, &memory, 0, None);
+    assert_block(rt, &memory, 1, Some((4, Standing::Freed)));
+    assert_block(rt, &memory, 2, None);
+    assert_block(rt, &memory, 3, Some((8, Standing::Live)));
+    assert_block(rt, &memory, 4, None);
     Ok(())
 }

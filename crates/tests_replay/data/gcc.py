@@ -9,7 +9,7 @@ import sys
 import tempfile
 
 TABLE = "src/programs.rt"
-ROW = re.compile(r'("replay [^"]*",\s*"((?:[^"\\]|\\.)*)",\s*)"([^"]*)\\n"', re.S)
+ROW = re.compile(r"^(replay .*?: (.*) => )(.*)$", re.M)
 MAIN = """
 int printf(const char *, ...);
 int main(void) {
@@ -25,21 +25,21 @@ def line_of(program, folder):
     made = subprocess.run(command, input=program + MAIN, text=True, capture_output=True)
     if made.returncode:
         return made.stderr.strip().split("\n")[0]
-    return subprocess.run([f"{folder}/program"], text=True, capture_output=True, timeout=10).stdout
+    return subprocess.run([f"{folder}/program"], text=True, capture_output=True, timeout=10).stdout.strip()
 
 
 def main():
     text = open(TABLE, encoding="utf-8").read()
     rows = list(ROW.finditer(text))
     with tempfile.TemporaryDirectory() as folder:
-        found = [line_of(re.sub(r"\\(.)", r"\1", row[2]), folder) for row in rows]
+        found = [line_of(row[2], folder) for row in rows]
     other = [(row, line) for row, line in zip(rows, found) if line != row[3]]
     print(f"{TABLE}: {len(rows)} rows, gcc differs on {len(other)}")
     for row, line in other:
         print(f"  {row[2]}: {row[3]}, gcc: {line}")
     if "--write" in sys.argv[1:]:
         lines = iter(found)
-        text = ROW.sub(lambda row: f'{row[1]}"{next(lines)}\\n"', text)
+        text = ROW.sub(lambda row: f"{row[1]}{next(lines)}", text)
         open(TABLE, "w", encoding="utf-8").write(text)
     elif other:
         sys.exit(1)

@@ -1,21 +1,22 @@
 //! The run of a program's code beside the run of the reference machine, as text.
 ghost use Rattle.cs_ast.specs.TypedProgram.{typed_program};
-ghost use Rattle.cs_run_state.specs.Prepared.{IsPrepared, IsReady};
+ghost use Rattle.cs_objects.specs.Prepared.{IsPrepared, IsReady};
 ghost use Rattle.cs_well_formed.specs.Programs.{IsWellFormed};
 
 use crate::pending::{append_pending, same_lookups, same_pending};
 use cs_ast::typed::program::{Function, Program};
 use cs_events::Guess;
 use cs_lower::lower;
+use cs_objects::Setting;
+use cs_objects::prepared::Prepared;
+use cs_program::program_of;
 use cs_reference::run;
 use cs_replay::{Replayed, replay};
 use cs_report::append_replayed;
-use cs_run_state::prepared::Prepared;
-use cs_run_state::{Log, Setting};
+use cs_run_log::Log;
 use cs_words::{Command, ReplayWords, words_of};
 use std::alloc::{AllocError, Global};
 use std::str;
-use tests_files::front::program;
 
 /// The run of a function's code, if it has a body and memory is found.
 fn coded(alloc: Global, setting: &Setting, entry: u32) -> Option<Replayed>
@@ -105,48 +106,64 @@ fn text_of(
     Ok(text)
 }
 
-/// The text of the run that a command line asks for of a file, with guesses. Nothing where both machines don't agree.
-fn row_text(
+/// The words of a line.
+fn words_in(alloc: Global, line: &str) -> Result<Vec<String>, AllocError> {
+    let mut words = Vec::new(alloc);
+    for word in line.split_ascii_whitespace() {
+        words.push(String::from_str(alloc, word)?)?;
+    }
+    Ok(words)
+}
+
+/// The text of the run that a command asks for of a file, with guesses. Nothing where both machines don't agree.
+fn run_text(
     alloc: Global,
-    line: &str,
+    command: &Command,
     file: &str,
     guesses: &[Guess],
     has_pending: bool,
 ) -> Option<Vec<u8>> {
-    let mut words = Vec::new(alloc);
-    for word in line.split_ascii_whitespace() {
-        words.push(String::from_str(alloc, word).ok()?).ok()?;
-    }
-    let Ok(Command::Replay(words)) = words_of(alloc, &words) else {
+    let Command::Replay(words) = command else {
         return None;
     };
-    let program = program(alloc, words.model, file)?;
-    let replayed = guessed(alloc, &words, &program, guesses)?;
-    text_of(alloc, &program, &replayed, has_pending).ok()
+    let Ok(found) = program_of(alloc, words.model, file.as_bytes()) else {
+        return None;
+    };
+    let replayed = guessed(alloc, words, &found.program, guesses)?;
+    text_of(alloc, &found.program, &replayed, has_pending).ok()
 }
 
-/// Adds a file with the text of its run, if the run has another text than this.
+/// The same of a command line: its words, a colon and the file.
+fn row_text(alloc: Global, run: &str, guesses: &[Guess], has_pending: bool) -> Option<Vec<u8>> {
+    let (line, file) = run.split_once(": ")?;
+    let words = words_in(alloc, line).ok()?;
+    let command = words_of(alloc, &words).ok()?;
+    run_text(alloc, &command, file, guesses, has_pending)
+}
+
+/// Adds a run with its text, if it has another text than this.
 pub fn add_if_otherwise(
     alloc: Global,
     found: &mut String,
-    row: &(&str, &str, &str),
+    row: (&str, &str),
     guesses: &[Guess],
     has_pending: bool,
 ) -> Result<(), AllocError> {
-    let (words, file, wanted) = row;
-    let text = row_text(alloc, words, file, guesses, has_pending).unwrap_or(Vec::new(alloc));
-    if text.as_slice() == wanted.as_bytes() {
+    let (run, wanted) = row;
+    let text = row_text(alloc, run, guesses, has_pending).unwrap_or(Vec::new(alloc));
+    let given = str::from_utf8(&text).unwrap_or("no text");
+    if given.strip_suffix('\n') == Some(wanted) {
         return Ok(());
     }
-    let given = str::from_utf8(&text).unwrap_or("no text");
-    let reported = format!(in alloc; "{words}: {file} gives {given}")?;
+    let reported = format!(in alloc; "{run} gives {given}")?;
     found.push_str(reported.as_str())
 }
 
-/// Of a table of words, files and answers, the runs that end otherwise by one of the machines, with their texts.
-pub fn differing(alloc: Global, table: &[(&str, &str, &str)]) -> Result<String, AllocError> {
+/// Of a table of runs and answers, the runs that end otherwise by one of the machines, with their texts.
+pub fn differing(alloc: Global, table: &str) -> Result<String, AllocError> {
     let mut found = String::new(alloc);
-    for row in table {
+    for line in table.trim().lines() {
+        let row = line.split_once(" => ").unwrap_or((line, ""));
         add_if_otherwise(alloc, &mut found, row, &[], false)?;
     }
     Ok(found)

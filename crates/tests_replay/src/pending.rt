@@ -4,7 +4,8 @@ use cs_events::Lookup;
 use cs_inputs::print;
 use cs_names::Name;
 use cs_report::{append, append_place};
-use cs_run_state::{Object, Pending};
+use cs_run_log::Pending;
+use cs_values::Object;
 use std::alloc::AllocError;
 
 /// Appends a line of what was pending at an event: its place, and the operation with its operands, the path of the allocation, or the

@@ -1,34 +1,60 @@
 //! Whole summaries.
 
-use crate::made::{contradiction, division, long_array, short_array, two_nodes};
+use crate::made::Made;
 use cs_report::summary;
+use cs_results::EntryResult;
+use std::alloc::{AllocError, Global};
+use std::process::Abort;
 use std::test::Fail;
+
+fn five(alloc: Global) -> Result<Vec<EntryResult>, Fail> {
+    let mut results = Vec::new(alloc);
+    for made in [
+        Made::Division,
+        Made::ShortArray,
+        Made::LongArray,
+        Made::TwoNodes,
+        Made::Contradiction,
+    ] {
+        results.push(made.result(alloc)?)?;
+    }
+    Ok(results)
+}
+
+fn assert_summary(
+    rt: &impl Abort,
+    alloc: Global,
+    bytes: usize,
+    results: &[EntryResult],
+    wanted: &str,
+) -> Result<(), AllocError> {
+    let printed = summary(alloc, bytes, results)?;
+    assert!(rt; printed.as_slice() == wanted.as_bytes(), "{wanted}");
+    Ok(())
+}
+
+const NONE: &str = "bytes 0
+entries 0
+complete 0
+bounded 0
+cut 0
+";
+
+const FIVE: &str = "bytes 310
+entries 5
+complete 3
+bounded 1
+cut 1
+report divide 2
+report unset 2
+report bounds 1
+";
 
 /// Counts of entries by verdict, and of reports by kind.
 #[test]
 fn results_are_counted(rt: HostRuntime) -> Result<(), Fail> {
-    let alloc = rt.alloc();
-    let results = vec![in alloc;
-        division(alloc)?,
-        short_array(alloc)?,
-        long_array(alloc)?,
-        two_nodes(alloc)?,
-        contradiction(alloc)?,
-    ]?;
-    for (bytes, results, wanted) in [
-        (
-            0,
-            Vec::new(alloc),
-            "bytes 0\nentries 0\ncomplete 0\nbounded 0\ncut 0\n",
-        ),
-        (
-            310,
-            results,
-            "bytes 310\nentries 5\ncomplete 3\nbounded 1\ncut 1\nreport divide 2\nreport unset 2\nreport bounds 1\n",
-        ),
-    ] {
-        let printed = summary(alloc, bytes, &results)?;
-        assert_eq!(rt; printed.as_slice(), wanted.as_bytes(), "{wanted}");
-    }
+    let results = five(rt.alloc())?;
+    assert_summary(&rt, rt.alloc(), 0, &[], NONE)?;
+    assert_summary(&rt, rt.alloc(), 310, &results, FIVE)?;
     Ok(())
 }

@@ -4,6 +4,7 @@ use cs_state::{Callers, Frame, ReadCells, SharedFrame, Temporaries, Temporary, V
 use cs_store::Value;
 use cs_terms::Sym;
 use std::alloc::{AllocError, Global};
+use std::process::Abort;
 use std::test::Fail;
 
 // A frame of a function with two counted points.
@@ -24,22 +25,36 @@ fn frame(alloc: Global, number: u64) -> Result<Frame, AllocError> {
     })
 }
 
+fn shared(alloc: Global, number: u64) -> Result<SharedFrame, AllocError> {
+    let frame = frame(alloc, number)?;
+    SharedFrame::new(alloc, frame)
+}
+
+// The callers 0, 1 and 2, of which 2 is the nearest.
+fn three_callers(alloc: Global) -> Result<Callers, AllocError> {
+    let mut callers = Callers::new(alloc);
+    for number in 0..3 {
+        callers.push(shared(alloc, number)?)?;
+    }
+    Ok(callers)
+}
+
+fn assert_nearest(rt: &impl Abort, callers: &Callers, number: u64) {
+    match callers.nearest() {
+        Some(nearest) => assert_eq!(rt; nearest.number, number),
+        None => assert!(rt; false, "caller {number} is gone"),
+    }
+}
+
 #[test]
 fn the_nearest_caller_goes_on_first(rt: HostRuntime) -> Result<(), Fail> {
-    let mut callers = Callers::new(rt.alloc());
-    for number in 0..3 {
-        callers.push(SharedFrame::new(rt.alloc(), frame(rt.alloc(), number)?)?)?;
-    }
+    let mut callers = three_callers(rt.alloc())?;
     let kept = callers.clone()?;
     for number in [2, 1, 0] {
-        let Some(nearest) = callers.nearest() else {
-            return Err(Fail::from(AllocError));
-        };
-        assert_eq!(rt; nearest.number, number);
+        assert_nearest(&rt, &callers, number);
         callers.drop_nearest();
     }
-    assert_eq!(rt; callers.depth(), 0);
-    assert!(rt; callers.nearest().is_none());
+    assert!(rt; callers.depth() == 0 && callers.nearest().is_none());
     assert_eq!(rt; kept.depth(), 3);
     Ok(())
 }

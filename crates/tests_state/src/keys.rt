@@ -4,7 +4,7 @@ ghost use Rattle.cs_ranges.specs.RangeSet.{IsInhabited};
 
 use cs_cfg::Spot;
 use cs_constraints::Constraints;
-use cs_keys::key;
+use cs_keys::{Key, key};
 use cs_model::Standing;
 use cs_pmap::PMap;
 use cs_ranges::{GREATEST, Interval, LEAST, RangeSet};
@@ -16,53 +16,18 @@ use cs_store::{Fill, Store, Value};
 use cs_terms::{Lin, Sym};
 use cs_types::{DataModel, IntType};
 use std::alloc::{AllocError, Global};
+use std::process::Abort;
+use std::str::SplitAsciiWhitespace;
 use std::test::Fail;
 
-// A write to a state.
-#[derive(Clone, Copy)]
-enum Change {
-    Declare(u64, i128, i128),
-    Push(Value),
-    PushNothing,
-    Pop,
-    GoTo(u32),
-    Visit(usize, u32),
-    Bind(u64, u64, Value),
-    Fill(u64, Fill),
-    Unbind(u64),
-    Block(u64, u64, i128),
-    Release(u64),
-    Read(u64, u64, u64),
-    Guess(u64, u64),
-    Answer(Lin),
-    Enter(u64),
-    Leave,
-    Events(u64),
-    Phase(u32),
-    Return(Value),
-}
-
-macro_rules! constant {
-    ($value:expr) => {
-        Lin {
-            sym: None,
-            slope: 0,
-            at: 0,
-            value: $value,
-        }
-    };
-}
-
-// A function of a symbol, seen from a number at which it has a value.
-macro_rules! line {
-    ($sym:expr, $slope:expr, $at:expr, $value:expr) => {
-        Lin {
-            sym: Some(Sym($sym)),
-            slope: $slope,
-            at: $at,
-            value: $value,
-        }
-    };
+// A constant.
+const fn constant(value: i128) -> Lin {
+    Lin {
+        sym: None,
+        slope: 0,
+        at: 0,
+        value,
+    }
 }
 
 fn frame(alloc: Global, number: u64) -> Result<Frame, AllocError> {
@@ -109,8 +74,8 @@ fn guessed(event: u64, sym: u64) -> Asked {
         event,
         guess: Sym(sym),
         asks: Asks::Convert(IntType::Int),
-        left: constant!(1),
-        right: constant!(2),
+        left: constant(1),
+        right: constant(2),
         ends: Ends {
             left: none,
             right: none,
@@ -121,7 +86,7 @@ fn guessed(event: u64, sym: u64) -> Asked {
 
 fn block(sym: u64, extent: i128) -> Block {
     Block {
-        extent: constant!(extent),
+        extent: constant(extent),
         standing: Standing::Live,
         element: TypeNumber(0),
         sym: Sym(sym),
@@ -139,244 +104,294 @@ fn numbers(alloc: Global, low: i128, high: i128) -> Result<RangeSet, AllocError>
     RangeSet::of(alloc, low, high)
 }
 
-fn make(state: &mut State, alloc: Global, change: Change) -> Result<(), AllocError> {
-    match change {
-        Change::Declare(sym, low, high) => {
-            let set = numbers(alloc, low, high)?;
-            state.constraints.declare(Sym(sym), set)
+fn count(words: &mut SplitAsciiWhitespace) -> Result<u64, AllocError> {
+    match words.next() {
+        Some(word) => word.parse::<u64>().map_err(|_| AllocError),
+        None => Err(AllocError),
+    }
+}
+
+fn small(words: &mut SplitAsciiWhitespace) -> Result<u32, AllocError> {
+    u32::try_from(count(words)?).map_err(|_| AllocError)
+}
+
+fn whole(word: &str) -> Result<i128, AllocError> {
+    word.parse::<i128>().map_err(|_| AllocError)
+}
+
+fn number(words: &mut SplitAsciiWhitespace) -> Result<i128, AllocError> {
+    whole(words.next().unwrap_or(""))
+}
+
+// A constant, or `SYMBOL/SLOPE/AT/VALUE`: a function of a symbol, seen from a number at which it has a value. Without a symbol it is `-`.
+fn term(word: &str) -> Result<Lin, AllocError> {
+    let Some((sym, rest)) = word.split_once('/') else {
+        return Ok(constant(whole(word)?));
+    };
+    let (slope, rest) = rest.split_once('/').unwrap_or(("", ""));
+    let (at, value) = rest.split_once('/').unwrap_or(("", ""));
+    let sym = match sym.parse::<u64>() {
+        Ok(sym) => Some(Sym(sym)),
+        Err(_) => None,
+    };
+    Ok(Lin {
+        sym,
+        slope: whole(slope)?,
+        at: whole(at)?,
+        value: whole(value)?,
+    })
+}
+
+// A pair of numbers with a colon between them.
+fn pair(text: &str) -> Result<(u64, u64), AllocError> {
+    let (first, second) = text.split_once(':').unwrap_or(("", ""));
+    match (first.parse::<u64>(), second.parse::<u64>()) {
+        (Ok(first), Ok(second)) => Ok((first, second)),
+        _ => Err(AllocError),
+    }
+}
+
+// A value: `null`, `unset`, `start:BLOCK:OFFSET`, `at:BLOCK:TERM`, or a term.
+fn value(words: &mut SplitAsciiWhitespace) -> Result<Value, AllocError> {
+    let word = words.next().unwrap_or("");
+    if let Some(rest) = word.strip_prefix("start:") {
+        let (base, offset) = pair(rest)?;
+        return Ok(Value::Start(base, offset));
+    }
+    if let Some(rest) = word.strip_prefix("at:") {
+        let (base, at) = rest.split_once(':').unwrap_or(("", ""));
+        let base = base.parse::<u64>().map_err(|_| AllocError)?;
+        return Ok(Value::At(base, term(at)?));
+    }
+    match word {
+        "null" => Ok(Value::Null),
+        "unset" => Ok(Value::Unset),
+        other => Ok(Value::Number(term(other)?)),
+    }
+}
+
+fn fill(words: &mut SplitAsciiWhitespace) -> Result<Fill, AllocError> {
+    match words.next().unwrap_or("") {
+        "zero" => Ok(Fill::Zero),
+        "unset" => Ok(Fill::Unset),
+        other => {
+            let (call, argument) = pair(other.strip_prefix("wrote:").unwrap_or(""))?;
+            Ok(Fill::Wrote(call, argument))
         }
-        Change::Push(value) => state.push(Temporary::Scalar(value)),
-        Change::PushNothing => state.push(Temporary::Nothing),
-        Change::Pop => {
+    }
+}
+
+// Makes a change: its name, and what it needs.
+fn make(state: &mut State, alloc: Global, change: &str) -> Result<(), AllocError> {
+    let mut words = change.split_ascii_whitespace();
+    let name = words.next().unwrap_or("");
+    match name {
+        "declare" => declare(state, alloc, &mut words),
+        "push" => state.push(Temporary::Scalar(value(&mut words)?)),
+        "push-nothing" => state.push(Temporary::Nothing),
+        "pop" => {
             let _newest = state.pop();
             Ok(())
         }
-        other => change_place(state, alloc, other),
+        _ => change_place(state, alloc, name, &mut words),
     }
 }
 
-fn change_place(state: &mut State, alloc: Global, change: Change) -> Result<(), AllocError> {
-    match change {
-        Change::GoTo(operation) => {
+fn declare(
+    state: &mut State,
+    alloc: Global,
+    words: &mut SplitAsciiWhitespace,
+) -> Result<(), AllocError> {
+    let sym = Sym(count(words)?);
+    let low = number(words)?;
+    let high = number(words)?;
+    let set = numbers(alloc, low, high)?;
+    state.constraints.declare(sym, set)
+}
+
+fn change_place(
+    state: &mut State,
+    alloc: Global,
+    name: &str,
+    words: &mut SplitAsciiWhitespace,
+) -> Result<(), AllocError> {
+    match name {
+        "go-to" => {
             state.go_to(Spot {
                 function: 0,
                 block: 0,
-                operation,
+                operation: small(words)?,
             });
             Ok(())
         }
-        Change::Visit(point, count) => state.count_visit(alloc, point, count),
-        Change::Enter(number) => {
-            let frame = frame(alloc, number)?;
+        "visit" => {
+            let point = small(words)? as usize;
+            state.count_visit(alloc, point, small(words)?)
+        }
+        "enter" => {
+            let frame = frame(alloc, count(words)?)?;
             state.enter(alloc, frame)
         }
-        Change::Leave => {
+        "leave" => {
             let _left = state.leave()?;
             Ok(())
         }
-        Change::Answer(term) => state.answer(term),
-        other => change_memory(state, other),
+        "answer" => state.answer(term(words.next().unwrap_or(""))?),
+        _ => change_memory(state, name, words),
     }
 }
 
-fn change_memory(state: &mut State, change: Change) -> Result<(), AllocError> {
-    match change {
-        Change::Bind(base, offset, value) => state.bind(base, offset, value),
-        Change::Fill(base, fill) => state.fill(base, fill),
-        Change::Unbind(base) => state.unbind([base].as_slice()),
-        Change::Block(base, sym, extent) => state.set_block(base, block(sym, extent)),
-        Change::Release(base) => state.release(base),
-        Change::Read(base, offset, sym) => state.read_cell(base, offset, Sym(sym)),
-        Change::Guess(event, sym) => state.guess(guessed(event, sym)),
-        other => {
-            change_rest(state, other);
-            Ok(())
+fn change_memory(
+    state: &mut State,
+    name: &str,
+    words: &mut SplitAsciiWhitespace,
+) -> Result<(), AllocError> {
+    let first = count(words)?;
+    match name {
+        "bind" => {
+            let offset = count(words)?;
+            state.bind(first, offset, value(words)?)
         }
+        "fill" => state.fill(first, fill(words)?),
+        "unbind" => state.unbind([first].as_slice()),
+        "block" => {
+            let sym = count(words)?;
+            state.set_block(first, block(sym, number(words)?))
+        }
+        "release" => state.release(first),
+        "read" => {
+            let offset = count(words)?;
+            state.read_cell(first, offset, Sym(count(words)?))
+        }
+        "guess" => state.guess(guessed(first, count(words)?)),
+        _ => change_rest(state, name, first),
     }
 }
 
-fn change_rest(state: &mut State, change: Change) {
-    match change {
-        Change::Events(events) => {
+fn change_rest(state: &mut State, name: &str, number: u64) -> Result<(), AllocError> {
+    match name {
+        "events" => {
             state.set_counters(Counters {
-                events,
+                events: number,
                 ..state.counters
             });
+            Ok(())
         }
-        Change::Phase(phase) => state.set_phase(phase),
-        Change::Return(value) => state.set_result(Some(value)),
-        _ => {}
+        "phase" => {
+            state.set_phase(u32::try_from(number).map_err(|_| AllocError)?);
+            Ok(())
+        }
+        "return-symbol" => {
+            state.set_result(Some(Value::Number(Lin {
+                sym: Some(Sym(number)),
+                slope: 1,
+                at: 0,
+                value: 0,
+            })));
+            Ok(())
+        }
+        _ => Err(AllocError),
     }
 }
 
-fn after(alloc: Global, changes: &[Change]) -> Result<State, AllocError> {
+fn after(alloc: Global, changes: &str) -> Result<State, AllocError> {
     let mut state = fresh(alloc)?;
-    for step in changes {
-        make(&mut state, alloc, *step)?;
+    for change in changes.split(';') {
+        if !change.trim().is_empty() {
+            make(&mut state, alloc, change)?;
+        }
     }
     Ok(state)
 }
 
-// Whether the states after two lists of changes have equal keys.
-fn are_merged(alloc: Global, one: &[Change], other: &[Change]) -> Result<bool, AllocError> {
-    let first = after(alloc, one)?;
-    let second = after(alloc, other)?;
-    let first_key = key(alloc, &first)?;
-    let second_key = key(alloc, &second)?;
-    Ok(first_key == second_key)
+fn key_after(alloc: Global, changes: &str) -> Result<Key, AllocError> {
+    let state = after(alloc, changes)?;
+    key(alloc, &state)
 }
 
-use Change::{
-    Answer, Bind, Block as MakeBlock, Declare, Enter, Events, Fill as FillWith, GoTo, Guess, Leave,
-    Phase, Pop, Push, PushNothing, Read, Release, Return, Unbind, Visit,
-};
+// Whether the states after two lists of changes have equal keys.
+fn are_merged(alloc: Global, row: &str) -> Result<bool, AllocError> {
+    let Some((one, other)) = row.split_once('|') else {
+        return Err(AllocError);
+    };
+    let first = key_after(alloc, one)?;
+    let second = key_after(alloc, other)?;
+    Ok(first == second)
+}
 
-const ONE: Value = Value::Number(constant!(1));
-
-const X: Value = Value::Number(line!(0, 1, 0, 0));
-
-const LARGE: i128 = 1 << 64;
+// That the states of each row have one key, or that they have two. A line `#` says what the rows after it are about.
+fn assert_rows(
+    rt: &impl Abort,
+    alloc: Global,
+    table: &str,
+    is_merged: bool,
+) -> Result<(), AllocError> {
+    for row in table.lines() {
+        if !row.starts_with('#') {
+            assert!(rt; are_merged(alloc, row)? == is_merged, "{row}");
+        }
+    }
+    Ok(())
+}
 
 // What is live: each pair of states differs in one part, or in how it was written.
-const SAME: [(&[Change], &[Change]); 12] = [
-    (&[], &[]),
-    // ranges of symbols that nothing mentions
-    (&[Declare(0, 0, 9)], &[Declare(0, 1, 9), Declare(1, 0, 1)]),
-    (&[Declare(0, 0, 9), Push(X), Pop], &[]),
-    (&[Declare(0, 0, 9), Bind(1, 0, X), Unbind(1)], &[]),
-    // guesses
-    (&[Guess(3, 0)], &[]),
-    // the same function of a symbol, seen from another number
-    (
-        &[Declare(0, 0, 9), Push(Value::Number(line!(0, 3, 0, 7)))],
-        &[Declare(0, 0, 9), Push(Value::Number(line!(0, 3, 2, 13)))],
-    ),
-    (
-        &[
-            Declare(0, LARGE - 2, LARGE - 1),
-            Push(Value::Number(line!(0, 1 - LARGE, LARGE - 2, 5))),
-        ],
-        &[
-            Declare(0, LARGE - 2, LARGE - 1),
-            Push(Value::Number(line!(0, 1 - LARGE, LARGE - 1, 6 - LARGE))),
-        ],
-    ),
-    // a constant that was a symbol's only number
-    (
-        &[Push(ONE)],
-        &[Push(Value::Number(Lin {
-            sym: None,
-            slope: 0,
-            at: 5,
-            value: 1,
-        }))],
-    ),
-    // bound in another order
-    (
-        &[Bind(2, 0, ONE), Bind(1, 8, ONE), Bind(1, 0, Value::Null)],
-        &[
-            Bind(1, 0, Value::Null),
-            Bind(1, 8, Value::Null),
-            Bind(2, 0, ONE),
-            Bind(1, 8, ONE),
-        ],
-    ),
-    // written and gone
-    (&[FillWith(1, Fill::Zero), FillWith(1, Fill::Unset)], &[]),
-    (
-        &[Declare(0, 0, 9), Read(1, 0, 0), Bind(1, 0, ONE)],
-        &[Bind(1, 0, ONE)],
-    ),
-    (&[Enter(1), Leave], &[]),
-];
+const SAME: &str = " | 
+# ranges of symbols that nothing mentions
+declare 0 0 9 | declare 0 1 9; declare 1 0 1
+declare 0 0 9; push 0/1/0/0; pop | 
+declare 0 0 9; bind 1 0 0/1/0/0; unbind 1 | 
+# guesses
+guess 3 0 | 
+# the same function of a symbol, seen from another number
+declare 0 0 9; push 0/3/0/7 | declare 0 0 9; push 0/3/2/13
+declare 0 18446744073709551614 18446744073709551615; push 0/-18446744073709551615/18446744073709551614/5 | declare 0 18446744073709551614 18446744073709551615; push 0/-18446744073709551615/18446744073709551615/-18446744073709551610
+# a constant that was a symbol's only number
+push 1 | push -/0/5/1
+# bound in another order
+bind 2 0 1; bind 1 8 1; bind 1 0 null | bind 1 0 null; bind 1 8 null; bind 2 0 1; bind 1 8 1
+# written and gone
+fill 1 zero; fill 1 unset | 
+declare 0 0 9; read 1 0 0; bind 1 0 1 | bind 1 0 1
+enter 1; leave | ";
 
-const DIFFERENT: [(&[Change], &[Change]); 24] = [
-    // ranges of symbols that are mentioned
-    (&[Declare(0, 0, 9), Push(X)], &[Declare(0, 1, 9), Push(X)]),
-    (
-        &[Declare(0, 0, 9), Bind(1, 0, X)],
-        &[Declare(0, 0, 8), Bind(1, 0, X)],
-    ),
-    (
-        &[Declare(0, 0, 9), Answer(line!(0, 1, 0, 0))],
-        &[Declare(0, 0, 8), Answer(line!(0, 1, 0, 0))],
-    ),
-    (
-        &[Declare(0, 0, 1), MakeBlock(1, 0, 4)],
-        &[Declare(0, 1, 1), MakeBlock(1, 0, 4)],
-    ),
-    (
-        &[Declare(0, 0, 9), Read(1, 0, 0)],
-        &[Declare(0, 0, 8), Read(1, 0, 0)],
-    ),
-    (
-        &[Declare(0, 0, 9), Return(X)],
-        &[Declare(0, 0, 8), Return(X)],
-    ),
-    (
-        &[Declare(0, 0, 9), Push(X), Enter(1)],
-        &[Declare(0, 0, 8), Push(X), Enter(1)],
-    ),
-    // terms
-    (
-        &[Declare(0, 0, 9), Push(Value::Number(line!(0, 3, 0, 7)))],
-        &[Declare(0, 0, 9), Push(Value::Number(line!(0, 3, 2, 12)))],
-    ),
-    (
-        &[Declare(0, 0, 9), Declare(1, 0, 9), Push(X)],
-        &[
-            Declare(0, 0, 9),
-            Declare(1, 0, 9),
-            Push(Value::Number(line!(1, 1, 0, 0))),
-        ],
-    ),
-    (
-        &[Push(Value::Number(constant!(-1)))],
-        &[Push(Value::Number(constant!(1)))],
-    ),
-    (
-        &[Push(Value::Number(constant!(0)))],
-        &[Push(Value::Number(constant!(LARGE)))],
-    ),
-    // values and temporaries
-    (&[Push(Value::Null)], &[Push(Value::Unset)]),
-    (&[Push(Value::Null)], &[PushNothing]),
-    (
-        &[Push(Value::Start(1, 0))],
-        &[Push(Value::At(1, constant!(0)))],
-    ),
-    (
-        &[Push(ONE), Push(Value::Null)],
-        &[Push(Value::Null), Push(ONE)],
-    ),
-    // memory
-    (&[Bind(1, 0, ONE)], &[Bind(1, 4, ONE)]),
-    (&[Bind(1, 0, ONE)], &[Bind(2, 0, ONE)]),
-    (
-        &[FillWith(1, Fill::Wrote(1, 0))],
-        &[FillWith(1, Fill::Wrote(1, 1))],
-    ),
-    (&[MakeBlock(1, 0, 4)], &[MakeBlock(1, 0, 4), Release(1)]),
-    // where the run stands
-    (&[GoTo(1)], &[GoTo(2)]),
-    (&[Visit(0, 1)], &[Visit(1, 1)]),
-    (&[Enter(1)], &[Enter(2)]),
-    (&[Events(1)], &[Events(2)]),
-    (&[Phase(1)], &[Phase(0)]),
-];
+const DIFFERENT: &str = "# ranges of symbols that are mentioned
+declare 0 0 9; push 0/1/0/0 | declare 0 1 9; push 0/1/0/0
+declare 0 0 9; bind 1 0 0/1/0/0 | declare 0 0 8; bind 1 0 0/1/0/0
+declare 0 0 9; answer 0/1/0/0 | declare 0 0 8; answer 0/1/0/0
+declare 0 0 1; block 1 0 4 | declare 0 1 1; block 1 0 4
+declare 0 0 9; read 1 0 0 | declare 0 0 8; read 1 0 0
+declare 0 0 9; return-symbol 0 | declare 0 0 8; return-symbol 0
+declare 0 0 9; push 0/1/0/0; enter 1 | declare 0 0 8; push 0/1/0/0; enter 1
+# terms
+declare 0 0 9; push 0/3/0/7 | declare 0 0 9; push 0/3/2/12
+declare 0 0 9; declare 1 0 9; push 0/1/0/0 | declare 0 0 9; declare 1 0 9; push 1/1/0/0
+push -1 | push 1
+push 0 | push 18446744073709551616
+# values and temporaries
+push null | push unset
+push null | push-nothing
+push start:1:0 | push at:1:0
+push 1; push null | push null; push 1
+# memory
+bind 1 0 1 | bind 1 4 1
+bind 1 0 1 | bind 2 0 1
+fill 1 wrote:1:0 | fill 1 wrote:1:1
+block 1 0 4 | block 1 0 4; release 1
+# where the run stands
+go-to 1 | go-to 2
+visit 0 1 | visit 1 1
+enter 1 | enter 2
+events 1 | events 2
+phase 1 | phase 0";
 
 #[test]
 fn states_with_equal_live_parts_have_one_key(rt: HostRuntime) -> Result<(), Fail> {
-    for (one, other) in &SAME {
-        assert!(rt; are_merged(rt.alloc(), one, other)?);
-    }
+    assert_rows(&rt, rt.alloc(), SAME, true)?;
     Ok(())
 }
 
 #[test]
 fn states_that_differ_in_their_live_parts_have_two_keys(rt: HostRuntime) -> Result<(), Fail> {
-    for (one, other) in &DIFFERENT {
-        assert!(rt; !are_merged(rt.alloc(), one, other)?);
-    }
+    assert_rows(&rt, rt.alloc(), DIFFERENT, false)?;
     Ok(())
 }

@@ -28,10 +28,8 @@ def tables(path):
     """The tables of a file: its rows by the table's name."""
     text = open(path, encoding="utf-8").read()
     found = {}
-    for table in re.finditer(r"const (\w+): \[\(&str, &str\); \d+\] = \[(.*?)\n\];", text, re.S):
-        strings = re.findall(r'"((?:[^"\\]|\\.)*)"', table[2])
-        strings = [re.sub(r"\\(.)", r"\1", s) for s in strings]
-        found[table[1]] = list(zip(strings[0::2], strings[1::2]))
+    for table in re.finditer(r'const (\w+): &str = r#"\n(.*?)\n"#;', text, re.S):
+        found[table[1]] = [tuple(row.split(" => ")) for row in table[2].split("\n")]
     return found
 
 

@@ -9,7 +9,7 @@ use cs_grammar::TypedefNames;
 use cs_lexer::tokens;
 use cs_limits::{MOST_BYTES, MOST_TOKENS};
 use cs_names::Name;
-use cs_scopes::TypeRefusal;
+use cs_scopes::{Context, TypeRefusal};
 use cs_types::DataModel;
 use std::alloc::{AllocError, Global};
 
@@ -45,12 +45,8 @@ fn refusal(alloc: Global, refusal: &TypeRefusal) -> Result<String, AllocError> {
 }
 
 // The type and the value of a constant, or its refusal.
-fn constant(alloc: Global, model: DataModel, text: &str) -> Result<String, AllocError> {
-    let Some(tree) = tree(alloc, text)? else {
-        return String::from_str(alloc, "no expression");
-    };
-    let context = scene(alloc, model)?;
-    match value(alloc, &context, &tree) {
+fn constant(alloc: Global, context: &Context, tree: &RawExpr) -> Result<String, AllocError> {
+    match value(alloc, context, tree) {
         Ok((ty, number)) => {
             let ty = integer(ty);
             format!(in alloc; "{ty} {number}")
@@ -60,13 +56,9 @@ fn constant(alloc: Global, model: DataModel, text: &str) -> Result<String, Alloc
 }
 
 // The type of an expression's value, or its refusal.
-fn type_of(alloc: Global, model: DataModel, text: &str) -> Result<String, AllocError> {
-    let Some(tree) = tree(alloc, text)? else {
-        return String::from_str(alloc, "no expression");
-    };
-    let context = scene(alloc, model)?;
+fn type_of(alloc: Global, context: &Context, tree: &RawExpr) -> Result<String, AllocError> {
     let mut literals = Vec::new(alloc);
-    match discarded(alloc, &context, &mut literals, &tree) {
+    match discarded(alloc, context, &mut literals, tree) {
         Ok(typed) => words(alloc, &context.table, &typed.ty, ""),
         Err(error) => refusal(alloc, &error),
     }
@@ -81,20 +73,44 @@ pub enum Question {
     Type,
 }
 
-/// Of a table of expressions and what is said of them, those of which something else is said, with that.
+fn said_of(
+    alloc: Global,
+    model: DataModel,
+    question: Question,
+    tree: &RawExpr,
+) -> Result<String, AllocError> {
+    let context = scene(alloc, model)?;
+    match question {
+        Question::Constant => constant(alloc, &context, tree),
+        Question::Type => type_of(alloc, &context, tree),
+    }
+}
+
+/// What is said of an expression's text.
+fn said(
+    alloc: Global,
+    model: DataModel,
+    question: Question,
+    text: &str,
+) -> Result<String, AllocError> {
+    match tree(alloc, text)? {
+        Some(tree) => said_of(alloc, model, question, &tree),
+        None => String::from_str(alloc, "no expression"),
+    }
+}
+
+/// Of a table of lines, each an expression, ` => ` and what is said of it, those of which something else is said, with that.
 pub fn said_otherwise(
     alloc: Global,
     model: DataModel,
     question: Question,
-    table: &[(&str, &str)],
+    table: &str,
 ) -> Result<String, AllocError> {
     let mut found = String::new(alloc);
-    for (text, expected) in table {
-        let said = match question {
-            Question::Constant => constant(alloc, model, text)?,
-            Question::Type => type_of(alloc, model, text)?,
-        };
-        if said.as_str() != *expected {
+    for line in table.trim().lines() {
+        let (text, expected) = line.split_once(" => ").unwrap_or((line, ""));
+        let said = said(alloc, model, question, text)?;
+        if said.as_str() != expected {
             let reported = format!(in alloc; "{text} gives {said}")?;
             found.push_str(reported.as_str())?;
         }

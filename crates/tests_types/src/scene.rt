@@ -124,18 +124,28 @@ fn structure(
     })
 }
 
-// `struct S { int a; char c; }`, `struct N` without its members, and `struct B { int a[5000]; }`.
-fn structs(alloc: Global) -> Result<Structs, AllocError> {
-    let mut all = Structs::new(alloc);
+// `int a; char c;`
+fn two_members(alloc: Global) -> Result<Members, AllocError> {
     let mut members = Members::new(alloc);
     members.push(Member::new(name(alloc, "a")?, CType::Int(IntType::Int), 0))?;
     members.push(Member::new(name(alloc, "c")?, CType::Int(IntType::Char), 4))?;
-    all.push(structure(alloc, "S", Some(members), 8)?)?;
-    all.push(structure(alloc, "N", None, 0)?)?;
+    Ok(members)
+}
+
+// `int a[5000];`
+fn many_numbers(alloc: Global) -> Result<Members, AllocError> {
     let mut members = Members::new(alloc);
     let many = array(alloc, CType::Int(IntType::Int), 5000)?;
     members.push(Member::new(name(alloc, "a")?, many, 0))?;
-    all.push(structure(alloc, "B", Some(members), 20000)?)?;
+    Ok(members)
+}
+
+// `struct S { int a; char c; }`, `struct N` without its members, and `struct B { int a[5000]; }`.
+fn structs(alloc: Global) -> Result<Structs, AllocError> {
+    let mut all = Structs::new(alloc);
+    all.push(structure(alloc, "S", Some(two_members(alloc)?), 8)?)?;
+    all.push(structure(alloc, "N", None, 0)?)?;
+    all.push(structure(alloc, "B", Some(many_numbers(alloc)?), 20000)?)?;
     Ok(all)
 }
 
@@ -155,14 +165,18 @@ fn tags(alloc: Global) -> Result<Tags, AllocError> {
     Ok(all)
 }
 
+// `T`, `K`, and the rest.
+fn declare_all(alloc: Global, model: DataModel, all: &mut Declarations) -> Result<(), AllocError> {
+    declare(alloc, all, "T", Meaning::Typedef(CType::Int(IntType::Int)))?;
+    declare(alloc, all, "K", Meaning::Constant(5))?;
+    objects(alloc, all)?;
+    functions(alloc, model, all)
+}
+
 /// The declarations, of which `T` is a typedef name and `K` a constant.
 pub fn scene(alloc: Global, model: DataModel) -> Result<Context, AllocError> {
     let mut declarations = Declarations::new(alloc);
-    let int = Meaning::Typedef(CType::Int(IntType::Int));
-    declare(alloc, &mut declarations, "T", int)?;
-    declare(alloc, &mut declarations, "K", Meaning::Constant(5))?;
-    objects(alloc, &mut declarations)?;
-    functions(alloc, model, &mut declarations)?;
+    declare_all(alloc, model, &mut declarations)?;
     let tags = tags(alloc)?;
     let list = structs(alloc)?;
     Ok(Context {

@@ -7,22 +7,46 @@ use std::alloc::{AllocError, Global};
 use std::str;
 use std::test::Fail;
 
+// Adds a file with what is said of its suspects, where that is another text.
+fn add_if_otherwise(
+    alloc: Global,
+    found: &mut String,
+    row: (&str, &str),
+    wanted: &str,
+) -> Result<(), AllocError> {
+    let (file, suspects) = row;
+    let said = witnessed(alloc, file, suspects)?;
+    let said = str::from_utf8(said.as_slice()).unwrap_or("no text");
+    if said.strip_suffix('\n') == Some(wanted) {
+        return Ok(());
+    }
+    found.push_str(file)?;
+    found.push_str("\n")?;
+    found.push_str(said)
+}
+
 // Of a table of files, suspects and texts, what is said otherwise.
-fn differing(alloc: Global, table: &[(&str, &str, &str)]) -> Result<String, AllocError> {
+fn differing(alloc: Global, table: &str) -> Result<String, AllocError> {
     let mut found = String::new(alloc);
-    for (file, suspects, text) in table {
-        let said = witnessed(alloc, file, suspects)?;
-        let said = str::from_utf8(said.as_slice()).unwrap_or("no text");
-        if said != *text {
-            found.push_str(file)?;
-            found.push_str("\n")?;
-            found.push_str(said)?;
-        }
+    for row in table.split("\n\n") {
+        let (file, rest) = row.split_once('\n').unwrap_or((row, ""));
+        let (suspects, text) = rest.split_once("\n--\n").unwrap_or((rest, "no text"));
+        add_if_otherwise(alloc, &mut found, (file, suspects), text)?;
     }
     Ok(found)
 }
 
-const CONTRADICTION: &str = "complete dropped 0
+const FINDINGS: &str = "int f(int x){return 10/x;}
+divide 1:23 0 x=0
+--
+complete dropped 0
+report divide <input>:1:23 confirmed
+  input x = 0
+
+int f(int x,int y){if(x<y){if(y<x)return 1/0;}return 0;}
+divide 1:43 4 x=0 y=0 guess 1 1 x=-2147483648..2147483647 y=-2147483648..2147483647 guess 3 1 y=-2147483648..2147483647 x=-2147483648..2147483647
+--
+complete dropped 0
 report divide <input>:1:43 assumed
   input x = 0
   input y = 0
@@ -38,60 +62,44 @@ report divide <input>:1:43 assumed
     other 2 x = 2147483647
     other 2 y = -2147483648
     other 2 guess 1 = 1
-";
 
-const FINDINGS: [(&str, &str, &str); 3] = [
-    (
-        "int f(int x){return 10/x;}",
-        "divide 1:23 0 x=0",
-        "complete dropped 0\nreport divide <input>:1:23 confirmed\n  input x = 0\n",
-    ),
-    (
-        "int f(int x,int y){if(x<y){if(y<x)return 1/0;}return 0;}",
-        "divide 1:43 4 x=0 y=0 guess 1 1 x=-2147483648..2147483647 y=-2147483648..2147483647 guess 3 1 y=-2147483648..2147483647 x=-2147483648..2147483647",
-        CONTRADICTION,
-    ),
-    (
-        "int f(int x,int y){if(x*y==7)return 1/(x-1);return 0;}",
-        "divide 1:38 4 x=1 y=0 guess 1 7 x=-2147483648..2147483647 y=-2147483648..2147483647",
-        "complete dropped 0\nreport divide <input>:1:38 confirmed\n  input x = 1\n  input y = 7\n",
-    ),
-];
+int f(int x,int y){if(x*y==7)return 1/(x-1);return 0;}
+divide 1:38 4 x=1 y=0 guess 1 7 x=-2147483648..2147483647 y=-2147483648..2147483647
+--
+complete dropped 0
+report divide <input>:1:38 confirmed
+  input x = 1
+  input y = 7";
 
 #[test]
 fn findings_are_whole(rt: HostRuntime) -> Result<(), Fail> {
-    let found = differing(rt.alloc(), FINDINGS.as_slice())?;
+    let found = differing(rt.alloc(), FINDINGS)?;
     assert_eq!(rt; found.as_str(), "");
     Ok(())
 }
 
 #[test]
 fn guesses_of_each_kind_keep_their_grounds(rt: HostRuntime) -> Result<(), Fail> {
-    let found = differing(rt.alloc(), GUESSED.as_slice())?;
+    let found = differing(rt.alloc(), GUESSED)?;
     assert_eq!(rt; found.as_str(), "");
     Ok(())
 }
 
 // Of a table of files and lines of suspects, those of which something else is said than that all are dropped.
-fn taken(alloc: Global, table: &[(&str, &str)]) -> Result<String, AllocError> {
+fn taken(alloc: Global, table: &str) -> Result<String, AllocError> {
     let mut found = String::new(alloc);
-    for (file, suspects) in table {
+    for row in table.split("\n\n") {
+        let (file, suspects) = row.split_once('\n').unwrap_or((row, ""));
         let count = suspects.lines().count();
-        let text = format!(in alloc; "complete dropped {count}\n")?;
-        let said = witnessed(alloc, file, suspects)?;
-        let said = str::from_utf8(said.as_slice()).unwrap_or("no text");
-        if said != text.as_str() {
-            found.push_str(file)?;
-            found.push_str("\n")?;
-            found.push_str(said)?;
-        }
+        let text = format!(in alloc; "complete dropped {count}")?;
+        add_if_otherwise(alloc, &mut found, (file, suspects), &text)?;
     }
     Ok(found)
 }
 
 #[test]
 fn wrong_suspects_are_dropped(rt: HostRuntime) -> Result<(), Fail> {
-    let found = taken(rt.alloc(), WRONG.as_slice())?;
+    let found = taken(rt.alloc(), WRONG)?;
     assert_eq!(rt; found.as_str(), "");
     Ok(())
 }

@@ -3,7 +3,7 @@ ghost use Rattle.cs_types.specs.Layout.{IsLaidOut};
 ghost use Rattle.cs_ast.specs.TypedProgram.{typed_program};
 ghost use Rattle.cs_cfg.specs.GraphView as view;
 ghost use Rattle.cs_cfg.specs.Lowered.{IsLowered};
-ghost use Rattle.cs_run_state.specs.Prepared.{IsPrepared};
+ghost use Rattle.cs_objects.specs.Prepared.{IsPrepared};
 ghost use Rattle.cs_well_formed.specs.Programs.{IsWellFormed};
 
 use crate::printed::append_witnessed;
@@ -12,13 +12,13 @@ use cs_ast::typed::program::Program;
 use cs_cfg::Code;
 use cs_findings::Budgets;
 use cs_lower::lower;
-use cs_run_state::prepared::Prepared;
+use cs_objects::prepared::Prepared;
+use cs_program::program_of;
 use cs_suspect_types::Suspect;
 use cs_types::DataModel;
 use cs_witness::{Entry, result};
 use std::alloc::{AllocError, Global};
 use std::str;
-use tests_files::front::program;
 
 const BUDGETS: Budgets = Budgets {
     visits: 4,
@@ -30,9 +30,9 @@ const BUDGETS: Budgets = Budgets {
 
 /// What is said of the suspects of the last function of a file, one on each line.
 pub fn witnessed(alloc: Global, file: &str, lines: &str) -> Result<Vec<u8>, AllocError> {
-    match program(alloc, DataModel::Lp64, file) {
-        Some(program) => of_program(alloc, &program, lines),
-        None => Vec::from_slice(alloc, b"no program"),
+    match program_of(alloc, DataModel::Lp64, file.as_bytes()) {
+        Ok(found) => of_program(alloc, &found.program, lines),
+        Err(_) => Vec::from_slice(alloc, b"no program"),
     }
 }
 

@@ -24,7 +24,7 @@ use Rattle.cs_declarations.proofs.Refusing.{refused_with}
 use Rattle.cs_statements.specs.Locals.{Inside, knowing}
 use Rattle.cs_statements.specs.Statements.{part, past, in_block, meeting, is_first, label_number, no_statements, no_cases, telling, with_statements, goto_typed}
 use Rattle.cs_statements.specs.Statements.{while_typed, do_typed, for_typed, block_typed, body_typed, item_typed, label_typed, statement_typed, switch_whole}
-use Rattle.cs_statements.specs.Statements.{switch_item_typed, switch_list_typed, wrapped_in}
+use Rattle.cs_statements.specs.Statements.{first_typed, switch_item_typed, switch_list_typed, wrapped_in}
 use Rattle.cs_statements.specs.View.{inside_of, where_of, typed_statements_of, typed_part, optional_part, statement_part, kind_part, switching_of}
 use Rattle.cs_statements.proofs.CasesInTurn.{case_refused, case_taken, constant_refused, constant_is, items_over, switch_over}
 use Rattle.cs_statements.proofs.ConstantNumbers.{value_in_c, small_enough, wrapped_in_c}
@@ -32,8 +32,11 @@ use Rattle.cs_statements.proofs.StatementKinds.{reported_as, block_refused, bloc
 use Rattle.cs_statements.proofs.StatementKinds.{return_reported, if_test_refused, if_body_refused, if_reported, else_test_refused, else_body_refused}
 use Rattle.cs_statements.proofs.StatementKinds.{else_refused, else_reported, for_held, switch_held}
 use Rattle.cs_statements.proofs.StatementRows.{statement_typed-Switch}
-use Rattle.cs_statements.proofs.StatementsInTurn.{answers_as, answers_with, while_test_stops, while_body_stops, while_taken, do_body_stops, do_test_stops}
-use Rattle.cs_statements.proofs.StatementsInTurn.{do_taken, for_first_stops, for_test_stops, for_last_stops, for_body_stops, for_taken, switch_value_stops}
+use Rattle.cs_statements.proofs.StatementsInTurn.{answers_as, answers_with, listed, while_test_stops, while_body_stops, while_taken, answers_after, refused_after}
+use Rattle.cs_statements.proofs.StatementsInTurn.{given_after, do_body}
+use Rattle.cs_statements.proofs.StatementsInTurn.{do_body_stops, do_test_stops}
+use Rattle.cs_statements.proofs.StatementsInTurn.{do_taken, for_begins, for_first_stops, for_test_stops, for_last_stops, for_body_stops, for_taken}
+use Rattle.cs_statements.proofs.StatementsInTurn.{switch_value_stops}
 use Rattle.cs_statements.proofs.StatementsInTurn.{switch_items_stop, switch_taken, block_stops, block_taken, label_body_stops, label_taken, reported_push}
 use Rattle.cs_statements.proofs.StatementsInTurn.{left_is, closed_is, part_inside}
 use Rattle.cs_statements.proofs.+statements.Goals as goal
@@ -260,51 +263,72 @@ statements::while_typed-returns t c =
 
 pub statements::do_typed-returns-in_err-body : goal.statements::do_typed-returns-in_err-body
 statements::do_typed-returns-in_err-body t c =
-    let e : c.from_residual.result ≡ Err c.in_err-body.field-0.0 = search rules in
+    let e : c.from_residual-in_err-body.result ≡ Err c.in_err-body.field-0.0 = search rules in
     let w = where_of c.args.at in
+    let within = where_of c.in_loop.result in
     let i = inside_of c.args.inside.now in
     let at = c.args.place in
     let body = c.args.body.now in
     let test = c.args.test.now in
-    refused_with (kind_part at) (do_typed w i at test body.place body.kind.value) c.from_residual.result c.statement_typed.new.inside c.in_err-body.field-0.0 e
-    (do_body_stops w i at test body (where_of c.in_loop.result) c.in_loop.ensures c.in_err-body.field-0.0 c.in_err-body.ensures)
+    let now = c.statement_typed-typed.new.inside in
+    let typed = do_body w i at test body within c.in_loop.ensures in
+    refused_with (kind_part at) (do_typed w i at test body.place body.kind.value) c.from_residual-in_err-body.result now c.in_err-body.field-0.0 e
+    (do_body_stops w i at test body within c.in_loop.ensures c.in_err-body.field-0.0
+    (refused_after statement_part typed c.after_word.result now c.in_err-body.field-0.0 c.in_err-body.was
+    (answers_after statement_part at c.in_ok-fault.fault _ (statement_typed within i body.place body.kind.value) c.statement_typed-typed.result
+    c.after_word.result now (c.in_ok-fault.ensures at) c.after_word.ensures c.statement_typed-typed.ensures)))
 
 pub statements::do_typed-returns-in_err-test : goal.statements::do_typed-returns-in_err-test
 statements::do_typed-returns-in_err-test t c =
     let e : c.from_residual-in_err-test.result ≡ Err c.in_err-test.field-0.0 = search rules in
     let w = where_of c.args.at in
+    let within = where_of c.in_loop.result in
     let i = inside_of c.args.inside.now in
     let at = c.args.place in
     let body = c.args.body.now in
     let test = c.args.test.now in
+    let then = c.statement_typed-typed.new.inside in
+    let typed = do_body w i at test body within c.in_loop.ensures in
     refused_with (kind_part at) (do_typed w i at test body.place body.kind.value) c.from_residual-in_err-test.result c.tested.new.self c.in_err-test.field-0.0 e
-    (do_test_stops w i at test body (where_of c.in_loop.result) c.in_loop.ensures (statement_part c.in_ok-body.body c.statement_typed.new.inside)
-    c.in_ok-body.ensures c.in_err-test.field-0.0 c.in_err-test.ensures)
+    (do_test_stops w i at test body within c.in_loop.ensures (statement_part c.in_ok-body.body then)
+    (given_after statement_part typed c.after_word.result then c.in_ok-body.body c.in_ok-body.was
+    (answers_after statement_part at c.in_ok-fault.fault _ (statement_typed within i body.place body.kind.value) c.statement_typed-typed.result
+    c.after_word.result then (c.in_ok-fault.ensures at) c.after_word.ensures c.statement_typed-typed.ensures))
+    c.in_err-test.field-0.0 c.in_err-test.ensures)
 
 pub statements::do_typed-returns : goal.statements::do_typed-returns
 statements::do_typed-returns t c =
     let w = where_of c.args.at in
+    let within = where_of c.in_loop.result in
     let i = inside_of c.args.inside.now in
     let at = c.args.place in
     let body = c.args.body.now in
     let test = c.args.test.now in
-    let now = c.tested.new.self in
-    do_taken w i at test body (where_of c.in_loop.result) c.in_loop.ensures (statement_part c.in_ok-body.body c.statement_typed.new.inside) c.in_ok-body.ensures
-    (typed_part c.in_ok-test.test now) c.in_ok-test.ensures
+    let then = c.statement_typed-typed.new.inside in
+    let typed = do_body w i at test body within c.in_loop.ensures in
+    do_taken w i at test body within c.in_loop.ensures (statement_part c.in_ok-body.body then)
+    (given_after statement_part typed c.after_word.result then c.in_ok-body.body c.in_ok-body.was
+    (answers_after statement_part at c.in_ok-fault.fault _ (statement_typed within i body.place body.kind.value) c.statement_typed-typed.result
+    c.after_word.result then (c.in_ok-fault.ensures at) c.after_word.ensures c.statement_typed-typed.ensures))
+    (typed_part c.in_ok-test.test c.tested.new.self) c.in_ok-test.ensures
 
 pub statements::for_typed-returns-in_err-first : goal.statements::for_typed-returns-in_err-first
 statements::for_typed-returns-in_err-first t c =
-    let e : c.from_residual.result ≡ Err c.in_err-first.field-0.0 = search rules in
+    let e : c.from_residual-in_err-first.result ≡ Err c.in_err-first.field-0.0 = search rules in
     let w = where_of c.args.at in
     let i = inside_of c.args.inside.now in
     let at = c.args.place in
     let inner = knowing (environment_of c.enter-around.new.self) i in
     let enters : inner ≡ in_block i = ap (λ k. knowing k i) c.enter-around.ensures.entered in
     let body = c.args.body.now in
-    refused_with (kind_part at) (for_typed w i at c.args.first.now c.args.test.now c.args.last.now body.place body.kind.value) c.from_residual.result
-    c.first_typed.new.inside c.in_err-first.field-0.0 e
+    let begins = for_begins w i at c.args.first.now c.args.test.now c.args.last.now body.place body.kind.value inner enters in
+    let said : AnswersWith listed begins c.after_word.result c.first_typed.new.inside =
+    answers_after listed at c.in_ok-fault.fault _ (first_typed inner c.args.first.now) c.first_typed.result c.after_word.result c.first_typed.new.inside
+    (c.in_ok-fault.ensures at) c.after_word.ensures c.first_typed.ensures in
+    refused_with (kind_part at) (for_typed w i at c.args.first.now c.args.test.now c.args.last.now body.place body.kind.value)
+    c.from_residual-in_err-first.result c.first_typed.new.inside c.in_err-first.field-0.0 e
     (for_first_stops w i at c.args.first.now c.args.test.now c.args.last.now body.place body.kind.value inner enters c.in_err-first.field-0.0
-    c.in_err-first.ensures)
+    (refused_after listed begins c.after_word.result c.first_typed.new.inside c.in_err-first.field-0.0 c.in_err-first.was said))
 
 pub statements::for_typed-returns-in_err-test : goal.statements::for_typed-returns-in_err-test
 statements::for_typed-returns-in_err-test t c =
@@ -315,10 +339,16 @@ statements::for_typed-returns-in_err-test t c =
     let inner = knowing (environment_of c.enter-around.new.self) i in
     let enters : inner ≡ in_block i = ap (λ k. knowing k i) c.enter-around.ensures.entered in
     let body = c.args.body.now in
+    let begins = for_begins w i at c.args.first.now c.args.test.now c.args.last.now body.place body.kind.value inner enters in
+    let said : AnswersWith listed begins c.after_word.result c.first_typed.new.inside =
+    answers_after listed at c.in_ok-fault.fault _ (first_typed inner c.args.first.now) c.first_typed.result c.after_word.result c.first_typed.new.inside
+    (c.in_ok-fault.ensures at) c.after_word.ensures c.first_typed.ensures in
     refused_with (kind_part at) (for_typed w i at c.args.first.now c.args.test.now c.args.last.now body.place body.kind.value)
     c.from_residual-in_err-test.result c.tested_if.new.self c.in_err-test.field-0.0 e
     (for_test_stops w i at c.args.first.now c.args.test.now c.args.last.now body.place body.kind.value inner enters
-    (typed_statements_of c.in_ok-first.first.items c.first_typed.new.inside) c.in_ok-first.ensures c.in_err-test.field-0.0 c.in_err-test.ensures)
+    (typed_statements_of c.in_ok-first.first.items c.first_typed.new.inside)
+    (given_after listed begins c.after_word.result c.first_typed.new.inside c.in_ok-first.first c.in_ok-first.was said) c.in_err-test.field-0.0
+    c.in_err-test.ensures)
 
 pub statements::for_typed-returns-in_err-last : goal.statements::for_typed-returns-in_err-last
 statements::for_typed-returns-in_err-last t c =
@@ -329,10 +359,16 @@ statements::for_typed-returns-in_err-last t c =
     let inner = knowing (environment_of c.enter-around.new.self) i in
     let enters : inner ≡ in_block i = ap (λ k. knowing k i) c.enter-around.ensures.entered in
     let body = c.args.body.now in
+    let begins = for_begins w i at c.args.first.now c.args.test.now c.args.last.now body.place body.kind.value inner enters in
+    let said : AnswersWith listed begins c.after_word.result c.first_typed.new.inside =
+    answers_after listed at c.in_ok-fault.fault _ (first_typed inner c.args.first.now) c.first_typed.result c.after_word.result c.first_typed.new.inside
+    (c.in_ok-fault.ensures at) c.after_word.ensures c.first_typed.ensures in
     refused_with (kind_part at) (for_typed w i at c.args.first.now c.args.test.now c.args.last.now body.place body.kind.value)
     c.from_residual-in_err-last.result c.dropped_if.new.self c.in_err-last.field-0.0 e
     (for_last_stops w i at c.args.first.now c.args.test.now c.args.last.now body.place body.kind.value inner enters
-    (typed_statements_of c.in_ok-first.first.items c.first_typed.new.inside) c.in_ok-first.ensures (optional_part c.in_ok-test.test c.tested_if.new.self)
+    (typed_statements_of c.in_ok-first.first.items c.first_typed.new.inside)
+    (given_after listed begins c.after_word.result c.first_typed.new.inside c.in_ok-first.first c.in_ok-first.was said)
+    (optional_part c.in_ok-test.test c.tested_if.new.self)
     c.in_ok-test.ensures c.in_err-last.field-0.0 c.in_err-last.ensures)
 
 pub statements::for_typed-returns-in_err-body : goal.statements::for_typed-returns-in_err-body
@@ -344,10 +380,16 @@ statements::for_typed-returns-in_err-body t c =
     let inner = knowing (environment_of c.enter-around.new.self) i in
     let enters : inner ≡ in_block i = ap (λ k. knowing k i) c.enter-around.ensures.entered in
     let body = c.args.body.now in
+    let begins = for_begins w i at c.args.first.now c.args.test.now c.args.last.now body.place body.kind.value inner enters in
+    let said : AnswersWith listed begins c.after_word.result c.first_typed.new.inside =
+    answers_after listed at c.in_ok-fault.fault _ (first_typed inner c.args.first.now) c.first_typed.result c.after_word.result c.first_typed.new.inside
+    (c.in_ok-fault.ensures at) c.after_word.ensures c.first_typed.ensures in
     refused_with (kind_part at) (for_typed w i at c.args.first.now c.args.test.now c.args.last.now body.place body.kind.value)
     c.from_residual-in_err-body.result c.statement_typed.new.inside c.in_err-body.field-0.0 e
     (for_body_stops w i at c.args.first.now c.args.test.now c.args.last.now body.place body.kind.value inner enters
-    (typed_statements_of c.in_ok-first.first.items c.first_typed.new.inside) c.in_ok-first.ensures (optional_part c.in_ok-test.test c.tested_if.new.self)
+    (typed_statements_of c.in_ok-first.first.items c.first_typed.new.inside)
+    (given_after listed begins c.after_word.result c.first_typed.new.inside c.in_ok-first.first c.in_ok-first.was said)
+    (optional_part c.in_ok-test.test c.tested_if.new.self)
     c.in_ok-test.ensures (optional_part c.in_ok-last.last c.dropped_if.new.self) c.in_ok-last.ensures (where_of c.in_loop.result) c.in_loop.ensures
     c.in_err-body.field-0.0 c.in_err-body.ensures)
 
@@ -359,9 +401,15 @@ statements::for_typed-returns t c =
     let inner = knowing (environment_of c.enter-around.new.self) i in
     let enters : inner ≡ in_block i = ap (λ k. knowing k i) c.enter-around.ensures.entered in
     let body = c.args.body.now in
+    let begins = for_begins w i at c.args.first.now c.args.test.now c.args.last.now body.place body.kind.value inner enters in
+    let said : AnswersWith listed begins c.after_word.result c.first_typed.new.inside =
+    answers_after listed at c.in_ok-fault.fault _ (first_typed inner c.args.first.now) c.first_typed.result c.after_word.result c.first_typed.new.inside
+    (c.in_ok-fault.ensures at) c.after_word.ensures c.first_typed.ensures in
     let now = c.statement_typed.new.inside in
     for_taken w i at c.args.first.now c.args.test.now c.args.last.now body.place body.kind.value inner enters
-    (typed_statements_of c.in_ok-first.first.items c.first_typed.new.inside) c.in_ok-first.ensures (optional_part c.in_ok-test.test c.tested_if.new.self)
+    (typed_statements_of c.in_ok-first.first.items c.first_typed.new.inside)
+    (given_after listed begins c.after_word.result c.first_typed.new.inside c.in_ok-first.first c.in_ok-first.was said)
+    (optional_part c.in_ok-test.test c.tested_if.new.self)
     c.in_ok-test.ensures (optional_part c.in_ok-last.last c.dropped_if.new.self) c.in_ok-last.ensures (where_of c.in_loop.result) c.in_loop.ensures
     (statement_part c.in_ok-body.body now) c.in_ok-body.ensures
     ∙ for_held at c.in_ok-first.first c.in_ok-test.test c.in_ok-last.last c.in_ok-body.body (knowing (environment_of c.leave.new.self) (inside_of now)) _

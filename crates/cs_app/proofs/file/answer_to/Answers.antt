@@ -1,11 +1,18 @@
-use Rattle.cs_app.proofs.AnswerLemmas.{refuses_tokens}
+use Rattle.std.proofs.Common.{subst}
+use Rattle.cs_program.specs.Answers.{IsProgramOf, IsRefusedFor}
+use Rattle.cs_app.proofs.AnswerLemmas.{answers_file, refuses}
 use Rattle.cs_app.proofs.file.answer_to.Goals as goal
 
-pub answer_by_syntax-requires-clause-lexed : goal.answer_by_syntax-requires-clause-lexed
-answer_by_syntax-requires-clause-lexed g c = (c.args.file.now, c.requires, c.in-Ok.ensures.lexed)
+pub returns-in_ok-answer-in-Ok : goal.returns-in_ok-answer-in-Ok
+returns-in_ok-answer-in-Ok g c =
+    let answer = c.in_ok-answer-in-Ok.answer in
+    answers_file c.args.command.now c.args.file.now c.in-Ok.found answer.status answer.text.items
+    (subst (λ model. IsProgramOf model c.args.file.now c.in-Ok.found) c.model_of.ensures c.in-Ok.ensures.program)
+    (rw c.deref.ensures.value at c.in_ok-answer-in-Ok.ensures)
 
 pub returns-in_ok-answer-in-Err : goal.returns-in_ok-answer-in-Err
 returns-in_ok-answer-in-Err g c =
     let answer = c.in_ok-answer-in-Err.answer in
-    refuses_tokens c.args.command.now c.args.file.now c.in-Err.refusal answer.status answer.text.items c.in_ok-answer-in-Err.ensures.status c.requires
-    c.in-Err.ensures.refused c.in_ok-answer-in-Err.ensures.text
+    refuses c.args.command.now c.args.file.now c.in-Err.refusal answer.status answer.text.items c.in_ok-answer-in-Err.ensures.status
+    (subst (λ model. IsRefusedFor model c.args.file.now c.in-Err.refusal) c.model_of.ensures c.in-Err.ensures.refused)
+    c.in_ok-answer-in-Err.ensures.text

@@ -1,6 +1,6 @@
 use Rattle.std.proofs.Common.{Err, refl, ap, ◌∙◌}
 use Rattle.cs_ast.specs.TypedProgram.{typed_program}
-use Rattle.cs_run_state.specs.View.{log_of}
+use Rattle.cs_run_log.specs.LogView.{log_of}
 use Rattle.cs_app.proofs.ReplayLemmas.{entry_has_body, replay_is}
 use Rattle.cs_app.proofs.replay.run_prepared.Goals as goal
 

@@ -685,7 +685,8 @@ arguments_of-loop-i-preserved t c =
           }
       | arguments_of-in-Err-Code w ↦
           let value = operand_in context c.args.purpose (formed context c.args.purpose ls (Some ty) a.place a.kind.value) in
-          let reported : value ≡ Fault w.in-Err-Code.code w.in-Err-Code.at = subst (IsRefused value) w.in-Err-Code.field-0-is w.in-Err-Code.ensures.reported in
+          let reported : value ≡ Fault w.in-Err-Code.code w.in-Err-Code.at =
+          subst (IsRefused value) w.in-Err-Code.field-0-is w.in-Err-Code.ensures.reported in
           let texts = ap (λ l. l.items) w.literals-is ∙ w.clear.ensures.items in
           let now : c.match-operand_in.refused ≡ option_or c.loop-i.refused (Some (w.in-Err-Code.code, w.in-Err-Code.at)) =
           w.refused-is ∙ w.or-refused.ensures
@@ -763,7 +764,8 @@ bounds_of-loop-bound-preserved t c =
                 (Fine (typed w.in-Ok.value)) _ w.in-Ok.ensures.reported (ap (λ k. number_at (form k)) (sym w.deref.ensures) ∙ sym w.number_at.ensures) texts
                 c.loop-bound.invariant.numbers ∙ ap (λ l. l ++ numbers_listed context ms (drop (i + 1) all)) (sym pushed);
             bounds = ap (λ r. unless_stopped r (bounds_listed context ms (drop (i + 1) all))) w.refused-is
-                ∙ bound_passed context a (drop i all) (drop (i + 1) all) ls ms there c.loop-bound.refused (typed w.in-Ok.value) _ w.in-Ok.ensures.reported texts
+                ∙ bound_passed context a (drop i all) (drop (i + 1) all) ls ms there c.loop-bound.refused (typed w.in-Ok.value) _ w.in-Ok.ensures.reported
+                texts
                 c.loop-bound.invariant.bounds;
             texts = λ none.
                 ap (λ l. literals_after_list l (drop (i + 1) all)) texts ∙ ap (literals_after_list ls) (sym there)
@@ -771,7 +773,8 @@ bounds_of-loop-bound-preserved t c =
           }
       | bounds_of-in-Err-Code+in_ok-push-in-Err-Code w ↦
           let value = done context Constant (formed context Constant ls None a.place a.kind.value) in
-          let reported : value ≡ Fault w.in-Err-Code.code w.in-Err-Code.at = subst (IsRefused value) w.in-Err-Code.field-0-is w.in-Err-Code.ensures.reported in
+          let reported : value ≡ Fault w.in-Err-Code.code w.in-Err-Code.at =
+          subst (IsRefused value) w.in-Err-Code.field-0-is w.in-Err-Code.ensures.reported in
           let added : w.push-in-Err-Code.new.self.items ≡ c.loop-bound.numbers.items ++ pos 1 ∷ [] = w.in_ok-push-in-Err-Code.ensures.items in
           let pushed = ap (λ l. l.items) w.numbers-is ∙ added in
           let texts = ap (λ l. l.items) w.literals-is ∙ w.clear.ensures.items in

@@ -14,7 +14,8 @@ abbrev pub invariant-arguments_of-loop-i : goal.invariant-arguments_of-loop-i
 invariant-arguments_of-loop-i l = record {
   made : l.refused ≡ None → vec_len l.list ≡ l.i;
   values : unless_stopped l.refused (lift (expressions_before l.list.items)
-      (arguments_listed l.context l.purpose l.literals.items (map (λ (ty : CType). shape_of ty) (drop l.i l.function.parameters.items)) (drop l.i l.arguments)))
+      (arguments_listed l.context l.purpose l.literals.items (map (λ (ty : CType). shape_of ty) (drop l.i l.function.parameters.items))
+      (drop l.i l.arguments)))
       ≡ arguments_listed l.context l.purpose l.initial.literals.items (map (λ (ty : CType). shape_of ty) l.function.parameters.items) l.arguments;
   codes : least_code l.least
       (arguments_listed_fault l.context l.purpose l.literals.items l.place (map (λ (ty : CType). shape_of ty) (drop l.i l.function.parameters.items))

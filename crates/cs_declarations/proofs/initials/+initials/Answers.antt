@@ -41,7 +41,8 @@ item_read-returns-after-parts_of-clause-values t c =
       | item_read-in-Some+in_ok-list-in-Some w ↦
           let parts : part_types c.args.context.now.table.list (shape_of c.args.ty.now) ≡ Some (types_of w.in-Some.parts) = sym w.in-Some.ensures in
           let reported : list_read c.args.context.now c.args.literals.now.items (types_of w.in-Some.parts) c.in-List.items.items
-          ≡ Fine (readings w.in_ok-list-in-Some.list.items w.items_read.new.literals.items) = rw w.deref.ensures.value at w.in_ok-list-in-Some.ensures.values in
+          ≡ Fine (readings w.in_ok-list-in-Some.list.items w.items_read.new.literals.items) =
+          rw w.deref.ensures.value at w.in_ok-list-in-Some.ensures.values in
           list_is c.args.context.now c.args.literals.now.items (shape_of c.args.ty.now) c.args.written.now c.in-List.items c.in-List.field-1 c.in-List.is
           (types_of w.in-Some.parts) (readings w.in_ok-list-in-Some.list.items w.items_read.new.literals.items) parts reported
           ∙ ap (λ i. Fine (i, w.items_read.new.literals.items)) (sym (initial-List w.in_ok-list-in-Some.list))
@@ -143,7 +144,8 @@ items_read-loop-i-preserved t c =
             values =
                 ap (λ k. unless_stopped c.match-item_read.refused (lift (following more) (list_read context ms (drop k types) (drop k all)))) (add-one i)
                 ∙ ap (λ r. unless_stopped r (lift (following more) (list_read context ms (drop (suc i) types) (drop (suc i) all)))) w.refused-is
-                ∙ read_more context types all ls i c.loop-i.refused c.loop-i.list.items _ c.loop-i.invariant.values item there ty part w.in-Ok.read ms more read
+                ∙ read_more context types all ls i c.loop-i.refused c.loop-i.list.items _ c.loop-i.invariant.values item there ty part w.in-Ok.read ms more
+                read
                 pushed;
             codes = λ at.
                 ap (λ k. least_code c.item_read.new.fault (list_fault context ms stands at (drop k types) (drop k all))) (add-one i)

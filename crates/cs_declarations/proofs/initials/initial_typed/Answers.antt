@@ -2,13 +2,12 @@ use Rattle.std.proofs.Common.{◌≡◌, true, false, Err, rules, sym, subst, �
 use Rattle.cs_types.specs.Shape.{shape_of}
 use Rattle.cs_ast.specs.TypedView.{initial}
 use Rattle.cs_declarations.specs.Answered.{AnswersWith}
-use Rattle.cs_declarations.specs.Initializers.{InFile, InFunction, has_form, initial_typed}
+use Rattle.cs_declarations.specs.Initializers.{has_form, initial_typed}
 use Rattle.cs_declarations.specs.View as view
 use Rattle.cs_declarations.specs.View.{reading}
 use Rattle.cs_declarations.proofs.Refusing.{refused_with}
-use Rattle.cs_declarations.proofs.InitialsInTurn.{form_is_wrong, reading_refused, judging_refused, stores_many, stores_few, stores_in_file}
+use Rattle.cs_declarations.proofs.InitialsInTurn.{form_is_wrong, reading_refused, judging_answers}
 use Rattle.cs_declarations.proofs.initials.initial_typed.Goals as goal
-use Rattle.cs_declarations.proofs.initials.initial_typed.Goals.{else-eq-via-then-eq+else-not-stores_few, else-eq-via-else-eq}
 
 pub returns-then-not-has_form : goal.returns-then-not-has_form
 returns-then-not-has_form c =
@@ -28,38 +27,9 @@ returns-in_err-read c =
     (reading_refused c.args.context.now c.args.literals.now.items (view.storage c.args.storage) c.args.place (shape_of c.args.ty.now) c.args.written.now form
     c.in_err-read.field-0.0 c.in_err-read.ensures)
 
-pub returns-in_err-found : goal.returns-in_err-found
-returns-in_err-found c =
-    let e : c.from_residual-in_err-found.result ≡ Err c.in_err-found.field-0.0 = search rules in
-    let form : has_form c.args.context.now.table.list (view.storage c.args.storage) (shape_of c.args.ty.now) c.args.written.now ≡ true =
-    sym c.has_form.ensures ∙ c.if-not-has_form.false in
-    refused_with reading (initial_typed c.args.context.now c.args.literals.now.items (view.storage c.args.storage) c.args.place (shape_of c.args.ty.now)
-    c.args.written.now) c.from_residual-in_err-found.result c.whole_read.new.literals.items c.in_err-found.field-0.0 e
-    (judging_refused c.args.context.now c.args.literals.now.items (view.storage c.args.storage) c.args.place (shape_of c.args.ty.now) c.args.written.now form
-    (initial c.in_ok-read.read) c.whole_read.new.literals.items c.in_ok-read.ensures c.in_err-found.field-0.0 c.in_err-found.ensures)
-
-pub returns-then-not-stores_few : goal.returns-then-not-stores_few
-returns-then-not-stores_few c =
-    let inside : view.storage c.args.storage ≡ InFunction = search rules in
-    let form : has_form c.args.context.now.table.list (view.storage c.args.storage) (shape_of c.args.ty.now) c.args.written.now ≡ true =
-    sym c.has_form.ensures ∙ c.if-not-has_form.false in
-    stores_many c.args.context.now c.args.literals.now.items (view.storage c.args.storage) c.args.place (shape_of c.args.ty.now) c.args.written.now form
-    (initial c.in_ok-read.read) c.whole_read.new.literals.items c.in_ok-read.ensures (initial c.in_ok-found.found) c.in_ok-found.ensures inside
-    (sym c.stores_few.ensures ∙ c.if-not-stores_few.true)
-
 pub returns : goal.returns
 returns c =
     let form : has_form c.args.context.now.table.list (view.storage c.args.storage) (shape_of c.args.ty.now) c.args.written.now ≡ true =
     sym c.has_form.ensures ∙ c.if-not-has_form.false in
-    elim c.else-eq.branch [
-      | else-eq-via-then-eq+else-not-stores_few w ↦
-          let inside : view.storage c.args.storage ≡ InFunction = grind rules in
-          stores_few c.args.context.now c.args.literals.now.items (view.storage c.args.storage) c.args.place (shape_of c.args.ty.now) c.args.written.now form
-          (initial c.in_ok-read.read) c.whole_read.new.literals.items c.in_ok-read.ensures (initial c.in_ok-found.found) c.in_ok-found.ensures inside
-          (sym w.stores_few.ensures ∙ w.if-not-stores_few.false)
-      | else-eq-via-else-eq w ↦
-          let outside : view.storage c.args.storage ≡ InFile = grind rules in
-          stores_in_file c.args.context.now c.args.literals.now.items (view.storage c.args.storage) c.args.place (shape_of c.args.ty.now) c.args.written.now
-          form (initial c.in_ok-read.read) c.whole_read.new.literals.items c.in_ok-read.ensures (initial c.in_ok-found.found) c.in_ok-found.ensures
-          outside
-    ]
+    judging_answers c.args.context.now c.args.literals.now.items (view.storage c.args.storage) c.args.place (shape_of c.args.ty.now) c.args.written.now form
+    (initial c.in_ok-read.read) c.whole_read.new.literals.items c.in_ok-read.ensures c.judged.result c.judged.ensures

@@ -1,32 +1,13 @@
-use Rattle.std.proofs.Common.{◌≡◌, true, false, None, Some, sym, ◌∙◌}
+use Rattle.std.proofs.Common.{◌≡◌, false, sym, ◌∙◌}
 use Rattle.cs_types.specs.Shape.{shape_of}
 use Rattle.cs_ast.specs.TypedView.{typed}
-use Rattle.cs_expressions.specs.Conversions.{conversion_fault}
 use Rattle.cs_declarations.specs.Initializers.{is_braceless}
 use Rattle.cs_declarations.specs.View as view
-use Rattle.cs_declarations.proofs.KeptConstants.{conversion_said, holding_said}
+use Rattle.cs_declarations.proofs.KeptConstants.{item_is}
 use Rattle.cs_declarations.proofs.judging.item_fault.Goals as goal
 
-pub returns-in-Some : goal.returns-in-Some
-returns-in-Some c = λ at.
+pub returns : goal.returns
+returns c = λ at.
     let braces : is_braceless (shape_of c.args.ty.now) (shape_of c.args.value.now.ty) ≡ false = sym c.is_braceless.ensures ∙ c.if-is_braceless.false in
-    let said : conversion_fault c.args.context.now.model at (shape_of c.args.ty.now) (typed c.args.value.now) ≡ Some c.in-Some.code =
-    sym (c.conversion_fault.ensures at) ∙ c.in-Some.is in
-    sym (conversion_said c.args.context.now.model (view.storage c.args.storage) at (shape_of c.args.ty.now) (typed c.args.value.now) c.in-Some.code braces
-    said)
-
-pub returns-in-None : goal.returns-in-None
-returns-in-None c = λ at.
-    let braces : is_braceless (shape_of c.args.ty.now) (shape_of c.args.value.now.ty) ≡ false = sym c.is_braceless.ensures ∙ c.if-is_braceless.false in
-    let said : conversion_fault c.args.context.now.model at (shape_of c.args.ty.now) (typed c.args.value.now) ≡ None =
-    sym (c.conversion_fault.ensures at) ∙ c.in-None.is in
-    sym (holding_said c.args.context.now.model (view.storage c.args.storage) at (shape_of c.args.ty.now) (typed c.args.value.now) true braces said
-    (sym c.is_admitted.ensures ∙ c.if-is_admitted.true))
-
-pub returns-in-None-2 : goal.returns-in-None-2
-returns-in-None-2 c = λ at.
-    let braces : is_braceless (shape_of c.args.ty.now) (shape_of c.args.value.now.ty) ≡ false = sym c.is_braceless.ensures ∙ c.if-is_braceless.false in
-    let said : conversion_fault c.args.context.now.model at (shape_of c.args.ty.now) (typed c.args.value.now) ≡ None =
-    sym (c.conversion_fault.ensures at) ∙ c.in-None.is in
-    sym (holding_said c.args.context.now.model (view.storage c.args.storage) at (shape_of c.args.ty.now) (typed c.args.value.now) false braces said
-    (sym c.is_admitted.ensures ∙ c.if-is_admitted.false))
+    c.value_fault.ensures at
+    ∙ sym (item_is c.args.context.now.model (view.storage c.args.storage) at (shape_of c.args.ty.now) (typed c.args.value.now) braces)

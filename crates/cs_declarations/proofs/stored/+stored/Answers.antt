@@ -1,9 +1,8 @@
 use Rattle.std.proofs.Common.{rules, arith, ◌≡◌, ◌+◌, drop, Some, None, refl, sym, ap, ◌∙◌, add-one}
 use Rattle.std.specs.Prelude.{slice_get}
 use Rattle.cs_types.specs.Shape.{shape_of}
-use Rattle.cs_ast.specs.TypedView.{initial_list}
 use Rattle.cs_scopes.specs.Scalars.{few}
-use Rattle.cs_declarations.specs.Initializers.{part_types, together, stored_parts}
+use Rattle.cs_declarations.specs.Initializers.{part_types, together, list_stored}
 use Rattle.cs_declarations.specs.View.{types_of}
 use Rattle.cs_declarations.proofs.PartTypes.{part_is, no_part}
 use Rattle.cs_declarations.proofs.WrittenLists.{item_there}
@@ -14,19 +13,20 @@ use Rattle.cs_declarations.proofs.stored.+stored.Goals as goal
 pub stored-returns-in-Some : goal.stored-returns-in-Some
 stored-returns-in-Some t c =
     let parts : part_types c.args.table.now.list (shape_of c.args.ty.now) ≡ Some (types_of c.in-Some.parts) = sym c.in-Some.ensures in
-    c.stored_parts.ensures ∙ ap (λ xs. stored_parts c.args.table.now.list (types_of c.in-Some.parts) (initial_list xs)) c.deref.ensures.value
-    ∙ sym (stored-List c.args.table.now.list (shape_of c.args.ty.now) (types_of c.in-Some.parts) c.args.found.now c.in-List.items parts c.in-List.is)
+    c.stored_parts.ensures ∙ ap (list_stored c.args.table.now.list (types_of c.in-Some.parts)) c.deref-in-Some.ensures.value
+    ∙ sym (stored-List c.args.table.now.list (shape_of c.args.ty.now) (Some (types_of c.in-Some.parts)) c.args.written.now c.in-List.items c.in-List.field-1
+    parts c.in-List.is)
 
 pub stored-returns-in-None : goal.stored-returns-in-None
 stored-returns-in-None t c =
     let parts : part_types c.args.table.now.list (shape_of c.args.ty.now) ≡ None = sym c.in-None.ensures in
-    sym (stored-none c.args.table.now.list (shape_of c.args.ty.now) c.args.found.now c.in-List.items parts c.in-List.is)
+    sym (stored-none c.args.table.now.list (shape_of c.args.ty.now) c.args.written.now c.in-List.items c.in-List.field-1 parts c.in-List.is)
 
 pub stored_parts-loop-item-init : goal.stored_parts-loop-item-init
 stored_parts-loop-item-init t c = record {
   same = refl;
   few = omega arith;
-  so_far = nothing_yet c.args.table.now.list (types_of c.args.parts) (initial_list c.args.items.now);
+  so_far = nothing_yet c.args.table.now.list (types_of c.args.parts) c.args.items.now;
 }
 
 pub stored_parts-returns-in_default : goal.stored_parts-returns-in_default
@@ -81,7 +81,7 @@ stored_parts-loop-item-preserved t c =
       few = omega (arith, small.0, small.1);
       so_far =
           ap (λ k.
-          together (Some c.in_ok-all.all) (stored_parts c.args.table.now.list (drop k (types_of c.args.parts)) (initial_list (drop k c.args.items.now))))
+          together (Some c.in_ok-all.all) (list_stored c.args.table.now.list (drop k (types_of c.args.parts)) (drop k c.args.items.now)))
           (add-one c.loop-item.item-index)
           ∙ stored_more c.args.table.now.list (types_of c.args.parts) c.args.items.now c.loop-item.all c.loop-item.item-index _ c.loop-item.invariant.so_far
           c.item-item.result there (shape_of c.in-Some.ty.now) part c.in_ok-stored.field-0 c.in_ok-all.all (sym c.stored.ensures ∙ c.in_ok-stored.was)

@@ -6,8 +6,16 @@ prepared-operand-requires-clause-values c = integer_values c.args.constraints.no
 
 pub returns : goal.returns
 returns c = record {
-  prepared = c.prepared-operand.ensures.prepared c.in_ok-check_integers.ensures.integers;
-  integers = c.in_ok-check_integers-2.ensures.integers;
-  several = prepared_several c.args.constraints.now c.args.term c.prepared-operand.result c.prepared-operand.ensures.constant
-      c.prepared-operand.ensures.function;
+  ready = record {
+    prepared = c.prepared-operand.ensures.prepared c.in_ok-check_integers.ensures.integers;
+    integers = c.in_ok-check_integers-2.ensures.integers;
+    several = prepared_several c.args.constraints.now c.args.term c.prepared-operand.result c.prepared-operand.ensures.constant
+        c.prepared-operand.ensures.function;
+  };
+  form = record {
+    declared = c.in_ok-check_integers.ensures.integers.declared;
+    value = c.prepared-operand.ensures.value;
+    constant = c.prepared-operand.ensures.constant;
+    function = c.prepared-operand.ensures.function;
+  };
 }

@@ -7,7 +7,7 @@ use Rattle.cs_ast.specs.TypedView.{typed, some_typed, statement, statement_list}
 use Rattle.cs_meaning.specs.CountedPoints.{counted_points, counted_points_in}
 use Rattle.cs_lower.specs.Labels.{label_in, label_among}
 use Rattle.cs_lower.proofs.LabelPoints.{label_in-Switch, label_in-While, label_in-Do, label_in-For, labels_added, one_more_labelled, one_more_counted}
-use Rattle.cs_run_state.proofs.StatementForms.{block_is, for_is, switch_is}
+use Rattle.cs_objects.proofs.StatementForms.{block_is, for_is, switch_is}
 use Rattle.cs_lower.proofs.labels.+labels.Goals as goal
 
 pub add_labels-returns-in-Block-clause-next : goal.add_labels-returns-in-Block-clause-next

@@ -2,9 +2,10 @@ use Rattle.std.proofs.Common.{pos, ◌+◌, length, ap, ◌∙◌}
 use Rattle.cs_events.specs.Objects.{HeapBlock, PointerCell}
 use Rattle.cs_meaning.specs.Machine.{State, push_cell}
 use Rattle.cs_meaning.specs.Memory.{with_block}
-use Rattle.cs_run_state.specs.MemoryView.{memory_of, block_of}
+use Rattle.cs_memory.specs.MemoryView.{memory_of}
+use Rattle.cs_objects.specs.BlockView.{block_of}
 use Rattle.cs_run_state.specs.MachineView.{state_of}
-use Rattle.cs_reference.proofs.MachineStates.{state_allocated}
+use Rattle.cs_frames.proofs.MachineStates.{state_allocated}
 use Rattle.cs_reference.proofs.allocations.add_block.Goals as goal
 
 pub returns : goal.returns

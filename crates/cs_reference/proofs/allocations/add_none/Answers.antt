@@ -1,9 +1,9 @@
 use Rattle.std.proofs.Common.{ap, ◌∙◌}
 use Rattle.cs_events.specs.Objects.{NullCell}
 use Rattle.cs_meaning.specs.Machine.{State, push_cell}
-use Rattle.cs_run_state.specs.MemoryView.{memory_of}
+use Rattle.cs_memory.specs.MemoryView.{memory_of}
 use Rattle.cs_run_state.specs.MachineView.{state_of}
-use Rattle.cs_reference.proofs.MachineStates.{state_allocated}
+use Rattle.cs_frames.proofs.MachineStates.{state_allocated}
 use Rattle.cs_reference.proofs.allocations.add_none.Goals as goal
 
 pub returns : goal.returns

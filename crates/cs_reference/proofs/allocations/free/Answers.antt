@@ -1,9 +1,9 @@
 use Rattle.cs_model.specs.declared.standing.Standing.TheVariants.{Freed}
 use Rattle.cs_meaning.specs.Memory.{changed, stand}
-use Rattle.cs_run_state.specs.View.{object_of}
-use Rattle.cs_run_state.specs.MemoryView.{memory_of}
+use Rattle.cs_values.specs.View.{object_of}
+use Rattle.cs_memory.specs.MemoryView.{memory_of}
 use Rattle.cs_run_state.specs.MachineView.{state_of}
-use Rattle.cs_reference.proofs.MachineStates.{state_with}
+use Rattle.cs_frames.proofs.MachineStates.{state_with}
 use Rattle.cs_reference.proofs.allocations.free.Goals as goal
 
 pub returns : goal.returns

@@ -3,8 +3,8 @@ use Rattle.cs_ast.specs.TypedProgram.{typed_program}
 use Rattle.cs_events.specs.Runs.{Continues, Finishes, perform, stays, goes}
 use Rattle.cs_events.proofs.RunLaws.{leads_on}
 use Rattle.cs_meaning.specs.Steps.{step}
-use Rattle.cs_run_state.specs.declared.settings.Setting.{Setting}
-use Rattle.cs_run_state.specs.View.{setting_of, log_of}
+use Rattle.cs_objects.specs.declared.settings.Setting.{Setting}
+use Rattle.cs_run_log.specs.LogView.{setting_of, log_of}
 use Rattle.cs_run_state.specs.MachineView.{state_of}
 use Rattle.cs_reference.proofs.Remaining.{fewer_left}
 use Rattle.cs_reference.proofs.runs.run.Goals as goal

@@ -4,7 +4,7 @@ use Rattle.cs_ast.specs.TypedProgram.{typed_program}
 use Rattle.cs_events.specs.Runs.{Leads, empty}
 use Rattle.cs_meaning.specs.Steps.{step}
 use Rattle.cs_meaning.specs.ProgramRuns as meaning
-use Rattle.cs_run_state.specs.View.{setting_of, log_of}
+use Rattle.cs_run_log.specs.LogView.{setting_of, log_of}
 use Rattle.cs_run_state.specs.MachineView.{state_of}
 use Rattle.cs_reference.specs.RunView.{run_of}
 use Rattle.cs_reference.proofs.Remaining.{steps_left}

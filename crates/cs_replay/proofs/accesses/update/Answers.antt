@@ -1,7 +1,7 @@
 use Rattle.std.proofs.Common.{refl, subst}
 use Rattle.cs_meaning.specs.Access.{Access}
 use Rattle.cs_run_state.specs.MachineView.{state_of}
-use Rattle.cs_run_state.specs.Pieces.{LeadsOrEnds}
+use Rattle.cs_run_log.specs.Pieces.{LeadsOrEnds}
 use Rattle.cs_run_state.specs.Updates.{update_act}
 use Rattle.cs_reference.specs.RunnerView.{program_of, state_in}
 use Rattle.cs_replay.proofs.Stepping.{on_ok}

@@ -1,8 +1,9 @@
 use Rattle.cs_events.specs.Objects.{LocalObject}
 use Rattle.cs_meaning.specs.Memory.{changed, refill}
-use Rattle.cs_run_state.specs.MemoryView.{memory_of, fill_of}
+use Rattle.cs_memory.specs.MemoryView.{memory_of}
+use Rattle.cs_objects.specs.BlockView.{fill_of}
 use Rattle.cs_run_state.specs.MachineView.{state_of}
-use Rattle.cs_reference.proofs.MachineStates.{state_with}
+use Rattle.cs_frames.proofs.MachineStates.{state_with}
 use Rattle.cs_replay.proofs.declared.refill.Goals as goal
 
 pub returns : goal.returns

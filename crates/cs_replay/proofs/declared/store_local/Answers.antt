@@ -7,9 +7,9 @@ use Rattle.cs_events.specs.Runs.{Continues}
 use Rattle.cs_meaning.specs.Access.{write_operand}
 use Rattle.cs_meaning.specs.Machine.{State, pop, with_memory, operand_at}
 use Rattle.cs_meaning.specs.Memory.{changed}
-use Rattle.cs_run_state.specs.View.{log_of}
+use Rattle.cs_run_log.specs.LogView.{log_of}
 use Rattle.cs_run_state.specs.MachineView.{state_of}
-use Rattle.cs_run_state.proofs.Performing.{perform-Goes}
+use Rattle.cs_run_log.proofs.Performing.{perform-Goes}
 use Rattle.cs_replay.proofs.declared.store_local.Goals as goal
 
 pub returns : goal.returns

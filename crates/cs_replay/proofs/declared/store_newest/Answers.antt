@@ -5,9 +5,9 @@ use Rattle.cs_events.specs.Objects.{LocalObject}
 use Rattle.cs_meaning.specs.Access.{write_operand}
 use Rattle.cs_meaning.specs.Machine.{Operand, State, with_memory, operand_at}
 use Rattle.cs_meaning.specs.Memory.{changed}
-use Rattle.cs_run_state.specs.MemoryView.{memory_of}
+use Rattle.cs_memory.specs.MemoryView.{memory_of}
 use Rattle.cs_run_state.specs.MachineView.{state_of}
-use Rattle.cs_reference.proofs.MachineStates.{state_with}
+use Rattle.cs_frames.proofs.MachineStates.{state_with}
 use Rattle.cs_replay.proofs.declared.store_newest.Goals as goal
 
 pub returns : goal.returns

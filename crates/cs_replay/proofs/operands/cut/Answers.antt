@@ -1,8 +1,8 @@
 use Rattle.std.proofs.Common.{List, map, reverse, ap, ◌∙◌}
 use Rattle.cs_meaning.specs.Machine as machine
 use Rattle.cs_meaning.specs.Machine.{with_stack}
-use Rattle.cs_run_state.specs.declared.objects.Operand.{Operand}
-use Rattle.cs_run_state.specs.View.{operand_of}
+use Rattle.cs_values.specs.declared.objects.Operand.{Operand}
+use Rattle.cs_values.specs.View.{operand_of}
 use Rattle.cs_run_state.specs.MachineView.{state_of}
 use Rattle.cs_replay.proofs.Cutting.{below_are}
 use Rattle.cs_replay.proofs.operands.cut.Goals as goal

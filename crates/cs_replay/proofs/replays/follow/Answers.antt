@@ -1,4 +1,4 @@
-use Rattle.cs_run_state.specs.View.{log_of}
+use Rattle.cs_run_log.specs.LogView.{log_of}
 use Rattle.cs_replay.proofs.Courses.{begins, ready, goes_on, fewer_left, gives}
 use Rattle.cs_replay.proofs.replays.follow.Goals as goal
 

@@ -3,9 +3,10 @@ use Rattle.cs_events.specs.Objects.{Cell}
 use Rattle.cs_events.specs.Acts.{Act, Goes}
 use Rattle.cs_events.specs.Runs.{Continues}
 use Rattle.cs_meaning.specs.Machine.{State, push_cell, pop, cell_at}
-use Rattle.cs_run_state.specs.View.{cell_of, log_of}
+use Rattle.cs_values.specs.View.{cell_of}
+use Rattle.cs_run_log.specs.LogView.{log_of}
 use Rattle.cs_run_state.specs.MachineView.{state_of}
-use Rattle.cs_run_state.proofs.Performing.{perform-Goes}
+use Rattle.cs_run_log.proofs.Performing.{perform-Goes}
 use Rattle.cs_replay.proofs.values.arrow.Goals as goal
 
 -- the member's place is left in place of the pointer

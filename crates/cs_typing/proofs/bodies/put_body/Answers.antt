@@ -1,7 +1,7 @@
 use Rattle.std.proofs.Common.{◌<◌, ◌≤◌, length, rules}
 use Rattle.cs_ast.specs.TypedProgram.{routine}
 use Rattle.cs_typing.specs.Functions.{bodied}
-use Rattle.cs_typing.proofs.ChangedParts.{changed_at, changed_past}
+use Rattle.cs_file_scope.proofs.ChangedParts.{changed_at, changed_past}
 use Rattle.cs_typing.proofs.BodiedFunctions.{with_parts, routine-bodied}
 use Rattle.cs_typing.proofs.bodies.put_body.Goals as goal
 

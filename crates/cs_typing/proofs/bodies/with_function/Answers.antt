@@ -4,9 +4,9 @@ use Rattle.cs_types.specs.Shape.{shape_of}
 use Rattle.cs_scopes.specs.TypeNames.{starred}
 use Rattle.cs_scopes.specs.Verdicts.{Answers}
 use Rattle.cs_declarations.specs.Environment.{meaning_here}
-use Rattle.cs_typing.specs.Functions.{may_be_function}
-use Rattle.cs_typing.specs.View.{filed_of}
-use Rattle.cs_typing.proofs.FunctionAgain.{still_some, result_taken}
+use Rattle.cs_file_scope.specs.Functions.{may_be_function}
+use Rattle.cs_file_scope.specs.View.{filed_of}
+use Rattle.cs_typing.proofs.FunctionResults.{still_some, result_taken}
 use Rattle.cs_typing.proofs.bodies.with_function.Goals as goal
 
 pub returns : goal.returns

@@ -1,8 +1,8 @@
 use Rattle.std.proofs.Common.{subst}
 use Rattle.cs_scopes.specs.Verdicts.{Answers}
-use Rattle.cs_typing.specs.Objects.{Filed}
+use Rattle.cs_file_scope.specs.Objects.{Filed}
+use Rattle.cs_file_scope.specs.View.{filed_of}
 use Rattle.cs_typing.specs.Files.{file_typed}
-use Rattle.cs_typing.specs.View.{filed_of}
 use Rattle.cs_typing.proofs.file.typed_file.Goals as goal
 
 pub returns : goal.returns

@@ -2,9 +2,9 @@ use Rattle.std.proofs.Common.{◌≡◌, rules, Err, refl, sym, subst}
 use Rattle.cs_ast.specs.declared.raw.external.RawExternal.{RawExternal}
 use Rattle.cs_scopes.specs.Verdicts.{Verdict, Answers}
 use Rattle.cs_declarations.proofs.FoldedSoFar.{GoesOver, part_taken, part_stops}
-use Rattle.cs_typing.specs.Objects.{Filed}
+use Rattle.cs_file_scope.specs.Objects.{Filed}
+use Rattle.cs_file_scope.specs.View.{filed_of}
 use Rattle.cs_typing.specs.Files.{external_typed, file_typed}
-use Rattle.cs_typing.specs.View.{filed_of}
 use Rattle.cs_typing.proofs.file.with_externals.Goals as goal
 
 abbrev part_typed : RawExternal → Filed → Verdict Filed

@@ -1,6 +1,6 @@
 use Rattle.std.proofs.Common.{◌≡◌, drop}
+use Rattle.cs_file_scope.specs.View.{filed_of}
 use Rattle.cs_typing.specs.Files.{file_typed}
-use Rattle.cs_typing.specs.View.{filed_of}
 use Rattle.cs_typing.proofs.file.with_externals.Given as goal
 
 abbrev pub invariant-loop-external : goal.invariant-loop-external

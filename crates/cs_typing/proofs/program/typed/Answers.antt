@@ -1,4 +1,4 @@
-use Rattle.cs_typing.specs.View.{filed_of}
+use Rattle.cs_file_scope.specs.View.{filed_of}
 use Rattle.cs_typing.proofs.ProgramsLaidOut.{laid_out, made}
 use Rattle.cs_typing.proofs.WellFiles.{well_formed}
 use Rattle.cs_typing.proofs.program.typed.Goals as goal

@@ -5,7 +5,7 @@ use Rattle.cs_events.specs.PendingEvents.{Operates}
 use Rattle.cs_meaning.specs.ProgramRuns.{ProgramRun}
 use Rattle.cs_findings.specs.Runs.{run_of, run_budgets}
 use Rattle.cs_findings.specs.RealGuesses.{Comes}
-use Rattle.cs_run_state.specs.View.{log_of}
+use Rattle.cs_run_log.specs.LogView.{log_of}
 use Rattle.cs_witness.proofs.Keepings.{kept_up_to}
 use Rattle.cs_witness.proofs.grounds.shown_replay.Goals as goal
 

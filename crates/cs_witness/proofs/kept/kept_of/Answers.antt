@@ -1,6 +1,6 @@
 use Rattle.std.proofs.Common.{◌≡◌, ◌<◌, ◌≤◌, length, map, take, subst, arith}
 use Rattle.std.proofs.lemmas.List.{take_all}
-use Rattle.cs_run_state.specs.View.{pending_of}
+use Rattle.cs_run_log.specs.LogView.{pending_of}
 use Rattle.cs_findings.specs.GoodFindings.{IsEach}
 use Rattle.cs_witness.specs.Keeping.{IsKeptAt}
 use Rattle.cs_witness.proofs.Keepings.{kept_more_events, kept_places}

@@ -1,7 +1,7 @@
 use Rattle.std.proofs.Common.{◌≤◌, rules}
 use Rattle.cs_ast.specs.TypedProgram.{typed_program}
 use Rattle.cs_findings.specs.Runs.{run_of}
-use Rattle.cs_run_state.specs.View.{log_of}
+use Rattle.cs_run_log.specs.LogView.{log_of}
 use Rattle.cs_witness.proofs.Keepings.{kept_up_to}
 use Rattle.cs_witness.proofs.kept.replay_up_to.Goals as goal
 

@@ -13,7 +13,7 @@ use Rattle.cs_lower.proofs.Executing.{as_statement, executes_none, executes_furt
 use Rattle.cs_lower.proofs.ForLoops.{for_turned, for_made}
 use Rattle.cs_lower.proofs.Forms.{if_made}
 use Rattle.cs_lower.proofs.Leaving as leave
-use Rattle.cs_run_state.proofs.StatementForms.{block_is, for_is, switch_is}
+use Rattle.cs_objects.proofs.StatementForms.{block_is, for_is, switch_is}
 use Rattle.cs_lower.proofs.Switching.{enters_none, enters_further, switch_made, dropped}
 use Rattle.cs_lower.proofs.TurningLoops.{while_made, do_made}
 use Rattle.cs_lower.proofs.context.Lowering.+statements.Goals as goal

@@ -2,7 +2,7 @@ use Rattle.std.proofs.Common.{[], ◌∷◌, sym, ap, subst, ◌∙◌}
 use Rattle.cs_ast.specs.TypedProgram.{typed_program, routine}
 use Rattle.cs_cfg.specs.Graph as graph
 use Rattle.cs_cfg.specs.Placing.{does}
-use Rattle.cs_run_state.specs.MemoryView.{piece_of}
+use Rattle.cs_objects.specs.BlockView.{piece_of}
 use Rattle.cs_lower.specs.Building.{built_of, point_of}
 use Rattle.cs_lower.specs.Statements.{StoresPieces}
 use Rattle.cs_lower.proofs.Declaring.{text_stored}

@@ -1,6 +1,6 @@
 use Rattle.std.proofs.Common.{◌≡◌, ℕ, drop, map, subst, arith}
 use Rattle.cs_ast.specs.TypedProgram.{typed_program, routine}
-use Rattle.cs_run_state.specs.MemoryView.{piece_of}
+use Rattle.cs_objects.specs.BlockView.{piece_of}
 use Rattle.cs_lower.specs.Building.{built_of, point_of}
 use Rattle.cs_lower.specs.Statements.{StoresPieces}
 use Rattle.cs_lower.proofs.Declaring.{stored_further}

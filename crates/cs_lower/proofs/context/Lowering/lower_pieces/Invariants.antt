@@ -1,7 +1,7 @@
 -- The pieces from the index on are stored.
 use Rattle.std.proofs.Common.{◌≤◌, length, drop, map}
 use Rattle.cs_ast.specs.TypedProgram.{typed_program, routine}
-use Rattle.cs_run_state.specs.MemoryView.{piece_of}
+use Rattle.cs_objects.specs.BlockView.{piece_of}
 use Rattle.cs_lower.specs.Building.{built_of, point_of}
 use Rattle.cs_lower.specs.Statements.{StoresPieces}
 use Rattle.cs_lower.proofs.context.Lowering.lower_pieces.Given as goal

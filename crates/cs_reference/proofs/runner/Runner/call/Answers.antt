@@ -5,11 +5,11 @@ use Rattle.cs_ast.specs.TypedProgram.{typed_program, routine}
 use Rattle.cs_ast.specs.TypedView.{statement}
 use Rattle.cs_events.specs.Acts.{Act}
 use Rattle.cs_meaning.specs.Machine.{State, no_routine, NOWHERE}
-use Rattle.cs_run_state.specs.View.{operand_of}
+use Rattle.cs_values.specs.View.{operand_of}
 use Rattle.cs_run_state.specs.MachineView.{state_of}
 use Rattle.cs_reference.specs.RunnerView.{Performs}
-use Rattle.cs_reference.proofs.Calling.{routine_is, routine_none, call_is}
-use Rattle.cs_run_state.proofs.Statics.{lent}
+use Rattle.cs_frames.proofs.Calling.{routine_is, routine_none, call_is}
+use Rattle.cs_memory.proofs.FirstChanges.{lent}
 use Rattle.cs_reference.proofs.runner.Runner.call.Goals as goal
 
 pub returns-in-None-body : goal.returns-in-None-body

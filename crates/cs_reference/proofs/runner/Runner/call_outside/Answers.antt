@@ -5,12 +5,14 @@ use Rattle.cs_events.specs.Runs.{Continues}
 use Rattle.cs_meaning.specs.Calls.{outside_result, write_arguments}
 use Rattle.cs_meaning.specs.Machine.{Operand, State, push}
 use Rattle.cs_meaning.specs.Memory.{Memory}
-use Rattle.cs_run_state.specs.View.{operand_of, log_of}
-use Rattle.cs_run_state.specs.MemoryView.{memory_of, type_of, KeepsCounts}
+use Rattle.cs_values.specs.View.{operand_of}
+use Rattle.cs_run_log.specs.LogView.{log_of}
+use Rattle.cs_memory.specs.MemoryView.{memory_of, KeepsCounts}
+use Rattle.cs_objects.specs.BlockView.{type_of}
 use Rattle.cs_run_state.specs.MachineView.{state_of}
-use Rattle.cs_run_state.proofs.Chains.{ends_following}
-use Rattle.cs_run_state.proofs.Performing.{perform-Goes}
-use Rattle.cs_reference.proofs.MachineStates.{state_called}
+use Rattle.cs_run_log.proofs.Chains.{ends_following}
+use Rattle.cs_run_log.proofs.Performing.{perform-Goes}
+use Rattle.cs_frames.proofs.MachineStates.{state_called}
 use Rattle.cs_reference.proofs.runner.Runner.call_outside.Goals as goal
 
 pub returns-in_err-given : goal.returns-in_err-given

@@ -10,8 +10,8 @@ use Rattle.cs_meaning.specs.Initials.{number_in}
 use Rattle.cs_meaning.specs.Machine.{State, to_do, pop, cell_at}
 use Rattle.cs_meaning.specs.Statements.{Chosen, case_of, chosen_case, executes_from}
 use Rattle.cs_run_state.specs.MachineView.{state_of}
-use Rattle.cs_run_state.proofs.Chains.{ends_following}
-use Rattle.cs_reference.specs.Switching.{chosen_of}
+use Rattle.cs_run_log.proofs.Chains.{ends_following}
+use Rattle.cs_frames.specs.Switching.{chosen_of}
 use Rattle.cs_reference.proofs.runner.Runner.decide_switch.Goals as goal
 
 pub returns-in_err-show : goal.returns-in_err-show

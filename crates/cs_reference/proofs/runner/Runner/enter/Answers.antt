@@ -5,12 +5,13 @@ use Rattle.cs_events.specs.Acts.{Goes}
 use Rattle.cs_events.specs.Runs.{Continues}
 use Rattle.cs_meaning.specs.Calls.{new_frame, inside}
 use Rattle.cs_meaning.specs.Machine.{Frame, State}
-use Rattle.cs_run_state.specs.View.{operand_of, log_of}
-use Rattle.cs_run_state.specs.MemoryView.{block_at}
+use Rattle.cs_values.specs.View.{operand_of}
+use Rattle.cs_run_log.specs.LogView.{log_of}
+use Rattle.cs_objects.specs.BlockView.{block_at}
 use Rattle.cs_run_state.specs.MachineView.{frame_of, state_of}
-use Rattle.cs_run_state.proofs.Performing.{perform-Goes}
-use Rattle.cs_reference.specs.Calling.{inside_with}
-use Rattle.cs_reference.proofs.Locals.{inside_is}
+use Rattle.cs_run_log.proofs.Performing.{perform-Goes}
+use Rattle.cs_frames.specs.Calling.{inside_with}
+use Rattle.cs_frames.proofs.NewLocals.{inside_is}
 use Rattle.cs_reference.proofs.runner.Runner.enter.Goals as goal
 
 pub returns : goal.returns

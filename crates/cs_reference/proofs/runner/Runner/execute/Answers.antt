@@ -1,9 +1,9 @@
 use Rattle.std.proofs.Common.{refl, sym, ap, ◌∙◌}
 use Rattle.cs_events.specs.Runs.{Continues}
 use Rattle.cs_meaning.specs.Machine.{State}
-use Rattle.cs_run_state.specs.View.{log_of}
-use Rattle.cs_run_state.proofs.Performing.{perform-Goes}
-use Rattle.cs_run_state.proofs.StatementForms.{block_is, for_is}
+use Rattle.cs_run_log.specs.LogView.{log_of}
+use Rattle.cs_run_log.proofs.Performing.{perform-Goes}
+use Rattle.cs_objects.proofs.StatementForms.{block_is, for_is}
 use Rattle.cs_reference.proofs.runner.Runner.execute.Goals as goal
 
 pub returns-in_ok-put_all-in-Block : goal.returns-in_ok-put_all-in-Block

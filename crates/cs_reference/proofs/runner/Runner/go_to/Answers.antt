@@ -8,9 +8,9 @@ use Rattle.cs_meaning.specs.Jumps.{landing}
 use Rattle.cs_meaning.specs.Machine.{routine_of}
 use Rattle.cs_meaning.specs.Statements.{lands}
 use Rattle.cs_meaning.specs.Steps.{at_end}
-use Rattle.cs_run_state.specs.View.{setting_of, log_of}
+use Rattle.cs_run_log.specs.LogView.{setting_of, log_of}
 use Rattle.cs_run_state.specs.MachineView.{state_of}
-use Rattle.cs_run_state.proofs.Performing.{perform-Goes}
+use Rattle.cs_run_log.proofs.Performing.{perform-Goes}
 use Rattle.cs_reference.proofs.Functions.{bodiless, missing}
 use Rattle.cs_reference.proofs.runner.Runner.go_to.Goals as goal
 

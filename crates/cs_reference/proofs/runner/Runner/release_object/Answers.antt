@@ -5,8 +5,8 @@ use Rattle.std.proofs.lemmas.Int.{to_z-of_z}
 use Rattle.cs_events.specs.Acts.{Act}
 use Rattle.cs_events.specs.Runs.{perform}
 use Rattle.cs_meaning.specs.Machine.{State}
-use Rattle.cs_run_state.specs.View.{setting_of, log_of}
-use Rattle.cs_run_state.proofs.Performing.{perform-Stops}
+use Rattle.cs_run_log.specs.LogView.{setting_of, log_of}
+use Rattle.cs_run_log.proofs.Performing.{perform-Stops}
 use Rattle.cs_reference.proofs.runner.Runner.release_object.Goals as goal
 
 pub returns-in-Some : goal.returns-in-Some

@@ -1,5 +1,5 @@
 use Rattle.std.proofs.Common.{sym, ◌∙◌}
-use Rattle.cs_run_state.proofs.StatementForms.{for_is}
+use Rattle.cs_objects.proofs.StatementForms.{for_is}
 use Rattle.cs_reference.proofs.runner.Runner.turn.Goals as goal
 
 pub returns-in_ok-inner-in-None : goal.returns-in_ok-inner-in-None

@@ -1,6 +1,6 @@
 use Rattle.std.proofs.Common.{◌≡◌, Err, ◌+◌, Bool, if◌then◌else◌, ap, ◌∙◌, rules}
 use Rattle.cs_meaning.specs.Machine.{State, cell_at, pop}
-use Rattle.cs_run_state.specs.View.{setting_of, log_of}
+use Rattle.cs_run_log.specs.LogView.{setting_of, log_of}
 use Rattle.cs_run_state.specs.MachineView.{state_of}
 use Rattle.cs_cfg.specs.CodeSteps.{do_end, enters}
 use Rattle.cs_cfg.specs.Graph.{Branch}

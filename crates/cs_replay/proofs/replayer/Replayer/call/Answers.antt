@@ -1,7 +1,8 @@
 use Rattle.std.proofs.Common.{◌≡◌, Err, map, refl, sym, ap, rules}
 use Rattle.cs_meaning.specs.Calls as calls
 use Rattle.cs_meaning.specs.Machine.{State, pop_many, routine_of}
-use Rattle.cs_run_state.specs.View.{operand_of, setting_of, log_of}
+use Rattle.cs_values.specs.View.{operand_of}
+use Rattle.cs_run_log.specs.LogView.{setting_of, log_of}
 use Rattle.cs_run_state.specs.MachineView.{state_of}
 use Rattle.cs_cfg.specs.Graph as graph
 use Rattle.cs_cfg.specs.Graph.{flow_of}

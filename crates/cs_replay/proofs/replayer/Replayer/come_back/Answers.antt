@@ -1,13 +1,13 @@
 use Rattle.std.proofs.Common.{ap, ◌∙◌}
 use Rattle.cs_meaning.specs.Calls.{without_locals}
 use Rattle.cs_meaning.specs.Machine.{State}
-use Rattle.cs_run_state.specs.View.{operand_of}
-use Rattle.cs_run_state.specs.MemoryView.{memory_of}
+use Rattle.cs_values.specs.View.{operand_of}
+use Rattle.cs_memory.specs.MemoryView.{memory_of}
 use Rattle.cs_run_state.specs.MachineView.{state_of}
 use Rattle.cs_replay.specs.CodeStates.{code_state}
 use Rattle.cs_replay.specs.Points.{point_of}
 use Rattle.cs_replay.specs.ReplayerView.{callers_of}
-use Rattle.cs_reference.proofs.MachineStates.{state_in_frame}
+use Rattle.cs_frames.proofs.MachineStates.{state_in_frame}
 use Rattle.cs_replay.proofs.replayer.Replayer.come_back.Goals as goal
 
 pub returns-clause-state : goal.returns-clause-state

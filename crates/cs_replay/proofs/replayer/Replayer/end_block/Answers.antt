@@ -1,6 +1,6 @@
 use Rattle.std.proofs.Common.{rules, ap}
 use Rattle.cs_events.specs.Acts.{Goes}
-use Rattle.cs_run_state.specs.View.{setting_of, log_of}
+use Rattle.cs_run_log.specs.LogView.{setting_of, log_of}
 use Rattle.cs_cfg.specs.CodeSteps.{enters}
 use Rattle.cs_replay.specs.ReplayerView.{code_of, state_in}
 use Rattle.cs_replay.proofs.Leading.{arrives, goes_so}

@@ -8,8 +8,9 @@ use Rattle.cs_events.specs.Acts.{Goes}
 use Rattle.cs_meaning.specs.Access.{shows_then}
 use Rattle.cs_meaning.specs.Calls.{inside}
 use Rattle.cs_meaning.specs.Machine.{routine_of}
-use Rattle.cs_run_state.specs.View.{operand_of, setting_of, log_of}
-use Rattle.cs_run_state.specs.MemoryView.{block_at}
+use Rattle.cs_values.specs.View.{operand_of}
+use Rattle.cs_run_log.specs.LogView.{setting_of, log_of}
+use Rattle.cs_objects.specs.BlockView.{block_at}
 use Rattle.cs_run_state.specs.MachineView.{frame_of, state_of}
 use Rattle.cs_cfg.specs.GraphView as view
 use Rattle.cs_cfg.specs.Working.{CodeState, code_frame}

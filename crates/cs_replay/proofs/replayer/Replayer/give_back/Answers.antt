@@ -1,7 +1,7 @@
 use Rattle.std.proofs.Common.{◌≡◌, ◌+◌, refl, ap, ◌∙◌}
 use Rattle.cs_meaning.specs.Calls.{leave}
 use Rattle.cs_meaning.specs.Machine.{Operand, State, operand_at, pop}
-use Rattle.cs_run_state.specs.View.{operand_of}
+use Rattle.cs_values.specs.View.{operand_of}
 use Rattle.cs_run_state.specs.MachineView.{state_of}
 use Rattle.cs_cfg.specs.Working as working
 use Rattle.cs_replay.specs.CodeStates.{code_state}

@@ -1,6 +1,6 @@
 use Rattle.std.proofs.Common.{◌≡◌, List, [], ◌∷◌, ◌++◌, map, reverse, ap, ◌∙◌}
 use Rattle.cs_run_state.specs.declared.machine.Frame.{Frame}
-use Rattle.cs_run_state.specs.MemoryView.{block_at}
+use Rattle.cs_objects.specs.BlockView.{block_at}
 use Rattle.cs_run_state.specs.MachineView.{state_of}
 use Rattle.cs_run_state.proofs.States.{reverse-map-push}
 use Rattle.cs_replay.specs.declared.positions.Position.{Position}

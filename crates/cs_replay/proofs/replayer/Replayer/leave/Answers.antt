@@ -5,7 +5,8 @@ use Rattle.cs_events.specs.declared.outcome.Returned.{Returned}
 use Rattle.cs_events.specs.Runs.{Log, Performed, Finishes, perform}
 use Rattle.cs_meaning.specs.Calls.{leave, leave_to, returned_of}
 use Rattle.cs_meaning.specs.Machine.{CallFrame}
-use Rattle.cs_run_state.specs.View.{operand_of, setting_of, log_of}
+use Rattle.cs_values.specs.View.{operand_of}
+use Rattle.cs_run_log.specs.LogView.{setting_of, log_of}
 use Rattle.cs_cfg.specs.declared.code.Code.{Code}
 use Rattle.cs_cfg.specs.Graph.{Point}
 use Rattle.cs_cfg.specs.Working.{CodeState}

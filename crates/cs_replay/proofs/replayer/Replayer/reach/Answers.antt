@@ -1,6 +1,6 @@
 use Rattle.std.proofs.Common.{◌≡◌, Err, rules}
 use Rattle.cs_meaning.specs.CountedPoints.{reach_counted_point}
-use Rattle.cs_run_state.specs.View.{setting_of, log_of}
+use Rattle.cs_run_log.specs.LogView.{setting_of, log_of}
 use Rattle.cs_run_state.specs.MachineView.{state_of}
 use Rattle.cs_cfg.specs.Working as working
 use Rattle.cs_replay.specs.CodeStates.{code_state}

@@ -9,9 +9,9 @@ use Rattle.cs_events.specs.Acts.{Act, Goes}
 use Rattle.cs_meaning.specs.Access.{shows_then}
 use Rattle.cs_meaning.specs.Initials.{number_in}
 use Rattle.cs_meaning.specs.Machine.{State, cell_at, pop}
-use Rattle.cs_run_state.specs.View.{setting_of, log_of}
+use Rattle.cs_run_log.specs.LogView.{setting_of, log_of}
 use Rattle.cs_run_state.specs.MachineView.{state_of}
-use Rattle.cs_run_state.proofs.Chains.{ends_following}
+use Rattle.cs_run_log.proofs.Chains.{ends_following}
 use Rattle.cs_cfg.specs.CodeSteps.{Way, way_of, enters, goes_way}
 use Rattle.cs_cfg.specs.GraphView as view
 use Rattle.cs_cfg.specs.Working as working

@@ -10,10 +10,11 @@ use Rattle.cs_meaning.specs.Initials.{number_in}
 use Rattle.cs_meaning.specs.Machine.{Operand, State, cell_of, push, push_cell, with_memory}
 use Rattle.cs_meaning.specs.Memory.{Memory}
 use Rattle.cs_meaning.specs.Operators.{convert_number}
-use Rattle.cs_run_state.specs.View.{operand_of, log_of}
+use Rattle.cs_values.specs.View.{operand_of}
+use Rattle.cs_run_log.specs.LogView.{log_of}
 use Rattle.cs_run_state.specs.MachineView.{state_of}
-use Rattle.cs_run_state.proofs.Chains.{ends_following}
-use Rattle.cs_run_state.proofs.Performing.{perform-Goes}
+use Rattle.cs_run_log.proofs.Chains.{ends_following}
+use Rattle.cs_run_log.proofs.Performing.{perform-Goes}
 use Rattle.cs_run_state.proofs.machine.Machine.fetch_number.Goals as goal
 
 pub returns-in_err-number : goal.returns-in_err-number

@@ -8,8 +8,9 @@ use Rattle.cs_meaning.specs.Expressions.{given}
 use Rattle.cs_meaning.specs.Machine.{State, Scalar, push, pop_many, with_memory, operand_at}
 use Rattle.cs_meaning.specs.Memory.{Memory}
 use Rattle.cs_run_state.specs.MachineView.{state_of}
-use Rattle.cs_run_state.specs.View.{cell_of, log_of}
-use Rattle.cs_run_state.proofs.Performing.{perform-Goes}
+use Rattle.cs_values.specs.View.{cell_of}
+use Rattle.cs_run_log.specs.LogView.{log_of}
+use Rattle.cs_run_log.proofs.Performing.{perform-Goes}
 use Rattle.cs_run_state.proofs.machine.Machine.move_pointer.Goals as goal
 
 pub returns-in-Err : goal.returns-in-Err

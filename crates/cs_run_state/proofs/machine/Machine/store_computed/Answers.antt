@@ -7,10 +7,10 @@ use Rattle.cs_events.specs.Objects.{NumberCell}
 use Rattle.cs_meaning.specs.Access.{store_object}
 use Rattle.cs_meaning.specs.Machine.{State, Scalar}
 use Rattle.cs_meaning.specs.Memory.{Memory}
-use Rattle.cs_run_state.specs.AccessView.{access_of}
+use Rattle.cs_objects.specs.AccessView.{access_of}
 use Rattle.cs_run_state.specs.MachineView.{state_of}
-use Rattle.cs_run_state.specs.View.{cell_of}
-use Rattle.cs_run_state.proofs.Chains.{ends_following}
+use Rattle.cs_values.specs.View.{cell_of}
+use Rattle.cs_run_log.proofs.Chains.{ends_following}
 use Rattle.cs_run_state.proofs.machine.Machine.store_computed.Goals as goal
 
 pub returns-in_err-store-clause-err : goal.returns-in_err-store-clause-err

@@ -6,8 +6,8 @@ use Rattle.cs_meaning.specs.Machine.{Operand, Scalar, Whole, Nothing, State, ope
 use Rattle.cs_meaning.specs.Expressions.{use_result}
 use Rattle.cs_run_state.specs.Choosing.{result_act}
 use Rattle.cs_run_state.specs.MachineView.{state_of}
-use Rattle.cs_run_state.specs.View.{setting_of, log_of}
-use Rattle.cs_run_state.proofs.Performing.{perform-Goes, perform-Stops}
+use Rattle.cs_run_log.specs.LogView.{setting_of, log_of}
+use Rattle.cs_run_log.proofs.Performing.{perform-Goes, perform-Stops}
 use Rattle.cs_run_state.proofs.machine.Machine.use_result.Goals as goal
 
 -- the use of a result is that of a value, before the machine goes on

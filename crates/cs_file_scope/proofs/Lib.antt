@@ -1,0 +1,5 @@
+pub mod ChangedParts
+pub mod FunctionAgain
+pub mod FunctionNumbers
+pub mod ParameterTypes
+pub mod PlacedFunctions

@@ -1,0 +1,10 @@
+pub mod Beginning
+pub mod Calling
+pub mod InRows
+pub mod Leaving
+pub mod NewLocals
+pub mod MachineStates
+pub mod Overwriting
+pub mod Rows
+pub mod Stacks
+pub mod Writing

@@ -1,0 +1,4 @@
+pub mod Calling
+pub mod Jumping
+pub mod Storing
+pub mod Switching

@@ -1,0 +1,5 @@
+pub mod Changes
+pub mod FirstChanges
+pub mod Reading
+pub mod Rows
+pub mod Starts

@@ -1,0 +1,3 @@
+pub mod FoundView
+pub mod MemoryView
+pub mod Reaching

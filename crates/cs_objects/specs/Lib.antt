@@ -1,0 +1,5 @@
+pub mod AccessView
+pub mod BlockView
+pub mod PieceOrder
+pub mod Prepared
+pub mod TypeView

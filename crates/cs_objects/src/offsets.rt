@@ -1,0 +1,109 @@
+//! Where the scalars of a type lie.
+ghost use Rattle.std.specs.Prelude.{◌≡◌, ◌++◌, ◌∷◌, [], OnOk, IfOk};
+ghost use Rattle.cs_types.specs.Shape.{shape_of, array};
+ghost use Rattle.cs_types.specs.Layout.{IsLaidOut};
+ghost use Rattle.cs_ast.specs.TypedProgram.{typed_program};
+ghost use Rattle.cs_meaning.specs.Types as types;
+ghost use Rattle.cs_objects.specs.TypeView.{offsets_from, member_offsets};
+
+use crate::scalars::members_of;
+use cs_ast::typed::program::Program;
+use cs_types::{CType, Member};
+use cs_values::types::size_of;
+use std::alloc::AllocError;
+
+/// The offsets of a type's scalars, in order (C11 6.7.2.1).
+pub fn type_offsets(program: &Program, ty: &CType) -> Result<Vec<u64>, AllocError>
+    requires { IsLaidOut program.now.model program.now.table.list }
+    ensures { IfOk result (λ offsets.
+        offsets.items ≡ types.scalar_offsets (typed_program program.now) (shape_of ty.now)) }
+{
+    let mut made = Vec::new(*program.functions.allocator());
+    push_offsets(program, u32::MAX, ty, 0, &mut made)?;
+    Ok(made)
+}
+
+// Adds the offsets of the scalars of a type that begins at an offset. More levels of types in one another are want of memory.
+#[cycle(offsets)]
+fn push_offsets(
+    program: &Program,
+    levels: u32,
+    ty: &CType,
+    from: u64,
+    made: &mut Vec<u64>,
+) -> Result<(), AllocError>
+    requires { IsLaidOut program.now.model program.now.table.list }
+    ensures { OnOk result (made.new.items
+        ≡ made.old.items ++ offsets_from (typed_program program.now) from (shape_of ty.now)) }
+{
+    let levels = levels.checked_sub(1).ok_or(AllocError)?;
+    match ty {
+        CType::Void => Ok(()),
+        CType::Int(_) => push_one(from, made),
+        CType::Pointer(_) => push_one(from, made),
+        CType::Array(element, count) => push_elements(program, levels, element, *count, from, made),
+        CType::Struct(tag) => match members_of(program, *tag) {
+            Some(members) => push_members(program, levels, members, from, made),
+            None => Ok(()),
+        },
+    }
+}
+
+// Adds an offset.
+fn push_one(offset: u64, made: &mut Vec<u64>) -> Result<(), AllocError>
+    ensures { OnOk result (made.new.items ≡ made.old.items ++ offset ∷ []) }
+{
+    made.push(offset)?;
+    Ok(())
+}
+
+// Adds those of an array with so many elements of a type.
+#[cycle(offsets)]
+fn push_elements(
+    program: &Program,
+    levels: u32,
+    element: &CType,
+    count: u64,
+    from: u64,
+    made: &mut Vec<u64>,
+) -> Result<(), AllocError>
+    requires { IsLaidOut program.now.model program.now.table.list }
+    ensures { OnOk result (made.new.items
+        ≡ made.old.items
+        ++ offsets_from (typed_program program.now) from (array (shape_of element.now) count)) }
+{
+    let size = size_of(program, element)?;
+    let mut at = from;
+    let mut left = count;
+    while left > 0 {
+        let before = made.len();
+        push_offsets(program, levels, element, at, made)?;
+        // Elements without scalars may be many.
+        if made.len() == before {
+            return Ok(());
+        }
+        at = at.checked_add(size).ok_or(AllocError)?;
+        left -= 1;
+    }
+    Ok(())
+}
+
+// Adds those of the members of a struct.
+#[cycle(offsets)]
+fn push_members(
+    program: &Program,
+    levels: u32,
+    members: &[Member],
+    from: u64,
+    made: &mut Vec<u64>,
+) -> Result<(), AllocError>
+    requires { IsLaidOut program.now.model program.now.table.list }
+    ensures { OnOk result (made.new.items
+        ≡ made.old.items ++ member_offsets (typed_program program.now) from members.now) }
+{
+    for member in members {
+        let at = from.checked_add(member.offset()).ok_or(AllocError)?;
+        push_offsets(program, levels, member.ty(), at, made)?;
+    }
+    Ok(())
+}

@@ -1,0 +1,8 @@
+//! The front end as one call: the program of a preprocessed file, or why the file is refused.
+#![tactic(auto)]
+
+mod program;
+mod refusal;
+
+pub use program::{FileProgram, program_of};
+pub use refusal::FileRefusal;

@@ -1,0 +1,7 @@
+//! What a run has shown, read and touched, and the operators that show.
+#![tactic(auto, using(crate::proofs::Performing::silent))]
+
+pub mod logs;
+pub mod operators;
+
+pub use logs::{Log, Pending, Stop, Touch};

@@ -1,0 +1,310 @@
+//! What a run has shown, read and touched, and the questions that it shows.
+#![tactic(auto, using(crate::proofs::Performing::performing))]
+
+ghost use Rattle.std.specs.Prelude.{◌≡◌, true, false, IfOk, OnOk, IfErr};
+ghost use Rattle.cs_events.specs.Acts.{Asks, Allocates, Reaches, Reads, Touches};
+ghost use Rattle.cs_events.specs.Runs as runs;
+ghost use Rattle.cs_events.specs.Operations as operations;
+ghost use Rattle.cs_meaning.specs.Access.{shows_then};
+ghost use Rattle.cs_values.specs.View.{object_of, cell_of};
+ghost use Rattle.cs_run_log.specs.LogView.{touch_of, pending_of, setting_of, log_of};
+ghost use Rattle.cs_run_log.specs.declared.logs.Stop.TheVariants.{Memory};
+ghost use Rattle.cs_objects.specs.declared.settings.Setting.{Setting as SettingOfRun};
+ghost use Rattle.cs_values.specs.Results.{IsOwn};
+ghost use Rattle.cs_run_log.specs.Pieces.{GoesOn, Gives, EndsIn, StopsIn};
+
+use cs_ast::Place;
+use cs_events::{
+    Budget, Event, Guess, InputKind, Label, Lookup, Operation, Outcome, PointKind, Wrap,
+    guess_range, lies_in,
+};
+use cs_inputs::Path;
+use cs_objects::Setting;
+use cs_objects::inputs::input_cell;
+use cs_types::DataModel;
+use cs_values::arithmetic::{Computed, is_true, own_result};
+use cs_values::{Cell, Object};
+use std::alloc::{AllocError, AllocFailed, Global};
+
+/// A control point that is met, or what happens at a place to a scalar local of a frame.
+#[derive(Clone, Copy, Debug, PartialEq, Eq)]
+pub enum Touch {
+    Meets(PointKind, Place),
+    /// A load of a declaration's object, by the frame's number and the declaration's.
+    Loads(u64, u32, Place),
+    /// A store to it.
+    Stores(u64, u32, Place),
+    /// A declaration that unsets it.
+    Clears(u64, u32, Place),
+}
+
+/// What is about to show as an event at a place.
+#[derive(Drop)]
+pub enum Pending {
+    /// An operation with its operands.
+    Operates(Place, Operation),
+    /// An allocation, by the path of the input that decides whether it gives a block.
+    Tries(Place, Path),
+    /// An access to an object at an offset in bytes. The object is boxed, so that an entry takes no more than an operation needs.
+    Accesses(Place, Box<Object>, i128),
+}
+
+/// What a run has shown, read and touched so far, each in order.
+#[derive(Drop)]
+pub struct Log {
+    pub events: Vec<Event>,
+    /// What was pending at each event.
+    pub pending: Vec<Pending>,
+    pub read: Vec<Lookup>,
+    pub touches: Vec<Touch>,
+}
+
+/// Why a piece of a run does not go on.
+#[derive(Clone, Copy, Debug, PartialEq, Eq)]
+pub enum Stop {
+    /// The run ended so.
+    Outcome(Outcome),
+    /// Memory is short.
+    Memory,
+}
+
+impl From<AllocError> for Stop {
+    ghost from_gives = { λ _ stop. stop ≡ Memory };
+
+    fn from(_error: AllocError) -> Stop {
+        Stop::Memory
+    }
+}
+
+impl<T: Drop> From<AllocFailed<T>> for Stop {
+    ghost from_gives = { λ _ stop. stop ≡ Memory };
+
+    fn from(_error: AllocFailed<T>) -> Stop {
+        Stop::Memory
+    }
+}
+
+impl Log {
+    /// Nothing.
+    pub fn new(alloc: Global) -> Log
+        ensures { log_of result ≡ runs.empty }
+    {
+        Log {
+            events: Vec::new(alloc),
+            pending: Vec::new(alloc),
+            read: Vec::new(alloc),
+            touches: Vec::new(alloc),
+        }
+    }
+
+    /// An operation shows at a place. Its result leads on, or the number that is guessed in its place.
+    pub fn ask(
+        &mut self,
+        setting: &Setting,
+        place: Place,
+        operation: Operation,
+    ) -> Result<i128, Stop>
+        ensures ok { IfOk result (Gives setting.now self.old self.new (Asks place operation)) }
+        ensures err { IfErr result (StopsIn setting.now self.old self.new (Asks place operation)) }
+    {
+        if !self.has_room(setting) {
+            return Err(Stop::Outcome(Outcome::Over(Budget::Events, place)));
+        }
+        let guess = self.used_guess(setting, operation);
+        let own = own_result(setting.program.model, operation)?;
+        let shown = label(operation, own, guess);
+        self.push(Pending::Operates(place, operation), place, shown)?;
+        Ok(leading(own.number, guess))
+    }
+
+    /// A label shows at a place.
+    pub fn show(&mut self, setting: &Setting, place: Place, label: Label) -> Result<(), Stop>
+        ensures ok { OnOk result (GoesOn setting.now self.old self.new (shows_then place label)) }
+        ensures err { IfErr result (EndsIn setting.now self.old self.new (shows_then place label)) }
+    {
+        if !self.has_room(setting) {
+            return Err(Stop::Outcome(Outcome::Over(Budget::Events, place)));
+        }
+        self.push(
+            Pending::Operates(place, Operation::Show(label)),
+            place,
+            label,
+        )?;
+        Ok(())
+    }
+
+    /// An input of a kind is looked up: what it gives.
+    pub fn read_input(
+        &mut self,
+        setting: &Setting,
+        path: &Path,
+        kind: InputKind,
+    ) -> Result<Cell, Stop>
+        ensures ok { IfOk result (λ cell.
+            Gives setting.now self.old self.new (Reads path.now kind) (cell_of cell)) }
+        ensures err { IfErr result
+            (StopsIn setting.now self.old self.new (Reads path.now kind)) }
+    {
+        let number = setting.inputs.get(path);
+        self.look_up(path.copy()?, kind)?;
+        let cell = input_cell(setting.program.model, path, kind, &number)?;
+        Ok(cell)
+    }
+
+    /// An allocation shows at a place: whether it gives a block is an input.
+    pub fn try_allocation(
+        &mut self,
+        setting: &Setting,
+        place: Place,
+        path: Path,
+    ) -> Result<bool, Stop>
+        ensures ok { IfOk result (Gives setting.now self.old self.new (Allocates place path)) }
+        ensures err { IfErr result (StopsIn setting.now self.old self.new (Allocates place path)) }
+    {
+        if !self.has_room(setting) {
+            return Err(Stop::Outcome(Outcome::Over(Budget::Events, place)));
+        }
+        let given = is_true(setting.inputs.get(&path));
+        self.look_up(path.copy()?, InputKind::Allocation)?;
+        self.push(Pending::Tries(place, path), place, Label::Alloc(given))?;
+        Ok(given)
+    }
+
+    /// An access shows the offset that it has reached in an object.
+    pub fn show_offset(
+        &mut self,
+        setting: &Setting,
+        place: Place,
+        object: &Object,
+        offset: i128,
+    ) -> Result<(), Stop>
+        ensures ok { OnOk result
+            (GoesOn setting.now self.old self.new (Reaches place (object_of object.now) offset)) }
+        ensures err { IfErr result
+            (EndsIn setting.now self.old self.new (Reaches place (object_of object.now) offset)) }
+    {
+        if !self.has_room(setting) {
+            return Err(Stop::Outcome(Outcome::Over(Budget::Events, place)));
+        }
+        let object = Box::new(*self.events.allocator(), object.copy()?)?;
+        let shown = Label::Offset(offset_shown(offset));
+        self.push(Pending::Accesses(place, object, offset), place, shown)?;
+        Ok(())
+    }
+
+    /// A touch, which shows nothing.
+    pub fn touch(&mut self, touch: Touch) -> Result<(), AllocError>
+        ensures { OnOk result ((setting : SettingOfRun)
+            → GoesOn setting self.old self.new (Touches (touch_of touch))) }
+    {
+        self.touches.push(touch)?;
+        Ok(())
+    }
+
+    // Whether one more event may be passed.
+    fn has_room(&self, setting: &Setting) -> bool
+        ensures { result ≡ runs.has_room (setting_of setting.now) (log_of self.now) }
+    {
+        (self.events.len() as u64) < setting.budgets.events
+    }
+
+    // One more event, and what was pending there.
+    fn push(&mut self, pending: Pending, place: Place, label: Label) -> Result<(), AllocError>
+        ensures { OnOk result (log_of self.new
+            ≡ runs.with_event (log_of self.old) (pending_of pending)
+            (record { place = place; label = label })) }
+    {
+        self.events.push(Event { place, label })?;
+        self.pending.push(pending)?;
+        Ok(())
+    }
+
+    // One more input that was looked up.
+    fn look_up(&mut self, path: Path, kind: InputKind) -> Result<(), AllocError>
+        ensures { OnOk result (log_of self.new ≡ runs.with_read (log_of self.old) path kind) }
+    {
+        self.read.push(Lookup { path, kind })?;
+        Ok(())
+    }
+
+    // The guess that is used at the next event.
+    fn used_guess(&self, setting: &Setting, operation: Operation) -> Option<i128>
+        ensures { result ≡ runs.used_guess (setting_of setting.now) (log_of self.now) operation }
+    {
+        let range = guess_range(setting.program.model, operation)?;
+        let number = guess_at(setting.guesses, self.events.len() as u64 + 1)?;
+        if lies_in(range, number) {
+            Some(number)
+        } else {
+            None
+        }
+    }
+}
+
+// The number of the first guess that is listed for an event.
+fn guess_at(guesses: &[Guess], event: u64) -> Option<i128>
+    ensures { result ≡ runs.guess_at guesses.now event }
+{
+    for guess in guesses {
+        if guess.event == event {
+            return Some(guess.number);
+        }
+    }
+    None
+}
+
+// The number that leads on: the guess, or the operation's own result.
+fn leading(number: i128, guess: Option<i128>) -> i128
+    ensures { (model : DataModel) (operation : Operation)
+        → number ≡ operations.own_result model operation
+        → result ≡ operations.result_with model operation guess }
+{
+    match guess {
+        Some(guess) => guess,
+        None => number,
+    }
+}
+
+// What a truth shows.
+fn truth_label(number: i128) -> Label
+    ensures { result ≡ Label.Truth (operations.is_true number) }
+{
+    Label::Truth(is_true(number))
+}
+
+// What an operation shows.
+fn label(operation: Operation, own: Computed, guess: Option<i128>) -> Label
+    ensures { (model : DataModel) → IsOwn model operation own
+        → result ≡ operations.shows model operation guess }
+{
+    match operation {
+        Operation::Show(label) => label,
+        Operation::Compare(_, _, _) => truth_label(leading(own.number, guess)),
+        Operation::Order(_, _) => truth_label(leading(own.number, guess)),
+        Operation::Product(_, _) => truth_label(leading(own.number, guess)),
+        Operation::Binary(_, _, _, _) => Label::Wrap(wrap_or_guess(own.wrap, guess)),
+        Operation::Unary(_, _, _) => Label::Wrap(wrap_or_guess(own.wrap, guess)),
+        Operation::Convert(_, _) => Label::Wrap(wrap_or_guess(own.wrap, guess)),
+        Operation::Sum(_, _, _) => Label::Wrap(wrap_or_guess(own.wrap, guess)),
+        Operation::Difference(_, _, _) => Label::Wrap(wrap_or_guess(own.wrap, guess)),
+    }
+}
+
+// How a result lies to its type, or that it is guessed.
+fn wrap_or_guess(wrap: Wrap, guess: Option<i128>) -> Wrap
+    ensures { (model : DataModel) (operation : Operation)
+        → wrap ≡ operations.wrap_of (operations.own_quotient model operation)
+        → result ≡ operations.wrap_or_guess model operation guess }
+{
+    match guess {
+        Some(_) => Wrap::Guessed,
+        None => wrap,
+    }
+}
+
+// What the offset of an access shows: the offset modulo 2^64.
+fn offset_shown(offset: i128) -> u64
+    ensures { result ≡ operations.offset_shown offset }
+{
+    offset.rem_euclid(1 << 64) as u64
+}

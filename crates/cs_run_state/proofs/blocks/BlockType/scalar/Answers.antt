@@ -1,7 +1,0 @@
-use Rattle.std.proofs.Common.{sym, ◌∙◌}
-use Rattle.cs_run_state.proofs.Layouts.{char_at}
-use Rattle.cs_run_state.proofs.blocks.BlockType.scalar.Goals as goal
-
-pub returns-in-Text : goal.returns-in-Text
-returns-in-Text c =
-    rw c.in-Text.is (c.character.ensures ∙ sym (char_at c.args.program.now.model c.args.program.now.table.list c.in-Text.count c.args.offset))

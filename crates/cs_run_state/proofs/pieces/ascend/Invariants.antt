@@ -1,8 +1,0 @@
--- If the pieces from the index on rise after the end of the one before, all do.
-use Rattle.std.proofs.Common.{drop}
-use Rattle.std.specs.Prelude.{IsTrue}
-use Rattle.cs_run_state.specs.PieceOrder.{ascends_from}
-use Rattle.cs_run_state.proofs.pieces.ascend.Given as goal
-
-abbrev pub invariant-loop-piece : goal.invariant-loop-piece
-invariant-loop-piece l = IsTrue (ascends_from l.end (drop l.piece-index l.pieces)) → IsTrue (ascends_from 0 l.pieces)

@@ -1,8 +1,0 @@
--- The literals before the index were made.
-use Rattle.std.proofs.Common.{◌≡◌, map, take}
-use Rattle.cs_meaning.specs.Steps.{literal_block}
-use Rattle.cs_run_state.specs.MemoryView.{block_of}
-use Rattle.cs_run_state.proofs.prepared.literal_blocks.Given as goal
-
-abbrev pub invariant-loop-literal : goal.invariant-loop-literal
-invariant-loop-literal l = map block_of l.made.items ≡ map literal_block (take l.literal-index l.program.literals.items)

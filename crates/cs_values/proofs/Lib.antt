@@ -1,0 +1,3 @@
+pub mod Casts
+pub mod Layouts
+pub mod Numbers
