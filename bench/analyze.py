@@ -20,9 +20,9 @@ def least(command, text):
     return min(it[1] for it in runs), max(it[2] for it in runs)
 
 
-def doubled(count, table=0):
+def doubled(count, table=0, further=0):
     """Tests of parameters in a row, each of which doubles a number, with or without 1: each path has its own sum."""
-    parameters = ",".join(f"int p{it}" for it in range(count))
+    parameters = ",".join([f"int p{it}" for it in range(count)] + [f"int q{it}" for it in range(further)])
     tests = "".join(f"if(p{it})s=s*2+1;else s=s*2;" for it in range(count))
     half = table // 2
     bound = f"int t[{table}];int i;for(i=0;i<{half};i++)t[i]=i;for(i={half};i<{table};i++)t[i]=i;" if table else ""
@@ -93,10 +93,14 @@ def main():
         row(f"{count} tests of {count} parameters", doubled(count))
     for table in (64, 256, 1024):
         row(f"12 tests, with a table of {table} ints", doubled(12, table), ["--visits", "1000", "--events", "100000"])
+    for further in (16, 64, 256):
+        row(f"10 tests of 10 parameters, and {further} further parameters", doubled(10, further=further))
     row("150,000 rows, then cut", doubled(16), ["--nodes", "150000"])
     row("20 merged branches", merged(20))
     row("a copy of a struct of 4,096 scalars", copied(4096))
     row("a constant table of 4,096 ints under 64 splits", looked_up(4096))
+    seconds, memory = least([CSA, "flow"], looked_up(4096))
+    print(f"| the flow of the same file | | {seconds:.3f} s | {memory} MB |", flush=True)
     row("3,000 findings in a file of 3,000 objects", findings(3000))
     for count in (3500, 7000, 14000):
         row(f"{count} functions", functions(count))

@@ -6,9 +6,10 @@ use cs_cfg::Spot;
 use cs_constraints::Constraints;
 use cs_keys::key;
 use cs_pmap::PMap;
+use cs_ranges::RangeSet;
 use cs_state::{Answers, Callers, Counters, Frame, ReadCells, State, Temporaries, Visits};
 use cs_store::{Store, Value};
-use cs_terms::Lin;
+use cs_terms::{Lin, Sym};
 use cs_types::DataModel;
 use std::alloc::{AllocError, Global};
 use std::time::Instant;
@@ -52,30 +53,35 @@ fn fresh(alloc: Global) -> Result<State, AllocError> {
     })
 }
 
+// A number in the cell of that number.
+fn numbered(number: u32) -> (u64, Value) {
+    let value = Lin {
+        sym: None,
+        slope: 0,
+        at: 0,
+        value: i128::from(number),
+    };
+    (u64::from(number), Value::Number(value))
+}
+
 // A state with a table in which so many cells are bound to numbers.
 fn with_table(alloc: Global, cells: u32) -> Result<State, AllocError> {
     let mut state = fresh(alloc)?;
     for number in 0..cells {
-        let value = Lin {
-            sym: None,
-            slope: 0,
-            at: 0,
-            value: i128::from(number),
-        };
-        state
-            .store
-            .bind(1, u64::from(number), Value::Number(value))?;
+        let (offset, value) = numbered(number);
+        state.store.bind(1, offset, value)?;
     }
     Ok(state)
 }
 
-// The words of so many keys.
+// So many keys.
 fn keys(alloc: Global, state: &State, count: u32) -> Result<usize, AllocError> {
-    let mut words = 0usize;
+    let mut made = 0usize;
     for _ in 0..count {
-        words = words.wrapping_add(key(alloc, state)?.len());
+        let _key = key(alloc, state)?;
+        made = made.wrapping_add(1);
     }
-    Ok(words)
+    Ok(made)
 }
 
 // The frames of so many copies.
@@ -85,6 +91,57 @@ fn copies(state: &State, count: u32) -> Result<usize, AllocError> {
         visits = visits.wrapping_add(state.copy()?.frame.visits.as_slice().len());
     }
     Ok(visits)
+}
+
+// The scalars of so many cells, with their offsets.
+fn leaves(alloc: Global, cells: u32) -> Result<Vec<(u64, Value)>, AllocError> {
+    let mut leaves = Vec::with_capacity(alloc, cells as usize)?;
+    for number in 0..cells {
+        leaves.push(numbered(number))?;
+    }
+    Ok(leaves)
+}
+
+// The cells of the table bound once more in another base region, of so many copies of the state.
+fn bindings(alloc: Global, state: &State, cells: u32, count: u32) -> Result<usize, AllocError> {
+    let leaves = leaves(alloc, cells)?;
+    let mut bound = 0usize;
+    for _ in 0..count {
+        let mut copy = state.copy()?;
+        copy.bind_all(2, &leaves)?;
+        bound = bound.wrapping_add(leaves.len());
+    }
+    Ok(bound)
+}
+
+// Cells read from inputs by a copy of the state.
+fn read_by_copy(
+    alloc: Global,
+    state: &State,
+    syms: &[Sym],
+    read: &[(u64, Sym)],
+) -> Result<(), AllocError> {
+    let numbers = RangeSet::of(alloc, 0, 255)?;
+    let mut copy = state.copy()?;
+    copy.declare_all(syms, &numbers)?;
+    copy.read_cells(2, read)
+}
+
+// As many cells read from inputs as the table has, by so many copies of the state.
+fn reads(alloc: Global, state: &State, cells: u32, count: u32) -> Result<usize, AllocError> {
+    let mut syms = Vec::with_capacity(alloc, cells as usize)?;
+    let mut read = Vec::with_capacity(alloc, cells as usize)?;
+    for number in 0..cells {
+        let sym = Sym(u64::from(number));
+        syms.push(sym)?;
+        read.push((u64::from(number), sym))?;
+    }
+    let mut declared = 0usize;
+    for _ in 0..count {
+        read_by_copy(alloc, state, &syms, &read)?;
+        declared = declared.wrapping_add(syms.len());
+    }
+    Ok(declared)
 }
 
 // Whether the program is asked for times.
@@ -106,8 +163,16 @@ fn each(nanoseconds: u128, count: u32) -> u128 {
     nanoseconds / u128::from(count)
 }
 
-fn answer(alloc: Global, call: &str, state: &State, count: u32) -> Result<usize, AllocError> {
+fn answer(
+    alloc: Global,
+    call: &str,
+    state: &State,
+    cells: u32,
+    count: u32,
+) -> Result<usize, AllocError> {
     match call {
+        "bind" => bindings(alloc, state, cells, count),
+        "read" => reads(alloc, state, cells, count),
         "key" => keys(alloc, state, count),
         "copy" => copies(state, count),
         _ => Ok(0),
@@ -128,7 +193,7 @@ fn main(rt: HostRuntime) -> io::Result<()> {
         let count = count.parse::<u32>().unwrap_or(0);
         let state = with_table(rt.alloc(), cells)?;
         let start = Instant::now(&rt)?;
-        let sum = answer(rt.alloc(), call, &state, count)?;
+        let sum = answer(rt.alloc(), call, &state, cells, count)?;
         let nanoseconds = each(start.elapsed(&rt)?.as_nanos(), count);
         println!(rt; "{call} {cells} {count} gives {sum}")?;
         if timed {

@@ -1,90 +1,143 @@
--- What checkers that were asked have answered, kind by kind: for the contract of `check`.
-use Rattle.std.proofs.Common.{◌≡◌, ◌<◌, ◌+◌, ℕ, zero, suc, List, [], ◌∷◌, ◌++◌, Some, take, get_or, map, length, slice_get, refl, sym, ap, ◌∙◌, subst}
-use Rattle.std.proofs.lemmas.List.{map-append, take_more}
-use Rattle.std.proofs.lemmas.Option.{none-some, same_Some}
+-- Checkers that are asked one by one, and the kinds that they give conditions for: for the contract of `check`.
+use Rattle.std.proofs.Common.{◌≡◌, ◌<◌, ◌≤◌, ◌+◌, ℕ, Bool, true, false, List, [], ◌∷◌, ◌++◌, take, drop, get_or, set, map, length, refl, sym, ap, ◌∙◌}
+use Rattle.std.proofs.Common.{subst, inl, inr, arith, Result, Ok, Err}
+use Rattle.std.specs.Prelude.{OnOk}
+use Rattle.std.specs.Result.{is_ok}
+use Rattle.std.proofs.lemmas.List.{take_more, take_more_set, drop_more, drop_all, take_all, map-append, length-set}
 use Rattle.cs_model.specs.declared.kind.Kind.{Kind}
-use Rattle.cs_checker.specs.declared.subject.Subject.{Subject}
+use Rattle.cs_terms.specs.Term.{Valuation}
 use Rattle.cs_checker.specs.declared.answer.Answer.{Answer}
-use Rattle.cs_checker.specs.Answers.{YieldsFaults, HasTermsFor}
-use Rattle.cs_checker.specs.Asked.{IsAsked}
-use Rattle.std.proofs.Common.{Result, Ok, Err}
-use Rattle.std.specs.Prelude.{OnOk, OnErr}
-use Rattle.cs_access.specs.Checks.{AreAnswers, HaveCounted}
+use Rattle.cs_checker.specs.declared.subject.Subject.{Subject}
+use Rattle.cs_checker.specs.Faults.{is_faulty_for}
+use Rattle.cs_checker.specs.Answers.{some_holds, YieldsFaults, HasTermsFor}
+use Rattle.cs_checker.specs.Asked.{CountsOne}
+use Rattle.cs_checker.proofs.Asking.{rest_step}
+use Rattle.cs_access.specs.Checks.{HaveCounted}
+use Rattle.cs_access.specs.Kinds.{AreFaultyKinds, IsNextKind, IsListed, HasFaultyValues}
+use Rattle.cs_access.specs.declared.checking.FaultyKind.{FaultyKind}
+use Rattle.cs_access.proofs.Splits.{has_values}
+
+-- a checker whose answer has no condition, or one that is listed
+module _ (kind : Kind) (subject : Subject) (answer : Answer) (faults : YieldsFaults kind subject answer.conds) (terms : HasTermsFor subject answer.conds) where
+  pub none_next : (found : List FaultyKind) → ((numbers : Valuation) → some_holds answer.conds numbers ≡ false) → IsNextKind subject kind found found
+  none_next found never = inl (λ v can. sym (faults v (has_values subject v can)) ∙ never v, refl)
+
+  pub one_next : (found more : List FaultyKind) → IsListed kind answer.conds found more → IsNextKind subject kind found more
+  one_next found more (faulty, same, values, added) = inr (faulty, same, exact, added)
+    where
+      exact : HasFaultyValues subject faulty
+      exact v can =
+          values subject terms v can ∙ faults v (has_values subject v can) ∙ ap (λ (k : Kind). is_faulty_for k subject v) (sym same)
+
+-- one more kind
+pub kinds_more : (subject : Subject) (kinds : List Kind) (kind : Kind) (found more : List FaultyKind) → AreFaultyKinds subject kinds found
+    → IsNextKind subject kind found more → AreFaultyKinds subject (kinds ++ kind ∷ []) more
+kinds_more subject [] kind found more are (inl none) = inl (none.0, none.1 ∙ are)
+kinds_more subject [] kind found more are (inr some) = inr (some.0, [], some.3 ∙ ap (λ l. l ++ some.0 ∷ []) are, some.1, some.2, refl)
+kinds_more subject (k ∷ kinds) kind found more (inl none) next = inl (none.0, kinds_more subject kinds kind found more none.1 next)
+kinds_more subject (k ∷ kinds) kind found more (inr some) (inl none) =
+    inr (some.0, some.1, none.1 ∙ some.2, some.3, some.4, kinds_more subject kinds kind some.1 some.1 some.5 (inl (none.0, refl)))
+kinds_more subject (k ∷ kinds) kind found more (inr some) (inr one) =
+    inr (
+      some.0,
+      some.1 ++ one.0 ∷ [],
+      one.3 ∙ ap (λ l. l ++ one.0 ∷ []) some.2,
+      some.3,
+      some.4,
+      kinds_more subject kinds kind some.1 (some.1 ++ one.0 ∷ []) some.5 (inr (one.0, one.1, one.2, refl)),
+    )
+
+first_of_same : {C : Type 0} (x y : C) (xs ys : List C) → x ∷ xs ≡ y ∷ ys → x ≡ y
+first_of_same x y xs ys e = cc
+
+append_nil : {C : Type 0} (xs : List C) → xs ++ [] ≡ xs
+append_nil [] = refl
+append_nil (x ∷ xs) = ap (λ l. x ∷ l) (append_nil xs)
+
+-- so many checkers were asked: their kinds are kept, each has counted one question, and the kinds with conditions are listed
+pub record AreAsked {C : Type 0} (kind : C → Kind) (count : C → ℕ) (subject : Subject) (olds news : List C) (place : ℕ) (complete : Bool)
+    (found : List FaultyKind) : Type 0 where
+  pub counted : HaveCounted count (take place olds) (take place news)
+  pub kinds : map kind (take place news) ≡ map kind (take place olds)
+  pub listed : complete ≡ true → AreFaultyKinds subject (map kind (take place olds)) found
+  pub rest : drop place news ≡ drop place olds
+  pub as_many : length news ≡ length olds
 
 module _ {C : Type 0} (kind : C → Kind) (count : C → ℕ) (subject : Subject) where
-  faults_of : (olds news : List C) (answers : List Answer) → IsAsked kind count subject olds news answers → (place : ℕ) (k : Kind) (answer : Answer)
-      → slice_get (map kind olds) place ≡ Some k → slice_get answers place ≡ Some answer → YieldsFaults k subject answer.conds
-  faults_of [] [] [] asked place k answer at there = absurd (none-some k at)
-  faults_of [] [] (a ∷ answers) asked place k answer at there = absurd asked
-  faults_of [] (n ∷ news) answers asked place k answer at there = absurd asked
-  faults_of (o ∷ olds) [] answers asked place k answer at there = absurd asked
-  faults_of (o ∷ olds) (n ∷ news) [] asked place k answer at there = absurd asked
-  faults_of (o ∷ olds) (n ∷ news) (a ∷ answers) asked zero k answer at there =
-      subst (λ (x : Kind). YieldsFaults x subject answer.conds) (same_Some (kind o) k at)
-      (subst (λ (x : Answer). YieldsFaults (kind o) subject x.conds) (same_Some a answer there) asked.0.faults)
-  faults_of (o ∷ olds) (n ∷ news) (a ∷ answers) asked (suc place) k answer at there = faults_of olds news answers asked.1 place k answer at there
+  counted_more : (olds news : List C) (old new : C) → HaveCounted count olds news → CountsOne (count old) (count new)
+      → HaveCounted count (olds ++ old ∷ []) (news ++ new ∷ [])
+  counted_more [] [] old new counted one = (one, tt)
+  counted_more [] (n ∷ news) old new counted one = absurd counted
+  counted_more (o ∷ olds) [] old new counted one = absurd counted
+  counted_more (o ∷ olds) (n ∷ news) old new counted one = (counted.0, counted_more olds news old new counted.1 one)
 
-  terms_of : (olds news : List C) (answers : List Answer) → IsAsked kind count subject olds news answers → (place : ℕ) (answer : Answer)
-      → slice_get answers place ≡ Some answer → HasTermsFor subject answer.conds
-  terms_of [] [] [] asked place answer there = absurd (none-some answer there)
-  terms_of [] [] (a ∷ answers) asked place answer there = absurd asked
-  terms_of [] (n ∷ news) answers asked place answer there = absurd asked
-  terms_of (o ∷ olds) [] answers asked place answer there = absurd asked
-  terms_of (o ∷ olds) (n ∷ news) [] asked place answer there = absurd asked
-  terms_of (o ∷ olds) (n ∷ news) (a ∷ answers) asked zero answer there =
-      subst (λ (x : Answer). HasTermsFor subject x.conds) (same_Some a answer there) asked.0.terms
-  terms_of (o ∷ olds) (n ∷ news) (a ∷ answers) asked (suc place) answer there = terms_of olds news answers asked.1 place answer there
-
-  pub are_answers : (olds news : List C) (answers : List Answer) → IsAsked kind count subject olds news answers
-      → AreAnswers subject (map kind olds) answers
-  are_answers olds news answers asked = record {
-    faults = faults_of olds news answers asked;
-    terms = terms_of olds news answers asked;
+  pub asked_none : (olds news : List C) (found : List FaultyKind) → news ≡ olds → found ≡ [] → AreAsked kind count subject olds news 0 true found
+  asked_none olds news found same none = record {
+    counted = tt;
+    kinds = refl;
+    listed = λ complete. none;
+    rest = same;
+    as_many = ap length same;
   }
 
-  pub as_many : (olds news : List C) (answers : List Answer) → IsAsked kind count subject olds news answers → length answers ≡ length (map kind olds)
-  as_many [] [] [] asked = refl
-  as_many [] [] (a ∷ answers) asked = absurd asked
-  as_many [] (n ∷ news) answers asked = absurd asked
-  as_many (o ∷ olds) [] answers asked = absurd asked
-  as_many (o ∷ olds) (n ∷ news) [] asked = absurd asked
-  as_many (o ∷ olds) (n ∷ news) (a ∷ answers) asked = ap suc (as_many olds news answers asked.1)
+  -- one more checker was asked
+  pub asked_more : (olds news : List C) (place : ℕ) (before after : Bool) (found more : List FaultyKind) (d new : C)
+      → AreAsked kind count subject olds news place before found → place < length news
+      → CountsOne (count (get_or news place d)) (count new) → kind new ≡ kind (get_or news place d)
+      → (after ≡ true → (before ≡ true) × IsNextKind subject (kind (get_or news place d)) found more)
+      → AreAsked kind count subject olds (set news place new) (place + 1) after more
+  asked_more olds news place before after found more d new asked within one same next = record {
+    counted =
+        rw (olds_split, take_more_set news place new within)
+        (counted_more (take place olds) (take place news) (get_or news place d) new asked.counted one);
+    kinds =
+        ap (map kind) (take_more_set news place new within) ∙ map-append kind (take place news) (new ∷ [])
+        ∙ (λ j. asked.kinds j ++ same j ∷ [])
+        ∙ sym (ap (map kind) olds_split ∙ map-append kind (take place olds) (get_or news place d ∷ []));
+    listed = λ whole.
+        subst (λ ks. AreFaultyKinds subject ks more)
+        (sym (ap (map kind) olds_split ∙ map-append kind (take place olds) (get_or news place d ∷ [])))
+        (kinds_more subject (map kind (take place olds)) (kind (get_or news place d)) found more (asked.listed (next whole).0) (next whole).1);
+    rest = rest_step olds news place d new asked.rest within asked.as_many;
+    as_many = length-set _ _ _ ∙ asked.as_many;
+  }
+    where
+      within_olds : place < length olds
+      within_olds = let many = asked.as_many in omega arith
 
-  pub have_counted : (olds news : List C) (answers : List Answer) → IsAsked kind count subject olds news answers → HaveCounted count olds news
-  have_counted [] [] [] asked = tt
-  have_counted [] [] (a ∷ answers) asked = absurd asked
-  have_counted [] (n ∷ news) answers asked = absurd asked
-  have_counted (o ∷ olds) [] answers asked = absurd asked
-  have_counted (o ∷ olds) (n ∷ news) [] asked = absurd asked
-  have_counted (o ∷ olds) (n ∷ news) (a ∷ answers) asked = (asked.0.counted, have_counted olds news answers asked.1)
+      here : get_or news place d ≡ get_or olds place d
+      here =
+          first_of_same (get_or news place d) (get_or olds place d) (drop (place + 1) news) (drop (place + 1) olds)
+          (sym (drop_more news place d within) ∙ asked.rest ∙ drop_more olds place d within_olds)
 
--- the same, with the kinds as they were listed
-pub answers_for : {C : Type 0} (olds news : List C) (answers : List Answer) (kind : C → Kind) (count : C → ℕ) (subject : Subject) (kinds : List Kind)
-    → IsAsked kind count subject olds news answers → kinds ≡ map kind olds → AreAnswers subject kinds answers
-answers_for olds news answers kind count subject kinds asked same =
-    subst (λ ks. AreAnswers subject ks answers) (sym same) (are_answers kind count subject olds news answers asked)
+      olds_split : take (place + 1) olds ≡ take place olds ++ get_or news place d ∷ []
+      olds_split = take_more olds place d within_olds ∙ ap (λ x. take place olds ++ x ∷ []) (sym here)
 
-pub many_for : {C : Type 0} (olds news : List C) (answers : List Answer) (kind : C → Kind) (count : C → ℕ) (subject : Subject) (kinds : List Kind)
-    → IsAsked kind count subject olds news answers → kinds ≡ map kind olds → length answers ≡ length kinds
-many_for olds news answers kind count subject kinds asked same = as_many kind count subject olds news answers asked ∙ ap length (sym same)
+-- what the list of checkers is in the end
+all_new : {C : Type 0} (olds news : List C) (n : ℕ) → length news ≡ length olds → n ≡ length olds → take n (news ++ drop (length news) olds) ≡ news
+all_new olds news n many whole =
+    ap (λ rest. take n (news ++ rest)) (drop_all (length news) olds (omega arith)) ∙ ap (take n) (append_nil news) ∙ take_all n news (omega arith)
 
-pub counted_for : {C : Type 0} (olds news : List C) (answers : List Answer) (kind : C → Kind) (count : C → ℕ) (subject : Subject)
-    → IsAsked kind count subject olds news answers → HaveCounted count olds news
-counted_for olds news answers kind count subject asked = have_counted kind count subject olds news answers asked
+module _ {C : Type 0} (olds news : List C) (place n : ℕ) (complete : Bool) (found : List FaultyKind) (kind : C → Kind) (count : C → ℕ)
+    (subject : Subject) (asked : AreAsked kind count subject olds news place complete found) (over : length news ≤ place) (whole : n ≡ length olds) where
+  over_olds : length olds ≤ place
+  over_olds = let many = asked.as_many in omega arith
 
-pub if_ok : {A E : Type 0} (result : Result A E) (P : Type 0) → P → OnOk result P
-if_ok (Ok a) P holds = holds
-if_ok (Err e) P holds = tt
+  pub all_counted : HaveCounted count olds (take n (news ++ drop (length news) olds))
+  all_counted =
+      rw (all_new olds news n asked.as_many whole)
+      (subst (λ (os : List C). HaveCounted count os news) (take_all place olds over_olds)
+      (subst (λ (ns : List C). HaveCounted count (take place olds) ns) (take_all place news over) asked.counted))
 
-pub if_err : {A E : Type 0} (result : Result A E) (P : Type 0) → P → OnErr result P
-if_err (Ok a) P holds = tt
-if_err (Err e) P holds = holds
+  pub all_kinds : map kind (take n (news ++ drop (length news) olds)) ≡ map kind olds
+  all_kinds =
+      ap (map kind) (all_new olds news n asked.as_many whole ∙ sym (take_all place news over)) ∙ asked.kinds
+      ∙ ap (map kind) (take_all place olds over_olds)
 
--- one more element, mapped
-pub map_more : {A B : Type 0} (f : A → B) (xs items : List A) (place : ℕ) (x : A) (before after : List B) (y : B) → items ≡ xs → place < length items
-    → x ≡ get_or items place x → before ≡ map f (take place xs) → after ≡ before ++ y ∷ [] → y ≡ f x → after ≡ map f (take (place + 1) xs)
-map_more f xs items place x before after y same within is so_far pushed mapped =
-    let here : place < length xs = subst (λ l. place < length l) same within in
-    let at : x ≡ get_or xs place x = subst (λ l. x ≡ get_or l place x) same is in
-    pushed ∙ (λ j. so_far j ++ mapped j ∷ []) ∙ (λ j. map f (take place xs) ++ f (at j) ∷ [])
-    ∙ sym (ap (map f) (take_more xs place x here) ∙ map-append f (take place xs) (get_or xs place x ∷ []))
+  pub all_listed : complete ≡ true → AreFaultyKinds subject (map kind olds) found
+  all_listed is =
+      subst (λ (os : List C). AreFaultyKinds subject (map kind os) found) (take_all place olds over_olds) (asked.listed is)
+
+pub when_ok : {A E : Type 0} (result : Result A E) (P : Type 0) (ok : Bool) → ok ≡ is_ok result → ok ≡ true → OnOk result P → P
+when_ok (Ok a) P ok is so holds = holds
+when_ok (Err e) P ok is so holds = absurd (cc (is, so))

@@ -1,10 +1,12 @@
 -- A state split by whether an operation is faulty, kind by kind: for the contract of `check`.
 use Rattle.std.proofs.Common.{◌≡◌, ◌<◌, ◌≤◌, ◌+◌, ◌^◌, ℕ, Bool, true, false, not, ◌&&◌, ◌||◌, ℤ, pos, neg_ℤ, ◌+ℤ◌, int_le, List, [], ◌∷◌}
 use Rattle.std.proofs.Common.{◌++◌, Option, None, Some, length, take, get_or, refl, sym, ap, ◌∙◌, subst, inl, inr, arith}
-use Rattle.std.specs.Prelude.{IsNone}
+use Rattle.std.proofs.Common.{Result, Ok, Err}
+use Rattle.std.specs.Prelude.{IsNone, IfOk}
 use Rattle.std.proofs.lemmas.Int.{ints}
-use Rattle.std.proofs.lemmas.List.{take_more, take_all}
-use Rattle.std.proofs.lemmas.Option.{none-some, slice_get-get_or}
+use Rattle.std.proofs.lemmas.List.{take_more, take_all, map-append}
+use Rattle.std.proofs.lemmas.List.Elements.{All-get_or, All-same, All-nil, All-cons}
+use Rattle.std.proofs.lemmas.Option.{none-some}
 use Rattle.cs_model.specs.declared.kind.Kind.{Kind}
 use Rattle.cs_ranges.specs.declared.range_set.Interval.{Interval}
 use Rattle.cs_ranges.specs.Interval.{IsInside}
@@ -17,13 +19,14 @@ use Rattle.cs_constraints.specs.Constraints.{Sets, set_of, Fits, Keeps}
 use Rattle.cs_constraints.proofs.Assuming.{value_of-symbol}
 use Rattle.cs_checker.specs.declared.subject.Subject.{Subject}
 use Rattle.cs_checker.specs.declared.subject.Subject.TheVariants.{Through, Move, Divisor, Cell, Rest as RestOf, Slot, Release, Reached, Shift, Pair, Written}
-use Rattle.cs_checker.specs.declared.answer.Answer.{Answer}
 use Rattle.cs_checker.specs.Faults.{is_faulty_for, HasValues}
 use Rattle.cs_state.specs.declared.state.State.{State}
 use Rattle.cs_state.specs.Writes.{with_constraints}
 use Rattle.cs_state.specs.MeaningOfWrites.{MeansTheSame}
-use Rattle.cs_access.specs.Subjects.{term_of, CanDecide, AreFaultyValues}
-use Rattle.cs_access.specs.Checks.{IsKnown, CanCheck, IsPart, is_faulty, IsNeverFaulty, AreFaults, IsRest, AreAnswers, IsTakenOut, IsRestIn}
+use Rattle.cs_access.specs.Subjects.{term_of, CanDecide}
+use Rattle.cs_access.specs.Checks.{IsKnown, CanCheck, IsPart, is_faulty, IsNeverFaulty, AreFaults, IsRest, IsTakenOut, IsRestIn}
+use Rattle.cs_access.specs.Kinds.{HasNoFaults, HasFaultyValues, HaveFaultyValues, AreFaultyKinds, kinds_of}
+use Rattle.cs_access.specs.declared.checking.FaultyKind.{FaultyKind}
 use Rattle.cs_access.specs.declared.checking.FaultyPart.{FaultyPart}
 use Rattle.cs_access.specs.declared.checking.Rest.{Rest}
 use Rattle.cs_access.specs.declared.checking.Rest.TheVariants.{Whole, Part, Nothing}
@@ -79,7 +82,7 @@ can_decide sets (Reached standing) v can fits = tt
 can_decide sets (Pair same) v can fits = tt
 can_decide sets (Written fixed) v can fits = tt
 
-has_values : (subject : Subject) (v : Valuation) → CanDecide subject v → HasValues subject v
+pub has_values : (subject : Subject) (v : Valuation) → CanDecide subject v → HasValues subject v
 has_values (Move null amount) v can = can
 has_values (Divisor term) v can = can
 has_values (Release block offset) v can = can
@@ -166,40 +169,36 @@ without_more : (a b : Bool) → (not a && not b) ≡ not (a || b)
 without_more true b = refl
 without_more false b = refl
 
-module _ (before : State) (subject : Subject) (kinds : List Kind) (answers : List Answer) (place : ℕ) (dk : Kind) (da : Answer)
-    (can : CanCheck before.constraints subject) (within : place < length kinds) (many : length answers ≡ length kinds)
-    (are : AreAnswers subject kinds answers) where
-  abbrev kind_here : Kind
-  kind_here = get_or kinds place dk
+module _ (before : State) (subject : Subject) (found : List FaultyKind) (place : ℕ) (here : FaultyKind) (is : here ≡ get_or found place here)
+    (can : CanCheck before.constraints subject) (within : place < length found) (are : HaveFaultyValues subject found) where
+  faulty_here : (v : Valuation) → Fits v before.constraints
+      → contains here.values (value_of v (term_of subject)) ≡ is_faulty_for here.kind subject v
+  faulty_here v fits =
+      subst (HasFaultyValues subject) (sym is) (All-get_or (HasFaultyValues subject) found place here within are) v
+      (can_decide before.constraints subject v can fits)
 
-  abbrev answer_here : Answer
-  answer_here = get_or answers place da
+  kinds_split : kinds_of (take (place + 1) found) ≡ kinds_of (take place found) ++ here.kind ∷ []
+  kinds_split =
+      ap kinds_of (take_more found place here within ∙ ap (λ f. take place found ++ f ∷ []) (sym is))
+      ∙ map-append _ (take place found) (here ∷ [])
 
-  faulty_here : (bad : List Interval) → AreFaultyValues answer_here.conds bad → (v : Valuation) → Fits v before.constraints
-      → contains bad (value_of v (term_of subject)) ≡ is_faulty_for kind_here subject v
-  faulty_here bad values v fits =
-      let at = slice_get-get_or kinds place dk within in
-      let there = slice_get-get_or answers place da (omega arith) in
-      let decides = can_decide before.constraints subject v can fits in
-      values subject (are.terms place answer_here there) v decides ∙ are.faults place kind_here answer_here at there v (has_values subject v decides)
-
-  pub split_more : (parts more : List FaultyPart) (bad good left : List Interval) → AreFaultyValues answer_here.conds bad
-      → IsTakenOut before (term_of subject) kind_here bad parts more
-      → ((x : ℤ) → contains left x ≡ (contains good x && not (contains bad x)))
-      → IsSplit before subject (take place kinds) parts good → IsSplit before subject (take (place + 1) kinds) more left
-  split_more parts more bad good left values taken without split =
-      subst (λ ks. IsSplit before subject ks more left) (sym (take_more kinds place dk within)) (record {
+  pub split_more : (parts more : List FaultyPart) (good left : List Interval) → IsTakenOut before (term_of subject) here.kind here.values parts more
+      → ((x : ℤ) → contains left x ≡ (contains good x && not (contains here.values x)))
+      → IsSplit before subject (kinds_of (take place found)) parts good → IsSplit before subject (kinds_of (take (place + 1) found)) more left
+  split_more parts more good left taken without split =
+      let kinds = kinds_of (take place found) in
+      subst (λ ks. IsSplit before subject ks more left) (sym kinds_split) (record {
         faults = elim taken [
-          | inl none ↦ subst (AreFaults before subject (take place kinds ++ kind_here ∷ [])) (sym none.1)
-              (one_never before subject (take place kinds) parts kind_here split.faults (λ v fits. sym (faulty_here bad values v fits) ∙ none.0 v fits))
-          | inr some ↦ subst (AreFaults before subject (take place kinds ++ kind_here ∷ [])) (sym some.3)
-              (one_part before subject (take place kinds) parts kind_here some.0 split.faults some.1
-              (part_same before _ (is_faulty_for kind_here subject) some.0.state (faulty_here bad values) some.2))
+          | inl none ↦ subst (AreFaults before subject (kinds ++ here.kind ∷ [])) (sym none.1)
+              (one_never before subject kinds parts here.kind split.faults (λ v fits. sym (faulty_here v fits) ∙ none.0 v fits))
+          | inr some ↦ subst (AreFaults before subject (kinds ++ here.kind ∷ [])) (sym some.3)
+              (one_part before subject kinds parts here.kind some.0 split.faults some.1
+              (part_same before _ (is_faulty_for here.kind subject) some.0.state faulty_here some.2))
         ];
         good_values = λ v fits.
-            without (value_of v (term_of subject)) ∙ (λ j. split.good_values v fits j && not (faulty_here bad values v fits j))
-            ∙ without_more (is_faulty (take place kinds) subject v) (is_faulty_for kind_here subject v)
-            ∙ ap not (sym (one_more before subject (take place kinds) kind_here v));
+            without (value_of v (term_of subject)) ∙ (λ j. split.good_values v fits j && not (faulty_here v fits j))
+            ∙ without_more (is_faulty kinds subject v) (is_faulty_for here.kind subject v)
+            ∙ ap not (sym (one_more before subject kinds here.kind v));
       })
 
 pub no_faults : (parts : List FaultyPart) → length parts ≡ 0 → parts ≡ []
@@ -222,6 +221,72 @@ rest_is before subject kinds parts good all Nothing split none is =
     λ v fits. not_turned _ (is_faulty kinds subject v) (split.good_values v fits) (is v fits)
 
 -- what is left after all kinds
-pub split_all : (before : State) (subject : Subject) (kinds : List Kind) (place : ℕ) (parts : List FaultyPart) (good : List Interval)
-    → length kinds ≤ place → IsSplit before subject (take place kinds) parts good → IsSplit before subject kinds parts good
-split_all before subject kinds place parts good over split = subst (λ ks. IsSplit before subject ks parts good) (take_all place kinds over) split
+pub split_all : (before : State) (subject : Subject) (found : List FaultyKind) (place : ℕ) (parts : List FaultyPart) (good : List Interval)
+    → length found ≤ place → IsSplit before subject (kinds_of (take place found)) parts good → IsSplit before subject (kinds_of found) parts good
+split_all before subject found place parts good over split =
+    subst (λ fs. IsSplit before subject (kinds_of fs) parts good) (take_all place found over) split
+
+-- kinds without faults don't count
+module _ (before : State) (subject : Subject) (can : CanCheck before.constraints subject) where
+  never_here : (kind : Kind) → HasNoFaults subject kind → IsNeverFaulty before.constraints subject kind
+  never_here kind none v fits = none v (can_decide before.constraints subject v can fits)
+
+  -- the first kind is listed
+  first_listed : (kind : Kind) (kinds : List Kind) (faulty : FaultyKind) (rest : List FaultyKind) (parts : List FaultyPart) → faulty.kind ≡ kind
+      → AreFaults before subject (faulty.kind ∷ kinds_of rest) parts
+      → ((more : List FaultyPart) → AreFaults before subject (kinds_of rest) more → AreFaults before subject kinds more)
+      → AreFaults before subject (kind ∷ kinds) parts
+  first_listed kind kinds faulty rest parts same (inl never) others =
+      inl (subst (IsNeverFaulty before.constraints subject) same never.0, others parts never.1)
+  first_listed kind kinds faulty rest parts same (inr part) others =
+      inr (
+        part.0,
+        part.1,
+        part.2,
+        part.3 ∙ same,
+        subst (λ k. IsPart before (is_faulty_for k subject) part.0.state) same part.4,
+        others part.1 part.5,
+      )
+
+  pub faults_of_all : (kinds : List Kind) (found : List FaultyKind) (parts : List FaultyPart) → AreFaultyKinds subject kinds found
+      → AreFaults before subject (kinds_of found) parts → AreFaults before subject kinds parts
+  faults_of_all [] found parts are faults = subst (λ fs. AreFaults before subject (kinds_of fs) parts) are faults
+  faults_of_all (k ∷ kinds) found parts (inl none) faults = inl (never_here k none.0, faults_of_all kinds found parts none.1 faults)
+  faults_of_all (k ∷ kinds) found parts (inr some) faults =
+      first_listed k kinds some.0 some.1 parts some.3 (subst (λ fs. AreFaults before subject (kinds_of fs) parts) some.2 faults)
+      (λ more are. faults_of_all kinds some.1 more some.5 are)
+
+  same_faulty : (kinds : List Kind) (found : List FaultyKind) → AreFaultyKinds subject kinds found → (v : Valuation) → Fits v before.constraints
+      → is_faulty (kinds_of found) subject v ≡ is_faulty kinds subject v
+  same_faulty [] found are v fits = ap (λ fs. is_faulty (kinds_of fs) subject v) are
+  same_faulty (k ∷ kinds) found (inl none) v fits =
+      same_faulty kinds found none.1 v fits ∙ ap (λ b. b || is_faulty kinds subject v) (sym (never_here k none.0 v fits))
+  same_faulty (k ∷ kinds) found (inr some) v fits =
+      ap (λ fs. is_faulty (kinds_of fs) subject v) some.2
+      ∙ (λ j. is_faulty_for (some.3 j) subject v || same_faulty kinds some.1 some.5 v fits j)
+
+  pub rest_of_all : (kinds : List Kind) (found : List FaultyKind) (rest : Rest) → AreFaultyKinds subject kinds found
+      → IsRest before subject (kinds_of found) rest → IsRest before subject kinds rest
+  rest_of_all kinds found Whole are is = λ v fits. sym (same_faulty kinds found are v fits) ∙ is v fits
+  rest_of_all kinds found (Part part) are is =
+      part_same before _ (λ v. not (is_faulty kinds subject v)) part (λ v fits. ap not (same_faulty kinds found are v fits)) is
+  rest_of_all kinds found Nothing are is = λ v fits. sym (same_faulty kinds found are v fits) ∙ is v fits
+
+-- what is listed are the faulty values
+pub values_listed : (subject : Subject) (kinds : List Kind) (found : List FaultyKind) → AreFaultyKinds subject kinds found
+    → HaveFaultyValues subject found
+values_listed subject [] found are = All-same (HasFaultyValues subject) found [] are (All-nil (HasFaultyValues subject))
+values_listed subject (k ∷ kinds) found (inl none) = values_listed subject kinds found none.1
+values_listed subject (k ∷ kinds) found (inr some) =
+    All-same (HasFaultyValues subject) found (some.0 ∷ some.1) some.2
+    (All-cons (HasFaultyValues subject) some.0 some.1 some.4 (values_listed subject kinds some.1 some.5))
+
+-- nothing is listed
+pub none_listed : (subject : Subject) (kinds : List Kind) (found : List FaultyKind) → AreFaultyKinds subject kinds found → length found ≡ 0
+    → AreFaultyKinds subject kinds []
+none_listed subject kinds [] are none = are
+none_listed subject kinds (f ∷ found) are none = absurd (omega (arith, none))
+
+pub each_ok : {A E : Type 0} (result : Result A E) (P Q : A → Type 0) → ((a : A) → P a → Q a) → IfOk result P → IfOk result Q
+each_ok (Ok a) P Q more holds = more a holds
+each_ok (Err e) P Q more holds = tt

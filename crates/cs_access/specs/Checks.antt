@@ -1,5 +1,5 @@
 -- The parts of a state in which an operation is faulty, and the rest.
-use Rattle.std.specs.Prelude.{◌≡◌, ◌≢◌, ◌⊎◌, ◌↔◌, ℕ, ℤ, Bool, true, false, not, IsTrue, IsNone, List, [], ◌∷◌, ◌++◌, None, Some, slice_get}
+use Rattle.std.specs.Prelude.{◌≡◌, ◌≢◌, ◌⊎◌, ◌↔◌, ℕ, ℤ, Bool, true, false, not, IsTrue, IsNone, List, [], ◌∷◌, ◌++◌, None, Some}
 use Rattle.std.specs.List.{list_any}
 use Rattle.cs_model.specs.declared.kind.Kind.{Kind}
 use Rattle.cs_ranges.specs.declared.range_set.Interval.{Interval}
@@ -9,11 +9,9 @@ use Rattle.cs_terms.specs.declared.symbol.Sym.{Sym}
 use Rattle.cs_terms.specs.declared.term.Lin.{Lin}
 use Rattle.cs_terms.specs.Term.{Valuation, value_of, value_at, IsTerm}
 use Rattle.cs_constraints.specs.Constraints.{Sets, set_of, Fits, IsDeclared, HasValuesInside}
-use Rattle.cs_checker.specs.declared.answer.Answer.{Answer}
 use Rattle.cs_checker.specs.declared.subject.Subject.{Subject}
 use Rattle.cs_checker.specs.declared.subject.Subject.TheVariants as subject_of
 use Rattle.cs_checker.specs.Faults.{is_faulty_for}
-use Rattle.cs_checker.specs.Answers.{YieldsFaults, HasTermsFor}
 use Rattle.cs_checker.specs.Asked.{CountsOne}
 use Rattle.cs_state.specs.declared.state.State.{State}
 use Rattle.cs_state.specs.Writes.{with_constraints}
@@ -78,12 +76,6 @@ abbrev pub HaveCounted : {Checker : Type 0} → (Checker → ℕ) → List Check
 HaveCounted count [] [] = Unit {0}
 HaveCounted count (old ∷ olds) (new ∷ news) = CountsOne (count old) (count new) × HaveCounted count olds news
 HaveCounted count olds news = ⊥
-
--- each answer says when the operation is faulty for its kind
-pub record AreAnswers (subject : Subject) (kinds : List Kind) (answers : List Answer) : Type 0 where
-  pub faults : (place : ℕ) (kind : Kind) (answer : Answer) → slice_get kinds place ≡ Some kind → slice_get answers place ≡ Some answer
-      → YieldsFaults kind subject answer.conds
-  pub terms : (place : ℕ) (answer : Answer) → slice_get answers place ≡ Some answer → HasTermsFor subject answer.conds
 
 -- no valuation gives the term a value of the set, or the part of those that do is the last
 abbrev pub IsTakenOut : State → Lin → Kind → List Interval → List FaultyPart → List FaultyPart → Type 0

@@ -1,10 +1,12 @@
 //! What checkers say of an operation that is about to be done.
 ghost use Rattle.std.specs.Prelude.{◌≡◌, ◌⊎◌, ℤ, ◌&&◌, not, map, length, IfOk, OnOk, OnErr};
 ghost use Rattle.cs_ranges.specs.RangeSet.{contains};
-ghost use Rattle.cs_access.specs.Checks.{IsKnown, CanCheck, AreFaults, IsRest, HaveCounted, AreAnswers, IsTakenOut, IsRestIn};
+ghost use Rattle.cs_checker.specs.Asked.{CountsOne};
+ghost use Rattle.cs_access.specs.Checks.{IsKnown, CanCheck, AreFaults, IsRest, HaveCounted, IsTakenOut, IsRestIn};
+ghost use Rattle.cs_access.specs.Kinds.{AreFaultyKinds, IsNextKind, IsListed, HaveFaultyValues, kinds_of};
 
 use crate::faulty::{deciding_term, faulty_values};
-use cs_checker::{Answer, Checker, Subject, ask_each};
+use cs_checker::{Answer, Checker, Subject};
 use cs_model::Kind;
 use cs_ranges::{GREATEST, LEAST, RangeSet};
 use cs_state::State;
@@ -37,6 +39,13 @@ pub struct Checked {
     pub rest: Rest,
 }
 
+/// A kind of faults, and the values of the deciding term at which an operation has them.
+#[derive(Drop)]
+pub struct FaultyKind {
+    pub kind: Kind,
+    pub values: RangeSet,
+}
+
 /// Asks each checker once about what is about to be done.
 pub fn check(
     alloc: Global,
@@ -57,51 +66,94 @@ pub fn check(
     ensures kinds { map (λ b. kind_of b) checkers.new.items
         ≡ map (λ b. kind_of b) checkers.old.items }
 {
-    let answers = ask_each(alloc, checkers, subject)?;
-    let kinds = kinds_of(alloc, checkers)?;
-    split(alloc, state, subject, &kinds, &answers)
-}
-
-// The kinds of checkers, in order.
-fn kinds_of(alloc: Global, checkers: &Vec<Box<dyn Checker>>) -> Result<Vec<Kind>, AllocError>
-    ensures { IfOk result (λ kinds. kinds.items ≡ map (λ b. kind_of b) checkers.now.items) }
-{
-    let mut kinds = Vec::with_capacity(alloc, checkers.len())?;
-    for checker in checkers {
-        kinds.push(own_kind(checker))?;
+    let found = faulty_kinds(alloc, checkers, subject)?;
+    if found.is_empty() {
+        return Ok(Checked {
+            faults: Vec::new(alloc),
+            rest: Rest::Whole,
+        });
     }
-    Ok(kinds)
+    split(alloc, state, subject, &found)
 }
 
-fn own_kind(checker: &Box<dyn Checker>) -> Kind
-    ensures { result ≡ kind_of checker.now }
+// Asks each checker once: the kinds of those that give a condition, in order. Also where memory runs out all of them are asked.
+fn faulty_kinds(
+    alloc: Global,
+    checkers: &mut Vec<Box<dyn Checker>>,
+    subject: &Subject,
+) -> Result<Vec<FaultyKind>, AllocError>
+    ensures found { IfOk result (λ found.
+        AreFaultyKinds subject.now (map (λ b. kind_of b) checkers.old.items) found.items) }
+    ensures asked { HaveCounted (λ b. count_of b) checkers.old.items checkers.new.items }
+    ensures kinds { map (λ b. kind_of b) checkers.new.items
+        ≡ map (λ b. kind_of b) checkers.old.items }
 {
-    checker.kind()
+    let mut found = Vec::new(alloc);
+    let mut complete = true;
+    for checker in checkers.iter_mut() {
+        let added = ask_one(alloc, checker, subject, &mut found);
+        complete = complete && added.is_ok();
+    }
+    if complete { Ok(found) } else { Err(AllocError) }
+}
+
+// Asks a checker, and adds its kind to others, if it gives a condition.
+fn ask_one(
+    alloc: Global,
+    checker: &mut Box<dyn Checker>,
+    subject: &Subject,
+    found: &mut Vec<FaultyKind>,
+) -> Result<(), AllocError>
+    ensures counted { CountsOne (count_of checker.old) (count_of checker.new) }
+    ensures kind { kind_of checker.new ≡ kind_of checker.old }
+    ensures found { OnOk result
+        (IsNextKind subject.now (kind_of checker.old) found.old.items found.new.items) }
+{
+    let answer = checker.examine(subject);
+    if answer.is_never() {
+        return Ok(());
+    }
+    let kind = checker.kind();
+    list_kind(alloc, kind, &answer, found)
+}
+
+// Adds a kind with the values of its conditions.
+#[inline(never)]
+fn list_kind(
+    alloc: Global,
+    kind: Kind,
+    answer: &Answer,
+    found: &mut Vec<FaultyKind>,
+) -> Result<(), AllocError>
+    ensures { OnOk result (IsListed kind answer.now.conds found.old.items found.new.items) }
+{
+    let values = faulty_values(alloc, &answer.conds)?;
+    found.push(FaultyKind { kind, values })?;
+    Ok(())
 }
 
 // Splits a state by the values of the term that decides: at which it is faulty for which kind, and at which for none.
+#[inline(never)]
 fn split(
     alloc: Global,
     state: &State,
     subject: &Subject,
-    kinds: &[Kind],
-    answers: &[Answer],
+    found: &[FaultyKind],
 ) -> Result<Checked, AllocError>
     requires can { CanCheck state.now.constraints subject.now }
-    requires answers { AreAnswers subject.now kinds.now answers.now }
-    requires as_many { length answers.now ≡ length kinds.now }
+    requires values { HaveFaultyValues subject.now found.now }
     ensures faults { IfOk result (λ checked.
-        AreFaults state.now subject.now kinds.now checked.faults.items) }
+        AreFaults state.now subject.now (kinds_of found.now) checked.faults.items) }
     ensures rest { IfOk result (λ checked.
-        IsRest state.now subject.now kinds.now checked.rest) }
+        IsRest state.now subject.now (kinds_of found.now) checked.rest) }
 {
     let term = deciding_term(subject);
     let mut faults = Vec::new(alloc);
     let mut good = RangeSet::of(alloc, LEAST, GREATEST)?;
-    for place in 0..kinds.len() {
-        let bad = faulty_values(alloc, &answers[place].conds)?;
-        take_out(state, term, kinds[place], &bad, &mut faults)?;
-        good = without(good, &bad)?;
+    for place in 0..found.len() {
+        let FaultyKind { kind, values } = &found[place];
+        take_out(state, term, *kind, values, &mut faults)?;
+        good = without(good, values)?;
     }
     let rest = rest_of(state, term, &good, faults.is_empty())?;
     Ok(Checked { faults, rest })

@@ -9,7 +9,7 @@ use cs_checker::Checker;
 use cs_engine::{Exploration, Explored, explore};
 use cs_inputs::Inputs;
 use cs_objects::Setting;
-use cs_steps::Context;
+use cs_progress::Context;
 use cs_suspects::{listed, suspects};
 use cs_witness::{Entry, Witnessed, result};
 use std::alloc::{AllocError, Global};

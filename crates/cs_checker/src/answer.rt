@@ -1,5 +1,5 @@
 //! What checkers answer.
-ghost use Rattle.std.specs.Prelude.{◌≡◌, Some, false};
+ghost use Rattle.std.specs.Prelude.{◌≡◌, Some, true, false};
 ghost use Rattle.cs_ranges.specs.RangeSet.{contains};
 ghost use Rattle.cs_terms.specs.Term.{Valuation, value_of, value_of_sum};
 ghost use Rattle.cs_checker.specs.declared.subject.Subject.{Subject};
@@ -34,6 +34,16 @@ impl Answer {
         Answer {
             conds: [None, None],
         }
+    }
+
+    /// Whether there is no condition.
+    #[tactic(auto, unfolding(crate::specs::Answers::some_holds))]
+    pub fn is_never(&self) -> bool
+        ensures { result ≡ true → (numbers : Valuation)
+            → some_holds self.now.conds numbers ≡ false }
+    {
+        let [first, second] = &self.conds;
+        first.is_none() && second.is_none()
     }
 
     /// The fault is certain, or it can't be.

@@ -2,3 +2,4 @@ pub mod Codes
 pub mod Constraints
 pub mod Prepared
 pub mod Sets
+pub mod SetWords

@@ -1,6 +1,6 @@
 //! `Constraints`, in the sense of Clang's `ConstraintManager`: `assume` adds a condition to a path or finds that the path
 //! is infeasible. Each condition bounds one symbol, so that the constraints are a range for each symbol.
-ghost use Rattle.std.specs.Prelude.{◌≡◌, ◌≢◌, ◌≤◌, ◌^◌, true, false, ◌&&◌, unsigned_abs, ℕ, ℤ, Some, None, IsTrue, IfOk, IfSome, OnOk, OnErr, MatchOption, List};
+ghost use Rattle.std.specs.Prelude.{◌≡◌, ◌≢◌, ◌≤◌, ◌^◌, true, false, ◌&&◌, unsigned_abs, ℕ, ℤ, Some, None, IsTrue, IfOk, IfSome, OnOk, OnErr, MatchOption, option_map, List, if◌then◌else◌};
 ghost use Rattle.std.specs.Option.{option_copied};
 ghost use Rattle.std.specs.FinMap as map;
 ghost use Rattle.cs_ranges.specs.declared.range_set.Interval.{Interval};
@@ -8,12 +8,16 @@ ghost use Rattle.cs_ranges.specs.RangeSet.{contains, IsEmpty, IsInhabited, IsLea
 ghost use Rattle.cs_terms.specs.Conditions.{CanAdd, CanScale};
 ghost use Rattle.cs_terms.specs.Term.{Valuation, value_of, value_at, IsTerm};
 ghost use Rattle.cs_constraints.specs.Constraints.{set_of, AreInhabited, Fits, IsDeclared, HasValuesInside, HasOneNumber, HasNoSet, IsSetOf, IsNarrowed, Keeps, RulesOut};
+ghost use Rattle.cs_constraints.specs.Sets.{has_sym, keyed};
+ghost use Rattle.cs_constraints.specs.SetWords.{set_words};
 ghost use Rattle.cs_constraints.specs.Prepared.{HasIntegers, IsPrepared, IsSameFunction, IsSeenFromLeast};
 
+use crate::numbers::Numbers;
 use crate::prepared::prepared_over;
 use cs_pmap::PMap;
 use cs_ranges::{RangeSet, affine_preimage, affine_value};
 use cs_terms::{Lin, Sym};
+use cs_word_lists::Words;
 use std::alloc::{AllocError, Global};
 use std::marker::Model;
 
@@ -24,7 +28,7 @@ use std::marker::Model;
 pub struct Constraints {
     alloc: Global,
     // Under a symbol's number and 0. States share the map, and a condition changes one entry of it.
-    sets: PMap<RangeSet>,
+    sets: PMap<Numbers>,
 }
 
 impl Model for Constraints {
@@ -64,7 +68,20 @@ impl Constraints {
             → set_of self.new other ≡ set_of self.old other) }
         ensures err { OnErr result (self.new ≡ self.old) }
     {
-        self.sets.insert((sym.0, 0), set)
+        let numbers = Numbers::new(self.alloc, set)?;
+        self.sets.insert((sym.0, 0), numbers)
+    }
+
+    /// Gives each of the symbols the numbers of the set, in place of those that it had.
+    pub fn declare_all(&mut self, syms: &[Sym], set: &RangeSet) -> Result<(), AllocError>
+        requires { IsInhabited set.now }
+        ensures sets { OnOk result ((sym : ℕ) → set_of self.new sym
+            ≡ (if has_sym syms.now sym then Some set.now else set_of self.old sym)) }
+        ensures err { OnErr result (self.new ≡ self.old) }
+    {
+        let entries = keyed(self.alloc, syms, set)?;
+        self.sets.insert_all(&entries)?;
+        Ok(())
     }
 
     /// The numbers that the symbol may stand for.
@@ -72,7 +89,14 @@ impl Constraints {
         ensures set { option_copied result ≡ set_of self.now sym.0 }
         ensures inhabited { IfSome result (λ set. IsInhabited set.now) }
     {
-        self.sets.get((sym.0, 0))
+        Some(self.sets.get((sym.0, 0))?.set())
+    }
+
+    /// The words of these numbers.
+    pub fn words_of(&self, sym: Sym) -> Option<&Words>
+        ensures { option_copied result ≡ option_map set_words (set_of self.now sym.0) }
+    {
+        Some(self.sets.get((sym.0, 0))?.words())
     }
 
     /// The least absolute number that the symbol may stand for, the positive one of two.
@@ -217,4 +241,20 @@ impl Constraints {
         narrowed.declare(sym, set)?;
         Ok(Some(narrowed))
     }
+}
+
+// The set for each symbol, as entries of the map.
+fn keyed(
+    alloc: Global,
+    syms: &[Sym],
+    set: &RangeSet,
+) -> Result<Vec<((u64, u64), Numbers)>, AllocError>
+    ensures { IfOk result (λ entries. entries.items ≡ keyed syms.now set.now) }
+{
+    let numbers = Numbers::new(alloc, set.copy()?)?;
+    let mut entries = Vec::with_capacity(alloc, syms.len())?;
+    for sym in syms {
+        entries.push(((sym.0, 0), numbers.clone()?))?;
+    }
+    Ok(entries)
 }

@@ -2,6 +2,7 @@
 #![tactic(auto)]
 
 mod constraints;
+mod numbers;
 mod prepared;
 
 pub use constraints::Constraints;

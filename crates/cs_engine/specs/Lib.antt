@@ -2,3 +2,17 @@ pub mod Watching
 pub mod Found
 pub mod Answering
 pub mod Parameters
+pub mod Chains
+pub mod Phases
+pub mod EntryRuns
+pub mod OwnNumbers
+pub mod Covering
+pub mod Exact
+pub mod Inexact
+pub mod Asking
+pub mod OwnRuns
+pub mod Distinct
+pub mod Recorded
+pub mod Graphs
+pub mod Cuts
+pub mod Exactness

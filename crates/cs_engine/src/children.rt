@@ -5,17 +5,16 @@ ghost use Rattle.cs_engine.specs.Answering.{constant, leads_on};
 
 use crate::engine::Exploration;
 use crate::watch::phase_after;
-use cs_access::{
-    Checked, FaultyPart, Reached, ReachedOffset, Rest, can_check, check, is_known, reach,
-};
+use cs_access::{Checked, FaultyPart, Reached, ReachedOffset, Rest, is_known, reach};
 use cs_ast::Place;
 use cs_cfg::{BlockEnd, Instruction};
-use cs_checker::{Checker, Subject};
+use cs_checker::Checker;
 use cs_eval::{Guessed, Piece, Question, answers, select};
 use cs_events::{Budget, Event, Label, Outcome};
+use cs_progress::Next;
 use cs_results::Cut;
 use cs_state::{Asked, Counters, State, Tables};
-use cs_steps::{Next, proceed};
+use cs_steps::proceed;
 use cs_terms::{Lin, Sym, SymName};
 use std::alloc::{AllocError, Global};
 
@@ -34,16 +33,6 @@ pub struct Children {
     pub made: Vec<Child>,
     pub ends: Vec<(Outcome, Box<State>)>,
     pub cuts: Vec<Cut>,
-}
-
-// What a state comes to without an event.
-enum Came {
-    /// It goes on after so many checks since its last answer.
-    On(u32),
-    /// Its runs end so.
-    Ends(Outcome),
-    /// Its runs are done with: each has an event, or an end.
-    Out,
 }
 
 impl Children {
@@ -69,90 +58,51 @@ impl Children {
             ≡ map (λ b. kind_of b) checkers.old.items }
     {
         let mut state = state;
-        let mut checks = 0;
         for _ in 0..u64::MAX {
-            match self.step(exploration, &mut *state, checks, tables, checkers)? {
-                Came::On(passed) => checks = passed,
-                Came::Ends(outcome) => {
-                    self.ends.push((outcome, state))?;
-                    return Ok(());
+            match proceed(exploration.context, &mut *state, tables, checkers)? {
+                Next::Done => {}
+                Next::Checks(at, checked) => {
+                    let alloc = exploration.context.alloc;
+                    if !self.checked(alloc, &mut *state, at, checked)? {
+                        return Ok(());
+                    }
                 }
-                Came::Out => return Ok(()),
+                Next::Ends(outcome) => return self.end(outcome, state),
+                Next::Asks(at, question) => {
+                    return self.ask(exploration, state, tables, at, &question);
+                }
+                Next::Selects(at, term) => return self.select(exploration, state, at, term),
+                Next::Reaches(at, _, offset) => return self.reach(exploration, state, at, offset),
             }
         }
         Err(AllocError)
     }
 
-    // One thing that stands first in a state.
-    fn step(
-        &mut self,
-        exploration: &Exploration,
-        state: &mut State,
-        checks: u32,
-        tables: &mut Tables,
-        checkers: &mut Vec<Box<dyn Checker>>,
-    ) -> Result<Came, AllocError>
-        requires { IsReady exploration.now.context.now.setting.now }
-        ensures kinds { map (λ b. kind_of b) checkers.new.items
-            ≡ map (λ b. kind_of b) checkers.old.items }
-    {
-        match proceed(exploration.context, state, tables, checks)? {
-            Next::Done => Ok(Came::On(0)),
-            Next::Checks(at, subject) => {
-                let alloc = exploration.context.alloc;
-                self.checked(alloc, state, checks, at, &subject, checkers)
-            }
-            Next::Ends(outcome) => Ok(Came::Ends(outcome)),
-            Next::Asks(at, question) => self.ask(exploration, state, tables, at, &question),
-            Next::Selects(at, term) => self.select(exploration, state, at, term),
-            Next::Reaches(at, _, offset) => self.reach(exploration, state, at, offset),
-        }
+    // The runs of a state end.
+    fn end(&mut self, outcome: Outcome, state: Box<State>) -> Result<(), AllocError> {
+        self.ends.push((outcome, state))?;
+        Ok(())
     }
 
-    // What checkers say of a state: its faulty parts end, and the rest goes on.
+    // What checkers have found: the faulty parts of a state end, and the rest goes on; false where there is none.
+    #[inline(never)]
     fn checked(
         &mut self,
         alloc: Global,
         state: &mut State,
-        checks: u32,
         at: Place,
-        subject: &Subject,
-        checkers: &mut Vec<Box<dyn Checker>>,
-    ) -> Result<Came, AllocError>
-        ensures kinds { map (λ b. kind_of b) checkers.new.items
-            ≡ map (λ b. kind_of b) checkers.old.items }
-    {
-        let Some(passed) = checks.checked_add(1) else {
-            return Err(AllocError);
-        };
-        match self.rest_of(alloc, state, at, subject, checkers)? {
-            Rest::Whole => Ok(Came::On(passed)),
+        checked: Box<Checked>,
+    ) -> Result<bool, AllocError> {
+        let Checked { faults, rest } = Box::into_inner(checked);
+        self.end_faulty(alloc, at, faults)?;
+        match rest {
+            Rest::Whole => Ok(true),
             Rest::Part(rest) => {
                 *state = rest;
-                Ok(Came::On(passed))
+                Ok(true)
             }
-            Rest::Nothing => Ok(Came::Out),
+            Rest::Nothing => Ok(false),
         }
-    }
-
-    // What isn't faulty of a state. Its faulty parts end.
-    fn rest_of(
-        &mut self,
-        alloc: Global,
-        state: &State,
-        at: Place,
-        subject: &Subject,
-        checkers: &mut Vec<Box<dyn Checker>>,
-    ) -> Result<Rest, AllocError>
-        ensures kinds { map (λ b. kind_of b) checkers.new.items
-            ≡ map (λ b. kind_of b) checkers.old.items }
-    {
-        if !can_check(state, subject) {
-            return Err(AllocError);
-        }
-        let Checked { faults, rest } = check(alloc, state, subject, checkers)?;
-        self.end_faulty(alloc, at, faults)?;
-        Ok(rest)
     }
 
     // The faulty parts of a state end.
@@ -171,16 +121,17 @@ impl Children {
     }
 
     // An operation shows.
+    #[inline(never)]
     fn ask(
         &mut self,
         exploration: &Exploration,
-        state: &State,
+        state: Box<State>,
         tables: &mut Tables,
         at: Place,
         question: &Question,
-    ) -> Result<Came, AllocError> {
-        let Some(number) = event_after(exploration, state) else {
-            return Ok(over(at));
+    ) -> Result<(), AllocError> {
+        let Some(number) = event_after(exploration, &*state) else {
+            return self.end(over(at), state);
         };
         let alloc = exploration.context.alloc;
         let model = exploration.context.setting.program.model;
@@ -190,15 +141,16 @@ impl Children {
     }
 
     // A `switch` shows its case.
+    #[inline(never)]
     fn select(
         &mut self,
         exploration: &Exploration,
-        state: &State,
+        state: Box<State>,
         at: Place,
         term: Lin,
-    ) -> Result<Came, AllocError> {
-        if event_after(exploration, state).is_none() {
-            return Ok(over(at));
+    ) -> Result<(), AllocError> {
+        if event_after(exploration, &*state).is_none() {
+            return self.end(over(at), state);
         }
         let context = exploration.context;
         let cases = match context.code.instruction_at(state.frame.spot) {
@@ -209,26 +161,32 @@ impl Children {
         self.add_all(exploration, state, at, pieces, Sym(0))
     }
 
-    // The states after all pieces.
+    // The states after all pieces. The last of them takes the state before as it is, and the others copy it.
     fn add_all(
         &mut self,
         exploration: &Exploration,
-        before: &State,
+        before: Box<State>,
         place: Place,
         pieces: Vec<Piece>,
         guess: Sym,
-    ) -> Result<Came, AllocError> {
+    ) -> Result<(), AllocError> {
+        let alloc = exploration.context.alloc;
+        let mut pieces = pieces;
+        let Some(last) = pieces.pop() else {
+            return Ok(());
+        };
         for piece in pieces {
-            self.add(exploration, before, place, piece, guess)?;
+            let state = Box::new(alloc, before.copy()?)?;
+            self.add(exploration, state, place, piece, guess)?;
         }
-        Ok(Came::Out)
+        self.add(exploration, before, place, last, guess)
     }
 
     // The state after one piece.
     fn add(
         &mut self,
         exploration: &Exploration,
-        before: &State,
+        state: Box<State>,
         place: Place,
         piece: Piece,
         guess: Sym,
@@ -239,7 +197,7 @@ impl Children {
             answer,
             guessed,
         } = piece;
-        let mut state = Box::new(exploration.context.alloc, before.copy()?)?;
+        let mut state = state;
         state.constraints = constraints;
         let event = Event { place, label };
         pass(exploration, &mut *state, &event, leads_on(label, answer))?;
@@ -266,21 +224,22 @@ impl Children {
     }
 
     // An access shows its offset.
+    #[inline(never)]
     fn reach(
         &mut self,
         exploration: &Exploration,
-        state: &State,
+        state: Box<State>,
         at: Place,
         offset: Lin,
-    ) -> Result<Came, AllocError> {
-        if event_after(exploration, state).is_none() {
-            return Ok(over(at));
+    ) -> Result<(), AllocError> {
+        if event_after(exploration, &*state).is_none() {
+            return self.end(over(at), state);
         }
-        if !is_known(state, offset) {
+        if !is_known(&*state, offset) {
             return Err(AllocError);
         }
         let alloc = exploration.context.alloc;
-        match reach(alloc, state, offset, exploration.budgets.splits)? {
+        match reach(alloc, &*state, offset, exploration.budgets.splits)? {
             Reached::All(steps) => self.add_offsets(exploration, at, steps),
             Reached::TooMany(count, steps) => {
                 self.cuts.push(Cut::Splits(at, count))?;
@@ -295,11 +254,11 @@ impl Children {
         exploration: &Exploration,
         at: Place,
         steps: Vec<ReachedOffset>,
-    ) -> Result<Came, AllocError> {
+    ) -> Result<(), AllocError> {
         for step in steps {
             self.add_offset(exploration, at, step)?;
         }
-        Ok(Came::Out)
+        Ok(())
     }
 
     // The state after one offset.
@@ -317,8 +276,8 @@ impl Children {
 }
 
 // The budget of events is used up.
-fn over(at: Place) -> Came {
-    Came::Ends(Outcome::Over(Budget::Events, at))
+fn over(at: Place) -> Outcome {
+    Outcome::Over(Budget::Events, at)
 }
 
 // The number of the next event, unless the budget of events is used up.

@@ -9,8 +9,8 @@ use crate::explored::Explored;
 use crate::findings::Findings;
 use crate::watch::Rule;
 use cs_checker::Checker;
+use cs_progress::Context;
 use cs_results::Budgets;
-use cs_steps::Context;
 use std::alloc::AllocError;
 
 /// What an exploration goes by.

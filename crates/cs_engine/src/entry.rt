@@ -10,8 +10,8 @@ ghost use Rattle.cs_state.specs.Starting.{HaveSizes, HasSizes, DifferInName};
 ghost use Rattle.cs_engine.specs.Parameters.{DiffersFromBefore};
 
 use cs_ast::typed::program::{Function, Local, Program};
+use cs_progress::Context;
 use cs_state::{State, Tables};
-use cs_steps::Context;
 use cs_types::CType;
 use cs_values::types::is_small;
 use std::alloc::AllocError;

@@ -65,6 +65,7 @@ impl Findings {
             IsPlaced (words_of (live_part row.state.value)) row room self.old self.new) }
         ensures grows { OnOk result (Grows self.old self.new) }
     {
+        let row = listed(row)?;
         let key = key(alloc, &*row.state)?;
         let visits = visits_of(&*row.state);
         match self.graph.add(key, visits, row) {
@@ -136,6 +137,15 @@ impl Findings {
             tables,
         }
     }
+}
+
+// The row with a state whose large tables are listed, so that the states after it share what was listed.
+fn listed(row: Row) -> Result<Row, AllocError>
+    ensures { IfOk result (λ listed. listed ≡ row) }
+{
+    let mut listed = row;
+    listed.state.list_regions()?;
+    Ok(listed)
 }
 
 // The row of a child.

@@ -1,6 +1,7 @@
 -- The pieces of operators of two integers: for the contract of `binary`.
-use Rattle.std.proofs.Common.{◌≡◌, ◌⊎◌, inl, inr, ℕ, ℤ, pos, ◌+ℤ◌, ◌-ℤ◌, ◌*ℤ◌, List, Option, Some, None, refl, sym, ap}
-use Rattle.std.proofs.Common.{◌∙◌}
+use Rattle.std.proofs.Common.{◌≡◌, ◌⊎◌, inl, inr, ℕ, ℤ, pos, ◌*ℤ◌, List, Option, Some, None, refl, sym, ap}
+use Rattle.std.proofs.Common.{◌∙◌, Vec, Global, Result, IfOk}
+use Rattle.std.proofs.lemmas.Result.{IfOk-weaker}
 use Rattle.std.proofs.Math.IntN.{*ℤ_comm}
 use Rattle.std.proofs.lemmas.Option.{none-some, same_Some}
 use Rattle.cs_ranges.specs.declared.range_set.Interval.{Interval}
@@ -10,18 +11,18 @@ use Rattle.cs_types.specs.IntType.{InRange}
 use Rattle.cs_types.specs.Wrap.{wrap_quotient, wrapped}
 use Rattle.cs_types.proofs.Wrapping.{wrapped-InRange}
 use Rattle.cs_ast.specs.declared.typed.operator.BinOp.{BinOp}
-use Rattle.cs_ast.specs.declared.typed.operator.BinOp.TheVariants.{Add, Sub, Mul, Div, Rem, Shl, Shr, And, Xor, Or}
+use Rattle.cs_ast.specs.declared.typed.operator.BinOp.TheVariants.{Add, Sub, Mul, Div, Shl, Shr, Xor, Or}
 use Rattle.cs_terms.specs.declared.symbol.Sym.{Sym}
 use Rattle.cs_terms.specs.declared.term.Lin.{Lin}
 use Rattle.cs_terms.specs.Term.{Valuation, value_of, value_at}
-use Rattle.cs_constraints.specs.Constraints.{Sets}
+use Rattle.cs_constraints.specs.Constraints.{Sets, set_of}
 use Rattle.cs_constraints.proofs.Assuming.{value_of-symbol}
 use Rattle.cs_events.specs.Operations.{exact, power}
 use Rattle.cs_eval.specs.declared.piece.Piece.{Piece}
 use Rattle.cs_eval.specs.declared.question.Question.TheVariants as question
 use Rattle.cs_eval.specs.Followed.{asking_of, AreAnswers, AreFixed, IsFollowedNear}
 use Rattle.cs_eval.specs.Guesses.{HasNumbers}
-use Rattle.cs_eval.specs.Operands.{AreOverOne, IsFixed, constant_with, constant_of}
+use Rattle.cs_eval.specs.Operands.{AreOverOne, HaveSymbol, IsFixed, IsReadyOperand, constant_with, constant_of}
 use Rattle.cs_eval.specs.Ready.{IsBinary}
 use Rattle.cs_eval.specs.Splits.{Asking}
 use Rattle.cs_eval.specs.Wraps.{asked_of, IsWholeGuess, AreOfProduct, AreSummed, IsSumOf}
@@ -37,6 +38,10 @@ binary_asking model sets op ty left right = asking_of model sets (question.Binar
 abbrev pub HasGuesses : DataModel → Sets → BinOp → IntType → Lin → Lin → Type 0
 HasGuesses model sets op ty left right =
     (numbers : Interval) → HasNumbers model (asked_of op ty left right) numbers → AreGuesses model sets (binary_asking model sets op ty left right) numbers
+
+pub binary_given : (sets : Sets) (guess : ℕ) (left right : Lin) → IsReadyOperand sets left → IsReadyOperand sets right → HaveSymbol left right
+    → set_of sets guess ≡ None → IsBinary sets guess left right
+binary_given sets guess left right l r symbol fresh = record { left_ready = l; right_ready = r; symbol = symbol; fresh = fresh }
 
 pub not_both : (sets : Sets) (guess : ℕ) (left right : Lin) → IsBinary sets guess left right → ¬ AreFixed sets left right
 not_both sets guess left right given both =
@@ -56,6 +61,12 @@ module _ (model : DataModel) (sets : Sets) (guess : ℕ) (op : BinOp) (ty : IntT
       whole_split model sets guess asking wrap (asked_of op ty left right) pieces given.fresh
       (λ v fits followed. elim followed [ inl both ↦ not_both sets guess left right given both | inr near ↦ not near.0 ])
       guesses h
+
+  -- the same of what a call answers
+  pub guessed_answers : {E : Type 0} → ¬ IsFollowedNear sets op left right → (result : Result (Vec Piece Global) E)
+      → IfOk result (λ pieces. IsWholeGuess model sets guess (asked_of op ty left right) pieces.items)
+      → IfOk result (λ pieces. AreAnswers model sets guess (question.Binary op ty left right) pieces.items)
+  guessed_answers not result made = IfOk-weaker {X = Vec Piece Global} result _ _ (λ pieces. guessed_split not pieces.items) made
 
   far_guessed : IsFarGuessed model sets asking (asked_of op ty left right)
   far_guessed = record {

@@ -1,5 +1,6 @@
 -- The pieces of a `switch`: for the contract of `select`.
-use Rattle.std.proofs.Common.{◌≡◌, ◌≢◌, ◌⊎◌, ◌↔◌, inl, inr, ℕ, zero, suc, ◌<◌, ◌≤◌, Bool, true, false, not, ◌&&◌, ℤ, pos, List, [], ◌∷◌}
+use Rattle.std.proofs.Common.{◌≡◌, ◌≢◌, ◌⊎◌, ◌↔◌, inl, inr, ℕ, zero, suc, ◌<◌, ◌≤◌, Bool, true, false, not, ◌&&◌, ℤ}
+use Rattle.std.proofs.Common.{pos, List, [], ◌∷◌}
 use Rattle.std.proofs.Common.{◌++◌, length, Option, Some, None, refl, sym, ap, subst, ◌∙◌, arith, ◌^◌}
 use Rattle.std.specs.Prelude.{MatchOption, int_le, neg_ℤ, slice_get, if◌then◌else◌}
 use Rattle.std.proofs.lemmas.Option.{same_Some}
@@ -20,7 +21,7 @@ use Rattle.cs_eval.specs.declared.pieces.Shown.{Shown}
 use Rattle.cs_eval.specs.Cases.{case_of, asking_of_cases, AreCases, IsBefore, AreFirst, AreLeft, IsCaseAt, IsCasePushed}
 use Rattle.cs_eval.specs.Operands.{IsTermBetween, LOWEST, HIGHEST}
 use Rattle.cs_eval.specs.Parts.{number_term, unguessed, unguessed_if}
-use Rattle.cs_eval.specs.Splits.{Asking, IsPieceOf, Each, HaveOwnLabels, IsCovered, IsSplit}
+use Rattle.cs_eval.specs.Splits.{Asking, IsPieceOf, Each, HaveOwnLabels, IsCovered}
 use Rattle.cs_eval.proofs.Ends.{wide as Ends_wide}
 use Rattle.cs_eval.proofs.OperandValues.{value_between}
 
@@ -315,7 +316,8 @@ case_at (first ∷ cases) zero one e =
 case_at (first ∷ cases) (suc n) one e = next_case first cases n one.value (case_at cases n one e)
 
 -- the pieces with the label and the number that are known
-pub case_made : (n : ℕ) (shown : Shown) (kept : Option Sets) (before after : List Piece) → shown.label ≡ label.Case n → shown.answer ≡ number_term (pos 0)
+pub case_made : (n : ℕ) (shown : Shown) (kept : Option Sets) (before after : List Piece) → shown.label ≡ label.Case n
+    → shown.answer ≡ number_term (pos 0)
     → after ≡ before ++ unguessed_if shown.label shown.answer kept → after ≡ before ++ unguessed_if (label.Case n) (number_term (pos 0)) kept
 case_made n shown kept before after e h made =
     made ∙ ap (λ (l : Label). before ++ unguessed_if l shown.answer kept) e

@@ -1,6 +1,6 @@
 -- Terms whose values were checked: for the contracts of `checked`.
 use Rattle.std.proofs.Common.{◌≡◌, ◌^◌, ◌-◌, ℤ, pos, List, Option, Some, None, sym, ap, subst, ◌∙◌, arith}
-use Rattle.std.specs.Prelude.{IsNone, IsTrue, neg_ℤ}
+use Rattle.std.specs.Prelude.{IsTrue, neg_ℤ}
 use Rattle.std.proofs.lemmas.Int.{ints}
 use Rattle.std.proofs.lemmas.Option.{none-some, same_Some}
 use Rattle.cs_ranges.specs.declared.range_set.Interval.{Interval}

@@ -1,5 +1,5 @@
 -- The pieces of an exact result that is converted to a type: for the contracts of conversions, of operators of one integer, and of sums.
-use Rattle.std.proofs.Common.{◌≡◌, ◌≢◌, ◌⊎◌, inl, inr, ℕ, ◌-◌, ◌<◌, ℤ, pos, negsuc, ◌+ℤ◌, ◌-ℤ◌, ◌*ℤ◌, List}
+use Rattle.std.proofs.Common.{◌≡◌, ◌≢◌, inl, inr, ℕ, ◌-◌, ◌<◌, ℤ, pos, negsuc, ◌+ℤ◌, ◌-ℤ◌, ◌*ℤ◌, List}
 use Rattle.std.proofs.Common.{Option, Some, None}
 use Rattle.std.proofs.Common.{refl, sym, ap, subst, ◌∙◌, arith}
 use Rattle.std.specs.Prelude.{neg_ℤ, ◌≤ℤ◌}
@@ -20,13 +20,13 @@ use Rattle.cs_terms.proofs.TypeRanges.{quotient_ends}
 use Rattle.cs_constraints.specs.Constraints.{Sets, set_of, Fits}
 use Rattle.cs_constraints.proofs.Assuming.{value_of-symbol}
 use Rattle.cs_events.specs.declared.event.Wrap.TheVariants.{Same}
-use Rattle.cs_events.specs.Operations.{own_quotient, own_result, exact_of_one, wrap_of}
+use Rattle.cs_events.specs.Operations.{own_quotient, own_result, wrap_of}
 use Rattle.cs_state.specs.declared.asked.Asks.TheVariants as asks
 use Rattle.cs_eval.specs.declared.guesses.Inexact.{Inexact}
 use Rattle.cs_eval.specs.declared.piece.Piece.{Piece}
 use Rattle.cs_eval.specs.declared.question.Question.TheVariants as question
 use Rattle.cs_eval.specs.Followed.{asking_of, AreAnswers}
-use Rattle.cs_eval.specs.Guesses.{AreOfType, HasNumbers}
+use Rattle.cs_eval.specs.Guesses.{AreOfType}
 use Rattle.cs_eval.specs.Operands.{IsBetween, IsFixed, IsRaised, IsSeveral, IsReadyOperand}
 use Rattle.cs_eval.specs.Parts.{number_term}
 use Rattle.cs_eval.specs.Splits.{Asking, IsSplit}

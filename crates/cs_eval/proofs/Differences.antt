@@ -1,24 +1,21 @@
 -- Differences of offsets: for the contract of `pointer_difference` and what it calls.
-use Rattle.std.proofs.Common.{◌≡◌, ◌≢◌, ◌⊎◌, inl, inr, ℕ, zero, suc, ◌*◌, ◌/◌, ◌^◌, Bool, true, ℤ, pos, negsuc, ◌+ℤ◌, ◌-ℤ◌}
+use Rattle.std.proofs.Common.{◌≡◌, ◌≢◌, ◌⊎◌, inl, inr, ℕ, zero, suc, ◌*◌, ◌/◌, ℤ, pos, negsuc, ◌+ℤ◌, ◌-ℤ◌}
 use Rattle.std.proofs.Common.{◌*ℤ◌, List, [], ◌∷◌, Option, Some, None, refl, sym, ap, subst, ◌∙◌, arith, FitsSigned}
 use Rattle.std.specs.Prelude.{◌≤ℤ◌, ◌<ℤ◌, neg_ℤ, MatchOption}
 use Rattle.std.specs.Int.{w32, w64}
 use Rattle.std.specs.Int.RustNames.{int_div, int_rem}
 use Rattle.std.proofs.lemmas.Int.{ints, quot-rem, quot_fits}
-use Rattle.std.proofs.lemmas.Option.{none-some, same_Some}
 use Rattle.std.proofs.Math.Nat.{mul-div_cancel, zero-div}
 use Rattle.std.proofs.Math.IntN.{*ℤ-zero, zero-*ℤ, pos-*ℤ-pos, negsuc-*ℤ-pos}
-use Rattle.cs_ranges.specs.declared.range_set.Interval.{Interval}
 use Rattle.cs_ranges.specs.Affine.{affine}
-use Rattle.cs_ranges.specs.RangeSet.{IsOnly}
 use Rattle.cs_types.specs.declared.data_model.DataModel.{DataModel}
 use Rattle.cs_types.specs.declared.data_model.DataModel.TheVariants.{Lp64, Ilp32}
 use Rattle.cs_types.specs.DataModel.{difference_type_of}
 use Rattle.cs_types.proofs.FloorDivision.{add-*ℤ}
-use Rattle.cs_types.specs.IntType.{InRange, least_of, greatest_of}
+use Rattle.cs_types.specs.IntType.{least_of, greatest_of}
 use Rattle.cs_terms.specs.declared.symbol.Sym.{Sym}
 use Rattle.cs_terms.specs.declared.term.Lin.{Lin}
-use Rattle.cs_terms.specs.Term.{Valuation, value_with, value_of, value_at, IsTerm, IsTermWith, HaveTwoSymbols}
+use Rattle.cs_terms.specs.Term.{Valuation, value_with, value_of, value_at, IsTermWith, HaveTwoSymbols}
 use Rattle.cs_terms.proofs.Cutting.{value_at-affine}
 use Rattle.cs_terms.proofs.Values.{value_with-scale}
 use Rattle.cs_constraints.specs.Constraints.{Sets, set_of, Fits, AreInhabited, HasOneNumber}
@@ -32,9 +29,9 @@ use Rattle.cs_eval.specs.declared.piece.Piece.{Piece}
 use Rattle.cs_eval.specs.declared.question.Question.TheVariants as question
 use Rattle.cs_eval.specs.Followed.{IsDivided, FitsFixed, asking_of, AreAnswers}
 use Rattle.cs_eval.specs.Guesses.{AreNumbers}
-use Rattle.cs_eval.specs.Offsets.{IsDividedTerm, IsMultiple, AreMultiples, AreElements, HasRest, AreElementsBetween}
+use Rattle.cs_eval.specs.Offsets.{IsDividedTerm, IsMultiple, AreElements, HasRest, AreElementsBetween}
 use Rattle.cs_eval.specs.Offsets.{half_difference_of, IsTermOfOffsets}
-use Rattle.cs_eval.specs.Operands.{IsBetween, IsSeveral, IsReadyOperand, AreOverOne, HaveSymbol}
+use Rattle.cs_eval.specs.Operands.{IsBetween, IsReadyOperand, AreOverOne, HaveSymbol}
 use Rattle.cs_eval.specs.Parts.{with_number, unguessed}
 use Rattle.cs_eval.specs.Wraps.{IsSumOf, IsWholeGuess}
 use Rattle.cs_eval.proofs.Comparisons.{over_one, not_over_one}

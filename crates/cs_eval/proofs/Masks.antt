@@ -1,5 +1,5 @@
 -- The numbers that may be guessed for masks: for the contract of `masked`.
-use Rattle.std.proofs.Common.{◌≡◌, inl, ℕ, ◌-◌, ◌≤◌, ◌%◌, ℤ, pos, negsuc, ◌-ℤ◌, ◌≤ℤ◌, Option, Some, None, refl, sym, ap}
+use Rattle.std.proofs.Common.{◌≡◌, inl, ℕ, ◌≤◌, ◌%◌, ℤ, pos, negsuc, ◌-ℤ◌, ◌≤ℤ◌, Option, Some, None, refl, sym, ap}
 use Rattle.std.proofs.Common.{subst, ◌∙◌, arith}
 use Rattle.std.specs.Int.Bits.{bit_and}
 use Rattle.std.specs.Option.{option_or}
@@ -11,12 +11,12 @@ use Rattle.cs_types.specs.declared.data_model.DataModel.{DataModel}
 use Rattle.cs_types.specs.declared.int_type.IntType.{IntType}
 use Rattle.cs_types.specs.IntType.{InRange, modulus_of, negatives_of}
 use Rattle.cs_types.specs.Wrap.{wrapped}
-use Rattle.cs_types.proofs.Wrapping.{wrapped-InRange, modulus-large}
+use Rattle.cs_types.proofs.Wrapping.{wrapped-InRange}
 use Rattle.cs_ast.specs.declared.typed.operator.BinOp.TheVariants.{And}
 use Rattle.cs_terms.specs.declared.symbol.Sym.{Sym}
 use Rattle.cs_terms.specs.declared.term.Lin.{Lin}
 use Rattle.cs_terms.specs.Term.{Valuation, value_of}
-use Rattle.cs_constraints.specs.Constraints.{Sets, Fits}
+use Rattle.cs_constraints.specs.Constraints.{Sets}
 use Rattle.cs_events.specs.Operations.{exact, bits_of}
 use Rattle.cs_eval.specs.Guesses.{AreFromTo, AreOfMask}
 use Rattle.cs_eval.specs.Operands.{IsBetween, IsTermInType, constant_with}

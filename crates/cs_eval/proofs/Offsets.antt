@@ -1,44 +1,32 @@
 -- Sums and differences of offsets: for the contracts of `pointers`.
-use Rattle.std.proofs.Common.{◌≡◌, ◌≢◌, ◌⊎◌, ◌↔◌, inl, inr, ℕ, zero, suc, ◌*◌, ◌/◌, ◌^◌, Bool, true, false, ◌&&◌, ℤ, pos, negsuc, ◌+ℤ◌, ◌-ℤ◌}
-use Rattle.std.proofs.Common.{◌*ℤ◌, List, [], ◌∷◌, Option, Some, None, refl, sym, ap, subst, ◌∙◌, arith, FitsSigned}
+use Rattle.std.proofs.Common.{◌≡◌, ◌≢◌, ◌⊎◌, inl, inr, ℕ, zero, suc, Bool, true, false, ◌&&◌, ℤ, pos, ◌+ℤ◌}
+use Rattle.std.proofs.Common.{◌*ℤ◌, List, [], ◌∷◌, Option, Some, None, refl, sym, ap, subst, ◌∙◌, arith}
 use Rattle.std.specs.Prelude.{◌≤◌, ◌≤ℤ◌, int_le, neg_ℤ, unsigned_abs, if◌then◌else◌}
-use Rattle.std.specs.Int.{w32, w64}
-use Rattle.std.specs.Int.RustNames.{int_div, int_rem}
-use Rattle.std.proofs.lemmas.Int.{ints, quot-rem, quot_fits}
-use Rattle.std.proofs.lemmas.Option.{none-some, same_Some}
-use Rattle.std.proofs.Math.Nat.{mul-div_cancel, zero-div}
+use Rattle.std.proofs.lemmas.Int.{ints}
 use Rattle.std.proofs.Math.IntN.{*ℤ-zero}
-use Rattle.cs_ranges.specs.declared.range_set.Interval.{Interval}
-use Rattle.cs_ranges.specs.Affine.{affine}
-use Rattle.cs_ranges.specs.RangeSet.{IsOnly}
 use Rattle.cs_types.specs.declared.data_model.DataModel.{DataModel}
-use Rattle.cs_types.specs.declared.data_model.DataModel.TheVariants.{Lp64, Ilp32}
-use Rattle.cs_types.specs.DataModel.{offset_bound_of, difference_type_of}
-use Rattle.cs_types.specs.IntType.{InRange, least_of, greatest_of}
+use Rattle.cs_types.specs.DataModel.{offset_bound_of}
 use Rattle.cs_terms.specs.declared.symbol.Sym.{Sym}
 use Rattle.cs_terms.specs.declared.term.Lin.{Lin}
-use Rattle.cs_terms.specs.Term.{Valuation, value_of, value_at, IsTerm, IsTermWith, HaveTwoSymbols, HasNoOtherSymbol}
+use Rattle.cs_terms.specs.Term.{Valuation, value_of, IsTerm, IsTermWith, HaveTwoSymbols, HasNoOtherSymbol}
 use Rattle.cs_terms.proofs.Products.{abs-product}
-use Rattle.cs_constraints.specs.Constraints.{Sets, set_of, Fits, AreInhabited, HasOneNumber}
-use Rattle.cs_constraints.proofs.Assuming.{value_of-symbol}
+use Rattle.cs_constraints.specs.Constraints.{Sets, set_of, AreInhabited}
 use Rattle.cs_events.specs.declared.event.Label.TheVariants as label
 use Rattle.cs_events.specs.declared.event.Wrap.TheVariants.{Same, Guessed}
-use Rattle.cs_events.specs.Operations.{within_bound, elements_between}
+use Rattle.cs_events.specs.Operations.{within_bound}
 use Rattle.cs_state.specs.declared.asked.Asks.TheVariants as asks
 use Rattle.cs_eval.specs.declared.guesses.Inexact.{Inexact}
 use Rattle.cs_eval.specs.declared.piece.Piece.{Piece}
 use Rattle.cs_eval.specs.declared.question.Question.TheVariants as question
-use Rattle.cs_eval.specs.Followed.{IsFollowed, IsDivided, FitsFixed, asking_of, AreAnswers}
-use Rattle.cs_eval.specs.Guesses.{AreNumbers, HasNumbers}
-use Rattle.cs_eval.specs.Offsets.{IsMovedOffset, IsDividedTerm, IsMultiple, AreMultiples, AreElements, HasRest, AreElementsBetween}
-use Rattle.cs_eval.specs.Offsets.{half_difference_of, IsTermOfOffsets}
-use Rattle.cs_eval.specs.Operands.{IsBetween, IsTermBetween, IsSeveral, IsReadyOperand, AreOverOne, HaveSymbol}
-use Rattle.cs_eval.specs.Parts.{with_number, unguessed}
+use Rattle.cs_eval.specs.Followed.{asking_of, AreAnswers}
+use Rattle.cs_eval.specs.Guesses.{AreNumbers}
+use Rattle.cs_eval.specs.Offsets.{IsMovedOffset}
+use Rattle.cs_eval.specs.Operands.{IsBetween, IsTermBetween, IsReadyOperand}
+use Rattle.cs_eval.specs.Parts.{unguessed}
 use Rattle.cs_eval.specs.Wraps.{IsSumOf, IsWholeGuess}
 use Rattle.cs_eval.proofs.Comparisons.{over_one, not_over_one}
-use Rattle.cs_eval.proofs.OperandForms.{fits_fixed, fixed_none}
-use Rattle.cs_eval.proofs.OperandValues.{decide, value_between, value_of-none, with_number-same, with_number-other}
-use Rattle.cs_eval.proofs.OnePiece.{IsOneExact, IsOneGuess, one_exact_split, one_guess_split}
+use Rattle.cs_eval.proofs.OperandValues.{value_between}
+use Rattle.cs_eval.proofs.OnePiece.{one_exact_split, one_guess_split}
 
 -- a number times one above 0 is 0 only if it is
 factor_zero : (n : ℤ) (k : ℕ) → n *ℤ pos (suc k) ≡ pos 0 → n ≡ pos 0

@@ -5,6 +5,7 @@ use Rattle.std.proofs.lemmas.Int.{ints}
 use Rattle.cs_types.specs.declared.data_model.DataModel.{DataModel}
 use Rattle.cs_ranges.specs.declared.range_set.Interval.{Interval}
 use Rattle.cs_ranges.specs.RangeSet.{contains}
+use Rattle.cs_ranges.proofs.Lines.{over_yields}
 use Rattle.cs_terms.specs.declared.term.Lin.{Lin}
 use Rattle.cs_terms.specs.Term.{Valuation, value_of}
 use Rattle.cs_constraints.specs.Constraints.{Sets, set_of, Fits, AreInhabited}
@@ -35,10 +36,7 @@ pub record IsOneGuess (model : DataModel) (sets : Sets) (asking : Asking) (what 
   pub from_guess : (v : Valuation) (number : ℤ) → asking.IsGuess v number → IsBetween numbers.low numbers.high number
   pub own : (v : Valuation) → Fits v sets → IsBetween numbers.low numbers.high (own_result model (asking.operation v))
 
-in_both : (low high x : ℤ) → (int_le low x && int_le x high) ≡ true → IsBetween low high x
-in_both low high x e = (grind (arith, ints), grind (arith, ints))
-
-both_in : (low high x : ℤ) → IsBetween low high x → (int_le low x && int_le x high) ≡ true
+pub both_in : (low high x : ℤ) → IsBetween low high x → (int_le low x && int_le x high) ≡ true
 both_in low high x h = let a = h.0 in let b = h.1 in grind (arith, ints)
 
 module _ (model : DataModel) (sets : Sets) (guess : ℕ) (asking : Asking) (what : Label) where
@@ -56,7 +54,7 @@ module _ (model : DataModel) (sets : Sets) (guess : ℕ) (asking : Asking) (what
   module _ (numbers : Interval) (h : IsOneGuess model sets asking what numbers) (piece : Piece) (g : IsGuessPiece sets guess what numbers piece)
       (fresh : set_of sets guess ≡ None) where
     declared_between : (number : ℤ) → contains g.set number ≡ true → IsBetween numbers.low numbers.high number
-    declared_between number t = in_both numbers.low numbers.high number (sym (g.numbers_are number) ∙ t)
+    declared_between number t = over_yields numbers.low numbers.high number (sym (g.numbers_are number) ∙ t)
 
     between_declared : (number : ℤ) → IsBetween numbers.low numbers.high number → contains g.set number ≡ true
     between_declared number b = g.numbers_are number ∙ both_in numbers.low numbers.high number b

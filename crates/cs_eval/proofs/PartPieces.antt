@@ -1,7 +1,7 @@
 -- The parts of a range by wrap quotients, and their pieces: for the contracts of `converted_parts`, `push_part` and `push_far`.
-use Rattle.std.proofs.Common.{◌≡◌, inl, inr, ℤ, pos, ◌+ℤ◌, ◌-ℤ◌, ◌*ℤ◌, List, [], ◌∷◌, ◌++◌, Option, Some, None, refl, sym}
+use Rattle.std.proofs.Common.{◌≡◌, inr, ℤ, pos, ◌+ℤ◌, ◌-ℤ◌, ◌*ℤ◌, List, [], ◌∷◌, ◌++◌, Option, Some, None, refl, sym}
 use Rattle.std.proofs.Common.{ap, subst, ◌∙◌, arith}
-use Rattle.std.specs.Prelude.{ℕ, IsTrue, MatchOption, neg_ℤ}
+use Rattle.std.specs.Prelude.{ℕ, MatchOption, neg_ℤ}
 use Rattle.std.proofs.lemmas.Bool.{false≢true}
 use Rattle.std.proofs.lemmas.Int.{ints}
 use Rattle.cs_ranges.specs.declared.range_set.Interval.{Interval}
@@ -13,7 +13,7 @@ use Rattle.cs_types.specs.Wrap.{wrap_quotient, wrapped}
 use Rattle.cs_terms.specs.declared.symbol.Sym.{Sym}
 use Rattle.cs_terms.specs.declared.term.Lin.{Lin}
 use Rattle.cs_terms.specs.declared.product.Piece.{Piece as Part}
-use Rattle.cs_terms.specs.Pieces.{IsFar, IsPiece, IsFarPiece, IsProductOn, IsProductPiece, quotient_of, product_quotient_of}
+use Rattle.cs_terms.specs.Pieces.{IsFar, IsPiece, IsFarPiece, IsProductPiece, quotient_of, product_quotient_of}
 use Rattle.cs_terms.specs.Term.{Valuation, value_with, value_of, value_at, IsTerm, IsTermWith}
 use Rattle.cs_terms.proofs.Values.{value_with-add}
 use Rattle.cs_constraints.specs.Constraints.{Sets}

@@ -1,5 +1,6 @@
 -- The order test of `calloc`: for the contracts of `product_test` and what it calls.
-use Rattle.std.proofs.Common.{◌≡◌, ◌⊎◌, ◌↔◌, inl, inr, ℕ, zero, suc, ◌+◌, ◌*◌, ◌/◌, ◌<◌, ◌≤◌, Bool, true, false, ℤ, pos, negsuc, ◌+ℤ◌, ◌-ℤ◌}
+use Rattle.std.proofs.Common.{◌≡◌, ◌⊎◌, inl, inr, ℕ, zero, suc, ◌*◌, ◌/◌, ◌≤◌, Bool, true, false, ℤ, pos, negsuc, ◌+ℤ◌}
+use Rattle.std.proofs.Common.{◌-ℤ◌}
 use Rattle.std.proofs.Common.{◌*ℤ◌, List, Option, Some, None, refl, sym, ap, subst, ◌∙◌, arith, to_z, of_z, FitsSigned}
 use Rattle.std.specs.Prelude.{◌≤ℤ◌, ◌<ℤ◌, int_le, neg_ℤ}
 use Rattle.std.proofs.lemmas.Int.{ints, quot_fits, to_z-of_z}
@@ -17,16 +18,14 @@ use Rattle.cs_terms.specs.declared.symbol.Sym.{Sym}
 use Rattle.cs_terms.specs.declared.term.Lin.{Lin}
 use Rattle.cs_terms.specs.Term.{Valuation, value_of, value_at}
 use Rattle.cs_constraints.specs.Constraints.{Sets, set_of, Fits}
-use Rattle.cs_constraints.proofs.Assuming.{value_of-symbol}
 use Rattle.cs_events.specs.declared.event.Label.TheVariants as label
-use Rattle.cs_events.specs.Operations.{compares}
 use Rattle.cs_eval.specs.declared.piece.Piece.{Piece}
 use Rattle.cs_eval.specs.declared.question.Question.TheVariants as question
 use Rattle.cs_eval.specs.declared.truths.Followed.{Followed}
 use Rattle.cs_eval.specs.declared.truths.Followed.TheVariants.{Where, Always as AlwaysIs, No}
 use Rattle.cs_eval.specs.Followed.{IsProductDecided, asking_of, AreAnswers}
 use Rattle.cs_eval.specs.Operands.{IsBetween, IsFixed, IsRaised, IsSeveral, IsTermBetween, IsTermInside, LOWEST, HIGHEST, HasEnds, constant_of, constant_with}
-use Rattle.cs_eval.specs.ProductTests.{IsTermOfCounts, is_few, IsFewWhere, IsFollowedByFactor, IsFollowedByEnds, IsProductWhere, IsFollowedByProduct}
+use Rattle.cs_eval.specs.ProductTests.{IsTermOfCounts, is_few, IsFollowedByFactor, IsFollowedByEnds, IsFollowedByProduct}
 use Rattle.cs_eval.specs.Truths.{IsReady, ArePiecesOf}
 use Rattle.cs_eval.proofs.OperandForms.{fixed_none}
 use Rattle.cs_eval.proofs.OperandValues.{value_between, value_of-none}
@@ -242,7 +241,8 @@ product_by_size model sets count size factor (AlwaysIs holds) none e h = (
 product_by_size model sets count size factor No none e h = absurd h
 
 -- the count is a constant
-pub product_by_count : (model : DataModel) (sets : Sets) (count size : Lin) (factor : ℤ) (followed : Followed) → count.sym ≡ None → count.value ≡ factor
+pub product_by_count : (model : DataModel) (sets : Sets) (count size : Lin) (factor : ℤ) (followed : Followed) → count.sym ≡ None
+    → count.value ≡ factor
     → IsFollowedByFactor model sets size factor followed → IsFollowedByProduct model sets count size followed
 product_by_count model sets count size factor (Where op by) none e h = record {
   fixed = inl (inl none);

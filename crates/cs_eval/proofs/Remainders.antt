@@ -1,14 +1,10 @@
 -- The remainders and masks that may be guessed: for the contract of `binary`.
-use Rattle.std.proofs.Common.{◌≡◌, ◌⊎◌, inl, inr, ℕ, ◌+◌, ◌*◌, ◌-◌, ◌^◌, ◌<◌, ◌≤◌, ◌%◌, Bool, true, false, ℤ, pos}
-use Rattle.std.proofs.Common.{negsuc, ◌+ℤ◌, ◌-ℤ◌}
+use Rattle.std.proofs.Common.{◌≡◌, inl, ℕ, ◌+◌, ◌*◌, ◌-◌, ◌^◌, ◌<◌, ◌≤◌, Bool, true, false, ℤ, pos}
+use Rattle.std.proofs.Common.{negsuc, ◌-ℤ◌}
 use Rattle.std.proofs.Common.{◌*ℤ◌, ◌≤ℤ◌, Option, Some, None, refl, sym, ap, subst, ◌∙◌, arith}
 use Rattle.std.specs.Prelude.{neg_ℤ, unsigned_abs, if◌then◌else◌, int_div, IsNone}
 use Rattle.std.specs.Int.RustNames.{int_rem}
-use Rattle.std.specs.Int.Bits.{bit_and}
-use Rattle.std.specs.Option.{option_or}
 use Rattle.std.proofs.lemmas.Int.{ints, quot-rem, rem_below}
-use Rattle.std.proofs.lemmas.Nat.{and_le_l, and_le_r}
-use Rattle.std.proofs.lemmas.Option.{none-some}
 use Rattle.cs_ranges.specs.declared.range_set.Interval.{Interval}
 use Rattle.cs_types.specs.declared.data_model.DataModel.{DataModel}
 use Rattle.cs_types.specs.declared.data_model.DataModel.TheVariants.{Lp64, Ilp32}
@@ -16,20 +12,20 @@ use Rattle.cs_types.specs.declared.int_type.IntType.{IntType}
 use Rattle.cs_types.specs.declared.int_type.IntType.TheVariants.{Char, SChar, UChar, Short, UShort, Int, UInt, Long, ULong, LLong, ULLong}
 use Rattle.cs_types.specs.IntType.{InRange, bytes_of, has_sign, modulus_of, negatives_of, least_of, greatest_of}
 use Rattle.cs_types.specs.Wrap.{wrapped}
-use Rattle.cs_types.proofs.Wrapping.{negatives-below, wrapped-InRange}
-use Rattle.cs_ast.specs.declared.typed.operator.BinOp.TheVariants.{Rem, And}
+use Rattle.cs_types.proofs.Wrapping.{wrapped-InRange}
+use Rattle.cs_ast.specs.declared.typed.operator.BinOp.TheVariants.{Rem}
 use Rattle.cs_terms.specs.declared.symbol.Sym.{Sym}
 use Rattle.cs_terms.specs.declared.term.Lin.{Lin}
 use Rattle.cs_terms.specs.Term.{Valuation, value_of}
 use Rattle.cs_constraints.specs.Constraints.{Sets, Fits}
-use Rattle.cs_events.specs.Operations.{exact, bits_of}
+use Rattle.cs_events.specs.Operations.{exact}
 use Rattle.cs_eval.specs.Followed.{IsRemainder}
-use Rattle.cs_eval.specs.Guesses.{AreOfType, AreFromTo, AreRemainders, AreOfRemainder, AreOfMask}
-use Rattle.cs_eval.specs.Operands.{IsBetween, IsFixed, IsTermInType, HaveSymbol, constant_with, constant_of}
+use Rattle.cs_eval.specs.Guesses.{AreRemainders, AreOfRemainder}
+use Rattle.cs_eval.specs.Operands.{IsBetween, IsTermInType, constant_with}
 use Rattle.cs_eval.specs.Ready.{IsBinary}
-use Rattle.cs_eval.proofs.OperandValues.{none_is, value_of-none, value_between}
+use Rattle.cs_eval.proofs.OperandValues.{value_of-none, value_between}
 use Rattle.cs_eval.proofs.BinaryPieces.{HasGuesses, binary_asking, not_fixed_right}
-use Rattle.cs_eval.proofs.Conversions.{between_type, type_between, in_type_wrapped, no_symbol}
+use Rattle.cs_eval.proofs.Conversions.{between_type, type_between, in_type_wrapped}
 use Rattle.cs_eval.proofs.WrapPieces.{AreGuesses}
 
 -- a type with a sign has as many numbers below 0 as others

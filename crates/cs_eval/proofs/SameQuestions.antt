@@ -1,5 +1,5 @@
 -- A question and its form ask the same under each valuation that fits: for the contract of `answers`.
-use Rattle.std.proofs.Common.{◌≡◌, ◌⊎◌, inl, inr, ℕ, Bool, ℤ, pos, ◌+ℤ◌, ◌-ℤ◌, ◌*ℤ◌, List, Some, refl, sym, ap, subst, ◌∙◌}
+use Rattle.std.proofs.Common.{◌≡◌, ◌⊎◌, inl, inr, ℕ, ℤ, pos, ◌+ℤ◌, ◌-ℤ◌, ◌*ℤ◌, List, Some, refl, sym, ap, subst, ◌∙◌}
 use Rattle.std.specs.Prelude.{◌≤ℤ◌, int_le}
 use Rattle.cs_types.specs.declared.data_model.DataModel.{DataModel}
 use Rattle.cs_types.specs.declared.int_type.IntType.{IntType}
@@ -21,8 +21,8 @@ use Rattle.cs_eval.specs.declared.piece.Piece.{Piece}
 use Rattle.cs_eval.specs.declared.question.Question.{Question}
 use Rattle.cs_eval.specs.declared.question.Question.TheVariants as question
 use Rattle.cs_eval.specs.declared.question.Tested.{Tested}
-use Rattle.cs_eval.specs.Followed.{FitsFixed, IsFollowed, IsFollowedNear, IsProductDecided, IsDivided, IsRemainder, IsBinaryGuess}
-use Rattle.cs_eval.specs.Followed.{Mentions, asking_of, AreAnswers}
+use Rattle.cs_eval.specs.Followed.{FitsFixed, IsFollowed, IsFollowedNear, IsRemainder, IsBinaryGuess}
+use Rattle.cs_eval.specs.Followed.{asking_of, AreAnswers}
 use Rattle.cs_eval.specs.Forms.{IsFormOfQuestion, IsFormOfOne, IsFormOfTwo}
 use Rattle.cs_eval.specs.Operands.{IsFixed, AreOverOne, IsBetween, IsReadyOperand}
 use Rattle.cs_eval.specs.Questions.{holds_for, label_of}
@@ -153,7 +153,8 @@ module _ (model : DataModel) (sets : Sets) (left right l r : Lin) (f : IsReadyFo
   either s (inl e) = inl (f.symbol s e)
   either s (inr e) = inr (g.symbol s e)
 
-  both_values : {T : Type 0} (k : ℤ → ℤ → T) (v : Valuation) → Fits v sets → k (value_of v l) (value_of v r) ≡ k (value_of v left) (value_of v right)
+  both_values : {T : Type 0} (k : ℤ → ℤ → T) (v : Valuation) → Fits v sets
+      → k (value_of v l) (value_of v r) ≡ k (value_of v left) (value_of v right)
   both_values k v fits = same_values model sets l left r right alike_given k v (fits_fixed v sets fits)
 
   binary_same : (op : BinOp) (ty : IntType)

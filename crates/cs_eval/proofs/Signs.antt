@@ -125,7 +125,8 @@ module _ (sets : Sets) (number : Numbers) (ends : Interval) (v w : Valuation) (v
   undecided Differs e f d = open_equation e d
 
 -- a decision speaks of the numbers alone
-pub same_decision : (sets : Sets) (op : CmpOp) (f g : Numbers) → ((v : Valuation) → Fits v sets → f v ≡ g v) → IsDecided sets op f → IsDecided sets op g
+pub same_decision : (sets : Sets) (op : CmpOp) (f g : Numbers) → ((v : Valuation) → Fits v sets → f v ≡ g v) → IsDecided sets op f
+    → IsDecided sets op g
 same_decision sets op f g same d = by op d
   where
     moved : (o : CmpOp) (b : Bool) → Always sets o f b → Always sets o g b

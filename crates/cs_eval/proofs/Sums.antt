@@ -1,12 +1,11 @@
 -- A sum as one term: for the contracts of `added` and `difference`.
-use Rattle.std.proofs.Common.{◌≡◌, ◌≢◌, ◌⊎◌, inl, inr, ◌↔◌, ℤ, ◌+ℤ◌, ◌-ℤ◌, Option, Some, None, refl, sym, ap, subst}
+use Rattle.std.proofs.Common.{◌≡◌, ◌⊎◌, inl, inr, ◌↔◌, ℤ, ◌+ℤ◌, Option, Some, None, refl, sym, ap, subst}
 use Rattle.std.proofs.Common.{◌∙◌}
 use Rattle.std.specs.Prelude.{IsNone, IfSome}
 use Rattle.std.proofs.lemmas.Option.{same_Some}
 use Rattle.cs_terms.specs.declared.symbol.Sym.{Sym}
 use Rattle.cs_terms.specs.declared.term.Lin.{Lin}
-use Rattle.cs_terms.specs.declared.term.Lin2.{Lin2}
-use Rattle.cs_terms.specs.Term.{Valuation, value_of, value_of_sum, IsTerm, HaveTwoSymbols}
+use Rattle.cs_terms.specs.Term.{Valuation, value_of, IsTerm, HaveTwoSymbols}
 use Rattle.cs_eval.specs.Wraps.{IsSumOf}
 
 pub none_it : (sum : Option Lin) → sum ≡ None → IsNone sum

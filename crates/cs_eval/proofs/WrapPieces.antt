@@ -1,8 +1,8 @@
 -- The pieces of an operation that shows a wrap are a split: for the contracts of integer operators, conversions and pointers.
-use Rattle.std.proofs.Common.{◌≡◌, ◌≢◌, ◌⊎◌, inl, inr, ℕ, zero, suc, true, ◌&&◌, ℤ, pos, negsuc, ◌*ℤ◌, List, [], ◌∷◌}
+use Rattle.std.proofs.Common.{◌≡◌, ◌≢◌, ◌⊎◌, inl, inr, ℕ, zero, suc, true, ℤ, pos, negsuc, ◌*ℤ◌, List, [], ◌∷◌}
 use Rattle.std.proofs.Common.{◌++◌, Option}
 use Rattle.std.proofs.Common.{Some, None, refl, sym, ap, subst, ◌∙◌, arith}
-use Rattle.std.specs.Prelude.{IsTrue, IsNone, int_le, ◌≤ℤ◌}
+use Rattle.std.specs.Prelude.{IsTrue}
 use Rattle.std.proofs.lemmas.Bool.{false≢true}
 use Rattle.std.proofs.lemmas.Int.{ints}
 use Rattle.std.proofs.lemmas.Option.{none-some, same_Some}
@@ -11,7 +11,7 @@ use Rattle.cs_ranges.specs.RangeSet.{contains}
 use Rattle.cs_ranges.proofs.Lines.{over_yields}
 use Rattle.cs_types.specs.declared.data_model.DataModel.{DataModel}
 use Rattle.cs_types.specs.declared.int_type.IntType.{IntType}
-use Rattle.cs_types.specs.Wrap.{wrap_quotient, wrapped}
+use Rattle.cs_types.specs.Wrap.{wrapped}
 use Rattle.cs_terms.specs.declared.symbol.Sym.{Sym}
 use Rattle.cs_terms.specs.declared.term.Lin.{Lin}
 use Rattle.cs_terms.specs.declared.product.Piece.{Piece as Part}
@@ -22,18 +22,19 @@ use Rattle.cs_constraints.proofs.Assuming.{fitting, value_of-symbol}
 use Rattle.cs_events.specs.declared.event.Label.{Label}
 use Rattle.cs_events.specs.declared.event.Label.TheVariants as label
 use Rattle.cs_events.specs.declared.event.Wrap.{Wrap}
-use Rattle.cs_events.specs.declared.event.Wrap.TheVariants.{Under, Same, Past, Far, Guessed}
+use Rattle.cs_events.specs.declared.event.Wrap.TheVariants.{Under, Same, Past, Guessed}
 use Rattle.cs_events.specs.Operations.{own_quotient, own_result, shows, wrap_of}
 use Rattle.cs_eval.specs.declared.guesses.Inexact.{Inexact}
 use Rattle.cs_eval.specs.declared.piece.Guessed.{Guessed as Asked}
 use Rattle.cs_eval.specs.declared.piece.Piece.{Piece}
 use Rattle.cs_eval.specs.Guesses.{HasNumbers, symbol_term}
 use Rattle.cs_eval.specs.Operands.{IsBetween}
-use Rattle.cs_eval.specs.Parts.{unguessed, with_number}
+use Rattle.cs_eval.specs.Parts.{unguessed}
 use Rattle.cs_eval.specs.Splits.{Asking, IsExact, IsOfGuess, IsPieceWith, IsPieceOf, KeepsOthers, Each, HaveOwnLabels, IsIn, IsCovered, IsSplit}
 use Rattle.cs_eval.specs.Wraps.{IsPartPiece, IsOfPart, IsWrapGuess, IsWholeGuess, IsFarGuess, IsOfFar, AreOfProduct}
+use Rattle.cs_eval.proofs.OnePiece.{both_in}
 use Rattle.cs_eval.proofs.OperandValues.{decide, value_of-none}
-use Rattle.cs_eval.proofs.PieceLists.{AllShow, NoneShows, each_append, none_shows, labels_append, covered_left, covered_right}
+use Rattle.cs_eval.proofs.PieceLists.{AllShow, each_append, none_shows, labels_append, covered_left, covered_right}
 use Rattle.cs_eval.proofs.TruthPieces.{declared_fits, fits_declared}
 
 -- an operation that shows a wrap
@@ -57,9 +58,6 @@ wrap_in (label.Look holds) = Same
 wrap_in (label.Offset offset) = Same
 wrap_in (label.Callee function) = Same
 wrap_in (label.Alloc holds) = Same
-
-both_true : (low x high : ℤ) → IsBetween low high x → (int_le low x && int_le x high) ≡ true
-both_true low x high h = let a = h.0 in let b = h.1 in grind (arith, ints)
 
 -- a near quotient, and the wrap that shows it
 pub record IsShownAs (quotient : ℤ) (wrap : Wrap) : Type 0 where
@@ -167,7 +165,7 @@ module _ (model : DataModel) (before : Sets) (guess : ℕ) (asking : Asking) (is
     may = guesses h.numbers h.are
 
     member : (number : ℤ) → IsBetween h.numbers.low h.numbers.high number → contains h.piece_is.set number ≡ true
-    member number b = h.piece_is.numbers_are number ∙ both_true h.numbers.low number h.numbers.high b
+    member number b = h.piece_is.numbers_are number ∙ both_in h.numbers.low h.numbers.high number b
 
     guess_meaning : IsOfGuess model before guess asking piece
     guess_meaning = record {

@@ -42,7 +42,7 @@ pub(crate) fn one_piece(setting: &Setting, shown: Shown) -> Result<Vec<Piece>, A
     ensures inhabited { IfOk result (λ pieces. AreInhabited setting.now.constraints.now) }
 {
     let constraints = setting.constraints.copy()?;
-    let mut pieces = Vec::new(setting.alloc);
+    let mut pieces = Vec::with_capacity(setting.alloc, 1)?;
     pieces.push(exact_piece(constraints, shown))?;
     Ok(pieces)
 }
@@ -59,7 +59,7 @@ pub(crate) fn halves_pieces(
         ++ unguessed_if no.label no.answer halves.fails) }
 {
     let Halves { holds, fails } = halves;
-    let mut pieces = Vec::new(alloc);
+    let mut pieces = Vec::with_capacity(alloc, 2)?;
     push_exact(&mut pieces, yes, holds)?;
     push_exact(&mut pieces, no, fails)?;
     Ok(pieces)

@@ -142,7 +142,7 @@ fn guessed_truths(setting: &Setting, inexact: &Inexact) -> Result<Vec<Piece>, Al
 {
     let yes = guessed_truth(setting, true, inexact)?;
     let no = guessed_truth(setting, false, inexact)?;
-    let mut pieces = Vec::new(setting.alloc);
+    let mut pieces = Vec::with_capacity(setting.alloc, 2)?;
     pieces.push(yes)?;
     pieces.push(no)?;
     Ok(pieces)
@@ -291,7 +291,8 @@ fn followed_by_factor(setting: &Setting, term: Lin, factor: i128) -> Result<Foll
 
 // Whether the product of two numbers that aren't below 0 is within the bound. One that 128 bits don't hold is past it.
 fn is_product_within(bound: i128, count: i128, size: i128) -> bool
-    ensures { pos 0 ≤ℤ count → pos 0 ≤ℤ size → result ≡ int_le (count *ℤ size) bound }
+    ensures { pos 0 ≤ℤ count → pos 0 ≤ℤ size
+        → result ≡ int_le (count *ℤ size) bound }
 {
     match count.checked_mul(size) {
         Some(product) => product <= bound,

@@ -81,7 +81,7 @@ pub(crate) fn wrap_guess(setting: &Setting, inexact: &Inexact) -> Result<Vec<Pie
 {
     let constraints = setting.constraints.copy()?;
     let piece = guess_of(setting, constraints, inexact)?;
-    let mut pieces = Vec::new(setting.alloc);
+    let mut pieces = Vec::with_capacity(setting.alloc, 1)?;
     pieces.push(piece)?;
     Ok(pieces)
 }

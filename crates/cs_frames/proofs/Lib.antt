@@ -1,7 +1,6 @@
 pub mod Beginning
 pub mod Calling
 pub mod InRows
-pub mod Leaving
 pub mod NewLocals
 pub mod MachineStates
 pub mod Overwriting

@@ -1,4 +1,4 @@
 mod Reading
-mod Folding
 mod Lines
-mod Coding
+mod Divided
+mod Sharing

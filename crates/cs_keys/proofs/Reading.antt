@@ -1,24 +1,24 @@
 -- Words can be read from the last one: words that end with a part determine the part and the words before it. So equal keys have equal live
 -- parts, for `keys_are_exact`.
-use Rattle.std.proofs.Common.{◌≡◌, ℕ, suc, ◌+◌, ◌*◌, ◌/◌, ◌%◌, ◌^◌, ◌-◌, List, [], ◌∷◌, ◌++◌, length, refl, sym, ap}
-use Rattle.std.proofs.Common.{◌∙◌, subst, arith, rules}
+use Rattle.std.proofs.Common.{◌≡◌, ℕ, ◌+◌, ◌*◌, ◌/◌, ◌%◌, ◌^◌, List, [], ◌∷◌, ◌++◌, length, refl, sym, ap}
+use Rattle.std.proofs.Common.{◌∙◌, arith}
 use Rattle.std.proofs.Common.{Bool, true, false, cond, ℤ, pos, negsuc}
-use Rattle.std.specs.Prelude.{Option, None, Some, nat_lt, fold}
+use Rattle.std.specs.Prelude.{Option, None, Some, is_some, nat_lt, fold}
+use Rattle.std.specs.Option.{option_to_list}
+use Rattle.std.proofs.lemmas.Option.{same_Some}
 use Rattle.std.proofs.lemmas.List.{same_from_push}
 use Rattle.std.proofs.lemmas.Nat.{div-add-mod'}
-use Rattle.cs_types.specs.declared.data_model.DataModel.{DataModel}
 use Rattle.cs_types.specs.declared.data_model.DataModel.TheVariants.{Lp64, Ilp32}
-use Rattle.cs_model.specs.declared.standing.Standing.{Standing}
 use Rattle.cs_model.specs.declared.standing.Standing.TheVariants.{Live, Freed, Ended}
 use Rattle.cs_ranges.specs.declared.range_set.Interval.{Interval}
-use Rattle.cs_cfg.specs.declared.code.Spot.{Spot}
-use Rattle.cs_store.specs.declared.value.Fill.{Fill}
 use Rattle.cs_store.specs.declared.value.Fill.TheVariants as fill
-use Rattle.cs_state.specs.declared.state.Counters.{Counters}
-use Rattle.cs_keys.specs.Live.{LiveSymbol, Line, LiveTerm, Constant, Linear, LiveValue, Number, Null, At, Start, Unset}
-use Rattle.cs_keys.specs.Live.{LiveTemporary, Scalar, Whole, Nothing, LiveFrame, LiveRegion, LiveBlock, LiveRead, LivePart}
-use Rattle.cs_keys.specs.Words.{LAST, with_word, with_natural, zigzag, with_integer, with_list, with_interval, with_set, with_symbol, with_line}
-use Rattle.cs_keys.specs.Words.{with_term, with_value, with_temporary, with_spot, with_frame, with_returned, with_fill, with_binding, with_region}
+use Rattle.cs_keys.specs.Live.{Constant, Linear, LiveValue, Number, Null, At, Start, Unset}
+use Rattle.cs_keys.specs.Live.{Scalar, Whole, Nothing, LivePart}
+use Rattle.cs_word_lists.specs.Written.{LAST, with_word, with_natural, zigzag, with_integer, with_list}
+use Rattle.cs_constraints.specs.SetWords.{with_interval}
+use Rattle.cs_keys.specs.Words.{with_set, with_symbol, with_line, with_plain_term, with_plain_value, with_plain_binding}
+use Rattle.cs_keys.specs.Words.{numbers_of_term, numbers_of, all_numbers, with_bindings}
+use Rattle.cs_keys.specs.Words.{with_term, with_value, with_temporary, with_spot, with_frame, with_returned, with_fill, with_region}
 use Rattle.cs_keys.specs.Words.{with_standing, with_block, with_read, with_model, with_counters, with_position, with_memory, with_counted}
 use Rattle.cs_keys.specs.Words.{words_of}
 
@@ -147,14 +147,86 @@ fill_read r q (fill.Wrote a b) (fill.Wrote c d) e =
     (call.0, λ i. fill.Wrote (call.1 i) (argument.1 i))
 fill_read r q x y e = let form = (word_read _ _ _ _ e).1 in absurd (omega arith)
 
-pub binding_read : IsRead with_binding
-binding_read r q x y e =
-    let offset = word_read _ _ _ _ e in let value = value_read _ _ _ _ offset.0 in (value.0, λ i. (offset.1 i, value.1 i))
+-- both mention a symbol or neither does, and they are the same where its numbers are
+record AreAlike {Item : Type 0} (numbers : Item → Option (Option (List Interval))) (x y : Item) : Type 0 where
+  both : is_some (numbers x) ≡ is_some (numbers y)
+  same : numbers x ≡ numbers y → x ≡ y
+
+-- words that end with a part determine it but for the numbers of its symbol
+abbrev IsReadPlain : {Item : Type 0} → (List ℕ → Item → List ℕ) → (Item → Option (Option (List Interval))) → Type 0
+IsReadPlain {Item} with_item numbers = (r q : List ℕ) (x y : Item) → with_item r x ≡ with_item q y → (r ≡ q) × AreAlike numbers x y
+
+plain_term_read : IsReadPlain with_plain_term numbers_of_term
+plain_term_read r q (Constant x) (Constant y) e =
+    let form = word_read _ _ _ _ e in let number = integer_read r q x y form.0 in
+    (number.0, record { both = refl; same = λ none. ap (λ n. Constant n) number.1 })
+plain_term_read r q (Linear x) (Linear y) e =
+    let form = word_read _ _ _ _ e in let symbol = word_read _ _ _ _ form.0 in let origin = integer_read _ _ _ _ symbol.0 in
+    let slope = integer_read _ _ _ _ origin.0 in (
+      slope.0,
+      record {
+        both = refl;
+        same = λ numbers i. Linear (record {
+          slope = slope.1 i;
+          origin = origin.1 i;
+          symbol = record { number = symbol.1 i; set = same_Some x.symbol.set y.symbol.set numbers i };
+        });
+      },
+    )
+plain_term_read r q x y e = let form = (word_read _ _ _ _ e).1 in absurd (omega arith)
+
+plain_value_read : IsReadPlain with_plain_value numbers_of
+plain_value_read r q (Number x) (Number y) e =
+    let form = word_read _ _ _ _ e in let term = plain_term_read r q x y form.0 in
+    (term.0, record { both = term.1.both; same = λ numbers. ap (λ t. Number t) (term.1.same numbers) })
+plain_value_read r q Null Null e = ((word_read _ _ _ _ e).0, record { both = refl; same = λ none. refl })
+plain_value_read r q (At x s) (At y t) e =
+    let form = word_read _ _ _ _ e in let base = word_read _ _ _ _ form.0 in let offset = plain_term_read r q s t base.0 in
+    (offset.0, record { both = offset.1.both; same = λ numbers i. At (base.1 i) (offset.1.same numbers i) })
+plain_value_read r q (Start x s) (Start y t) e =
+    let form = word_read _ _ _ _ e in let base = word_read _ _ _ _ form.0 in let offset = word_read _ _ _ _ base.0 in
+    (offset.0, record { both = refl; same = λ none i. Start (base.1 i) (offset.1 i) })
+plain_value_read r q Unset Unset e = ((word_read _ _ _ _ e).0, record { both = refl; same = λ none. refl })
+plain_value_read r q x y e = let form = (word_read _ _ _ _ e).1 in absurd (omega arith)
+
+abbrev first_or : {A : Type 0} → A → List A → A
+first_or default [] = default
+first_or default (x ∷ xs) = x
+
+abbrev others : {A : Type 0} → List A → List A
+others [] = []
+others (x ∷ xs) = xs
+
+-- lists of numbers that begin with those of alike parts
+numbers_split : (a b : Option (Option (List Interval))) (s t : List (Option (List Interval))) → is_some a ≡ is_some b
+    → option_to_list a ++ s ≡ option_to_list b ++ t → (a ≡ b) × (s ≡ t)
+numbers_split None None s t both e = (refl, e)
+numbers_split (Some x) (Some y) s t both e = (ap (λ list. Some (first_or x list)) e, ap others e)
+numbers_split None (Some y) s t both e = absurd (cc)
+numbers_split (Some x) None s t both e = absurd (cc)
+
+each_plain_read : (xs ys : List (ℕ × LiveValue)) → length xs ≡ length ys → (r q : List ℕ)
+    → fold with_plain_binding r xs ≡ fold with_plain_binding q ys → (r ≡ q) × (all_numbers xs ≡ all_numbers ys → xs ≡ ys)
+each_plain_read [] [] same r q e = (e, λ none. refl)
+each_plain_read [] (y ∷ ys) same r q e = absurd (omega arith)
+each_plain_read (x ∷ xs) [] same r q e = absurd (omega arith)
+each_plain_read (x ∷ xs) (y ∷ ys) same r q e =
+    let rest = each_plain_read xs ys (omega arith) (with_plain_binding r x) (with_plain_binding q y) e in
+    let offset = word_read _ _ _ _ rest.0 in let value = plain_value_read r q x.1 y.1 offset.0 in (
+      value.0,
+      λ numbers.
+          let first = numbers_split (numbers_of x.1) (numbers_of y.1) (all_numbers xs) (all_numbers ys) value.1.both numbers in
+          λ i. (offset.1 i, value.1.same first.0 i) ∷ rest.1 first.1 i,
+    )
+
+pub bindings_read : IsRead with_bindings
+bindings_read r q xs ys e =
+    let numbers = list_read with_set set_read _ _ _ _ e in let count = word_read _ _ _ _ numbers.0 in
+    let bindings = each_plain_read xs ys count.1 r q count.0 in (bindings.0, bindings.1 numbers.1)
 
 pub region_read : IsRead with_region
 region_read r q x y e =
-    let bindings = list_read with_binding binding_read _ _ _ _ e in let fill = fill_read _ _ _ _ bindings.0 in
-    let base = word_read _ _ _ _ fill.0 in
+    let bindings = bindings_read _ _ _ _ e in let fill = fill_read _ _ _ _ bindings.0 in let base = word_read _ _ _ _ fill.0 in
     (base.0, λ i. record { base = base.1 i; fill = fill.1 i; bindings = bindings.1 i })
 
 pub standing_read : IsRead with_standing

@@ -1,4 +1,4 @@
 pub mod Live
 pub mod Words
-pub mod Bytes
+pub mod Runs
 pub mod Laws

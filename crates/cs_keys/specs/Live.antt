@@ -1,8 +1,7 @@
 -- The live part of a state: all that it says of the runs that come to its position, but for its guesses and for the numbers of symbols that
 -- nothing mentions. Each symbol that is mentioned stands there with the numbers that it may have.
-use Rattle.std.specs.Prelude.{ℕ, ℤ, ◌-ℤ◌, ◌*ℤ◌, List, map, Option, None, Some, option_map}
+use Rattle.std.specs.Prelude.{ℕ, ℤ, List, map, Option, None, Some, option_map}
 use Rattle.std.specs.FinMap as finite
-use Rattle.std.specs.Int.{w128, int_wrap}
 use Rattle.cs_types.specs.declared.data_model.DataModel.{DataModel}
 use Rattle.cs_model.specs.declared.standing.Standing.{Standing}
 use Rattle.cs_ranges.specs.declared.range_set.Interval.{Interval}
@@ -14,6 +13,7 @@ use Rattle.cs_store.specs.declared.value.Value.{Value}
 use Rattle.cs_store.specs.declared.value.Value.TheVariants as value
 use Rattle.cs_store.specs.Contents.{Contents, bindings_of}
 use Rattle.cs_store.specs.Held.{Regions, regions_of}
+use Rattle.cs_store.specs.Listings.{origin_of}
 use Rattle.cs_cfg.specs.declared.code.Spot.{Spot}
 use Rattle.cs_state.specs.declared.block.Block.{Block}
 use Rattle.cs_state.specs.declared.frame.Frame.{Frame}
@@ -91,10 +91,6 @@ pub record LivePart : Type 0 where
   pub model : DataModel
   pub counters : Counters
   pub phase : ℕ
-
--- the value of a term where its symbol is 0, in the arithmetic of 128 bits
-abbrev pub origin_of : Lin → ℤ
-origin_of term = int_wrap w128 (term.value -ℤ (term.slope *ℤ term.at))
 
 module _ (sets : Sets) where
   abbrev pub live_symbol : Sym → LiveSymbol

@@ -1,13 +1,15 @@
 -- Live parts as words. Each part is written after the parts that it is made of: the count of a list after its elements, the number of a
 -- form after what it holds. So the words can be read from the last one, and no two live parts have the same.
-use Rattle.std.specs.Prelude.{ℕ, suc, ◌+◌, ◌-◌, ◌*◌, ◌/◌, ◌%◌, ◌^◌, nat_lt, ℤ, pos, negsuc, List, [], ◌∷◌, ◌++◌, fold}
-use Rattle.std.specs.Prelude.{length}
-use Rattle.std.specs.Prelude.{Option, None, Some, if◌then◌else◌}
+use Rattle.std.specs.Prelude.{ℕ, List, [], Option, None, Some}
+use Rattle.std.specs.List.{flat_map}
+use Rattle.std.specs.Option.{option_to_list}
+use Rattle.cs_word_lists.specs.Written.{with_word, with_integer, with_list}
 use Rattle.cs_types.specs.declared.data_model.DataModel.{DataModel}
 use Rattle.cs_types.specs.declared.data_model.DataModel.TheVariants.{Lp64, Ilp32}
 use Rattle.cs_model.specs.declared.standing.Standing.{Standing}
 use Rattle.cs_model.specs.declared.standing.Standing.TheVariants.{Live, Freed, Ended}
 use Rattle.cs_ranges.specs.declared.range_set.Interval.{Interval}
+use Rattle.cs_constraints.specs.SetWords.{with_numbers}
 use Rattle.cs_cfg.specs.declared.code.Spot.{Spot}
 use Rattle.cs_store.specs.declared.value.Fill.{Fill}
 use Rattle.cs_store.specs.declared.value.Fill.TheVariants as fill
@@ -15,41 +17,9 @@ use Rattle.cs_state.specs.declared.state.Counters.{Counters}
 use Rattle.cs_keys.specs.Live.{LiveSymbol, Line, LiveTerm, Constant, Linear, LiveValue, Number, Null, At, Start, Unset}
 use Rattle.cs_keys.specs.Live.{LiveTemporary, Scalar, Whole, Nothing, LiveFrame, LiveRegion, LiveBlock, LiveRead, LivePart}
 
--- one more word
-abbrev pub with_word : List ℕ → ℕ → List ℕ
-with_word words word = words ++ word ∷ []
-
--- the greatest word
-abbrev pub LAST : ℕ
-LAST = 2 ^ 64 - 1
-
--- a number in one word if it is less than the last one, else in two, with that one after them
-abbrev pub with_natural : List ℕ → ℕ → List ℕ
-with_natural words number =
-    if nat_lt number LAST then with_word words number else with_word (with_word (with_word words (number / 2 ^ 64)) (number % 2 ^ 64)) LAST
-
--- the integers as natural numbers: 0, -1, 1, -2, 2 and so on
-abbrev pub zigzag : ℤ → ℕ
-zigzag (pos number) = 2 * number
-zigzag (negsuc number) = 2 * number + 1
-
-abbrev pub with_integer : List ℕ → ℤ → List ℕ
-with_integer words number = with_natural words (zigzag number)
-
--- each element of a list
-abbrev pub with_each : {Item : Type 0} → (List ℕ → Item → List ℕ) → List ℕ → List Item → List ℕ
-with_each with_item words items = fold with_item words items
-
--- a list: its elements, and how many there are
-abbrev pub with_list : {Item : Type 0} → (List ℕ → Item → List ℕ) → List ℕ → List Item → List ℕ
-with_list with_item words items = with_word (fold with_item words items) (length items)
-
-abbrev pub with_interval : List ℕ → Interval → List ℕ
-with_interval words interval = with_integer (with_integer words interval.low) interval.high
-
 abbrev pub with_set : List ℕ → Option (List Interval) → List ℕ
 with_set words None = with_word words 0
-with_set words (Some set) = with_word (with_list with_interval words set) 1
+with_set words (Some set) = with_numbers words set
 
 abbrev pub with_symbol : List ℕ → LiveSymbol → List ℕ
 with_symbol words symbol = with_word (with_set words symbol.set) symbol.number
@@ -90,12 +60,45 @@ with_fill words fill.Zero = with_word words 1
 with_fill words fill.Input = with_word words 2
 with_fill words (fill.Wrote call argument) = with_word (with_word (with_word words call) argument) 3
 
+-- a term as a region lists it: without the numbers of its symbol
+abbrev pub with_plain_term : List ℕ → LiveTerm → List ℕ
+with_plain_term words (Constant number) = with_word (with_integer words number) 0
+with_plain_term words (Linear line) =
+    with_word (with_word (with_integer (with_integer words line.slope) line.origin) line.symbol.number) 1
+
+abbrev pub with_plain_value : List ℕ → LiveValue → List ℕ
+with_plain_value words (Number term) = with_word (with_plain_term words term) 0
+with_plain_value words Null = with_word words 1
+with_plain_value words (At base offset) = with_word (with_word (with_plain_term words offset) base) 2
+with_plain_value words (Start base offset) = with_word (with_word (with_word words offset) base) 3
+with_plain_value words Unset = with_word words 4
+
 -- a value that was bound at an offset
-abbrev pub with_binding : List ℕ → ℕ × LiveValue → List ℕ
-with_binding words binding = with_word (with_value words binding.1) binding.0
+abbrev pub with_plain_binding : List ℕ → ℕ × LiveValue → List ℕ
+with_plain_binding words binding = with_word (with_plain_value words binding.1) binding.0
+
+-- the numbers of the symbol that a term or a value mentions, if there is one
+abbrev pub numbers_of_term : LiveTerm → Option (Option (List Interval))
+numbers_of_term (Constant number) = None
+numbers_of_term (Linear line) = Some line.symbol.set
+
+abbrev pub numbers_of : LiveValue → Option (Option (List Interval))
+numbers_of (Number term) = numbers_of_term term
+numbers_of Null = None
+numbers_of (At base offset) = numbers_of_term offset
+numbers_of (Start base offset) = None
+numbers_of Unset = None
+
+-- those of all symbols that bindings mention, in order
+abbrev pub all_numbers : List (ℕ × LiveValue) → List (Option (List Interval))
+all_numbers bindings = flat_map (λ binding. option_to_list (numbers_of binding.1)) bindings
+
+-- what was bound in a region, and then the numbers of the symbols that it mentions: the first part is the same whatever these are
+abbrev pub with_bindings : List ℕ → List (ℕ × LiveValue) → List ℕ
+with_bindings words bindings = with_list with_set (with_list with_plain_binding words bindings) (all_numbers bindings)
 
 abbrev pub with_region : List ℕ → LiveRegion → List ℕ
-with_region words region = with_list with_binding (with_fill (with_word words region.base) region.fill) region.bindings
+with_region words region = with_bindings (with_fill (with_word words region.base) region.fill) region.bindings
 
 abbrev pub with_standing : List ℕ → Standing → List ℕ
 with_standing words Live = with_word words 0

@@ -1,7 +1,8 @@
 //! Frames in words.
 ghost use Rattle.std.specs.Prelude.{◌≡◌, map, OnOk};
 ghost use Rattle.cs_keys.specs.Live.{live_temporary, live_frame};
-ghost use Rattle.cs_keys.specs.Words.{with_word, with_list, with_temporary, with_frame};
+ghost use Rattle.cs_word_lists.specs.Written.{with_word, with_list};
+ghost use Rattle.cs_keys.specs.Words.{with_temporary, with_frame};
 
 use crate::word_list::Key;
 use cs_constraints::Constraints;

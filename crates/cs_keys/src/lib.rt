@@ -1,11 +1,10 @@
 //! Keys of states: two states have equal keys exactly where their live parts are equal, so that an exploration goes on from one of them.
 #![tactic(auto)]
 
-mod bytes;
+mod compared;
 mod frames;
 pub mod laws;
 mod memory;
-mod numbers;
 mod state;
 mod terms;
 mod word_list;

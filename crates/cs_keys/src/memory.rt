@@ -1,16 +1,19 @@
 //! What memory holds, in words.
-ghost use Rattle.std.specs.Prelude.{◌≡◌, map, OnOk};
+ghost use Rattle.std.specs.Prelude.{◌≡◌, ℕ, List, map, OnOk};
+ghost use Rattle.cs_store.specs.declared.value.Value.{Value};
 ghost use Rattle.cs_store.specs.Contents.{bindings_of};
+ghost use Rattle.cs_store.specs.Listings.{listing_of};
 ghost use Rattle.cs_keys.specs.Live.{live_binding, live_region, live_regions, live_block, live_blocks, live_read, live_reads};
-ghost use Rattle.cs_keys.specs.Words.{with_list, with_fill, with_binding, with_region, with_standing, with_block, with_read};
+ghost use Rattle.cs_word_lists.specs.Written.{with_list};
+ghost use Rattle.cs_keys.specs.Words.{with_fill, with_bindings, with_region, with_standing, with_block, with_read};
 
-use crate::numbers::one_more;
 use crate::word_list::Key;
 use cs_constraints::Constraints;
 use cs_model::Standing;
 use cs_pmap::PMap;
 use cs_state::{Block, ReadCell, ReadCells};
-use cs_store::{Fill, Region, Store, Value};
+use cs_store::{Fill, Listing, Region, Store};
+use cs_word_lists::one_more;
 use std::alloc::AllocError;
 
 impl Key {
@@ -29,33 +32,30 @@ impl Key {
         }
     }
 
-    // A value that was bound at an offset.
-    fn binding(
+    // What was bound in a region.
+    fn bindings(
         &mut self,
         constraints: &Constraints,
-        offset: u64,
-        value: &Value,
+        region: &Region,
     ) -> Result<(), AllocError>
         ensures { OnOk result
-            (self.new ≡ with_binding self.old
-            (live_binding constraints.now (offset, value.now))) }
-    {
-        self.value(constraints, value)?;
-        self.word(offset)
-    }
-
-    // The values that were bound in a region.
-    fn bindings(&mut self, constraints: &Constraints, region: &Region) -> Result<(), AllocError>
-        ensures { OnOk result
-            (self.new ≡ with_list with_binding self.old
+            (self.new ≡ with_bindings self.old
             (map (live_binding constraints.now) (bindings_of region.now))) }
     {
-        let mut count: u64 = 0;
-        for (offset, value) in region.bindings()? {
-            self.binding(constraints, offset, &value)?;
-            count = one_more(count)?;
+        if let Some(listing) = region.listing() {
+            return self.listing(constraints, listing);
         }
-        self.word(count)
+        let listing = region.list(self.alloc())?;
+        self.listing(constraints, &listing)
+    }
+
+    // The words of a listing, and then the numbers of the symbols that it mentions.
+    fn listing(&mut self, constraints: &Constraints, listing: &Listing) -> Result<(), AllocError>
+        ensures { OnOk result ((bindings : List (ℕ × Value)) → listing.now ≡ listing_of bindings
+            → self.new ≡ with_bindings self.old (map (live_binding constraints.now) bindings)) }
+    {
+        self.part(listing.words())?;
+        self.all_numbers(constraints, listing.symbols())
     }
 
     fn region(

@@ -1,51 +1,41 @@
 //! Terms and values in words, each symbol with the numbers that it may have.
 ghost use Rattle.std.specs.Prelude.{◌≡◌, map, OnOk};
-ghost use Rattle.std.specs.Option.{option_copied};
-ghost use Rattle.cs_keys.specs.Live.{origin_of, live_symbol, live_line, live_term, live_value};
-ghost use Rattle.cs_keys.specs.Words.{with_list, with_interval, with_set, with_symbol, with_line, with_term, with_value};
+ghost use Rattle.cs_constraints.specs.Constraints.{set_of};
+ghost use Rattle.cs_keys.specs.Live.{live_symbol, live_line, live_term, live_value};
+ghost use Rattle.cs_word_lists.specs.Written.{with_list};
+ghost use Rattle.cs_keys.specs.Words.{with_set, with_symbol, with_line, with_term, with_value};
 
 use crate::word_list::Key;
 use cs_constraints::Constraints;
-use cs_ranges::{Interval, RangeSet};
-use cs_store::Value;
+use cs_store::{Value, origin};
 use cs_terms::{Lin, Sym};
 use std::alloc::AllocError;
 
-// The value of a term where its symbol is 0, in the arithmetic of 128 bits.
-fn origin(term: &Lin) -> i128
-    ensures { result ≡ origin_of term.now }
-{
-    term.value.wrapping_sub(term.slope.wrapping_mul(term.at))
-}
-
 impl Key {
-    // The numbers of a symbol, where it is declared.
-    fn set(&mut self, set: Option<&RangeSet>) -> Result<(), AllocError>
-        ensures { OnOk result (self.new ≡ with_set self.old (option_copied set.entry)) }
+    /// The numbers of a symbol, where it is declared.
+    pub(crate) fn numbers(&mut self, constraints: &Constraints, sym: Sym) -> Result<(), AllocError>
+        ensures { OnOk result (self.new ≡ with_set self.old (set_of constraints.now sym.0)) }
     {
-        let Some(set) = set else {
-            return self.word(0);
-        };
-        self.intervals(set)?;
-        self.word(1)
-    }
-
-    fn interval(&mut self, interval: &Interval) -> Result<(), AllocError>
-        ensures { OnOk result (self.new ≡ with_interval self.old interval.now) }
-    {
-        self.integer(interval.low)?;
-        self.integer(interval.high)
-    }
-
-    // The intervals of a set, and how many there are.
-    fn intervals(&mut self, set: &RangeSet) -> Result<(), AllocError>
-        ensures { OnOk result (self.new ≡ with_list with_interval self.old set.now) }
-    {
-        let intervals = set.intervals();
-        for interval in intervals {
-            self.interval(interval)?;
+        match constraints.words_of(sym) {
+            Some(words) => self.append(words),
+            None => self.word(0),
         }
-        self.word(intervals.len() as u64)
+    }
+
+    /// The numbers of symbols in order, and how many symbols there are.
+    pub(crate) fn all_numbers(
+        &mut self,
+        constraints: &Constraints,
+        symbols: &[Sym],
+    ) -> Result<(), AllocError>
+        ensures { OnOk result
+            (self.new ≡ with_list with_set self.old
+            (map (λ sym. set_of constraints.now sym.0) symbols.now)) }
+    {
+        for sym in symbols {
+            self.numbers(constraints, *sym)?;
+        }
+        self.word(symbols.len() as u64)
     }
 
     /// A symbol with its numbers.
@@ -53,7 +43,7 @@ impl Key {
         ensures { OnOk result
             (self.new ≡ with_symbol self.old (live_symbol constraints.now sym)) }
     {
-        self.set(constraints.range_of(sym))?;
+        self.numbers(constraints, sym)?;
         self.word(sym.0)
     }
 

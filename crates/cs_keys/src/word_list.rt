@@ -1,36 +1,46 @@
 //! Keys: lists of words that are compared and hashed.
-ghost use Rattle.std.specs.Prelude.{◌≡◌, ◌++◌, [], ◌∷◌, length, nat_eq, IfOk, OnOk, OnErr};
+ghost use Rattle.std.specs.Prelude.{◌≡◌, ◌++◌, [], ◌∷◌, nat_eq, IfOk, OnOk, OnErr};
 ghost use Rattle.std.specs.Cmp.{partial_equiv_from_equiv};
 ghost use Rattle.std.specs.Cmp.Lexicographic.{pointwise, bytes_decides, nat_list_eq_equiv};
+ghost use Rattle.std.specs.List.{concat};
+ghost use Rattle.std.specs.Hash as fed;
 ghost use Rattle.std.specs.Hash.{same_Alike};
-ghost use Rattle.cs_keys.specs.Bytes.{bytes_of};
+ghost use Rattle.cs_word_lists.specs.Bytes.{bytes_of};
+ghost use Rattle.cs_word_lists.specs.Digest.{digest_of};
+ghost use Rattle.cs_word_lists.specs.Written.{with_integer};
+ghost use Rattle.cs_keys.specs.Runs.{bytes_left};
 
-use crate::bytes::{append_word, count_words};
+use crate::compared::{Left, are_same};
+use cs_word_lists::{SharedWords, Words};
 use std::alloc::{AllocError, Global};
 use std::hash::{Hash, Hasher};
 use std::marker::Model;
+use std::mem;
 
-// Room for the bytes of most keys.
-const ROOM: usize = 512;
+// Memory for the bytes of most keys.
+const BYTES: usize = 256;
+
+// So many bytes are shared rather than copied.
+const MANY: usize = 128;
 
 /// The words of the live part of a state, each part after the parts that it is made of: they can be read from the last one. A contract
 /// sees a list.
 ///
-/// They are kept as their bytes, since nearly all of some hundred words are small: a key is short, and is compared and hashed at once.
+/// The words of a large table that many states share are shared between their keys too: a key is a list of runs of words, and the words
+/// after the last run.
 #[derive(Drop)]
 pub struct Key {
-    bytes: Vec<u8>,
+    runs: Vec<SharedWords>,
+    tail: Words,
 }
 
 impl Model for Key {
-    ghost use Rattle.std.specs.Prelude.{ℕ, List, ◌≡◌};
-    ghost use Rattle.cs_keys.specs.Bytes.{bytes_of, words_in};
+    ghost use Rattle.std.specs.Prelude.{ℕ, List};
+    ghost use Rattle.cs_keys.specs.Runs.{all_words};
 
     ghost Value = { List ℕ };
 
-    ghost view = { λ k. words_in k.bytes.items };
-
-    ghost invariant = { λ k. k.bytes.items ≡ bytes_of (words_in k.bytes.items) };
+    ghost view = { λ k. all_words k.runs.items k.tail };
 }
 
 impl Key {
@@ -39,8 +49,14 @@ impl Key {
         ensures { IfOk result (λ key. key ≡ []) }
     {
         Ok(Key {
-            bytes: Vec::with_capacity(alloc, ROOM)?,
+            runs: Vec::new(alloc),
+            tail: Words::with_capacity(alloc, BYTES)?,
         })
+    }
+
+    /// Where the memory of a key comes from.
+    pub(crate) fn alloc(&self) -> Global {
+        *self.runs.allocator()
     }
 
     /// One more word.
@@ -49,25 +65,64 @@ impl Key {
         ensures ok { OnOk result (self.new ≡ self.old ++ word ∷ []) }
         ensures err { OnErr result (self.new ≡ self.old) }
     {
-        append_word(&mut self.bytes, word)?;
+        self.tail.word(word)?;
         Ok(())
     }
 
-    /// How many words there are.
-    pub fn len(&self) -> usize
-        ensures { result ≡ length self.now }
+    /// An integer.
+    pub(crate) fn integer(&mut self, number: i128) -> Result<(), AllocError>
+        ensures { OnOk result (self.new ≡ with_integer self.old number) }
     {
-        count_words(self.bytes.as_slice())
+        self.tail.integer(number)?;
+        Ok(())
     }
-}
 
-impl Clone for Key {
-    ghost is_clone = { λ key copy. copy ≡ key };
+    /// The words of another list.
+    pub(crate) fn append(&mut self, words: &Words) -> Result<(), AllocError>
+        ensures { OnOk result (self.new ≡ self.old ++ words.now) }
+    {
+        self.tail.append(words)?;
+        Ok(())
+    }
 
-    fn clone(&self) -> Result<Key, AllocError> {
-        Ok(Key {
-            bytes: Vec::from_slice(*self.bytes.allocator(), self.bytes.as_slice())?,
-        })
+    /// Words that others have too: many of them are shared, and few copied.
+    pub(crate) fn part(&mut self, words: &SharedWords) -> Result<(), AllocError>
+        ensures { OnOk result (self.new ≡ self.old ++ words.now) }
+    {
+        if words.words().bytes().len() >= MANY {
+            self.shared(words)
+        } else {
+            self.append(words.words())
+        }
+    }
+
+    /// Words that others have too.
+    pub(crate) fn shared(&mut self, words: &SharedWords) -> Result<(), AllocError>
+        ensures { OnOk result (self.new ≡ self.old ++ words.now) }
+    {
+        let alloc = self.alloc();
+        let before = mem::replace(&mut self.tail, Words::new(alloc));
+        self.runs.push(SharedWords::new(alloc, before)?)?;
+        self.runs.push(words.clone()?)?;
+        Ok(())
+    }
+
+    /// A number that equal keys have in common, and few others.
+    pub fn digest(&self) -> u64
+        ensures { result ≡ digest_of self.now }
+    {
+        self.tail.digest_after(digest_of_runs(self.runs.as_slice()))
+    }
+
+    // All bytes.
+    fn left(&self) -> Left<'_>
+        ensures { bytes_left result ≡ bytes_of self.now }
+    {
+        Left {
+            run: &[],
+            later: self.runs.as_slice(),
+            last: self.tail.bytes(),
+        }
     }
 }
 
@@ -77,7 +132,7 @@ impl PartialEq for Key {
     ghost laws = { partial_equiv_from_equiv nat_list_eq_equiv };
 
     fn eq(&self, other: &Key) -> bool {
-        self.bytes.as_slice() == other.bytes.as_slice()
+        self.digest() == other.digest() && are_same(self.left(), other.left())
     }
 }
 
@@ -86,11 +141,22 @@ impl Eq for Key {
 }
 
 impl Hash for Key {
-    ghost hash_input = { λ words. bytes_of words ∷ [] };
+    ghost hash_input = { λ words. fed.u64 (digest_of words) };
 
-    ghost respects_eq = { (same_Alike (λ words. bytes_of words ∷ []) bytes_decides).fed };
+    ghost respects_eq = { (same_Alike (λ words. fed.u64 (digest_of words)) bytes_decides).fed };
 
     fn hash<H: Hasher>(&self, state: &mut H) {
-        state.write(self.bytes.as_slice());
+        state.write_u64(self.digest());
     }
+}
+
+// The digest of the words of all runs.
+fn digest_of_runs(runs: &[SharedWords]) -> u64
+    ensures { result ≡ digest_of (concat runs.now) }
+{
+    let mut digest = 0;
+    for run in runs {
+        digest = run.words().digest_after(digest);
+    }
+    digest
 }

@@ -3,3 +3,5 @@ pub mod AtBranch
 pub mod Rotated
 pub mod Stack
 pub mod FiniteMap
+pub mod Spliced
+pub mod PutAll

@@ -10,15 +10,15 @@ use Rattle.std.specs.FinMap.{find, put, is_sorted}
 use Rattle.std.specs.FinMap.Entries.{by_order, is_sorted-put}
 use Rattle.std.proofs.lemmas.List.Elements.{filter-append}
 
-first_part : (a b : Bool) → IsTrue (a && b) → IsTrue a
+pub first_part : (a b : Bool) → IsTrue (a && b) → IsTrue a
 first_part true b h = refl
 first_part false b h = h
 
-second_part : (a b : Bool) → IsTrue (a && b) → IsTrue b
+pub second_part : (a b : Bool) → IsTrue (a && b) → IsTrue b
 second_part true b h = h
 second_part false b h = cc
 
-less_from_lt : (r : Ordering) → IsTrue (is_lt r) → r ≡ Less
+pub less_from_lt : (r : Ordering) → IsTrue (is_lt r) → r ≡ Less
 less_from_lt Less h = refl
 less_from_lt Equal h = cc
 less_from_lt Greater h = cc
@@ -48,10 +48,10 @@ module _ {K X : Type 0} (R : K → K → Ordering) where
   abbrev pub without : K → List (K × X) → List (K × X)
   without k es = filter (λ e. not (eq_by_cmp R k e.0)) es
 
-  next_above : (e f : K × X) (es : List (K × X)) → Sorted (e ∷ f ∷ es) → R e.0 f.0 ≡ Less
+  pub next_above : (e f : K × X) (es : List (K × X)) → Sorted (e ∷ f ∷ es) → R e.0 f.0 ≡ Less
   next_above e f es s = less_from_lt _ (first_part _ _ (first_part _ _ s))
 
-  sorted_tail : (e : K × X) (es : List (K × X)) → Sorted (e ∷ es) → Sorted es
+  pub sorted_tail : (e : K × X) (es : List (K × X)) → Sorted (e ∷ es) → Sorted es
   sorted_tail e es s = second_part _ _ s
 
   pub sorted_back : (l m : List (K × X)) → Sorted (l ++ m) → Sorted m
@@ -91,7 +91,7 @@ module _ {K X : Type 0} (R : K → K → Ordering) where
       ]
 
   module _ (o : IsTotalOrder R) where
-    sorted_cons : (e f : K × X) (es : List (K × X)) → R e.0 f.0 ≡ Less → Sorted (f ∷ es) → Sorted (e ∷ f ∷ es)
+    pub sorted_cons : (e f : K × X) (es : List (K × X)) → R e.0 f.0 ≡ Less → Sorted (f ∷ es) → Sorted (e ∷ f ∷ es)
     sorted_cons e f es p s =
         subst Sorted (ap (λ r. by_order r (e ∷ f ∷ es) ((f.0, e.1) ∷ es) (f ∷ put R e.0 e.1 es)) p)
         (IsTrue-T _ (is_sorted-put R o e.0 e.1 (f ∷ es) (T-IsTrue _ s)))
@@ -111,7 +111,7 @@ module _ {K X : Type 0} (R : K → K → Ordering) where
         → Sorted (x ++ e ∷ y)
     sorted_inner_left x e y f z s = sorted_front (x ++ e ∷ y) (f ∷ z) (subst Sorted (sym (append_assoc x (e ∷ y) (f ∷ z))) s)
 
-    rises_past : (y e : K × X) (t r : List (K × X)) → Sorted (y ∷ (t ++ e ∷ r)) → R y.0 e.0 ≡ Less
+    pub rises_past : (y e : K × X) (t r : List (K × X)) → Sorted (y ∷ (t ++ e ∷ r)) → R y.0 e.0 ≡ Less
     rises_past y e [] r s = next_above y e r s
     rises_past y e (f ∷ t) r s =
         o.trans y.0 f.0 e.0 (next_above y f (t ++ e ∷ r) s) (rises_past f e t r (sorted_tail y ((f ∷ t) ++ e ∷ r) s))

@@ -2,6 +2,7 @@
 use Rattle.std.proofs.Common.{◌≡◌, ℕ, ◌+◌, ◌-◌, ◌<◌, ◌≤◌, List, [], ◌∷◌, ◌++◌, length, sym, ap, subst, ◌∙◌}
 use Rattle.std.proofs.Common.{append_assoc, length-append, arith}
 use Rattle.std.proofs.lemmas.List.{append-nil}
+use Rattle.std.specs.Prelude.{Option, None, Some}
 use Rattle.std.specs.Borrow.{Bor}
 use Rattle.cs_pmap.specs.Keys.{EntryList}
 use Rattle.cs_pmap.specs.Pending.{pending, HasRoom}
@@ -9,58 +10,70 @@ use Rattle.cs_pmap.specs.Tree.{IsBalanced, branch_entries}
 use Rattle.cs_pmap.specs.declared.tree.Branch.{Branch}
 
 module _ {V : Type 0} where
-  pub pending-push : (bs : List (Bor (Branch V))) (b : Bor (Branch V))
-      → pending (bs ++ b ∷ []) ≡ (b.now.key, b.now.value) ∷ (b.now.right.0 ++ pending bs)
+  pub pending-push : (bs : List (Option (Bor (Branch V)))) (b : Bor (Branch V))
+      → pending (bs ++ Some b ∷ []) ≡ (b.now.key, b.now.value) ∷ (b.now.right.0 ++ pending bs)
   pending-push [] b = ap (λ r. (b.now.key, b.now.value) ∷ r) (sym (append-nil b.now.right.0))
-  pending-push (c ∷ cs) b =
+  pending-push (None ∷ cs) b = pending-push cs b
+  pending-push (Some c ∷ cs) b =
       rw (pending-push cs b) (ap (λ r. (b.now.key, b.now.value) ∷ r) (append_assoc b.now.right.0 (pending cs) ((c.now.key, c.now.value) ∷ c.now.right.0)))
 
-  pub HasRoom-push : (room : ℕ) (bs : List (Bor (Branch V))) (b : Bor (Branch V)) → HasRoom room bs → b.now.height + length bs ≤ room
-      → IsBalanced b.now → HasRoom room (bs ++ b ∷ [])
+  pub HasRoom-push : (room : ℕ) (bs : List (Option (Bor (Branch V)))) (b : Bor (Branch V)) → HasRoom room bs → b.now.height + length bs ≤ room
+      → IsBalanced b.now → HasRoom room (bs ++ Some b ∷ [])
   HasRoom-push room [] b h fits balanced = (omega arith, balanced, tt)
-  HasRoom-push room (c ∷ cs) b h fits balanced = (h.0, h.1, HasRoom-push (room - 1) cs b h.2 (omega arith) balanced)
+  HasRoom-push room (None ∷ cs) b h fits balanced = absurd h
+  HasRoom-push room (Some c ∷ cs) b h fits balanced = (h.0, h.1, HasRoom-push (room - 1) cs b h.2 (omega arith) balanced)
 
   -- what is known when the last branch leaves the stack
-  pub record Popped (room : ℕ) (bs : List (Bor (Branch V))) (b : Branch V) : Type 0 where
+  pub record Popped (room : ℕ) (bs : List (Option (Bor (Branch V)))) (b : Branch V) : Type 0 where
     pub rest : HasRoom room bs
     pub fits : b.height + length bs ≤ room
     pub balanced : IsBalanced b
 
-  HasRoom-pop : (room : ℕ) (bs : List (Bor (Branch V))) (b : Bor (Branch V)) → HasRoom room (bs ++ b ∷ []) → Popped room bs b.now
+  HasRoom-pop : (room : ℕ) (bs : List (Option (Bor (Branch V)))) (b : Bor (Branch V)) → HasRoom room (bs ++ Some b ∷ []) → Popped room bs b.now
   HasRoom-pop room [] b h = record { rest = tt; fits = omega arith; balanced = h.1 }
-  HasRoom-pop room (c ∷ cs) b h =
+  HasRoom-pop room (None ∷ cs) b h = absurd h
+  HasRoom-pop room (Some c ∷ cs) b h =
       let under = HasRoom-pop (room - 1) cs b h.2 in
       let positive : 0 < b.now.height = omega (arith, under.balanced.height) in
       record { rest = (h.0, h.1, under.rest); fits = omega (arith, under.fits); balanced = under.balanced }
 
-  pub popped : (room same_room : ℕ) (items bs : List (Bor (Branch V))) (b : Bor (Branch V)) → HasRoom room items → items ≡ bs ++ b ∷ []
+  pub popped : (room same_room : ℕ) (items bs : List (Option (Bor (Branch V)))) (b : Bor (Branch V)) → HasRoom room items → items ≡ bs ++ Some b ∷ []
       → same_room ≡ room → Popped same_room bs b.now
   popped room same_room items bs b h e r = rw r (HasRoom-pop room bs b (subst (HasRoom room) e h))
 
-  HasRoom-wider : (room wider : ℕ) (bs : List (Bor (Branch V))) → room ≤ wider → HasRoom room bs → HasRoom wider bs
-  HasRoom-wider room wider [] w h = tt
-  HasRoom-wider room wider (c ∷ cs) w h = (omega (arith, h.0), h.1, HasRoom-wider (room - 1) (wider - 1) cs (omega arith) h.2)
+  no_blank : (room : ℕ) (bs : List (Option (Bor (Branch V)))) → HasRoom room (bs ++ None ∷ []) → ⊥
+  no_blank room [] h = h
+  no_blank room (None ∷ cs) h = h
+  no_blank room (Some c ∷ cs) h = no_blank (room - 1) cs h.2
+
+  -- no place of the stack is empty
+  pub not_blank : (room : ℕ) (items bs : List (Option (Bor (Branch V)))) → HasRoom room items → items ≡ bs ++ None ∷ [] → ⊥
+  not_blank room items bs h e = no_blank room bs (subst (HasRoom room) e h)
+
+  -- a branch's tree has a level at least
+  pub tall : {tree : EntryList V × ℕ} (b : Bor (Branch V)) → (tree ≡ (branch_entries b.now, b.now.height)) × IsBalanced b.now → 0 < tree.1
+  tall b is = rw is.0 (omega (arith, is.1.height))
 
   -- while a tree's left sides go on the stack: the stack fits, so does the tree, and both together hold all the entries
-  pub record Descends (room : ℕ) (bs : List (Bor (Branch V))) (tree : EntryList V × ℕ) (all : EntryList V) : Type 0 where
+  pub record Descends (room : ℕ) (bs : List (Option (Bor (Branch V)))) (tree : EntryList V × ℕ) (all : EntryList V) : Type 0 where
     pub fits : HasRoom room bs
     pub tree_fits : tree.1 + length bs ≤ room
     pub entries : tree.0 ++ pending bs ≡ all
 
-  pub Descends-push : {all : EntryList V} {tree : EntryList V × ℕ} (room wider : ℕ) (bs more : List (Bor (Branch V))) (b : Bor (Branch V))
-      → Descends room bs tree all → (tree ≡ (branch_entries b.now, b.now.height)) × IsBalanced b.now → room ≤ wider → more ≡ bs ++ b ∷ []
-      → Descends wider more b.now.left all
-  Descends-push {all} {tree} room wider bs more b down is w e =
+  pub Descends-push : {all : EntryList V} {tree : EntryList V × ℕ} (room same_room : ℕ) (bs more : List (Option (Bor (Branch V)))) (b : Bor (Branch V))
+      → Descends room bs tree all → (tree ≡ (branch_entries b.now, b.now.height)) × IsBalanced b.now → same_room ≡ room → more ≡ bs ++ Some b ∷ []
+      → Descends same_room more b.now.left all
+  Descends-push {all} {tree} room same_room bs more b down is w e =
       let tall : tree.1 ≡ b.now.height = ap (λ t. t.1) is.0 in
-      let pushed = length-append bs (b ∷ []) in
+      let pushed = length-append bs (Some b ∷ []) in
       record {
-        fits = rw e (HasRoom-push wider bs b (HasRoom-wider room wider bs w down.fits) (omega (arith, down.tree_fits)) is.1);
-        tree_fits = rw e (omega (arith, down.tree_fits, is.1.height));
+        fits = rw (e, w) (HasRoom-push room bs b down.fits (omega (arith, down.tree_fits)) is.1);
+        tree_fits = rw (e, w) (omega (arith, down.tree_fits, is.1.height));
         entries = rw (e, pending-push bs b) (sym (append_assoc b.now.left.0 ((b.now.key, b.now.value) ∷ b.now.right.0) (pending bs))
             ∙ ap (λ t. t.0 ++ pending bs) (sym is.0) ∙ down.entries);
       }
 
   -- what a step of the iterator gives and leaves, where the branch b left the stack bs and the left sides of its right side went on it
-  pub stepped : {all after : EntryList V} (items bs : List (Bor (Branch V))) (b : Bor (Branch V)) → pending items ≡ all → items ≡ bs ++ b ∷ []
+  pub stepped : {all after : EntryList V} (items bs : List (Option (Bor (Branch V)))) (b : Bor (Branch V)) → pending items ≡ all → items ≡ bs ++ Some b ∷ []
       → after ≡ b.now.right.0 ++ pending bs → all ≡ (b.now.key, b.now.value) ∷ after
   stepped items bs b view popped rest = sym view ∙ ap pending popped ∙ pending-push bs b ∙ ap (λ r. (b.now.key, b.now.value) ∷ r) (sym rest)

@@ -1,5 +1,5 @@
 -- The stack of an iterator: branches whose own entry and right side are still to come, the next one last.
-use Rattle.std.specs.Prelude.{ℕ, ◌-◌, ◌≤◌, List, [], ◌∷◌, ◌++◌}
+use Rattle.std.specs.Prelude.{ℕ, ◌-◌, ◌≤◌, List, [], ◌∷◌, ◌++◌, Option, None, Some}
 use Rattle.std.specs.Borrow.{Bor}
 use Rattle.cs_pmap.specs.Keys.{EntryList}
 use Rattle.cs_pmap.specs.Tree.{IsBalanced}
@@ -7,11 +7,13 @@ use Rattle.cs_pmap.specs.declared.tree.Branch.{Branch}
 
 module _ {V : Type 0} where
   -- the entries still to come
-  abbrev pub pending : List (Bor (Branch V)) → EntryList V
+  abbrev pub pending : List (Option (Bor (Branch V))) → EntryList V
   pending [] = []
-  pending (b ∷ bs) = pending bs ++ (b.now.key, b.now.value) ∷ b.now.right.0
+  pending (None ∷ bs) = pending bs
+  pending (Some b ∷ bs) = pending bs ++ (b.now.key, b.now.value) ∷ b.now.right.0
 
-  -- each branch is balanced and, with the branches under it on the stack, leaves room for its height
-  abbrev pub HasRoom : ℕ → List (Bor (Branch V)) → Type 0
+  -- each place has a branch, which is balanced and, with the branches under it on the stack, leaves room for its height
+  abbrev pub HasRoom : ℕ → List (Option (Bor (Branch V))) → Type 0
   HasRoom room [] = Unit {0}
-  HasRoom room (b ∷ bs) = (b.now.height ≤ room) × IsBalanced b.now × HasRoom (room - 1) bs
+  HasRoom room (None ∷ bs) = ⊥
+  HasRoom room (Some b ∷ bs) = (b.now.height ≤ room) × IsBalanced b.now × HasRoom (room - 1) bs

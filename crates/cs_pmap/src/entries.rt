@@ -1,21 +1,23 @@
 //! An iterator over a tree in the order of its keys.
-ghost use Rattle.std.specs.Prelude.{◌≡◌, ◌+◌, ◌≤◌, ◌++◌, IfOk, vec_len, vec_capacity};
+ghost use Rattle.std.specs.Prelude.{◌≡◌, ◌+◌, ◌≤◌, ◌++◌, IfOk};
 ghost use Rattle.std.specs.Iterator.{YieldsFirstBy, item_count};
 ghost use Rattle.cs_pmap.specs.Pending.{pending, HasRoom};
+ghost use Rattle.smallvec.specs.SmallVec.{small_vec_len};
 
 use crate::tree::{Branch, Key, Tree};
+use smallvec::SmallVec;
 use std::alloc::{AllocError, Global};
 use std::marker::Model;
 
 /// The entries of a map that are still to come, in the order of their keys.
 #[derive(Drop)]
 pub struct Entries<'a, V> {
-    // The branches whose own entry and right side are still to come, the next one last.
-    stack: Vec<&'a Branch<V>>,
+    // The branches whose own entry and right side are still to come, the next one last. A tree of at most eight levels needs no
+    // allocation for them.
+    stack: SmallVec<Option<&'a Branch<V>>, 8>,
 }
 
 impl<'a, V> Model for Entries<'a, V> {
-    ghost use Rattle.std.specs.Prelude.{vec_capacity};
     ghost use Rattle.cs_pmap.specs.Keys.{EntryList};
     ghost use Rattle.cs_pmap.specs.Pending.{pending, HasRoom};
 
@@ -23,14 +25,14 @@ impl<'a, V> Model for Entries<'a, V> {
 
     ghost view = { λ e. pending e.stack.items };
 
-    ghost invariant = { λ e. HasRoom (vec_capacity e.stack) e.stack.items };
+    ghost invariant = { λ e. HasRoom e.stack.capacity e.stack.items };
 }
 
 impl<'a, V> Entries<'a, V> {
     pub fn new(alloc: Global, tree: &'a Tree<V>) -> Result<Entries<'a, V>, AllocError>
         ensures { IfOk result (λ entries. entries ≡ tree.now.0) }
     {
-        let mut stack = Vec::with_capacity(alloc, tree.height() as usize)?;
+        let mut stack = SmallVec::with_capacity(alloc, tree.height() as usize)?;
         push_left_sides(&mut stack, tree);
         Ok(Entries { stack })
     }
@@ -44,23 +46,22 @@ impl<'a, V> Iterator for Entries<'a, V> {
     ghost remaining = { item_count (λ entries. entries) };
 
     fn next(&mut self) -> Option<(Key, &'a V)> {
-        let branch = self.stack.pop()?;
+        let top = self.stack.pop()?;
+        let branch = top?;
         push_left_sides(&mut self.stack, &branch.right);
         Some((branch.key, &branch.value))
     }
 }
 
 // Puts on the stack the root of the tree, the root of its left side, and so on.
-fn push_left_sides<'a, V>(stack: &mut Vec<&'a Branch<V>>, mut tree: &'a Tree<V>)
-    requires fits { HasRoom (vec_capacity stack.old) stack.old.items }
-    requires room { tree.now.1 + vec_len stack.old ≤ vec_capacity stack.old }
+fn push_left_sides<'a, V>(stack: &mut SmallVec<Option<&'a Branch<V>>, 8>, mut tree: &'a Tree<V>)
+    requires fits { HasRoom stack.old.capacity stack.old.items }
+    requires room { tree.now.1 + small_vec_len stack.old ≤ stack.old.capacity }
     ensures entries { pending stack.new.items ≡ tree.now.0 ++ pending stack.old.items }
-    ensures fits { HasRoom (vec_capacity stack.new) stack.new.items }
+    ensures fits { HasRoom stack.new.capacity stack.new.items }
 {
     while let Some(branch) = tree.branch() {
-        let Ok(()) = stack.push(branch) else {
-            unreachable!()
-        };
+        stack.push_reserved(Some(branch));
         tree = &branch.left;
     }
 }

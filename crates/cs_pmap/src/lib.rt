@@ -3,7 +3,9 @@
 
 mod balance;
 mod entries;
+mod join;
 mod map;
+mod merge;
 mod tree;
 mod update;
 

@@ -3,6 +3,7 @@ ghost use Rattle.std.specs.Prelude.{◌≡◌, IfOk, OnOk, OnErr};
 ghost use Rattle.std.specs.FinMap as map;
 ghost use Rattle.std.specs.Option.{option_copied};
 ghost use Rattle.cs_pmap.specs.Keys.{ClonesAreEqual};
+ghost use Rattle.cs_pmap.specs.Many.{insert_all};
 
 use crate::entries::Entries;
 use crate::tree::{Key, Tree};
@@ -50,6 +51,11 @@ impl<V> PMap<V> {
         self.tree.get(key)
     }
 
+    /// How many levels the tree has: a map of `n` keys has at least `log n`.
+    pub fn height(&self) -> u64 {
+        self.tree.height()
+    }
+
     /// The keys with their values, in the order of the keys. The iterator takes its memory here and none later.
     pub fn iter(&self) -> Result<Entries<'_, V>, AllocError>
         ensures { IfOk result (λ entries. entries ≡ map.entries self.now) }
@@ -78,6 +84,16 @@ impl<V: Clone + Drop> PMap<V> {
         ensures err { OnErr result (self.new ≡ self.old) }
     {
         self.tree = self.tree.inserted(self.alloc, key, value)?;
+        Ok(())
+    }
+
+    /// Sets the values of keys, one after another. Where the keys ascend, this takes much less time than as many calls of `insert`.
+    pub fn insert_all(&mut self, entries: &[(Key, V)]) -> Result<(), AllocError>
+        requires clones { ClonesAreEqual V.is_clone }
+        ensures ok { OnOk result (self.new ≡ insert_all self.old entries.now) }
+        ensures err { OnErr result (self.new ≡ self.old) }
+    {
+        self.tree = self.tree.with_all(self.alloc, entries)?;
         Ok(())
     }
 

@@ -1,4 +1,3 @@
-pub mod Declaring
 pub mod ExpressionForms
 pub mod Functions
 pub mod Remaining

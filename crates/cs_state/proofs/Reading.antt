@@ -1,15 +1,18 @@
 -- The cells that were read, after one more was, or one was written: for the contracts of `ReadCells`.
-use Rattle.std.proofs.Common.{◌≡◌, ◌≢◌, ◌⊎◌, ℕ, Bool, true, false, cond, refl, sym, ap, ◌∙◌, subst, inl, inr}
-use Rattle.std.specs.Prelude.{None, Some}
-use Rattle.std.specs.Option.{unwrap_or}
+use Rattle.std.proofs.Common.{◌≡◌, ◌≢◌, ◌⊎◌, ℕ, nat_eq, ◌+◌, ◌<◌, List, [], ◌∷◌, drop, get_or, length, Bool, true, false, cond, refl, sym, ap, ◌∙◌, subst, inl, inr}
+use Rattle.std.specs.Prelude.{Option, None, Some}
+use Rattle.std.specs.Option.{unwrap_or, option_or}
+use Rattle.std.proofs.lemmas.List.{drop_more}
 use Rattle.std.specs.FinMap as finite
-use Rattle.std.specs.Cmp.{nat_eq_equiv}
 use Rattle.std.proofs.lemmas.Bool.Decides.{eqb_tells}
 use Rattle.cs_pmap.specs.Keys.{key_cmp}
 use Rattle.cs_pmap.proofs.AtBranch.{key_cmp_total}
+use Rattle.cs_pmap.specs.Many.{insert_all}
+use Rattle.cs_store.proofs.Leaves.{key_test, taken_out}
+use Rattle.cs_store.specs.declared.value.Value.{Value}
 use Rattle.cs_store.proofs.Keys.{get_here, get_elsewhere, other_key, key_itself}
 use Rattle.cs_terms.specs.declared.symbol.Sym.{Sym}
-use Rattle.cs_state.specs.ReadCells.{SymMap, ReadMap, cells_of, read_at}
+use Rattle.cs_state.specs.ReadCells.{SymMap, ReadMap, cells_of, read_at, keyed, last_read, has_leaf}
 
 pub read_nothing : (base offset : ℕ) → read_at finite.empty base offset ≡ None
 read_nothing base offset =
@@ -77,3 +80,44 @@ all_gone_elsewhere m base b o differ = ap (λ found. finite.get (unwrap_or found
 
 pub same_cells : (m n : ReadMap) (b o : ℕ) → finite.get m (b, 0) ≡ finite.get n (b, 0) → read_at m b o ≡ read_at n b o
 same_cells m n b o same = ap (λ found. finite.get (unwrap_or found finite.empty) (o, 0)) same
+
+either_way : (p : Option Sym) (t : Bool) (v : Sym) (d : Option Sym)
+    → option_or p (cond t (Some v) d) ≡ option_or (option_or p (cond t (Some v) None)) d
+either_way (Some x) t v d = refl
+either_way None true v d = refl
+either_way None false v d = refl
+
+-- cells that are added at once are added one by one
+get-keyed : (cells : List (ℕ × Sym)) (m : SymMap) (o : ℕ)
+    → finite.get (insert_all m (keyed cells)) (o, 0) ≡ option_or (last_read cells o) (finite.get m (o, 0))
+get-keyed [] m o = refl
+get-keyed (cell ∷ cells) m o =
+    get-keyed cells (finite.insert m (cell.0, 0) cell.1) o
+    ∙ ap (option_or (last_read cells o)) (finite.get-insert key_cmp_total m (cell.0, 0) cell.1 (o, 0)
+    ∙ ap (λ t. cond t (Some cell.1) (finite.get m (o, 0))) (key_test o cell.0))
+    ∙ either_way (last_read cells o) (nat_eq o cell.0) cell.1 (finite.get m (o, 0))
+
+pub all_added_here : (m : ReadMap) (base : ℕ) (cells : List (ℕ × Sym)) (o : ℕ)
+    → read_at (finite.insert m (base, 0) (insert_all (cells_of m base) (keyed cells))) base o ≡ option_or (last_read cells o) (read_at m base o)
+all_added_here m base cells o =
+    ap (λ found. finite.get found (o, 0)) (cells_here m base (insert_all (cells_of m base) (keyed cells))) ∙ get-keyed cells (cells_of m base) o
+
+-- the other base regions keep their cells
+pub others_keep : (m : ReadMap) (base : ℕ) (cells : SymMap) (b o : ℕ) → b ≢ base → read_at (finite.insert m (base, 0) cells) b o ≡ read_at m b o
+others_keep m base cells b o differ = ap (λ found. finite.get found (o, 0)) (cells_elsewhere m base b cells differ)
+
+-- one more leaf's cell is out
+pub leaf_out : (leaves : List (ℕ × Value)) (i : ℕ) (d : ℕ × Value) (m : SymMap) (o : ℕ) → i < length leaves
+    → cond (has_leaf (drop (i + 1) leaves) o) None (finite.get (finite.remove m ((get_or leaves i d).0, 0)) (o, 0))
+    ≡ cond (has_leaf (drop i leaves) o) None (finite.get m (o, 0))
+leaf_out leaves i d m o more =
+    let leaf = get_or leaves i d in
+    let rest = has_leaf (drop (i + 1) leaves) o in
+    ap (λ held. cond rest None held) (finite.get-remove key_cmp_total m (leaf.0, 0) (o, 0) ∙ ap (λ t. cond t None (finite.get m (o, 0))) (key_test o leaf.0))
+    ∙ taken_out (nat_eq o leaf.0) rest (finite.get m (o, 0))
+    ∙ ap (λ ls. cond (has_leaf ls o) None (finite.get m (o, 0))) (sym (drop_more leaves i d more))
+
+pub leaves_forgotten : (m : ReadMap) (base : ℕ) (leaves : List (ℕ × Value)) (syms : SymMap)
+    → ((o : ℕ) → finite.get syms (o, 0) ≡ cond (has_leaf leaves o) None (finite.get (cells_of m base) (o, 0))) → (o : ℕ)
+    → read_at (finite.insert m (base, 0) syms) base o ≡ cond (has_leaf leaves o) None (read_at m base o)
+leaves_forgotten m base leaves syms out o = ap (λ found. finite.get found (o, 0)) (cells_here m base syms) ∙ out o

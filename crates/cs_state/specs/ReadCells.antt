@@ -1,10 +1,12 @@
 -- The cells that were read from inputs, by base region and offset.
-use Rattle.std.specs.Prelude.{ℕ, Option}
+use Rattle.std.specs.Prelude.{ℕ, nat_eq, Bool, List, [], ◌∷◌, map, Option, None, Some, if◌then◌else◌}
 use Rattle.std.specs.Coded.{Coded, coded×, coded_ℕ, code_by}
 use Rattle.std.specs.Prelude.{refl}
 use Rattle.std.specs.FinMap as finite
-use Rattle.std.specs.Option.{unwrap_or}
-use Rattle.cs_pmap.specs.Keys.{key_cmp}
+use Rattle.std.specs.Option.{unwrap_or, option_or}
+use Rattle.std.specs.List.{list_any}
+use Rattle.cs_pmap.specs.Keys.{key_cmp, EntryList}
+use Rattle.cs_store.specs.declared.value.Value.{Value}
 use Rattle.cs_terms.specs.declared.symbol.Sym.{Sym}
 
 -- symbols, keyed by an offset beside a zero
@@ -31,3 +33,16 @@ cells_of read base = unwrap_or (finite.get read (base, 0)) finite.empty
 -- the symbol that was read at an offset of a base region
 abbrev pub read_at : ReadMap → ℕ → ℕ → Option Sym
 read_at read base offset = finite.get (cells_of read base) (offset, 0)
+
+-- offsets with their symbols as entries, keyed by the offset beside a zero
+abbrev pub keyed : List (ℕ × Sym) → EntryList Sym
+keyed cells = map (λ cell. ((cell.0, 0), cell.1)) cells
+
+-- the last symbol that was read at an offset, in a list of them
+abbrev pub last_read : List (ℕ × Sym) → ℕ → Option Sym
+last_read [] offset = None
+last_read (cell ∷ cells) offset = option_or (last_read cells offset) (if nat_eq offset cell.0 then Some cell.1 else None)
+
+-- some leaf is at the offset
+abbrev pub has_leaf : List (ℕ × Value) → ℕ → Bool
+has_leaf leaves offset = list_any (λ leaf. nat_eq offset leaf.0) leaves

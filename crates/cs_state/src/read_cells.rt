@@ -2,10 +2,12 @@
 ghost use Rattle.std.specs.Prelude.{◌≡◌, ◌≢◌, ◌⊎◌, ◌++◌, ℕ, nat_eq, if◌then◌else◌, None, Some, IfOk, OnOk, OnErr};
 ghost use Rattle.std.specs.FinMap.{get};
 ghost use Rattle.std.specs.List.{Contains, list_any};
-ghost use Rattle.cs_state.specs.ReadCells.{cells_of, read_at};
+ghost use Rattle.std.specs.Option.{option_or};
+ghost use Rattle.cs_state.specs.ReadCells.{cells_of, read_at, keyed, last_read, has_leaf};
 ghost use Rattle.cs_state.specs.ReadLists.{cells_at, cells_in_order};
 
 use cs_pmap::PMap;
+use cs_store::Value;
 use cs_terms::Sym;
 use std::alloc::{AllocError, Global};
 use std::marker::Model;
@@ -98,6 +100,21 @@ impl ReadCells {
         Ok(())
     }
 
+    /// Cells of a base region were read, one after another.
+    pub fn add_all(&mut self, base: u64, read: &[(u64, Sym)]) -> Result<(), AllocError>
+        ensures here { OnOk result ((o : ℕ) → read_at self.new base o
+            ≡ option_or (last_read read.now o) (read_at self.old base o)) }
+        ensures elsewhere { OnOk result ((b o : ℕ) → b ≢ base
+            → read_at self.new b o ≡ read_at self.old b o) }
+        ensures err { OnErr result (self.new ≡ self.old) }
+    {
+        let entries = keyed(self.alloc, read)?;
+        let mut syms = self.cells(base)?.syms;
+        syms.insert_all(&entries)?;
+        self.bases.insert((base, 0), Cells { syms })?;
+        Ok(())
+    }
+
     /// A cell was written.
     pub fn forget(&mut self, base: u64, offset: u64) -> Result<(), AllocError>
         ensures here { OnOk result (read_at self.new base offset ≡ None) }
@@ -105,9 +122,28 @@ impl ReadCells {
             → read_at self.new b o ≡ read_at self.old b o) }
         ensures err { OnErr result (self.new ≡ self.old) }
     {
+        if self.at(base, offset).is_none() {
+            return Ok(());
+        }
         let mut cells = self.cells(base)?;
         cells.syms.remove((offset, 0))?;
         self.bases.insert((base, 0), cells)?;
+        Ok(())
+    }
+
+    /// The cells of these leaves were written.
+    pub fn forget_leaves(&mut self, base: u64, leaves: &[(u64, Value)]) -> Result<(), AllocError>
+        ensures here { OnOk result ((o : ℕ) → read_at self.new base o
+            ≡ (if has_leaf leaves.now o then None else read_at self.old base o)) }
+        ensures elsewhere { OnOk result ((b o : ℕ) → b ≢ base
+            → read_at self.new b o ≡ read_at self.old b o) }
+        ensures err { OnErr result (self.new ≡ self.old) }
+    {
+        let Some(cells) = self.bases.get((base, 0)) else {
+            return Ok(());
+        };
+        let syms = without_leaves(&cells.syms, leaves)?;
+        self.bases.insert((base, 0), Cells { syms })?;
         Ok(())
     }
 
@@ -179,6 +215,30 @@ fn without(cells: &PMap<Cells>, bases: &[u64]) -> Result<PMap<Cells>, AllocError
         others.remove((*base, 0))?;
     }
     Ok(others)
+}
+
+// The cells at other offsets than those of leaves.
+fn without_leaves(syms: &PMap<Sym>, leaves: &[(u64, Value)]) -> Result<PMap<Sym>, AllocError>
+    ensures { IfOk result (λ others.
+        (o : ℕ) → get others (o, 0)
+        ≡ (if has_leaf leaves.now o then None else get syms.now (o, 0))) }
+{
+    let mut others = syms.copy()?;
+    for (offset, _) in leaves {
+        others.remove((*offset, 0))?;
+    }
+    Ok(others)
+}
+
+// The cells as entries of a map.
+fn keyed(alloc: Global, read: &[(u64, Sym)]) -> Result<Vec<((u64, u64), Sym)>, AllocError>
+    ensures { IfOk result (λ entries. entries.items ≡ keyed read.now) }
+{
+    let mut entries = Vec::with_capacity(alloc, read.len())?;
+    for (offset, sym) in read {
+        entries.push(((*offset, 0), *sym))?;
+    }
+    Ok(entries)
 }
 
 impl Cells {

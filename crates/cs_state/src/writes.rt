@@ -1,6 +1,6 @@
 //! Writes to a state. Where a call fails for want of memory, the state is as it was.
-ghost use Rattle.std.specs.Prelude.{◌≡◌, ◌≢◌, ◌⊎◌, ◌++◌, [], ◌∷◌, ℕ, List, take, slice_set, None, Some, IfOk, OnOk, OnErr, MatchOption};
-ghost use Rattle.std.specs.Option.{option_to_list};
+ghost use Rattle.std.specs.Prelude.{◌≡◌, ◌≢◌, ◌⊎◌, ◌++◌, [], ◌∷◌, ℕ, List, take, slice_set, None, Some, if◌then◌else◌, IfOk, OnOk, OnErr, MatchOption};
+ghost use Rattle.std.specs.Option.{option_or, option_to_list};
 ghost use Rattle.std.specs.List.{Contains};
 ghost use Rattle.std.specs.FinMap.{insert};
 ghost use Rattle.cs_ranges.specs.RangeSet.{IsInhabited};
@@ -8,8 +8,10 @@ ghost use Rattle.cs_terms.specs.Term.{IsTerm};
 ghost use Rattle.cs_constraints.specs.Constraints.{set_of, IsDeclared, HasValuesInside, Keeps, RulesOut};
 ghost use Rattle.cs_store.specs.declared.value.Found.TheVariants as found;
 ghost use Rattle.cs_store.specs.declared.value.Fill.TheVariants as fill;
+ghost use Rattle.cs_constraints.specs.Sets.{has_sym};
+ghost use Rattle.cs_store.specs.Contents.{after_leaves};
 ghost use Rattle.cs_store.specs.Held.{held};
-ghost use Rattle.cs_state.specs.ReadCells.{read_at};
+ghost use Rattle.cs_state.specs.ReadCells.{read_at, last_read, has_leaf};
 ghost use Rattle.cs_state.specs.MeaningOfWrites.{MeansPushed, MeansVisited, MeansTheSame};
 ghost use Rattle.cs_state.specs.Writes.{with_temporaries, at_spot, with_visits, in_frame, with_answers, with_constraints};
 ghost use Rattle.cs_state.specs.Writes.{with_blocks, with_memory, with_read, with_guesses, released, IsLeft};
@@ -29,6 +31,13 @@ use cs_terms::{Lin, Sym};
 use std::alloc::{AllocError, Global};
 
 impl State {
+    /// Lists the bindings of large regions for keys. The state is the same.
+    pub fn list_regions(&mut self) -> Result<(), AllocError>
+        ensures { self.new ≡ self.old }
+    {
+        self.store.list_large()
+    }
+
     /// One more temporary, which takes the next number.
     pub fn push(&mut self, temporary: Temporary) -> Result<(), AllocError>
         ensures ok { OnOk result
@@ -112,6 +121,18 @@ impl State {
         Ok(())
     }
 
+    /// Each of the symbols may have the numbers of a set.
+    pub fn declare_all(&mut self, syms: &[Sym], set: &RangeSet) -> Result<(), AllocError>
+        requires { IsInhabited set.now }
+        ensures sets { OnOk result ((sym : ℕ) → set_of self.new.constraints sym
+            ≡ (if has_sym syms.now sym then Some set.now else set_of self.old.constraints sym)) }
+        ensures rest { OnOk result (self.new ≡ with_constraints self.new.constraints self.old) }
+        ensures err { OnErr result (self.new ≡ self.old) }
+    {
+        self.constraints.declare_all(syms, set)?;
+        Ok(())
+    }
+
     /// The same state of the runs alone in which a term is in a set; none where there are no such runs.
     pub fn narrowed(&self, term: Lin, set: &RangeSet) -> Result<Option<State>, AllocError>
         requires term { IsTerm term }
@@ -146,6 +167,27 @@ impl State {
         let mut read = self.read.copy()?;
         read.forget(base, offset)?;
         self.store.bind(base, offset, value)?;
+        self.read = read;
+        Ok(())
+    }
+
+    /// Binds the leaves of a struct at offsets of a base region, one after another.
+    pub fn bind_all(&mut self, base: u64, leaves: &[(u64, Value)]) -> Result<(), AllocError>
+        ensures here { OnOk result ((o : ℕ) → held self.new.store base o
+            ≡ after_leaves leaves.now o (held self.old.store base o)) }
+        ensures elsewhere { OnOk result ((b o : ℕ) → b ≢ base
+            → held self.new.store b o ≡ held self.old.store b o) }
+        ensures written { OnOk result ((o : ℕ) → read_at self.new.read base o
+            ≡ (if has_leaf leaves.now o then None else read_at self.old.read base o)) }
+        ensures others { OnOk result ((b o : ℕ) → b ≢ base
+            → read_at self.new.read b o ≡ read_at self.old.read b o) }
+        ensures rest { OnOk result
+            (self.new ≡ with_memory self.new.store self.new.read self.old) }
+        ensures err { OnErr result (self.new ≡ self.old) }
+    {
+        let mut read = self.read.copy()?;
+        read.forget_leaves(base, leaves)?;
+        self.store.copy_leaves(leaves, base)?;
         self.read = read;
         Ok(())
     }
@@ -199,6 +241,19 @@ impl State {
         ensures err { OnErr result (self.new ≡ self.old) }
     {
         self.read.add(base, offset, sym)?;
+        Ok(())
+    }
+
+    /// Cells of a base region were read from their inputs, which have these symbols.
+    pub fn read_cells(&mut self, base: u64, cells: &[(u64, Sym)]) -> Result<(), AllocError>
+        ensures here { OnOk result ((o : ℕ) → read_at self.new.read base o
+            ≡ option_or (last_read cells.now o) (read_at self.old.read base o)) }
+        ensures elsewhere { OnOk result ((b o : ℕ) → b ≢ base
+            → read_at self.new.read b o ≡ read_at self.old.read b o) }
+        ensures rest { OnOk result (self.new ≡ with_read self.new.read self.old) }
+        ensures err { OnErr result (self.new ≡ self.old) }
+    {
+        self.read.add_all(base, cells)?;
         Ok(())
     }
 

@@ -1,16 +1,18 @@
 //! Loads and stores (C11 6.3.2.1, 6.5.16).
 ghost use Rattle.cs_objects.specs.Prepared.{IsReady};
+ghost use Rattle.cs_steps.specs.Asking.{KeepKinds};
 
-use crate::cells::read;
-use crate::context::Context;
+use crate::attempt::Attempt;
+use crate::cells::{Cell, look_up, read};
+use crate::inputs::Inputs;
 use crate::objects::object;
-use crate::operands::value_of;
-use crate::pause::Pause;
-use crate::pointers::{look, named, not_null, ordered, resolved};
-use crate::progress::Progress;
-use crate::terms::{constant, scaled, shifted};
+use crate::pointers::{named, not_null, ordered};
 use cs_cfg::Access;
 use cs_checker::Subject;
+use cs_progress::operands::value_of;
+use cs_progress::pointers::{look, resolved};
+use cs_progress::terms::{constant, scaled, shifted};
+use cs_progress::{Context, Pause};
 use cs_state::{Scalars, State, Tables, Temporary};
 use cs_store::Value;
 use cs_terms::Lin;
@@ -28,23 +30,24 @@ pub fn locate(
     context: &Context,
     state: &State,
     tables: &Tables,
-    progress: &mut Progress,
+    attempt: &mut Attempt,
     access: &Access,
     place: Value,
 ) -> Result<Reached, Pause>
     requires { IsReady context.now.setting.now }
+    ensures { KeepKinds (λ b. kind_of b) attempt.old.checkers.items attempt.new.checkers.items }
 {
     if access.direct {
-        let (base, offset) = named(state, progress, access.place, resolved(state, place)?)?;
+        let (base, offset) = named(state, attempt, access.place, resolved(state, place)?)?;
         return Ok(Reached {
             base,
             offset: byte(offset)?,
         });
     }
-    let pointer = look(state, progress, access.place, place)?;
-    not_null(state, progress, access.place, pointer)?;
-    let (base, offset) = named(state, progress, access.place, pointer)?;
-    reach(context, state, tables, progress, access, (base, offset))
+    let pointer = look(state, &mut attempt.progress, access.place, place)?;
+    not_null(state, attempt, access.place, pointer)?;
+    let (base, offset) = named(state, attempt, access.place, pointer)?;
+    reach(context, state, tables, attempt, access, (base, offset))
 }
 
 // An object of a type is reached in another: that one stands, the type's bytes lie within it, the offset shows, and such an object begins
@@ -53,24 +56,25 @@ fn reach(
     context: &Context,
     state: &State,
     tables: &Tables,
-    progress: &mut Progress,
+    attempt: &mut Attempt,
     access: &Access,
     pointer: (u64, Lin),
 ) -> Result<Reached, Pause>
     requires { IsReady context.now.setting.now }
+    ensures { KeepKinds (λ b. kind_of b) attempt.old.checkers.items attempt.new.checkers.items }
 {
     let (base, offset) = pointer;
     let at = access.place;
     let known = object(context, state, tables, base)?;
     let standing = known.standing;
-    progress.check(state, at, Subject::Reached { standing })?;
+    attempt.check(state, at, Subject::Reached { standing })?;
     let size = context.size_of(&access.ty)?;
-    ordered(state, progress, at, offset, constant(0))?;
+    ordered(state, attempt, at, offset, constant(0))?;
     let room = shifted(known.extent, -i128::from(size))?;
-    ordered(state, progress, at, scaled(offset, -1)?, room)?;
-    let offset = byte(progress.reach(state, at, base, offset)?)?;
+    ordered(state, attempt, at, scaled(offset, -1)?, room)?;
+    let offset = byte(attempt.progress.reach(state, at, base, offset)?)?;
     let fits = known.begins(context, &access.ty, i128::from(offset))?;
-    progress.check(state, at, Subject::Slot { fits })?;
+    attempt.check(state, at, Subject::Slot { fits })?;
     Ok(Reached { base, offset })
 }
 
@@ -87,19 +91,20 @@ pub fn load(
     context: &Context,
     state: &mut State,
     tables: &mut Tables,
-    progress: &mut Progress,
+    attempt: &mut Attempt,
     access: &Access,
     place: Value,
 ) -> Result<Temporary, Pause>
     requires { IsReady context.now.setting.now }
+    ensures { KeepKinds (λ b. kind_of b) attempt.old.checkers.items attempt.new.checkers.items }
 {
-    let reached = locate(context, state, tables, progress, access, place)?;
+    let reached = locate(context, state, tables, attempt, access, place)?;
     if let CType::Struct(_) = &access.ty {
         return Ok(Temporary::Whole(read_all(context, state, tables, &access.ty, reached)?));
     }
     let value = read(context, state, tables, reached.base, reached.offset)?;
     let unset = matches!(value, Value::Unset);
-    progress.check(state, access.place, Subject::Cell { unset })?;
+    attempt.check(state, access.place, Subject::Cell { unset })?;
     Ok(Temporary::Scalar(value))
 }
 
@@ -115,10 +120,19 @@ fn read_all(
 {
     let offsets = context.offsets(ty)?;
     let mut values = Vec::new(context.alloc);
+    let mut inputs = Inputs::new(context.alloc);
     for offset in offsets.as_slice() {
         let at = reached.offset.checked_add(*offset).ok_or(Pause::Memory)?;
-        values.push(read(context, state, tables, reached.base, at)?)?;
+        let value = match look_up(context, state, tables, reached.base, at)? {
+            Cell::Known(value) => value,
+            Cell::Received(input) => {
+                inputs.add(state, at, input)?;
+                input.value
+            }
+        };
+        values.push(value)?;
     }
+    inputs.settle(state, reached.base)?;
     Ok(Scalars::of(values)?)
 }
 
@@ -127,15 +141,16 @@ pub fn locate_for_store(
     context: &Context,
     state: &State,
     tables: &Tables,
-    progress: &mut Progress,
+    attempt: &mut Attempt,
     access: &Access,
     place: Value,
 ) -> Result<Reached, Pause>
     requires { IsReady context.now.setting.now }
+    ensures { KeepKinds (λ b. kind_of b) attempt.old.checkers.items attempt.new.checkers.items }
 {
-    let reached = locate(context, state, tables, progress, access, place)?;
+    let reached = locate(context, state, tables, attempt, access, place)?;
     let constant = object(context, state, tables, reached.base)?.constant;
-    progress.check(state, access.place, Subject::Written { constant })?;
+    attempt.check(state, access.place, Subject::Written { constant })?;
     Ok(reached)
 }
 
@@ -170,10 +185,12 @@ fn write_all(
     requires { IsReady context.now.setting.now }
 {
     let offsets = context.offsets(ty)?;
+    let mut leaves = Vec::new(context.alloc);
     for (offset, value) in offsets.as_slice().iter().zip(scalars.as_slice()) {
         let at = reached.offset.checked_add(*offset).ok_or(Pause::Memory)?;
-        state.bind(reached.base, at, *value)?;
+        leaves.push((at, *value))?;
     }
+    state.bind_all(reached.base, &leaves)?;
     Ok(())
 }
 
@@ -182,14 +199,15 @@ pub fn store(
     context: &Context,
     state: &mut State,
     tables: &Tables,
-    progress: &mut Progress,
+    attempt: &mut Attempt,
     access: &Access,
     place: Value,
     operand: Temporary,
 ) -> Result<(), Pause>
     requires { IsReady context.now.setting.now }
+    ensures { KeepKinds (λ b. kind_of b) attempt.old.checkers.items attempt.new.checkers.items }
 {
-    let reached = locate_for_store(context, state, tables, progress, access, place)?;
+    let reached = locate_for_store(context, state, tables, attempt, access, place)?;
     write(context, state, &access.ty, reached, operand)
 }
 

@@ -2,20 +2,18 @@
 ghost use Rattle.cs_objects.specs.Prepared.{IsReady};
 
 use crate::cells::{kind_of, received};
-use crate::context::Context;
 use crate::ends::go_on;
-use crate::objects::{locals_of, object};
-use crate::operands::{drop_newest, replace, value_of};
-use crate::pause::Pause;
-use crate::pointers::{Seen, look};
-use crate::progress::Progress;
+use crate::objects::object;
 use cs_ast::Place;
 use cs_ast::typed::program::Function;
 use cs_cfg::{Flow, Spot};
 use cs_eval::Question;
-use cs_events::{Budget, Outcome, Returned};
+use cs_events::{Budget, Outcome};
 use cs_inputs::Root;
 use cs_model::Standing;
+use cs_progress::operands::{drop_newest, replace, value_of};
+use cs_progress::pointers::{Seen, look};
+use cs_progress::{Context, Pause, Progress};
 use cs_regions::Base;
 use cs_state::{Counters, Frame, State, Tables, Temporaries, Temporary, Visits};
 use cs_store::{Fill, Value};
@@ -206,7 +204,7 @@ fn result(
     }
     let path = root_path(context.alloc, Root::Call(call));
     let kind = kind_of(context, &function.result)?;
-    let (_, value) = received(context, state, tables, path, kind)?;
+    let value = received(context, state, tables, path, kind)?;
     Ok(Temporary::Scalar(value))
 }
 
@@ -226,51 +224,4 @@ fn overwrite(
         state.fill(base, fill)?;
     }
     Ok(())
-}
-
-/// The frame that runs ends, and gives a value to the one that called it; the run is done where none did.
-pub fn leave(
-    context: &Context,
-    state: &mut State,
-    tables: &mut Tables,
-    progress: &mut Progress,
-    given: Temporary,
-) -> Result<(), Pause>
-    requires { IsReady context.now.setting.now }
-{
-    if state.callers.depth() == 0 {
-        let returned = match &given {
-            Temporary::Nothing => None,
-            Temporary::Scalar(_) | Temporary::Whole(_) => Some(value_of(&given)),
-        };
-        state.set_result(returned);
-        return Err(progress.finish(Outcome::Done(Returned::Nothing)));
-    }
-    let bases = local_bases(context, state, tables)?;
-    state.unbind(&bases)?;
-    if !state.leave()? {
-        return Err(Pause::Memory);
-    }
-    state.push(given)?;
-    Ok(())
-}
-
-// The base regions of the locals of the frame that runs.
-fn local_bases(
-    context: &Context,
-    state: &State,
-    tables: &mut Tables,
-) -> Result<Vec<u64>, AllocError>
-    requires { IsReady context.now.setting.now }
-{
-    let locals = locals_of(context, state.frame.spot.function).ok_or(AllocError)?;
-    let mut bases = Vec::new(context.alloc);
-    for declaration in 0..locals.len() {
-        let decl = u32::try_from(declaration).map_err(|_| AllocError)?;
-        bases.push(tables.base(Base::Local {
-            frame: state.frame.number,
-            decl,
-        })?)?;
-    }
-    Ok(bases)
 }

@@ -3,15 +3,14 @@ ghost use Rattle.cs_objects.specs.Prepared.{IsReady};
 ghost use Rattle.std.specs.Prelude.{IfOk};
 ghost use Rattle.cs_ranges.specs.RangeSet.{IsInhabited};
 
-use crate::context::Context;
 use crate::objects::{Known, object};
-use crate::pause::Pause;
-use crate::terms::{constant, own};
 use cs_events::numbers_of;
 use cs_inputs::{Path, Root};
 use cs_model::Standing;
 use cs_objects::blocks::{self, BlockType};
 use cs_objects::pieces::zero_of;
+use cs_progress::terms::{constant, own};
+use cs_progress::{Context, Pause};
 use cs_ranges::{GREATEST, LEAST, RangeSet};
 use cs_regions::Base;
 use cs_state::{Block, State, Tables};
@@ -19,15 +18,31 @@ use cs_store::{Fill, Found, Value};
 use cs_terms::{Sym, SymName};
 use cs_types::{CType, IntType, start_extent};
 use cs_values::paths::root_path;
-use cs_values::{Cell, Object};
+use cs_values::{Cell as FirstCell, Object};
 use std::alloc::{AllocError, Global};
 
 // What a cell is found to hold: a value, or an input that isn't looked up yet, by its path.
 enum Contents {
     Here(Value),
     /// What a constant initializer gives.
-    First(Cell),
+    First(FirstCell),
     Input(Path),
+}
+
+/// What a cell is read as: a value, or an input, whose symbol the state may not have yet.
+#[derive(Clone, Copy)]
+pub enum Cell {
+    Known(Value),
+    Received(Input),
+}
+
+/// An input: its symbol, the least and the greatest number that it may have, and the value that it gives.
+#[derive(Clone, Copy)]
+pub struct Input {
+    pub sym: Sym,
+    pub least: i128,
+    pub greatest: i128,
+    pub value: Value,
 }
 
 /// The value of the scalar that begins at an offset of an object.
@@ -40,17 +55,36 @@ pub fn read(
 ) -> Result<Value, Pause>
     requires { IsReady context.now.setting.now }
 {
+    match look_up(context, state, tables, base, offset)? {
+        Cell::Known(value) => Ok(value),
+        Cell::Received(input) => {
+            declare(context.alloc, state, input.sym, input.least, input.greatest)?;
+            state.read_cell(base, offset, input.sym)?;
+            Ok(input.value)
+        }
+    }
+}
+
+/// The scalar that begins at an offset of an object. An input isn't declared, and its cell isn't noted as read.
+pub fn look_up(
+    context: &Context,
+    state: &mut State,
+    tables: &mut Tables,
+    base: u64,
+    offset: u64,
+) -> Result<Cell, Pause>
+    requires { IsReady context.now.setting.now }
+{
     let found = found(context, state, tables, base, offset)?;
     match found {
-        Contents::Here(value) => Ok(value),
-        Contents::First(cell) => Ok(static_value(tables, cell)?),
+        Contents::Here(value) => Ok(Cell::Known(value)),
+        Contents::First(cell) => Ok(Cell::Known(static_value(tables, cell)?)),
         Contents::Input(path) => {
             let kind = scalar_kind(context, state, tables, base, offset)?;
-            let (sym, value) = received(context, state, tables, path, kind)?;
-            if let Some(sym) = sym {
-                state.read_cell(base, offset, sym)?;
+            match input_at(context, state, tables, path, kind)? {
+                Some(input) => Ok(Cell::Received(input)),
+                None => Ok(Cell::Known(Value::Unset)),
             }
-            Ok(value)
         }
     }
 }
@@ -142,12 +176,12 @@ fn filled(
 }
 
 // The value of a cell of a static object.
-fn static_value(tables: &mut Tables, cell: Cell) -> Result<Value, AllocError> {
+fn static_value(tables: &mut Tables, cell: FirstCell) -> Result<Value, AllocError> {
     match cell {
-        Cell::Number(number) => Ok(Value::Number(constant(number))),
-        Cell::Null => Ok(Value::Null),
-        Cell::Unset => Ok(Value::Unset),
-        Cell::Pointer(object, offset) => {
+        FirstCell::Number(number) => Ok(Value::Number(constant(number))),
+        FirstCell::Null => Ok(Value::Null),
+        FirstCell::Unset => Ok(Value::Unset),
+        FirstCell::Pointer(object, offset) => {
             let base = tables.base(base_of(object)?)?;
             Ok(Value::At(base, constant(offset)))
         }
@@ -168,7 +202,7 @@ fn base_of(object: Object) -> Result<Base, AllocError> {
 // The zero of a scalar.
 fn zero(scalar: BlockType) -> Value {
     match zero_of(scalar) {
-        Cell::Null => Value::Null,
+        FirstCell::Null => Value::Null,
         _ => Value::Number(constant(0)),
     }
 }
@@ -219,34 +253,58 @@ pub fn kind_of(context: &Context, ty: &CType) -> Result<Kind, AllocError>
     }
 }
 
-/// The value that the input at a path gives, and its symbol: an integer is any number of its type; a pointer is null, or names a block of
-/// its own. Anything else is never set.
+/// The value that the input at a path gives. Its symbol is declared.
 pub fn received(
     context: &Context,
     state: &mut State,
     tables: &mut Tables,
     path: Path,
     kind: Kind,
-) -> Result<(Option<Sym>, Value), Pause>
+) -> Result<Value, Pause>
+    requires { IsReady context.now.setting.now }
+{
+    let Some(input) = input_at(context, state, tables, path, kind)? else {
+        return Ok(Value::Unset);
+    };
+    declare(context.alloc, state, input.sym, input.least, input.greatest)?;
+    Ok(input.value)
+}
+
+// The input at a path: an integer is any number of its type; a pointer is null, or names a block of its own. Anything else is never set.
+fn input_at(
+    context: &Context,
+    state: &mut State,
+    tables: &mut Tables,
+    path: Path,
+    kind: Kind,
+) -> Result<Option<Input>, Pause>
     requires { IsReady context.now.setting.now }
 {
     match kind {
-        Kind::Nothing => Ok((None, Value::Unset)),
+        Kind::Nothing => Ok(None),
         Kind::Integer(ty) => {
             let sym = tables.sym(SymName::Input(path))?;
             let (least, greatest) = numbers_of(context.model(), ty);
-            declare(context.alloc, state, sym, least, greatest)?;
-            Ok((Some(sym), Value::Number(own(sym))))
+            Ok(Some(Input {
+                sym,
+                least,
+                greatest,
+                value: Value::Number(own(sym)),
+            }))
         }
         Kind::Pointer(target, size) => {
             let sym = tables.sym(SymName::Input(path.copy()?))?;
-            declare(context.alloc, state, sym, 0, 1)?;
             let base = tables.base(Base::Entry(path))?;
             if state.blocks.get((base, 0)).is_none() {
                 let block = start_block(context, tables, &target, size, sym)?;
                 state.set_block(base, block)?;
             }
-            Ok((Some(sym), Value::Start(base, 0)))
+            Ok(Some(Input {
+                sym,
+                least: 0,
+                greatest: 1,
+                value: Value::Start(base, 0),
+            }))
         }
     }
 }
@@ -267,8 +325,8 @@ pub fn declare(
     Ok(())
 }
 
-// The numbers from one to another. There are some, and they lie inside the bounds of sets.
-fn interval(alloc: Global, least: i128, greatest: i128) -> Result<RangeSet, AllocError>
+/// The numbers from one to another. There are some, and they lie inside the bounds of sets.
+pub fn interval(alloc: Global, least: i128, greatest: i128) -> Result<RangeSet, AllocError>
     ensures { IfOk result (λ set. IsInhabited set) }
 {
     if least < LEAST || greatest > GREATEST || least > greatest {

@@ -1,16 +1,13 @@
 //! What the end of a block does, and what a loop head or a label does.
 ghost use Rattle.cs_objects.specs.Prepared.{IsReady};
 
-use crate::calls::leave;
-use crate::context::Context;
-use crate::operands::{drop_newest, number, operand, value};
 use crate::operators::test;
-use crate::pause::Pause;
-use crate::progress::Progress;
-use crate::terms::has_value;
 use cs_cfg::{BlockEnd, CountedPoint, Spot, SwitchCase};
 use cs_eval::Tested;
 use cs_events::{Budget, Outcome};
+use cs_progress::operands::{drop_newest, number, operand, value};
+use cs_progress::terms::has_value;
+use cs_progress::{Context, Pause, Progress, leave};
 use cs_state::{State, Tables, Temporary};
 use cs_store::Value;
 use cs_terms::Lin;

@@ -1,21 +1,21 @@
 //! Allocations and releases (C11 7.22.3).
 ghost use Rattle.cs_objects.specs.Prepared.{IsReady};
+ghost use Rattle.cs_steps.specs.Asking.{KeepKinds};
 
+use crate::attempt::Attempt;
 use crate::cells::declare;
-use crate::context::Context;
 use crate::objects::object;
-use crate::operands::{number, replace, replace_with, value};
 use crate::operators::operate;
-use crate::pause::Pause;
-use crate::pointers::{Seen, look, truth};
-use crate::progress::Progress;
-use crate::terms::{constant, own};
 use cs_ast::Place;
 use cs_ast::typed::operator::{Allocator, BinOp};
 use cs_checker::Subject;
 use cs_eval::{Question, Tested};
 use cs_inputs::Root;
 use cs_model::Standing;
+use cs_progress::operands::{number, replace, replace_with, value};
+use cs_progress::pointers::{Seen, look, truth};
+use cs_progress::terms::{constant, own};
+use cs_progress::{Context, Pause, Progress};
 use cs_regions::Base;
 use cs_state::{Block, Counters, State, Tables, Temporary};
 use cs_store::{Fill, Value};
@@ -28,22 +28,24 @@ pub fn allocate(
     context: &Context,
     state: &mut State,
     tables: &mut Tables,
-    progress: &mut Progress,
+    attempt: &mut Attempt,
     at: Place,
     allocator: Allocator,
     element: &CType,
 ) -> Result<(), Pause>
     requires { IsReady context.now.setting.now }
+    ensures { KeepKinds (λ b. kind_of b) attempt.old.checkers.items attempt.new.checkers.items }
 {
     match allocator {
         Allocator::Malloc => {
             let bytes = number(state, 0)?;
             let made = (bytes, Fill::Unset);
+            let progress = &mut attempt.progress;
             let value = allocated(context, state, tables, progress, at, element, made)?;
             replace_with(state, 1, value)
         }
         Allocator::Calloc => {
-            let value = zeros(context, state, tables, progress, at, element)?;
+            let value = zeros(context, state, tables, attempt, at, element)?;
             replace_with(state, 2, value)
         }
     }
@@ -54,39 +56,27 @@ fn zeros(
     context: &Context,
     state: &mut State,
     tables: &mut Tables,
-    progress: &mut Progress,
+    attempt: &mut Attempt,
     at: Place,
     element: &CType,
 ) -> Result<Value, Pause>
     requires { IsReady context.now.setting.now }
+    ensures { KeepKinds (λ b. kind_of b) attempt.old.checkers.items attempt.new.checkers.items }
 {
     let model = context.model();
     let count = number(state, 1)?;
     let size = number(state, 0)?;
-    let few = progress.ask(state, at, Question::Product(count, size))?;
+    let question = Question::Product(count, size);
+    let few = attempt.progress.ask(state, at, question)?;
     if !truth(few)? {
         next_allocation(state)?;
         return Ok(Value::Null);
     }
-    let factors = (count, size);
-    let bytes = operate(
-        model,
-        state,
-        progress,
-        at,
-        BinOp::Mul,
-        size_type(model),
-        factors,
-    )?;
-    allocated(
-        context,
-        state,
-        tables,
-        progress,
-        at,
-        element,
-        (bytes, Fill::Zero),
-    )
+    let (ty, factors) = (size_type(model), (count, size));
+    let bytes = operate(model, state, attempt, at, BinOp::Mul, ty, factors)?;
+    let made = (bytes, Fill::Zero);
+    let progress = &mut attempt.progress;
+    allocated(context, state, tables, progress, at, element, made)
 }
 
 // A block of so many bytes with a fill, or null.
@@ -160,15 +150,16 @@ pub fn release(
     context: &Context,
     state: &mut State,
     tables: &Tables,
-    progress: &mut Progress,
+    attempt: &mut Attempt,
     at: Place,
 ) -> Result<(), Pause>
     requires { IsReady context.now.setting.now }
+    ensures { KeepKinds (λ b. kind_of b) attempt.old.checkers.items attempt.new.checkers.items }
 {
     let pointer = value(state, 0)?;
-    if let Seen::At(base, offset) = look(state, progress, at, pointer)? {
+    if let Seen::At(base, offset) = look(state, &mut attempt.progress, at, pointer)? {
         let block = object(context, state, tables, base)?.freeable;
-        progress.check(state, at, Subject::Release { block, offset })?;
+        attempt.check(state, at, Subject::Release { block, offset })?;
         state.release(base)?;
     }
     replace(state, 1, Temporary::Nothing)

@@ -2,21 +2,17 @@
 #![tactic(auto)]
 
 mod access;
+mod attempt;
 mod calls;
 mod cells;
-mod context;
 mod ends;
 mod heap;
+mod inputs;
 mod next;
 mod objects;
-mod operands;
 mod operators;
-mod pause;
 mod pointers;
-mod progress;
-mod terms;
 mod updates;
 mod work;
 
-pub use context::Context;
-pub use next::{Next, proceed};
+pub use next::proceed;

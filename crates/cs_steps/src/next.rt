@@ -1,40 +1,20 @@
 //! What stands first in what is left of an operation.
 ghost use Rattle.cs_objects.specs.Prepared.{IsReady};
+ghost use Rattle.cs_steps.specs.Asking.{KeepKinds};
 
-use crate::calls::leave;
-use crate::context::Context;
+use crate::attempt::Attempt;
 use crate::ends::{end, reach_counted_point};
-use crate::pause::Pause;
-use crate::progress::Progress;
 use crate::work::work;
-use cs_ast::Place;
 use cs_cfg::{BlockEnd, Instruction, Operation};
-use cs_checker::Subject;
-use cs_eval::Question;
-use cs_events::Outcome;
+use cs_checker::Checker;
+use cs_progress::{Context, Next, Pause, leave};
 use cs_state::{State, Tables, Temporary};
 use cs_store::Value;
-use cs_terms::Lin;
 use std::alloc::AllocError;
+use std::mem;
 
-/// What an operation does next, under every valuation that fits the state.
-#[derive(Clone, Copy)]
-pub enum Next {
-    /// The operation is done: the state is as it left it, without answers, and nothing shows.
-    Done,
-    /// An operation on terms is about to show.
-    Asks(Place, Question),
-    /// A `switch` on a term is about to show its case. The cases are those of the code at the spot of the state.
-    Selects(Place, Lin),
-    /// An access to a base region at an offset, which isn't below 0, is about to show.
-    Reaches(Place, u64, Lin),
-    /// What is about to be done is a fault where a checker says so.
-    Checks(Place, Subject),
-    /// The run ends. The state is at its end.
-    Ends(Outcome),
-}
-
-/// What the operation in progress does next, after its answers so far and after so many checks since the last of them.
+/// What the operation in progress does next, after its answers so far. The checkers are asked about each thing that it does after the last
+/// of them, until one is a fault.
 ///
 /// The cells that it reads become known to the state, and names and numbers to the tables; else a state changes only where the operation
 /// is done.
@@ -42,17 +22,26 @@ pub fn proceed(
     context: &Context,
     state: &mut State,
     tables: &mut Tables,
-    checks: u32,
+    checkers: &mut Vec<Box<dyn Checker>>,
 ) -> Result<Next, AllocError>
     requires { IsReady context.now.setting.now }
+    ensures { KeepKinds (λ b. kind_of b) checkers.old.items checkers.new.items }
 {
-    let mut progress = Progress::new(checks);
-    match step(context, state, tables, &mut progress) {
+    let alloc = context.alloc;
+    let mut attempt = Attempt::new(alloc, mem::replace(checkers, Vec::new(alloc)));
+    let came = step(context, state, tables, &mut attempt);
+    let Attempt {
+        alloc: _,
+        progress,
+        checkers: asked,
+    } = attempt;
+    *checkers = asked;
+    match came {
         Ok(()) => {
             state.finish_operation();
             Ok(Next::Done)
         }
-        Err(Pause::Waits) => Ok(progress.first()),
+        Err(Pause::Waits) => Ok(progress.into_first()),
         Err(Pause::Memory) => Err(AllocError),
     }
 }
@@ -62,23 +51,26 @@ fn step(
     context: &Context,
     state: &mut State,
     tables: &mut Tables,
-    progress: &mut Progress,
+    attempt: &mut Attempt,
 ) -> Result<(), Pause>
     requires { IsReady context.now.setting.now }
+    ensures { KeepKinds (λ b. kind_of b) attempt.old.checkers.items attempt.new.checkers.items }
 {
     match context.code.instruction_at(state.frame.spot) {
-        Instruction::CountedPoint(point) => reach_counted_point(context, state, progress, *point),
+        Instruction::CountedPoint(point) => {
+            reach_counted_point(context, state, &mut attempt.progress, *point)
+        }
         Instruction::Operation(operation) => {
             keep(state, operation)?;
-            work(context, state, tables, progress, operation)
+            work(context, state, tables, attempt, operation)
         }
         Instruction::End(block_end) => {
             keep_for_end(state, block_end)?;
-            end(context, state, tables, progress, block_end)
+            end(context, state, tables, &mut attempt.progress, block_end)
         }
         Instruction::Nowhere => {
             let given = Temporary::Scalar(Value::Unset);
-            leave(context, state, tables, progress, given)
+            leave(context, state, tables, &mut attempt.progress, given)
         }
     }
 }

@@ -1,12 +1,12 @@
 //! What is known of the object that a base region is.
 ghost use Rattle.cs_objects.specs.Prepared.{IsReady};
 
-use crate::context::Context;
-use crate::pointers::block;
-use crate::terms::constant;
 use cs_ast::typed::program::Local;
 use cs_model::{Freeable, Standing};
 use cs_objects::blocks::BlockType;
+use cs_progress::Context;
+use cs_progress::pointers::block;
+use cs_progress::terms::constant;
 use cs_regions::Base;
 use cs_state::{Frame, State, Tables};
 use cs_terms::Lin;
@@ -149,17 +149,9 @@ fn local_type<'t>(
     requires { IsReady context.now.setting.now }
 {
     let frame = frame_numbered(state, frame)?;
-    let locals = locals_of(context, frame.spot.function)?;
+    let locals = context.locals_of(frame.spot.function)?;
     let local = locals.get(declaration as usize)?;
     Some(&local.ty)
-}
-
-/// The locals of a function, its parameters first.
-pub fn locals_of<'t>(context: &Context<'t>, function: u32) -> Option<&'t [Local]>
-    requires { IsReady context.now.setting.now }
-{
-    let function = context.program().functions.get(function as usize)?;
-    Some(function.locals.as_slice())
 }
 
 // The frame with a number, where it hasn't ended.

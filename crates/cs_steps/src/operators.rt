@@ -1,17 +1,18 @@
 //! What operators do with their operands (C11 6.3, 6.5.3 to 6.5.10).
 ghost use Rattle.cs_objects.specs.Prepared.{IsReady};
+ghost use Rattle.cs_steps.specs.Asking.{KeepKinds};
 
-use crate::context::Context;
-use crate::operands::number_in;
-use crate::pause::Pause;
-use crate::pointers::{Seen, look, ordered, truth};
-use crate::progress::Progress;
-use crate::terms::{constant, is_zero, known, scaled, shifted};
+use crate::attempt::Attempt;
+use crate::pointers::ordered;
 use cs_ast::Place;
 use cs_ast::typed::operator::{BinOp, CmpOp, Direction};
 use cs_checker::Subject;
 use cs_eval::{Question, Tested};
 use cs_events::numbers_of;
+use cs_progress::operands::number_in;
+use cs_progress::pointers::{Seen, look};
+use cs_progress::terms::{constant, is_zero, known, scaled, shifted};
+use cs_progress::{Context, Pause, Progress};
 use cs_state::State;
 use cs_store::Value;
 use cs_terms::Lin;
@@ -47,16 +48,18 @@ pub fn number_of(holds: bool) -> Lin {
 pub fn operate(
     model: DataModel,
     state: &State,
-    progress: &mut Progress,
+    attempt: &mut Attempt,
     at: Place,
     operator: BinOp,
     ty: IntType,
     operands: (Lin, Lin),
-) -> Result<Lin, Pause> {
+) -> Result<Lin, Pause>
+    ensures { KeepKinds (λ b. kind_of b) attempt.old.checkers.items attempt.new.checkers.items }
+{
     let (left, right) = operands;
     match operator {
         BinOp::Div | BinOp::Rem => {
-            progress.check(state, at, Subject::Divisor { term: right })?;
+            attempt.check(state, at, Subject::Divisor { term: right })?;
         }
         BinOp::Shl | BinOp::Shr => {
             let width = 8 * bytes(model, ty) as u32;
@@ -64,11 +67,12 @@ pub fn operate(
                 count: right,
                 width,
             };
-            progress.check(state, at, subject)?;
+            attempt.check(state, at, subject)?;
         }
         _ => {}
     }
-    progress.ask(state, at, Question::Binary(operator, ty, left, right))
+    let question = Question::Binary(operator, ty, left, right);
+    attempt.progress.ask(state, at, question)
 }
 
 /// A conversion of a number of a type. It shows where the new type doesn't hold every number of the old one (C11 6.3.1.3).
@@ -109,19 +113,20 @@ pub fn directed(direction: Direction, number: Lin) -> Result<Lin, Pause> {
 pub fn sum(
     context: &Context,
     state: &State,
-    progress: &mut Progress,
+    attempt: &mut Attempt,
     at: Place,
     pointer: Value,
     amount: Lin,
     size: u64,
 ) -> Result<Value, Pause>
     requires { IsReady context.now.setting.now }
+    ensures { KeepKinds (λ b. kind_of b) attempt.old.checkers.items attempt.new.checkers.items }
 {
-    let seen = look(state, progress, at, pointer)?;
+    let seen = look(state, &mut attempt.progress, at, pointer)?;
     match seen {
         Seen::Null => {
             let subject = Subject::Move { null: true, amount };
-            progress.check(state, at, subject)?;
+            attempt.check(state, at, subject)?;
             Ok(Value::Null)
         }
         Seen::At(base, offset) => {
@@ -129,8 +134,8 @@ pub fn sum(
                 null: false,
                 amount,
             };
-            progress.check(state, at, subject)?;
-            let moved = moved(context, state, progress, at, offset, amount, size)?;
+            attempt.check(state, at, subject)?;
+            let moved = moved(context, state, attempt, at, offset, amount, size)?;
             Ok(Value::At(base, moved))
         }
         Seen::Other => Ok(Value::Unset),
@@ -141,47 +146,54 @@ pub fn sum(
 fn moved(
     context: &Context,
     state: &State,
-    progress: &mut Progress,
+    attempt: &mut Attempt,
     at: Place,
     offset: Lin,
     amount: Lin,
     size: u64,
 ) -> Result<Lin, Pause>
     requires { IsReady context.now.setting.now }
+    ensures { KeepKinds (λ b. kind_of b) attempt.old.checkers.items attempt.new.checkers.items }
 {
     let bound = offset_bound(context.model());
     let bytes = scaled(amount, i128::from(size))?;
     let back = scaled(bytes, -1)?;
-    ordered(state, progress, at, shifted(offset, bound)?, bytes)?;
+    ordered(state, attempt, at, shifted(offset, bound)?, bytes)?;
     let left = shifted(scaled(offset, -1)?, bound)?;
-    ordered(state, progress, at, left, back)?;
-    progress.ask(state, at, Question::Sum(offset, amount, size))
+    ordered(state, attempt, at, left, back)?;
+    let question = Question::Sum(offset, amount, size);
+    attempt.progress.ask(state, at, question)
 }
 
 /// A comparison of two numbers or two pointers (C11 6.5.8, 6.5.9).
 pub fn compare(
     state: &State,
-    progress: &mut Progress,
+    attempt: &mut Attempt,
     at: Place,
     operator: CmpOp,
     left: Value,
     right: Value,
-) -> Result<Lin, Pause> {
+) -> Result<Lin, Pause>
+    ensures { KeepKinds (λ b. kind_of b) attempt.old.checkers.items attempt.new.checkers.items }
+{
     if !is_pointer(left) && !is_pointer(right) {
         let question = Question::Compare(
             operator,
             number_in(state, left)?,
             number_in(state, right)?,
         );
-        return progress.ask(state, at, question);
+        return attempt.progress.ask(state, at, question);
     }
-    let left = look(state, progress, at, left)?;
-    let right = look(state, progress, at, right)?;
+    let left = look(state, &mut attempt.progress, at, left)?;
+    let right = look(state, &mut attempt.progress, at, right)?;
     match operator {
-        CmpOp::Equal | CmpOp::Differs => equality(state, progress, at, operator, left, right),
+        CmpOp::Equal | CmpOp::Differs => {
+            equality(state, &mut attempt.progress, at, operator, left, right)
+        }
         CmpOp::Less | CmpOp::AtMost | CmpOp::More | CmpOp::AtLeast => {
-            let (one, other) = related(state, progress, at, left, right)?;
-            progress.ask(state, at, Question::Compare(operator, one, other))
+            let (one, other) = related(state, attempt, at, left, right)?;
+            let question = Question::Compare(operator, one, other);
+            attempt.progress.ask(state, at, question)
         }
     }
 }
@@ -222,32 +234,37 @@ fn in_one_object(left: Seen, right: Seen) -> Option<(Lin, Lin)> {
 // The same, null being an object of its own; else it is a fault (C11 6.5.6, paragraph 9; 6.5.8, paragraph 5).
 fn related(
     state: &State,
-    progress: &mut Progress,
+    attempt: &mut Attempt,
     at: Place,
     left: Seen,
     right: Seen,
-) -> Result<(Lin, Lin), Pause> {
+) -> Result<(Lin, Lin), Pause>
+    ensures { KeepKinds (λ b. kind_of b) attempt.old.checkers.items attempt.new.checkers.items }
+{
     let found = match (left, right) {
         (Seen::Null, Seen::Null) => Some((constant(0), constant(0))),
         _ => in_one_object(left, right),
     };
     let same = found.is_some();
-    progress.check(state, at, Subject::Pair { same })?;
+    attempt.check(state, at, Subject::Pair { same })?;
     found.ok_or(Pause::Memory)
 }
 
 /// How many elements of so many bytes lie between two pointers (C11 6.5.6, paragraph 9).
 pub fn difference(
     state: &State,
-    progress: &mut Progress,
+    attempt: &mut Attempt,
     at: Place,
     pointers: (Value, Value),
     size: u64,
-) -> Result<Lin, Pause> {
-    let left = look(state, progress, at, pointers.0)?;
-    let right = look(state, progress, at, pointers.1)?;
-    let (one, other) = related(state, progress, at, left, right)?;
-    progress.ask(state, at, Question::Difference(one, other, size))
+) -> Result<Lin, Pause>
+    ensures { KeepKinds (λ b. kind_of b) attempt.old.checkers.items attempt.new.checkers.items }
+{
+    let left = look(state, &mut attempt.progress, at, pointers.0)?;
+    let right = look(state, &mut attempt.progress, at, pointers.1)?;
+    let (one, other) = related(state, attempt, at, left, right)?;
+    let question = Question::Difference(one, other, size);
+    attempt.progress.ask(state, at, question)
 }
 
 fn is_pointer(value: Value) -> bool {

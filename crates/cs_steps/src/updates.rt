@@ -1,15 +1,15 @@
 //! Conversions, and updates of objects in place (C11 6.3, 6.5.2.4, 6.5.16.2).
 ghost use Rattle.cs_objects.specs.Prepared.{IsReady};
+ghost use Rattle.cs_steps.specs.Asking.{KeepKinds};
 
 use crate::access::{load, store};
-use crate::context::Context;
-use crate::operands::{number, number_in, operand, replace, value, value_of};
+use crate::attempt::Attempt;
 use crate::operators::{convert_number, directed, operate, sum};
-use crate::pause::Pause;
-use crate::progress::Progress;
 use cs_ast::Place;
 use cs_ast::typed::operator::{BinOp, Direction, Gives};
 use cs_cfg::Access;
+use cs_progress::operands::{number, number_in, operand, replace, value, value_of};
+use cs_progress::{Context, Pause, Progress};
 use cs_state::{State, Tables, Temporary};
 use cs_store::Value;
 use cs_types::{CType, IntType};
@@ -46,18 +46,20 @@ pub fn fetch_number(
     context: &Context,
     state: &mut State,
     tables: &mut Tables,
-    progress: &mut Progress,
+    attempt: &mut Attempt,
     how: (Place, IntType),
     access: &Access,
 ) -> Result<(), Pause>
     requires { IsReady context.now.setting.now }
+    ensures { KeepKinds (λ b. kind_of b) attempt.old.checkers.items attempt.new.checkers.items }
 {
     let (at, ty) = how;
     let model = context.model();
     let place = value(state, 0)?;
-    let loaded = load(context, state, tables, progress, access, place)?;
+    let loaded = load(context, state, tables, attempt, access, place)?;
     let before = number_in(state, value_of(&loaded))?;
-    let after = convert_number(model, state, progress, at, (&access.ty, ty), before)?;
+    let types = (&access.ty, ty);
+    let after = convert_number(model, state, &mut attempt.progress, at, types, before)?;
     state.push(loaded)?;
     state.push(Temporary::Scalar(Value::Number(after)))?;
     Ok(())
@@ -68,19 +70,21 @@ pub fn update(
     context: &Context,
     state: &mut State,
     tables: &mut Tables,
-    progress: &mut Progress,
+    attempt: &mut Attempt,
     at: Place,
     access: &Access,
     how: (BinOp, IntType, Gives),
 ) -> Result<(), Pause>
     requires { IsReady context.now.setting.now }
+    ensures { KeepKinds (λ b. kind_of b) attempt.old.checkers.items attempt.new.checkers.items }
 {
     let (operator, ty, gives) = how;
     let model = context.model();
     let operands = (number(state, 1)?, number(state, 0)?);
-    let result = operate(model, state, progress, at, operator, ty, operands)?;
-    let to = integer_of(&access.ty);
-    let stored = convert_number(model, state, progress, at, (&CType::Int(ty), to), result)?;
+    let result = operate(model, state, attempt, at, operator, ty, operands)?;
+    let from = CType::Int(ty);
+    let types = (&from, integer_of(&access.ty));
+    let stored = convert_number(model, state, &mut attempt.progress, at, types, result)?;
     let stored = Value::Number(stored);
     let left = given(gives, value(state, 2)?, stored);
     let place = value(state, 3)?;
@@ -88,7 +92,7 @@ pub fn update(
         context,
         state,
         tables,
-        progress,
+        attempt,
         access,
         place,
         Temporary::Scalar(stored),
@@ -101,23 +105,24 @@ pub fn move_pointer(
     context: &Context,
     state: &mut State,
     tables: &mut Tables,
-    progress: &mut Progress,
+    attempt: &mut Attempt,
     at: Place,
     access: &Access,
     how: (u64, Direction, Gives),
 ) -> Result<(), Pause>
     requires { IsReady context.now.setting.now }
+    ensures { KeepKinds (λ b. kind_of b) attempt.old.checkers.items attempt.new.checkers.items }
 {
     let (bytes, direction, gives) = how;
     let amount = directed(direction, number(state, 0)?)?;
     let before = value(state, 1)?;
-    let moved = sum(context, state, progress, at, before, amount, bytes)?;
+    let moved = sum(context, state, attempt, at, before, amount, bytes)?;
     let place = value(state, 2)?;
     store(
         context,
         state,
         tables,
-        progress,
+        attempt,
         access,
         place,
         Temporary::Scalar(moved),

@@ -1,23 +1,24 @@
 //! What each operation of the code does.
 ghost use Rattle.cs_objects.specs.Prepared.{IsReady};
+ghost use Rattle.cs_steps.specs.Asking.{KeepKinds};
 
 use crate::access::{Reached, load, spell, store, write};
+use crate::attempt::Attempt;
 use crate::calls::call;
-use crate::context::Context;
 use crate::ends::go_on;
 use crate::heap::{allocate, release};
-use crate::operands::{drop_newest, number, operand, replace, replace_with, value};
 use crate::operators::{compare, difference, directed, number_of, operate, sum, test};
-use crate::pause::Pause;
-use crate::pointers::{arrow, further};
-use crate::progress::Progress;
-use crate::terms::constant;
+use crate::pointers::arrow;
 use crate::updates::{convert, fetch_number, move_pointer, update};
 use cs_ast::Place;
 use cs_ast::typed::operator::{BinOp, CmpOp, Direction, Order, UnOp};
 use cs_cfg::{Access, Operation, Work};
 use cs_checker::Subject;
 use cs_eval::{Question, Tested};
+use cs_progress::operands::{drop_newest, number, operand, replace, replace_with, value};
+use cs_progress::pointers::further;
+use cs_progress::terms::constant;
+use cs_progress::{Context, Pause, Progress};
 use cs_regions::Base;
 use cs_state::{State, Tables, Temporary};
 use cs_store::{Fill, Value};
@@ -28,15 +29,16 @@ pub fn work(
     context: &Context,
     state: &mut State,
     tables: &mut Tables,
-    progress: &mut Progress,
+    attempt: &mut Attempt,
     operation: &Operation,
 ) -> Result<(), Pause>
     requires { IsReady context.now.setting.now }
+    ensures { KeepKinds (λ b. kind_of b) attempt.old.checkers.items attempt.new.checkers.items }
 {
     let at = operation.place;
     if let Work::Call(function, count) = &operation.work {
         let called = (*function, *count);
-        return call(context, state, tables, progress, at, called);
+        return call(context, state, tables, &mut attempt.progress, at, called);
     }
     match &operation.work {
         Work::Number(number) => push(state, Value::Number(constant(*number)))?,
@@ -51,8 +53,8 @@ pub fn work(
         Work::Close(false) => push(state, Value::Unset)?,
         Work::Clear(decl, _) => clear(state, tables, *decl)?,
         Work::Zero(decl) => zero(state, tables, *decl)?,
-        Work::Use => use_result(state, progress, at)?,
-        _ => compute(context, state, tables, progress, operation)?,
+        Work::Use => use_result(state, attempt, at)?,
+        _ => compute(context, state, tables, attempt, operation)?,
     }
     go_on(context, state)
 }
@@ -62,26 +64,27 @@ fn compute(
     context: &Context,
     state: &mut State,
     tables: &mut Tables,
-    progress: &mut Progress,
+    attempt: &mut Attempt,
     operation: &Operation,
 ) -> Result<(), Pause>
     requires { IsReady context.now.setting.now }
+    ensures { KeepKinds (λ b. kind_of b) attempt.old.checkers.items attempt.new.checkers.items }
 {
     let at = operation.place;
     match &operation.work {
         Work::Sum(bytes, direction, order) => {
-            add(context, state, progress, at, *bytes, *direction, *order)
+            add(context, state, attempt, at, *bytes, *direction, *order)
         }
         Work::Member(offset) => member(state, *offset),
-        Work::Arrow(offset) => member_through(state, progress, at, *offset),
-        Work::Unary(operator, ty) => unary(state, progress, at, *operator, *ty),
-        Work::Not => judge(state, progress, at, Tested::Not),
-        Work::Judge => judge(state, progress, at, Tested::Truth),
-        Work::Binary(operator, ty) => binary(context, state, progress, at, *operator, *ty),
-        Work::Compare(operator) => compare_operands(state, progress, at, *operator),
-        Work::Difference(bytes) => subtract(state, progress, at, *bytes),
-        Work::Convert(from, to) => convert(context, state, progress, at, from, to),
-        _ => access(context, state, tables, progress, operation),
+        Work::Arrow(offset) => member_through(state, attempt, at, *offset),
+        Work::Unary(operator, ty) => unary(state, &mut attempt.progress, at, *operator, *ty),
+        Work::Not => judge(state, &mut attempt.progress, at, Tested::Not),
+        Work::Judge => judge(state, &mut attempt.progress, at, Tested::Truth),
+        Work::Binary(operator, ty) => binary(context, state, attempt, at, *operator, *ty),
+        Work::Compare(operator) => compare_operands(state, attempt, at, *operator),
+        Work::Difference(bytes) => subtract(state, attempt, at, *bytes),
+        Work::Convert(from, to) => convert(context, state, &mut attempt.progress, at, from, to),
+        _ => access(context, state, tables, attempt, operation),
     }
 }
 
@@ -90,31 +93,46 @@ fn access(
     context: &Context,
     state: &mut State,
     tables: &mut Tables,
-    progress: &mut Progress,
+    attempt: &mut Attempt,
     operation: &Operation,
 ) -> Result<(), Pause>
     requires { IsReady context.now.setting.now }
+    ensures { KeepKinds (λ b. kind_of b) attempt.old.checkers.items attempt.new.checkers.items }
 {
     let at = operation.place;
     match &operation.work {
-        Work::Load(access) => load_in_place(context, state, tables, progress, access),
-        Work::FetchPointer(access) => fetch(context, state, tables, progress, access),
+        Work::Load(access) => load_in_place(context, state, tables, attempt, access),
+        Work::FetchPointer(access) => fetch(context, state, tables, attempt, access),
         Work::FetchNumber(access, ty) => {
-            fetch_number(context, state, tables, progress, (at, *ty), access)
+            fetch_number(context, state, tables, attempt, (at, *ty), access)
         }
-        Work::Store(access) => assign(context, state, tables, progress, access),
+        Work::Store(access) => assign(context, state, tables, attempt, access),
         Work::Update(operator, access, ty, gives) => {
             let how = (*operator, *ty, *gives);
-            update(context, state, tables, progress, at, access, how)
+            update(context, state, tables, attempt, at, access, how)
         }
         Work::Move(access, bytes, direction, gives) => {
             let how = (*bytes, *direction, *gives);
-            move_pointer(context, state, tables, progress, at, access, how)
+            move_pointer(context, state, tables, attempt, at, access, how)
         }
         Work::Allocate(allocator, element) => {
-            allocate(context, state, tables, progress, at, *allocator, element)
+            allocate(context, state, tables, attempt, at, *allocator, element)
         }
-        Work::Free => release(context, state, tables, progress, at),
+        Work::Free => release(context, state, tables, attempt, at),
+        _ => set_local(context, state, tables, &operation.work),
+    }
+}
+
+// The same of an operation that sets a part of a local.
+fn set_local(
+    context: &Context,
+    state: &mut State,
+    tables: &mut Tables,
+    work: &Work,
+) -> Result<(), Pause>
+    requires { IsReady context.now.setting.now }
+{
+    match work {
         Work::StoreLocal(decl, offset, ty, _) => {
             initialize(context, state, tables, *decl, *offset, ty)
         }
@@ -135,11 +153,13 @@ fn member(state: &mut State, offset: u64) -> Result<(), Pause> {
 // The place of a member of the struct that a pointer points to.
 fn member_through(
     state: &mut State,
-    progress: &mut Progress,
+    attempt: &mut Attempt,
     at: Place,
     offset: u64,
-) -> Result<(), Pause> {
-    let place = arrow(state, progress, at, value(state, 0)?, offset)?;
+) -> Result<(), Pause>
+    ensures { KeepKinds (λ b. kind_of b) attempt.old.checkers.items attempt.new.checkers.items }
+{
+    let place = arrow(state, attempt, at, value(state, 0)?, offset)?;
     replace_with(state, 1, place)
 }
 
@@ -170,38 +190,38 @@ fn judge(
 fn binary(
     context: &Context,
     state: &mut State,
-    progress: &mut Progress,
+    attempt: &mut Attempt,
     at: Place,
     operator: BinOp,
     ty: IntType,
 ) -> Result<(), Pause>
     requires { IsReady context.now.setting.now }
+    ensures { KeepKinds (λ b. kind_of b) attempt.old.checkers.items attempt.new.checkers.items }
 {
     let operands = (number(state, 1)?, number(state, 0)?);
-    let result = operate(context.model(), state, progress, at, operator, ty, operands)?;
+    let result = operate(context.model(), state, attempt, at, operator, ty, operands)?;
     replace_with(state, 2, Value::Number(result))
 }
 
 fn compare_operands(
     state: &mut State,
-    progress: &mut Progress,
+    attempt: &mut Attempt,
     at: Place,
     operator: CmpOp,
-) -> Result<(), Pause> {
+) -> Result<(), Pause>
+    ensures { KeepKinds (λ b. kind_of b) attempt.old.checkers.items attempt.new.checkers.items }
+{
     let (left, right) = (value(state, 1)?, value(state, 0)?);
-    let result = compare(state, progress, at, operator, left, right)?;
+    let result = compare(state, attempt, at, operator, left, right)?;
     replace_with(state, 2, Value::Number(result))
 }
 
 // The difference of two pointers to objects of so many bytes.
-fn subtract(
-    state: &mut State,
-    progress: &mut Progress,
-    at: Place,
-    bytes: u64,
-) -> Result<(), Pause> {
+fn subtract(state: &mut State, attempt: &mut Attempt, at: Place, bytes: u64) -> Result<(), Pause>
+    ensures { KeepKinds (λ b. kind_of b) attempt.old.checkers.items attempt.new.checkers.items }
+{
     let pointers = (value(state, 1)?, value(state, 0)?);
-    let result = difference(state, progress, at, pointers, bytes)?;
+    let result = difference(state, attempt, at, pointers, bytes)?;
     replace_with(state, 2, Value::Number(result))
 }
 
@@ -210,13 +230,14 @@ fn load_in_place(
     context: &Context,
     state: &mut State,
     tables: &mut Tables,
-    progress: &mut Progress,
+    attempt: &mut Attempt,
     access: &Access,
 ) -> Result<(), Pause>
     requires { IsReady context.now.setting.now }
+    ensures { KeepKinds (λ b. kind_of b) attempt.old.checkers.items attempt.new.checkers.items }
 {
     let place = value(state, 0)?;
-    let loaded = load(context, state, tables, progress, access, place)?;
+    let loaded = load(context, state, tables, attempt, access, place)?;
     replace(state, 1, loaded)
 }
 
@@ -225,13 +246,14 @@ fn fetch(
     context: &Context,
     state: &mut State,
     tables: &mut Tables,
-    progress: &mut Progress,
+    attempt: &mut Attempt,
     access: &Access,
 ) -> Result<(), Pause>
     requires { IsReady context.now.setting.now }
+    ensures { KeepKinds (λ b. kind_of b) attempt.old.checkers.items attempt.new.checkers.items }
 {
     let place = value(state, 0)?;
-    let loaded = load(context, state, tables, progress, access, place)?;
+    let loaded = load(context, state, tables, attempt, access, place)?;
     state.push(loaded)?;
     Ok(())
 }
@@ -241,15 +263,16 @@ fn assign(
     context: &Context,
     state: &mut State,
     tables: &mut Tables,
-    progress: &mut Progress,
+    attempt: &mut Attempt,
     access: &Access,
 ) -> Result<(), Pause>
     requires { IsReady context.now.setting.now }
+    ensures { KeepKinds (λ b. kind_of b) attempt.old.checkers.items attempt.new.checkers.items }
 {
     let place = value(state, 1)?;
     let stored = operand(state, 0)?.clone()?;
     let left = stored.clone()?;
-    store(context, state, tables, progress, access, place, stored)?;
+    store(context, state, tables, attempt, access, place, stored)?;
     replace(state, 2, left)
 }
 
@@ -305,10 +328,12 @@ fn zero(state: &mut State, tables: &mut Tables, decl: u32) -> Result<(), Pause> 
 }
 
 // The result of a call that is used was set (C11 6.9.1, paragraph 12).
-fn use_result(state: &State, progress: &mut Progress, at: Place) -> Result<(), Pause> {
+fn use_result(state: &State, attempt: &mut Attempt, at: Place) -> Result<(), Pause>
+    ensures { KeepKinds (λ b. kind_of b) attempt.old.checkers.items attempt.new.checkers.items }
+{
     if let Temporary::Scalar(value) = operand(state, 0)? {
         let unset = matches!(value, Value::Unset);
-        progress.check(state, at, Subject::Cell { unset })?;
+        attempt.check(state, at, Subject::Cell { unset })?;
     }
     Ok(())
 }
@@ -317,13 +342,14 @@ fn use_result(state: &State, progress: &mut Progress, at: Place) -> Result<(), P
 fn add(
     context: &Context,
     state: &mut State,
-    progress: &mut Progress,
+    attempt: &mut Attempt,
     at: Place,
     bytes: u64,
     direction: Direction,
     order: Order,
 ) -> Result<(), Pause>
     requires { IsReady context.now.setting.now }
+    ensures { KeepKinds (λ b. kind_of b) attempt.old.checkers.items attempt.new.checkers.items }
 {
     let (pointer, amount) = match order {
         Order::PointerFirst => (1, 0),
@@ -331,6 +357,6 @@ fn add(
     };
     let pointer = value(state, pointer)?;
     let amount = directed(direction, number(state, amount)?)?;
-    let moved = sum(context, state, progress, at, pointer, amount, bytes)?;
+    let moved = sum(context, state, attempt, at, pointer, amount, bytes)?;
     replace_with(state, 2, moved)
 }

@@ -1,6 +1,6 @@
--- Leaves that are bound one by one, base regions that are taken out one by one, writes that are done one by one: for the contracts of
+-- Leaves that are bound at once, base regions that are taken out one by one, writes that are done one by one: for the contracts of
 -- `with_leaves`, `without` and `replayed`.
-use Rattle.std.proofs.Common.{◌≡◌, ℕ, Bool, true, false, cond, nat_eq, ◌||◌, ◌+◌, ◌<◌, List, drop, get_or, length, ◌∷◌, refl, sym, ap}
+use Rattle.std.proofs.Common.{◌≡◌, ℕ, Bool, true, false, cond, nat_eq, ◌||◌, ◌+◌, ◌<◌, List, [], drop, get_or, length, ◌∷◌, refl, sym, ap}
 use Rattle.std.proofs.Common.{◌∙◌}
 use Rattle.std.specs.Prelude.{Option, None, Some}
 use Rattle.std.specs.Option.{unwrap_or, option_map_or, option_or}
@@ -9,16 +9,17 @@ use Rattle.std.proofs.Common.{inl, inr}
 use Rattle.std.proofs.lemmas.List.{drop_more}
 use Rattle.std.specs.Ordering.{eq_by_cmp}
 use Rattle.std.specs.List.{list_any}
-use Rattle.std.specs.FinMap.{FinMap, get, remove, get-remove}
-use Rattle.cs_pmap.specs.Keys.{key_cmp}
+use Rattle.std.specs.FinMap.{FinMap, get, insert, remove, get-remove}
+use Rattle.cs_pmap.specs.Keys.{EntryList, key_cmp}
+use Rattle.cs_pmap.specs.Many.{insert_all}
 use Rattle.cs_pmap.proofs.AtBranch.{key_cmp_total}
-use Rattle.cs_store.proofs.Keys.{key_itself, other_key}
+use Rattle.cs_store.proofs.Keys.{key_itself, other_key, more_offsets}
 use Rattle.cs_store.specs.declared.write.Write.{Write}
 use Rattle.cs_store.specs.Writes.{decided, last_decided}
 use Rattle.cs_store.specs.declared.value.Value.{Value}
 use Rattle.cs_store.specs.declared.value.Found.{Found}
 use Rattle.cs_store.specs.declared.value.Found.TheVariants.{Direct}
-use Rattle.cs_store.specs.Contents.{Contents, held_in, with_binding, after_leaves, last_leaf}
+use Rattle.cs_store.specs.Contents.{Contents, HasOffsets, held_in, with_binding, keyed, after_leaves, last_leaf}
 use Rattle.cs_store.proofs.Regions.{bound_here, bound_elsewhere}
 
 -- a choice between two options, over what stands for none
@@ -52,14 +53,27 @@ leaf_first leaf leaves old o =
     ap (after_leaves leaves o) (bound old leaf.0 leaf.1 o)
     ∙ sym (chosen (λ value. Direct value) (last_leaf leaves o) (cond (nat_eq leaf.0 o) (Some leaf.1) None) (held_in old o))
 
--- after one more leaf, the rest is one shorter
-pub leaves_step : (leaves : List (ℕ × Value)) (i : ℕ) (d : ℕ × Value) (old : Contents) (o : ℕ) → i < length leaves
-    → after_leaves (drop (i + 1) leaves) o (held_in (with_binding old (get_or leaves i d).0 (get_or leaves i d).1) o)
-    ≡ after_leaves (drop i leaves) o (held_in old o)
-leaves_step leaves i d old o more =
-    leaf_first (get_or leaves i d) (drop (i + 1) leaves) old o ∙ ap (λ rest. after_leaves rest o (held_in old o)) (sym (drop_more leaves i d more))
+-- leaves that are bound all at once are bound one by one; `start`, `entries` and `direct` are what the call has
+leaves_inserted : (leaves : List (ℕ × Value)) (old : Contents) (o : ℕ)
+    → held_in (record { fill = old.fill; direct = insert_all old.direct (keyed leaves) }) o ≡ after_leaves leaves o (held_in old o)
+leaves_inserted [] old o = refl
+leaves_inserted (leaf ∷ leaves) old o = leaves_inserted leaves (with_binding old leaf.0 leaf.1) o ∙ leaf_first leaf leaves old o
 
-key_test : (b c : ℕ) → eq_by_cmp key_cmp (b, 0) (c, 0) ≡ nat_eq b c
+pub leaves_bound : {start direct : FinMap key_cmp Value} {entries : EntryList Value} (leaves : List (ℕ × Value)) (old : Contents)
+    → start ≡ old.direct → entries ≡ keyed leaves → direct ≡ insert_all start entries → (o : ℕ)
+    → held_in (record { fill = old.fill; direct = direct }) o ≡ after_leaves leaves o (held_in old o)
+leaves_bound leaves old s e d o = rw (d, s, e) (leaves_inserted leaves old o)
+
+leaves_have_offsets : (leaves : List (ℕ × Value)) (direct : FinMap key_cmp Value) → HasOffsets direct → HasOffsets (insert_all direct (keyed leaves))
+leaves_have_offsets [] direct h = h
+leaves_have_offsets (leaf ∷ leaves) direct h =
+    leaves_have_offsets leaves (insert direct (leaf.0, 0) leaf.1) (more_offsets direct leaf.0 leaf.1 h)
+
+pub offsets_bound : {start direct : FinMap key_cmp Value} {entries : EntryList Value} (leaves : List (ℕ × Value)) (old : FinMap key_cmp Value)
+    → start ≡ old → entries ≡ keyed leaves → direct ≡ insert_all start entries → HasOffsets old → HasOffsets direct
+offsets_bound leaves old s e d h = rw (d, s, e) (leaves_have_offsets leaves old h)
+
+pub key_test : (b c : ℕ) → eq_by_cmp key_cmp (b, 0) (c, 0) ≡ nat_eq b c
 key_test b c =
     elim (eqb_tells b c) [
       | inl same ↦ ap (λ (x : ℕ). eq_by_cmp key_cmp (b, 0) (x, 0)) (sym same.1) ∙ key_itself (b, 0) ∙ sym same.0

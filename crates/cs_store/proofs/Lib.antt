@@ -1,5 +1,7 @@
 pub mod Keys
 pub mod Regions
 pub mod Leaves
-pub mod Listing
+pub mod EntryLists
 pub mod InUse
+pub mod Same
+pub mod Listings

@@ -41,6 +41,10 @@ abbrev pub with_binding : Contents → ℕ → Value → Contents
 with_binding contents offset value =
     record { fill = contents.fill; direct = finite.insert contents.direct (offset, 0) value }
 
+-- leaves as entries, keyed by the offset beside a zero
+abbrev pub keyed : List (ℕ × Value) → EntryList Value
+keyed leaves = map (λ leaf. ((leaf.0, 0), leaf.1)) leaves
+
 -- the value of the last leaf at an offset
 abbrev pub last_leaf : List (ℕ × Value) → ℕ → Option Value
 last_leaf [] offset = None

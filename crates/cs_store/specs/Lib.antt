@@ -1,3 +1,4 @@
 pub mod Contents
+pub mod Listings
 pub mod Held
 pub mod Writes

@@ -1,13 +1,18 @@
 //! What one base region holds: a default binding for all its cells, and direct bindings of single cells, in the sense of the stores
 //! of Clang's analyzer.
-ghost use Rattle.std.specs.Prelude.{◌≡◌, ℕ, IfOk, OnOk, OnErr};
+ghost use Rattle.std.specs.Prelude.{◌≡◌, ℕ, IfOk, IfSome, OnOk, OnErr};
 ghost use Rattle.std.specs.Iterator.{YieldsFirstBy, item_count};
-ghost use Rattle.cs_store.specs.Contents.{filled, held_in, with_binding, after_leaves, bindings_of, IsListing};
+ghost use Rattle.cs_store.specs.Contents.{filled, held_in, with_binding, keyed, after_leaves, bindings_of, IsListing};
+ghost use Rattle.cs_store.specs.Listings.{listing_of};
 
+use crate::listing::Listing;
 use crate::value::{Fill, Found, Value};
 use cs_pmap::{Entries, PMap};
 use std::alloc::{AllocError, Global};
 use std::marker::Model;
+
+// Trees of 32 bindings or more have this height at least, and none of less than 20.
+const HIGH: u64 = 6;
 
 /// The default binding and the direct bindings of a base region.
 #[derive(Drop)]
@@ -15,6 +20,8 @@ pub struct Region {
     fill: Fill,
     // Keyed by the offset beside a zero.
     direct: PMap<Value>,
+    // The listing of the direct bindings, where they were listed since the last write: copies share it.
+    listing: Option<Listing>,
 }
 
 impl Model for Region {
@@ -27,10 +34,11 @@ impl Model for Region {
     ghost coded = { contents_code fill_row.coded value_row.coded };
 
     ghost use Rattle.cs_store.specs.Contents.{HasOffsets};
+    ghost use Rattle.cs_store.specs.Listings.{IsListed};
 
     ghost view = { λ r. record { fill = r.fill; direct = r.direct } };
 
-    ghost invariant = { λ r. HasOffsets r.direct };
+    ghost invariant = { λ r. HasOffsets r.direct × IsListed r.direct r.listing };
 }
 
 impl Region {
@@ -41,6 +49,7 @@ impl Region {
         Region {
             fill,
             direct: PMap::new(alloc),
+            listing: None,
         }
     }
 
@@ -67,20 +76,28 @@ impl Region {
         ensures err { OnErr result (self.new ≡ self.old) }
     {
         self.direct.insert((offset, 0), value)?;
+        self.listing = None;
         Ok(())
     }
 
     /// The region after one more binding for each leaf, in order.
-    pub(crate) fn with_leaves(&self, leaves: &[(u64, Value)]) -> Result<Region, AllocError>
+    pub(crate) fn with_leaves(
+        &self,
+        alloc: Global,
+        leaves: &[(u64, Value)],
+    ) -> Result<Region, AllocError>
         ensures { IfOk result (λ region.
             (offset : ℕ) → held_in region offset
             ≡ after_leaves leaves.now offset (held_in self.now offset)) }
     {
-        let mut region = self.clone()?;
-        for (offset, value) in leaves {
-            region.bind(*offset, *value)?;
-        }
-        Ok(region)
+        let entries = keyed(alloc, leaves)?;
+        let mut direct = self.direct.copy()?;
+        direct.insert_all(&entries)?;
+        Ok(Region {
+            fill: self.fill,
+            direct,
+            listing: None,
+        })
     }
 
     /// The direct bindings in order of offset. The iterator takes its memory here and none later.
@@ -92,6 +109,53 @@ impl Region {
             entries: self.direct.iter()?,
         })
     }
+
+    /// Whether the words of the direct bindings are worth keeping.
+    pub(crate) fn is_large(&self) -> bool {
+        self.direct.height() >= HIGH
+    }
+
+    /// The listing of the direct bindings, where it is kept.
+    pub fn listing(&self) -> Option<&Listing>
+        ensures { IfSome result (λ listing. listing.now ≡ listing_of (bindings_of self.now)) }
+    {
+        self.listing.as_ref()
+    }
+
+    /// Lists the direct bindings, unless they are many. The region holds what it held.
+    pub(crate) fn list_if_small(&mut self, alloc: Global) -> Result<(), AllocError>
+        ensures { self.new ≡ self.old }
+    {
+        if !self.is_large() {
+            self.listing = Some(self.list(alloc)?);
+        }
+        Ok(())
+    }
+
+    /// The same region with its bindings listed, where they are many and aren't listed yet.
+    pub(crate) fn listed(&self, alloc: Global) -> Result<Option<Region>, AllocError>
+        ensures { IfOk result (λ listed. IfSome listed (λ region. region ≡ self.now)) }
+    {
+        if self.listing.is_some() || !self.is_large() {
+            return Ok(None);
+        }
+        Ok(Some(Region {
+            fill: self.fill,
+            direct: self.direct.copy()?,
+            listing: Some(self.list(alloc)?),
+        }))
+    }
+}
+
+// The leaves as entries of the map of direct bindings.
+fn keyed(alloc: Global, leaves: &[(u64, Value)]) -> Result<Vec<((u64, u64), Value)>, AllocError>
+    ensures { IfOk result (λ entries. entries.items ≡ keyed leaves.now) }
+{
+    let mut entries = Vec::with_capacity(alloc, leaves.len())?;
+    for (offset, value) in leaves {
+        entries.push(((*offset, 0), *value))?;
+    }
+    Ok(entries)
 }
 
 impl Clone for Region {
@@ -101,6 +165,7 @@ impl Clone for Region {
         Ok(Region {
             fill: self.fill,
             direct: self.direct.copy()?,
+            listing: self.listing.clone()?,
         })
     }
 }

@@ -1,9 +1,9 @@
 //! The store: which base region holds what.
 ghost use Rattle.std.specs.Prelude.{◌≡◌, ◌≢◌, ◌⊎◌, ℕ, nat_eq, Some, if◌then◌else◌, IfOk, OnOk, OnErr};
-ghost use Rattle.std.specs.FinMap.{get};
+ghost use Rattle.std.specs.FinMap.{get, insert};
 ghost use Rattle.std.specs.Iterator.{YieldsFirstBy, item_count};
 ghost use Rattle.std.specs.List.{Contains, list_any};
-ghost use Rattle.cs_store.specs.Contents.{Contents, after_leaves, IsListing};
+ghost use Rattle.cs_store.specs.Contents.{Contents, HoldsNothing, after_leaves, IsListing};
 ghost use Rattle.cs_store.specs.Held.{contents_of, held, regions_of, IsRegionListing};
 
 use crate::region::{Bindings, Region};
@@ -24,6 +24,8 @@ pub struct Store {
     regions: PMap<Region>,
     // What stands for each region that is not among the keys.
     unwritten: Region,
+    // Whether no large region was written since they were listed.
+    listed: bool,
 }
 
 impl Model for Store {
@@ -57,6 +59,7 @@ impl Store {
             alloc,
             regions: PMap::new(alloc),
             unwritten: Region::filled(alloc, Fill::Unset),
+            listed: true,
         }
     }
 
@@ -75,6 +78,7 @@ impl Store {
             alloc: self.alloc,
             regions: self.regions.copy()?,
             unwritten: self.unwritten.clone()?,
+            listed: self.listed,
         })
     }
 
@@ -87,8 +91,7 @@ impl Store {
     {
         let mut region = self.region(base).clone()?;
         region.bind(offset, value)?;
-        self.regions.insert((base, 0), region)?;
-        Ok(())
+        self.put(base, region)
     }
 
     /// Fills a base region, whose direct bindings are dropped.
@@ -118,9 +121,8 @@ impl Store {
         if leaves.is_empty() {
             return Ok(());
         }
-        let region = self.region(base).with_leaves(leaves)?;
-        self.regions.insert((base, 0), region)?;
-        Ok(())
+        let region = self.region(base).with_leaves(self.alloc, leaves)?;
+        self.put(base, region)
     }
 
     /// Drops what base regions hold, as those of a frame that ended. Where memory is refused, none is dropped.
@@ -151,6 +153,33 @@ impl Store {
         Ok(EachRegion {
             entries: self.regions.iter()?,
         })
+    }
+
+    /// Lists the bindings of large regions, so that copies share their words; small ones are listed where they are written. The store
+    /// holds what it held.
+    pub fn list_large(&mut self) -> Result<(), AllocError>
+        ensures { self.new ≡ self.old }
+    {
+        if self.listed {
+            return Ok(());
+        }
+        self.regions = listed(self.alloc, &self.regions)?;
+        self.listed = true;
+        Ok(())
+    }
+
+    // A region that was written takes the place of what was held.
+    fn put(&mut self, base: u64, region: Region) -> Result<(), AllocError>
+        requires { ¬ HoldsNothing region }
+        ensures ok { OnOk result (self.new ≡ insert self.old (base, 0) region) }
+        ensures err { OnErr result (self.new ≡ self.old) }
+    {
+        let mut region = region;
+        region.list_if_small(self.alloc)?;
+        let is_listed = self.listed && !region.is_large();
+        self.regions.insert((base, 0), region)?;
+        self.listed = is_listed;
+        Ok(())
     }
 
     fn region(&self, base: u64) -> &Region
@@ -194,6 +223,19 @@ impl<'a> Iterator for EachRegion<'a> {
         let ((base, _), region) = self.entries.next()?;
         Some((base, region))
     }
+}
+
+// The same regions, with the bindings of large ones listed.
+fn listed(alloc: Global, regions: &PMap<Region>) -> Result<PMap<Region>, AllocError>
+    ensures { IfOk result (λ listed. listed ≡ regions.now) }
+{
+    let mut listed = regions.copy()?;
+    for (key, region) in regions.iter()? {
+        if let Some(same) = region.listed(alloc)? {
+            listed.insert(key, same)?;
+        }
+    }
+    Ok(listed)
 }
 
 // The regions other than these.

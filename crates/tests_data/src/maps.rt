@@ -85,6 +85,60 @@ fn gives_entries_in_key_order(rt: HostRuntime) -> Result<(), Fail> {
 }
 
 #[test]
+fn inserts_lists_in_any_order(rt: HostRuntime) -> Result<(), Fail> {
+    let mut map = PMap::new(rt.alloc());
+    map.insert_all(&[((1, 0), 10u64), ((2, 0), 20), ((4, 0), 40)])?;
+    map.insert_all(&[((3, 0), 30), ((2, 0), 21), ((3, 0), 31)])?;
+    map.insert_all(&[((0, 5), 5), ((2, 0), 22), ((5, 0), 50)])?;
+    let mut seen = Vec::new(rt.alloc());
+    for (key, value) in map.iter()? {
+        seen.push((key.0, *value))?;
+    }
+    assert_eq!(rt;
+        seen.as_slice(),
+        [(0, 5), (1, 10), (2, 22), (3, 31), (4, 40), (5, 50)].as_slice()
+    );
+    Ok(())
+}
+
+// The entries of every third number below `size`, in order of their keys.
+fn thirds<'a>(
+    alloc: Global,
+    size: u64,
+    clones_left: &'a Cell<u64>,
+) -> Result<Vec<((u64, u64), Counted<'a>)>, AllocError> {
+    let mut entries = Vec::new(alloc);
+    for third in 0..size / 3 {
+        let number = third * 3;
+        let value = Counted {
+            number,
+            clones_left,
+        };
+        entries.push(((number / 10, number % 10), value))?;
+    }
+    Ok(entries)
+}
+
+#[test]
+fn an_ascending_list_clones_few_values(rt: HostRuntime) -> Result<(), Fail> {
+    let clones_left = Cell::new(0);
+    let map = counted_map(rt.alloc(), 10_000, &clones_left)?;
+    let entries = thirds(rt.alloc(), 10_000, &clones_left)?;
+    let mut copy = map.copy()?;
+    clones_left.set(10_000);
+    copy.insert_all(entries.as_slice())?;
+    assert_all_there(&rt, &copy, 10_000);
+    let mut built = PMap::new(rt.alloc());
+    clones_left.set(3_333);
+    built.insert_all(entries.as_slice())?;
+    assert_eq!(rt; clones_left.get(), 0);
+    clones_left.set(100);
+    assert!(rt; copy.insert_all(entries.as_slice()).is_err());
+    assert_all_there(&rt, &copy, 10_000);
+    Ok(())
+}
+
+#[test]
 fn copies_where_no_value_can_be_cloned(rt: HostRuntime) -> Result<(), Fail> {
     let clones_left = Cell::new(0);
     let map = counted_map(rt.alloc(), 100, &clones_left)?;

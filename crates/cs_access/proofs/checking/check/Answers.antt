@@ -1,38 +1,39 @@
-use Rattle.std.proofs.Common.{◌≡◌, ◌∙◌, inr, length, sym, subst}
-use Rattle.cs_access.specs.Checks.{AreAnswers}
-use Rattle.cs_access.proofs.Asked.{answers_for, many_for, counted_for, if_ok, if_err}
+use Rattle.std.proofs.Common.{◌≡◌, [], length, refl, subst, sym, arith}
+use Rattle.std.proofs.lemmas.Grind.{common_steps}
+use Rattle.cs_access.specs.Kinds.{HaveFaultyValues}
+use Rattle.cs_access.specs.declared.checking.Rest.TheVariants.{Whole}
+use Rattle.cs_access.proofs.Splits.{faults_of_all, rest_of_all, values_listed, none_listed, each_ok}
 use Rattle.cs_access.proofs.checking.check.Goals as goal
 
-pub returns-in_err-kinds-clause-err : goal.returns-in_err-kinds-clause-err
-returns-in_err-kinds-clause-err g c =
-    if_err _ _ (inr (counted_for c.args.checkers.now.items c.ask_each.new.checkers.items c.in_ok-answers.answers.items
-    (λ b. (goal.Checker-dyn g (b.vtable, b.value)).kind_of b.value) (λ b. (goal.Checker-dyn g (b.vtable, b.value)).count_of b.value)
-    c.args.subject.now c.in_ok-answers.ensures.asked))
+pub returns-then-is_empty-clause-faults : goal.returns-then-is_empty-clause-faults
+returns-then-is_empty-clause-faults g c =
+    let none : length c.in_ok-found.found.items ≡ 0 = grind (arith, common_steps) in
+    faults_of_all c.args.state.now c.args.subject.now c.requires _ [] c.new.result.items
+    (none_listed c.args.subject.now _ c.in_ok-found.found.items c.in_ok-found.ensures.found none) c.new.ensures.items
 
-pub split-requires-clause-answers : goal.split-requires-clause-answers
-split-requires-clause-answers g c =
-    subst (AreAnswers c.args.subject.now c.deref.result.now) (sym c.deref-2.ensures.value)
-    (answers_for c.args.checkers.now.items c.ask_each.new.checkers.items c.in_ok-answers.answers.items
-    (λ b. (goal.Checker-dyn g (b.vtable, b.value)).kind_of b.value) (λ b. (goal.Checker-dyn g (b.vtable, b.value)).count_of b.value)
-    c.args.subject.now c.deref.result.now c.in_ok-answers.ensures.asked
-    (c.deref.ensures.value ∙ c.in_ok-kinds.ensures ∙ c.in_ok-answers.ensures.kinds))
+pub returns-then-is_empty-clause-rest : goal.returns-then-is_empty-clause-rest
+returns-then-is_empty-clause-rest g c =
+    let none : length c.in_ok-found.found.items ≡ 0 = grind (arith, common_steps) in
+    rest_of_all c.args.state.now c.args.subject.now c.requires _ [] Whole
+    (none_listed c.args.subject.now _ c.in_ok-found.found.items c.in_ok-found.ensures.found none) (λ v fits. refl)
 
-pub split-requires-clause-as_many : goal.split-requires-clause-as_many
-split-requires-clause-as_many g c =
-    subst (λ answers. length answers ≡ length c.deref.result.now) (sym c.deref-2.ensures.value)
-    (many_for c.args.checkers.now.items c.ask_each.new.checkers.items c.in_ok-answers.answers.items
-    (λ b. (goal.Checker-dyn g (b.vtable, b.value)).kind_of b.value) (λ b. (goal.Checker-dyn g (b.vtable, b.value)).count_of b.value)
-    c.args.subject.now c.deref.result.now c.in_ok-answers.ensures.asked
-    (c.deref.ensures.value ∙ c.in_ok-kinds.ensures ∙ c.in_ok-answers.ensures.kinds))
+pub split-requires-clause-values : goal.split-requires-clause-values
+split-requires-clause-values g c =
+    subst (HaveFaultyValues c.args.subject.now) (sym c.deref.ensures.value)
+    (values_listed c.args.subject.now _ c.in_ok-found.found.items c.in_ok-found.ensures.found)
 
-pub returns-clause-asked : goal.returns-clause-asked
-returns-clause-asked g c =
-    if_ok _ _ (counted_for c.args.checkers.now.items c.ask_each.new.checkers.items c.in_ok-answers.answers.items
-    (λ b. (goal.Checker-dyn g (b.vtable, b.value)).kind_of b.value) (λ b. (goal.Checker-dyn g (b.vtable, b.value)).count_of b.value)
-    c.args.subject.now c.in_ok-answers.ensures.asked)
+pub returns-clause-faults : goal.returns-clause-faults
+returns-clause-faults g c =
+    let faults = rw c.deref.ensures.value at c.split.ensures.faults in
+    each_ok c.split.result _ _
+    (λ checked are.
+    faults_of_all c.args.state.now c.args.subject.now c.requires _ c.in_ok-found.found.items checked.faults.items c.in_ok-found.ensures.found are)
+    faults
 
-pub returns-clause-err : goal.returns-clause-err
-returns-clause-err g c =
-    if_err _ _ (inr (counted_for c.args.checkers.now.items c.ask_each.new.checkers.items c.in_ok-answers.answers.items
-    (λ b. (goal.Checker-dyn g (b.vtable, b.value)).kind_of b.value) (λ b. (goal.Checker-dyn g (b.vtable, b.value)).count_of b.value)
-    c.args.subject.now c.in_ok-answers.ensures.asked))
+pub returns-clause-rest : goal.returns-clause-rest
+returns-clause-rest g c =
+    let rest = rw c.deref.ensures.value at c.split.ensures.rest in
+    each_ok c.split.result _ _
+    (λ checked is.
+    rest_of_all c.args.state.now c.args.subject.now c.requires _ c.in_ok-found.found.items checked.rest c.in_ok-found.ensures.found is)
+    rest

@@ -1,4 +1,4 @@
-use Rattle.std.proofs.Common.{Vec, Global, ◌∙◌}
+use Rattle.std.proofs.Common.{Vec, Global}
 use Rattle.std.proofs.lemmas.Result.{IfOk-weaker}
 use Rattle.cs_eval.specs.declared.piece.Piece.{Piece}
 use Rattle.cs_eval.proofs.ConstantOperations.{constant_split}

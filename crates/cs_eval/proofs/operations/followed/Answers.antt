@@ -30,7 +30,8 @@ returns-in-Callee c =
     AreAnswers c.args.setting.now.model c.args.setting.now.constraints.now c.args.setting.now.guess.0 q pieces.items)) (sym c.in-Callee.is)
     (if_ok_both {X = Vec Piece Global} _ _ _ _
     (λ (pieces : Vec Piece Global). λ made. λ inhabited.
-    callee_split c.args.setting.now.model c.args.setting.now.constraints.now c.args.setting.now.guess.0 c.in-Callee.function c.constant.result pieces.items inhabited c.constant.ensures made)
+    callee_split c.args.setting.now.model c.args.setting.now.constraints.now c.args.setting.now.guess.0 c.in-Callee.function c.constant.result pieces.items
+    inhabited c.constant.ensures made)
     c.one_piece.ensures.piece c.one_piece.ensures.inhabited)
 
 pub returns-in-Binary : goal.returns-in-Binary

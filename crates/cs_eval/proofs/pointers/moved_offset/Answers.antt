@@ -1,4 +1,4 @@
-use Rattle.std.proofs.Common.{◌≡◌, pos, rules, to_z, of_z, ◌∙◌, Option}
+use Rattle.std.proofs.Common.{◌≡◌, pos, rules, to_z, of_z, Option}
 use Rattle.std.specs.Int.{w128}
 use Rattle.std.proofs.lemmas.Result.{IfOk-weaker}
 use Rattle.cs_terms.specs.declared.term.Lin.{Lin}

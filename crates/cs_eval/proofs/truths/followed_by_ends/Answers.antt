@@ -1,4 +1,4 @@
-use Rattle.std.proofs.Common.{rules, ◌≡◌, ℤ, pos, to_z, of_z}
+use Rattle.std.proofs.Common.{rules, ◌≡◌, pos, to_z, of_z}
 use Rattle.std.specs.Int.{w128}
 use Rattle.cs_types.specs.DataModel.{product_bound_of}
 use Rattle.cs_eval.proofs.ProductTests.{all_few, none_few, some_few, counts_wide}
@@ -43,5 +43,6 @@ returns-else-is_product_within-2 c =
     let size_low : to_z w128 (of_z w128 size.result.low) ≡ size.result.low = search rules in
     let bound : to_z w128 (of_z w128 c.from-bound.result) ≡ pos (product_bound_of c.args.setting.now.model) = search rules in
     none_few c.args.setting.now.model c.args.setting.now.constraints.now c.args.count c.args.size count.result size.result c.requires.count c.requires.size
-    count.ensures.ends size.ensures.ends c.is_product_within-else-is_product_within.result (rw (count_low, size_low, bound) at c.is_product_within-else-is_product_within.ensures)
+    count.ensures.ends size.ensures.ends c.is_product_within-else-is_product_within.result
+    (rw (count_low, size_low, bound) at c.is_product_within-else-is_product_within.ensures)
     c.if-is_product_within-2.false

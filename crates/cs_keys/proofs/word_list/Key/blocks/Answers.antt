@@ -2,7 +2,7 @@ use Rattle.std.proofs.Common.{◌≡◌, ◌∙◌, subst}
 use Rattle.std.specs.Prelude.{OnOk}
 use Rattle.cs_keys.specs.Live.{live_entry}
 use Rattle.cs_keys.specs.Words.{with_block}
-use Rattle.cs_keys.proofs.Folding.{one_more_item, one_more_counted, all_items_written}
+use Rattle.cs_word_lists.proofs.Folding.{one_more_item, one_more_counted, all_items_written}
 use Rattle.cs_keys.proofs.word_list.Key.blocks.Goals as goal
 
 pub loop-base-preserved : goal.loop-base-preserved

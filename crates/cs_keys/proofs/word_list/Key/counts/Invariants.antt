@@ -1,6 +1,6 @@
 use Rattle.std.proofs.Common.{◌≡◌, drop}
 use Rattle.std.specs.Prelude.{fold}
-use Rattle.cs_keys.specs.Words.{with_word}
+use Rattle.cs_word_lists.specs.Written.{with_word}
 use Rattle.cs_keys.proofs.word_list.Key.counts.Given as goal
 
 abbrev pub invariant-loop-count : goal.invariant-loop-count

@@ -2,7 +2,7 @@ use Rattle.std.proofs.Common.{◌≡◌, ◌∙◌, subst}
 use Rattle.std.specs.Prelude.{OnOk}
 use Rattle.cs_keys.specs.Live.{live_read}
 use Rattle.cs_keys.specs.Words.{with_read}
-use Rattle.cs_keys.proofs.Folding.{one_more, all_written}
+use Rattle.cs_word_lists.proofs.Folding.{one_more, all_written}
 use Rattle.cs_keys.proofs.word_list.Key.read_cells.Goals as goal
 
 pub loop-cell-preserved : goal.loop-cell-preserved

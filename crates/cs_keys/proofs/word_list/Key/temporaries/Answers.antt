@@ -2,7 +2,7 @@ use Rattle.std.proofs.Common.{◌≡◌, ◌∙◌, subst}
 use Rattle.std.specs.Prelude.{OnOk}
 use Rattle.cs_keys.specs.Live.{live_temporary}
 use Rattle.cs_keys.specs.Words.{with_temporary}
-use Rattle.cs_keys.proofs.Folding.{one_more, all_written}
+use Rattle.cs_word_lists.proofs.Folding.{one_more, all_written}
 use Rattle.cs_keys.proofs.word_list.Key.temporaries.Goals as goal
 
 pub loop-temporary-preserved : goal.loop-temporary-preserved

@@ -2,7 +2,7 @@ use Rattle.std.proofs.Common.{◌≡◌, ◌∙◌, subst}
 use Rattle.std.specs.Prelude.{OnOk}
 use Rattle.cs_keys.specs.Live.{live_term}
 use Rattle.cs_keys.specs.Words.{with_term}
-use Rattle.cs_keys.proofs.Folding.{one_more, all_written}
+use Rattle.cs_word_lists.proofs.Folding.{one_more, all_written}
 use Rattle.cs_keys.proofs.word_list.Key.terms.Goals as goal
 
 pub loop-term-preserved : goal.loop-term-preserved

@@ -2,7 +2,7 @@ use Rattle.std.proofs.Common.{◌≡◌, ◌∙◌, subst}
 use Rattle.std.specs.Prelude.{OnOk}
 use Rattle.cs_keys.specs.Live.{live_value}
 use Rattle.cs_keys.specs.Words.{with_value}
-use Rattle.cs_keys.proofs.Folding.{one_more, all_written}
+use Rattle.cs_word_lists.proofs.Folding.{one_more, all_written}
 use Rattle.cs_keys.proofs.word_list.Key.values.Goals as goal
 
 pub loop-value-preserved : goal.loop-value-preserved

@@ -1,4 +1,4 @@
-use Rattle.cs_store.proofs.Listing.{region_listing}
+use Rattle.cs_store.proofs.EntryLists.{region_listing}
 use Rattle.cs_store.proofs.store.Store.regions.Goals as goal
 
 pub returns-clause-listing : goal.returns-clause-listing

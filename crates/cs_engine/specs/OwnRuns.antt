@@ -1,0 +1,52 @@
+-- Runs without guesses, and those that guess truths alone, fit the states to which their events lead.
+use Rattle.std.specs.Prelude.{◌≡◌, ℕ, ℤ, List, Some, slice_get}
+use Rattle.cs_inputs.specs.declared.path.Path.{Path}
+use Rattle.cs_ast.specs.TypedProgram.{TypedProgram}
+use Rattle.cs_constraints.specs.Constraints.{Fits}
+use Rattle.cs_events.specs.declared.event.Event.{Event}
+use Rattle.cs_events.specs.declared.guess.Guess.{Guess}
+use Rattle.cs_events.specs.declared.outcome.Outcome.{Outcome}
+use Rattle.cs_events.specs.declared.outcome.RunBudgets.{RunBudgets}
+use Rattle.cs_events.specs.Acts.{Act}
+use Rattle.cs_events.specs.Runs.{Setting, Log}
+use Rattle.cs_event_runs.specs.First.{Step}
+use Rattle.cs_cfg.specs.Graph.{Code}
+use Rattle.cs_cfg.specs.Working.{CodeState}
+use Rattle.cs_state.specs.declared.state.State.{State}
+use Rattle.cs_state.specs.Naming.{Naming}
+use Rattle.cs_engine.specs.declared.explored.End.{End}
+use Rattle.cs_engine.specs.declared.explored.Row.{Row}
+use Rattle.cs_engine.specs.Chains.{IsChain}
+use Rattle.cs_engine.specs.EntryRuns.{end_of, events_of, setting_with, HasLeft, EndsAfter}
+use Rattle.cs_engine.specs.OwnNumbers.{own_valuation, ListsOwn}
+
+-- all events of a run
+abbrev pub IsAny : ℕ → Type 0
+IsAny event = Unit {0}
+
+module _ (code : Code) (program : TypedProgram) (entry : ℕ) (budgets : RunBudgets) (names : Naming) where
+  -- the numbers that a run gives symbols fit a state
+  abbrev pub FitsOwn : State → Setting → List Step → Log → Type 0
+  FitsOwn state setting steps log = Fits (own_valuation program entry names setting steps log) state.constraints
+
+  -- a run that passes just these events first fits the state, if it lists no guess, or just the truths that the state has guessed
+  abbrev pub FitsAfter : State → List Event → Type 0
+  FitsAfter state chain =
+      (inputs : Path → ℤ) (guesses : List Guess) (steps : List Step) (left : Act CodeState) (log : Log) → ListsOwn state IsAny guesses
+      → HasLeft code program entry budgets (setting_with program budgets inputs guesses) steps left log → events_of steps ≡ chain
+      → FitsOwn state (setting_with program budgets inputs guesses) steps log
+
+  -- so does a run that passes just these events and ends as an end says
+  abbrev pub FitsAtEnd : End → List Event → Type 0
+  FitsAtEnd end chain =
+      (inputs : Path → ℤ) (guesses : List Guess) (steps : List Step) (outcome : Outcome) (log : Log) → ListsOwn end.state.value IsAny guesses
+      → EndsAfter code program entry budgets (setting_with program budgets inputs guesses) steps outcome log → events_of steps ≡ chain
+      → end.outcome ≡ end_of outcome
+      → FitsOwn end.state.value (setting_with program budgets inputs guesses) steps log
+
+  -- the runs of each row's chain fit the row's state, and those that end as an end does fit the end's
+  pub record HasOwnRuns (rows : List Row) (ends : List End) : Type 0 where
+    pub of_rows : (number : ℕ) (row : Row) (chain : List Event) → slice_get rows number ≡ Some row → IsChain rows number chain
+        → FitsAfter row.state.value chain
+    pub of_ends : (number : ℕ) (end : End) (chain : List Event) → slice_get ends number ≡ Some end → IsChain rows end.row chain
+        → FitsAtEnd end chain

@@ -1,0 +1,66 @@
+-- What a state records of the events that lead to it: its guesses, the phase of a watched protocol, and where its heap blocks were made.
+use Rattle.std.specs.Prelude.{◌≡◌, ◌↔◌, ℕ, suc, true, List, Some, slice_get, Contains}
+use Rattle.std.specs.FinMap as finite
+use Rattle.cs_ast.specs.TypedProgram.{TypedProgram}
+use Rattle.cs_terms.specs.declared.symbol.Sym.{Sym}
+use Rattle.cs_terms.specs.Term.{Valuation}
+use Rattle.cs_constraints.specs.Constraints.{Fits}
+use Rattle.cs_regions.specs.declared.base.Base.TheVariants.{Heap}
+use Rattle.cs_events.specs.declared.event.Event.{Event}
+use Rattle.cs_events.specs.declared.event.Label.TheVariants.{Alloc}
+use Rattle.cs_events.specs.declared.outcome.RunBudgets.{RunBudgets}
+use Rattle.cs_events.specs.Acts.{Act}
+use Rattle.cs_events.specs.PendingEvents.{Tries}
+use Rattle.cs_events.specs.Runs.{Log}
+use Rattle.cs_event_runs.specs.First.{Step}
+use Rattle.cs_meaning.specs.Calls.{allocation_path}
+use Rattle.cs_cfg.specs.Graph.{Code}
+use Rattle.cs_cfg.specs.Working.{CodeState}
+use Rattle.cs_state.specs.declared.asked.Asked.{Asked}
+use Rattle.cs_state.specs.declared.block.Block.{Block}
+use Rattle.cs_state.specs.declared.state.State.{State}
+use Rattle.cs_state.specs.Cells.{block_of}
+use Rattle.cs_state.specs.Meaning.{setting_of}
+use Rattle.cs_state.specs.Naming.{Naming}
+use Rattle.cs_engine.specs.declared.explored.Row.{Row}
+use Rattle.cs_engine.specs.declared.watch.Rule.{Rule}
+use Rattle.cs_engine.specs.Chains.{IsGuessedAlong}
+use Rattle.cs_engine.specs.EntryRuns.{events_of, HasLeft}
+use Rattle.cs_engine.specs.Phases.{IsPhaseAlong}
+
+-- the state's guesses stand in order of their events, one for each
+abbrev pub IsInEventOrder : State → Type 0
+IsInEventOrder state = (key : ℕ × ℕ) (asked : Asked) → finite.get state.asked key ≡ Some asked → key ≡ (asked.event, 0)
+
+-- the state has a guess at an event, for which this symbol stands
+abbrev pub HasGuess : State → ℕ → Sym → Type 0
+HasGuess state event sym = (asked : Asked) × Contains (finite.values state.asked) asked × (asked.event ≡ event) × (asked.guess ≡ sym)
+
+-- the state has just the guesses of the events that lead to a row
+abbrev pub RecordsGuesses : List Row → ℕ → State → Type 0
+RecordsGuesses rows number state = (event : ℕ) (sym : Sym) → IsGuessedAlong rows number event sym ↔ HasGuess state event sym
+
+-- at the event with a number, one of these steps, an allocation with a number gave a block
+pub record IsMadeAt (steps : List Step) (event allocation : ℕ) : Type 0 where
+  pub passed : ℕ
+  pub number : event ≡ suc passed
+  pub one : Step
+  pub there : slice_get steps passed ≡ Some one
+  pub pends : one.pending ≡ Tries one.event.place (allocation_path allocation)
+  pub gives : one.event.label ≡ Alloc true
+
+module _ (code : Code) (program : TypedProgram) (entry : ℕ) (budgets : RunBudgets) (names : Naming) where
+  -- in the run of each valuation that fits, each heap block of the state was made at the event with the number that the block has
+  abbrev pub RecordsAllocations : State → List Event → Type 0
+  RecordsAllocations state chain = (valuation : Valuation) (steps : List Step) (left : Act CodeState) (log : Log)
+      → Fits valuation state.constraints
+      → HasLeft code program entry budgets (setting_of names budgets state valuation) steps left log → events_of steps ≡ chain
+      → (base allocation : ℕ) (block : Block) → slice_get names.bases base ≡ Some (Heap allocation) → block_of state.blocks base ≡ Some block
+      → IsMadeAt steps block.made_by allocation
+
+  -- all that the state of a row, or of an end of it, records of the row's events
+  pub record RecordsEvents (rules : List Rule) (rows : List Row) (number : ℕ) (state : State) (chain : List Event) : Type 0 where
+    pub in_order : IsInEventOrder state
+    pub guesses : RecordsGuesses rows number state
+    pub phase : IsPhaseAlong rules chain state.phase
+    pub allocations : RecordsAllocations state chain

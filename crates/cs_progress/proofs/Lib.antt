@@ -1,0 +1,7 @@
+pub mod Lists
+pub mod Dividing
+pub mod KnownTerms
+pub mod SeenCells
+pub mod OperandsMean
+pub mod Answers
+pub mod Looks

@@ -1,0 +1,77 @@
+-- What is left of an operation in progress: its act, of which some answers are used. The operation goes on where the answers that are left lead
+-- through its act, and waits where none is left for what stands first.
+use Rattle.std.specs.Prelude.{◌≡◌, ◌≢◌, ℕ, ℤ, List, [], ◌∷◌, Option, None, Some, slice_get}
+use Rattle.cs_inputs.specs.declared.path.Path.{Path}
+use Rattle.cs_ast.specs.declared.place.Place.{Place}
+use Rattle.cs_terms.specs.Term.{Valuation, value_of}
+use Rattle.cs_terms.specs.declared.term.Lin.{Lin}
+use Rattle.cs_constraints.specs.Constraints.{Fits}
+use Rattle.cs_events.specs.declared.event.Label.TheVariants as label
+use Rattle.cs_events.specs.declared.input.InputKind.{InputKind}
+use Rattle.cs_events.specs.Operations.{is_true}
+use Rattle.cs_events.specs.Objects.{Cell}
+use Rattle.cs_events.specs.Acts.{Act, Goes, Stops, Reads, Asks, Allocates, Reaches, Touches}
+use Rattle.cs_event_runs.specs.Left.{left_of}
+use Rattle.cs_meaning.specs.Access as access
+use Rattle.cs_cfg.specs.Working.{CodeState}
+use Rattle.cs_regions.specs.declared.base.Base.{Base}
+use Rattle.cs_store.specs.declared.value.Value.{Value}
+use Rattle.cs_store.specs.declared.value.Value.TheVariants as value
+use Rattle.cs_state.specs.declared.state.State.{State}
+use Rattle.cs_state.specs.Cells.{cell_of}
+use Rattle.cs_eval.specs.declared.question.Question.{Question}
+use Rattle.cs_eval.specs.Questions.{operation_of}
+use Rattle.cs_progress.specs.declared.next.Next.{Next}
+use Rattle.cs_progress.specs.declared.next.Next.TheVariants as next
+use Rattle.cs_progress.specs.Answering.{answers_left}
+
+-- an act uses all answers: none is left where it ends or goes on to another state
+unfoldable pub UsesAll : (Path → InputKind → Cell) → List ℤ → Act CodeState → Type 0
+UsesAll cells answers (Goes next) = answers ≡ []
+UsesAll cells answers (Stops outcome) = answers ≡ []
+UsesAll cells answers (Reads path kind onward) = UsesAll cells answers (onward (cells path kind))
+UsesAll cells answers (Touches touch act) = UsesAll cells answers act
+UsesAll cells [] (Asks at operation onward) = Unit {0}
+UsesAll cells [] (Allocates at path onward) = Unit {0}
+UsesAll cells [] (Reaches at object offset act) = Unit {0}
+UsesAll cells (answer ∷ answers) (Asks at operation onward) = UsesAll cells answers (onward answer)
+UsesAll cells (answer ∷ answers) (Allocates at path onward) = UsesAll cells answers (onward (is_true answer))
+UsesAll cells (answer ∷ answers) (Reaches at object offset act) = UsesAll cells answers act
+
+-- of an act that uses all answers the same is left as of another one after the later answers, which uses all of these
+abbrev pub Leads : (Path → InputKind → Cell) → List ℤ → List ℤ → Act CodeState → Act CodeState → Type 0
+Leads cells before after one other =
+    UsesAll cells before one → (left_of cells before one ≡ left_of cells after other) × UsesAll cells after other
+
+-- under each valuation that fits, an operation gets through the first part of its act, whatever comes after that
+abbrev pub GetsThrough : State → ℕ → ℕ → (Valuation → Act CodeState → Act CodeState) → Type 0
+GetsThrough state before after part = (cells : Path → InputKind → Cell) (valuation : Valuation) → Fits valuation state.constraints
+    → (act : Act CodeState) → Leads cells (answers_left state before valuation) (answers_left state after valuation) (part valuation act) act
+
+-- under each valuation that fits, a question stands first in what is left of the act
+pub record WaitsToAsk (state : State) (used : ℕ) (first : Next) (act : Valuation → Act CodeState) : Type 0 where
+  pub at : Place
+  pub question : Question
+  pub first_is : first ≡ next.Asks at question
+  pub stands : (cells : Path → InputKind → Cell) (valuation : Valuation) → Fits valuation state.constraints
+      → (onward : ℤ → Act CodeState)
+      × (left_of cells (answers_left state used valuation) (act valuation) ≡ Asks at (operation_of valuation question) onward)
+
+-- the base region of a pointer has a name
+abbrev pub IsNamed : List Base → Value → Type 0
+IsNamed bases (value.Number term) = Unit {0}
+IsNamed bases value.Null = Unit {0}
+IsNamed bases (value.At base offset) = slice_get bases base ≢ None
+IsNamed bases (value.Start base offset) = slice_get bases base ≢ None
+IsNamed bases value.Unset = Unit {0}
+
+-- a value is looked at before an act
+abbrev pub looked : List Base → State → Place → Value → Valuation → Act CodeState → Act CodeState
+looked bases state at value valuation act = access.look at (cell_of bases state.blocks valuation value) act
+
+-- what a look at a value shows, if it shows anything: whether a term isn't 0
+abbrev pub ShowsLook : State → Value → Option Lin → Type 0
+ShowsLook state value None = (bases : List Base) (valuation : Valuation) (at : Place) (act : Act CodeState)
+    → looked bases state at value valuation act ≡ act
+ShowsLook state value (Some there) = (bases : List Base) (valuation : Valuation) → IsNamed bases value → (at : Place) (act : Act CodeState)
+    → looked bases state at value valuation act ≡ access.shows_then at (label.Look (is_true (value_of valuation there))) act

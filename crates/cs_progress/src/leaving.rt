@@ -1,0 +1,82 @@
+//! The end of a frame.
+ghost use Rattle.std.specs.Prelude.{◌≡◌, ◌+◌, Some, length, slice_get, IfOk, OnOk};
+ghost use Rattle.cs_ast.specs.declared.typed.program.Function.{Function};
+ghost use Rattle.cs_state.specs.Naming.{naming};
+ghost use Rattle.cs_progress.specs.Leaving.{functions_of, AreLocals, AreUnset};
+
+use crate::context::Context;
+use crate::operands::value_of;
+use crate::pause::Pause;
+use crate::progress::Progress;
+use cs_events::{Outcome, Returned};
+use cs_regions::Base;
+use cs_state::{State, Tables, Temporary};
+use std::alloc::AllocError;
+
+/// The frame that runs ends, and gives a value to the one that called it; the run is done where none did.
+pub fn leave(
+    context: &Context,
+    state: &mut State,
+    tables: &mut Tables,
+    progress: &mut Progress,
+    given: Temporary,
+) -> Result<(), Pause>
+    ensures { OnOk result (AreUnset (functions_of context.now)
+        (naming tables.new).bases state.old.frame state.new.store) }
+{
+    if state.callers.depth() == 0 {
+        let returned = match &given {
+            Temporary::Nothing => None,
+            Temporary::Scalar(_) | Temporary::Whole(_) => Some(value_of(&given)),
+        };
+        state.set_result(returned);
+        return Err(progress.finish(Outcome::Done(Returned::Nothing)));
+    }
+    let bases = local_bases(context, state, tables)?;
+    state.unbind(&bases)?;
+    if !state.leave()? {
+        return Err(Pause::Memory);
+    }
+    state.push(given)?;
+    Ok(())
+}
+
+// The base regions of the locals of the frame that runs.
+fn local_bases(
+    context: &Context,
+    state: &State,
+    tables: &mut Tables,
+) -> Result<Vec<u64>, AllocError>
+    ensures { IfOk result (λ bases. (function : Function)
+        → slice_get (functions_of context.now) state.now.frame.spot.function ≡ Some function
+        → AreLocals (naming tables.new).bases state.now.frame.number
+        (length function.locals.items) bases.items) }
+{
+    let locals = context
+        .locals_of(state.frame.spot.function)
+        .ok_or(AllocError)?;
+    let mut bases = Vec::new(context.alloc);
+    for declaration in 0..locals.len() {
+        add_local(tables, &mut bases, state.frame.number, declaration)?;
+    }
+    Ok(bases)
+}
+
+// Adds the base region of one more local of a frame.
+fn add_local(
+    tables: &mut Tables,
+    bases: &mut Vec<u64>,
+    frame: u64,
+    declaration: usize,
+) -> Result<(), AllocError>
+    requires { AreLocals (naming tables.old).bases frame declaration bases.old.items }
+    ensures { OnOk result
+        (AreLocals (naming tables.new).bases frame (declaration + 1) bases.new.items) }
+{
+    let Ok(decl) = u32::try_from(declaration) else {
+        return Err(AllocError);
+    };
+    let base = tables.base(Base::Local { frame, decl })?;
+    bases.push(base)?;
+    Ok(())
+}

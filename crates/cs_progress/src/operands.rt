@@ -1,0 +1,87 @@
+//! The operands of an operation: the newest temporaries of the frame that runs.
+ghost use Rattle.std.specs.Prelude.{◌≡◌, IfOk, OnOk};
+ghost use Rattle.cs_state.specs.declared.temporary.Temporary.TheVariants.{Scalar};
+ghost use Rattle.cs_progress.specs.Operands.{IsOperandAt, IsScalarOf, IsCellAt, IsNumberOf, IsNumberAt, MeansDropped, MeansReplaced};
+
+use crate::pause::Pause;
+use crate::terms::{constant, known};
+use cs_state::{State, Temporary};
+use cs_store::Value;
+use cs_terms::Lin;
+use std::alloc::AllocError;
+
+/// An operand by its age, the newest being 0.
+pub fn operand(state: &State, age: usize) -> Result<&Temporary, AllocError>
+    ensures { IfOk result (λ operand. IsOperandAt state.now age operand.now) }
+{
+    let list = state.frame.temporaries.as_slice();
+    if age >= list.len() {
+        return Err(AllocError);
+    }
+    Ok(&list[list.len() - 1 - age])
+}
+
+/// The scalar that an operand is; any other counts as unset.
+pub fn value_of(temporary: &Temporary) -> Value
+    ensures { IsScalarOf temporary.now result }
+{
+    match temporary {
+        Temporary::Scalar(value) => *value,
+        Temporary::Whole(_) | Temporary::Nothing => Value::Unset,
+    }
+}
+
+/// The scalar that an operand is, by its age.
+pub fn value(state: &State, age: usize) -> Result<Value, Pause>
+    ensures { IfOk result (IsCellAt state.now age) }
+{
+    let temporary = operand(state, age)?;
+    Ok(value_of(temporary))
+}
+
+/// The number that an operand is, by its age; any other counts as 0.
+pub fn number(state: &State, age: usize) -> Result<Lin, Pause>
+    ensures { IfOk result (IsNumberAt state.now age) }
+{
+    let value = value(state, age)?;
+    number_in(state, value)
+}
+
+/// The number that a value is; any other counts as 0.
+pub fn number_in(state: &State, value: Value) -> Result<Lin, Pause>
+    ensures { IfOk result (IsNumberOf state.now value) }
+{
+    match value {
+        Value::Number(term) => known(state, term),
+        _ => Ok(constant(0)),
+    }
+}
+
+/// Drops so many of the newest operands, and leaves one in their place.
+pub fn replace(state: &mut State, count: usize, left: Temporary) -> Result<(), Pause>
+    ensures { OnOk result (MeansReplaced count left state.old state.new) }
+{
+    drop_newest(state, count)?;
+    state.push(left)?;
+    Ok(())
+}
+
+/// The same with a scalar.
+pub fn replace_with(state: &mut State, count: usize, value: Value) -> Result<(), Pause>
+    ensures { OnOk result (MeansReplaced count (Scalar value) state.old state.new) }
+{
+    replace(state, count, Temporary::Scalar(value))
+}
+
+/// Drops so many of the newest operands.
+pub fn drop_newest(state: &mut State, count: usize) -> Result<(), Pause>
+    ensures means { OnOk result (MeansDropped count state.old state.new) }
+    ensures blocks { state.new.blocks ≡ state.old.blocks }
+{
+    let length = state.frame.temporaries.as_slice().len();
+    if count > length {
+        return Err(Pause::Memory);
+    }
+    state.cut(length - count);
+    Ok(())
+}

@@ -1,0 +1,113 @@
+//! Pointers: whether they are null, and where they point.
+ghost use Rattle.std.specs.Prelude.{◌≡◌, List, Some, IfOk, IfErr};
+ghost use Rattle.cs_regions.specs.declared.base.Base.{Base};
+ghost use Rattle.cs_events.specs.Acts.{Act};
+ghost use Rattle.cs_cfg.specs.Working.{CodeState};
+ghost use Rattle.cs_state.specs.Cells.{block_of};
+ghost use Rattle.cs_progress.specs.declared.pause.Pause.TheVariants as pause;
+ghost use Rattle.cs_progress.specs.Acting.{GetsThrough, WaitsToAsk, IsNamed, looked, ShowsLook};
+ghost use Rattle.cs_progress.specs.Operands.{IsFurther};
+ghost use Rattle.cs_progress.specs.Seeing.{IsSeenIn};
+
+use crate::pause::Pause;
+use crate::progress::Progress;
+use crate::terms::{constant, is_zero, known, own, shifted};
+use cs_ast::Place;
+use cs_eval::{Question, Tested};
+use cs_state::{Block, State};
+use cs_store::Value;
+use cs_terms::Lin;
+use std::alloc::AllocError;
+
+/// A value, once it was looked at whether it is a null pointer.
+#[derive(Clone, Copy)]
+pub enum Seen {
+    Null,
+    /// The byte at an offset of a base region.
+    At(u64, Lin),
+    /// No pointer.
+    Other,
+}
+
+/// A pointer shows whether it is null; nothing else shows.
+pub fn look(state: &State, progress: &mut Progress, at: Place, value: Value) -> Result<Seen, Pause>
+    ensures seen { IfOk result (IsSeenIn state.now value) }
+    ensures through { IfOk result (λ seen. (bases : List Base) → IsNamed bases value
+        → GetsThrough state.now progress.old.used progress.new.used
+        (looked bases state.now at value)) }
+    ensures waits { IfErr result (λ why. why ≡ pause.Waits
+        → (bases : List Base) → IsNamed bases value → (act : Act CodeState)
+        → WaitsToAsk state.now progress.old.used progress.new.first
+        (λ valuation. looked bases state.now at value valuation act)) }
+{
+    if let Some(there) = shown_by(state, value)? {
+        progress.ask(state, at, Question::Test(Tested::Look, there))?;
+    }
+    resolved(state, value)
+}
+
+// What a look at a value shows: whether a number isn't 0. Nothing shows where the value is no pointer.
+fn shown_by(state: &State, value: Value) -> Result<Option<Lin>, AllocError>
+    ensures { IfOk result (ShowsLook state.now value) }
+{
+    match value {
+        Value::Number(_) => Ok(None),
+        Value::Null => Ok(Some(constant(0))),
+        Value::At(_, _) => Ok(Some(constant(1))),
+        Value::Start(base, _) => Ok(Some(own(block(state, base)?.sym))),
+        Value::Unset => Ok(None),
+    }
+}
+
+/// Where a value points that was looked at.
+pub fn resolved(state: &State, value: Value) -> Result<Seen, Pause>
+    ensures seen { IfOk result (IsSeenIn state.now value) }
+    ensures memory { IfErr result (λ why. why ≡ pause.Memory) }
+{
+    match value {
+        Value::Number(_) | Value::Unset => Ok(Seen::Other),
+        Value::Null => Ok(Seen::Null),
+        Value::At(base, offset) => Ok(Seen::At(base, known(state, offset)?)),
+        Value::Start(base, offset) => match is_zero(state, own(block(state, base)?.sym))? {
+            Some(true) => Ok(Seen::Null),
+            Some(false) => Ok(Seen::At(base, constant(i128::from(offset)))),
+            None => Err(Pause::Memory),
+        },
+    }
+}
+
+/// The start block or heap block of a base region.
+pub fn block(state: &State, base: u64) -> Result<&Block, AllocError>
+    ensures { IfOk result (λ block. block_of state.now.blocks base ≡ Some block.now) }
+{
+    state.blocks.get((base, 0)).ok_or(AllocError)
+}
+
+/// A pointer so many bytes further on; null stays null.
+pub fn further(state: &State, value: Value, bytes: u64) -> Result<Value, Pause>
+    ensures { IfOk result (IsFurther state.now value bytes) }
+{
+    match value {
+        Value::At(base, offset) => {
+            let offset = known(state, offset)?;
+            let moved = shifted(offset, i128::from(bytes))?;
+            Ok(Value::At(base, moved))
+        }
+        Value::Start(base, offset) => {
+            let Some(offset) = offset.checked_add(bytes) else {
+                return Err(Pause::Memory);
+            };
+            Ok(Value::Start(base, offset))
+        }
+        Value::Null => Ok(Value::Null),
+        Value::Number(_) | Value::Unset => Ok(value),
+    }
+}
+
+/// The truth that an answer is, which is a constant.
+pub fn truth(answer: Lin) -> Result<bool, Pause> {
+    match answer.sym {
+        Some(_) => Err(Pause::Memory),
+        None => Ok(answer.value != 0),
+    }
+}

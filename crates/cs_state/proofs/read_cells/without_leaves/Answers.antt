@@ -1,0 +1,7 @@
+use Rattle.std.proofs.Common.{◌∙◌}
+use Rattle.cs_state.proofs.Reading.{leaf_out}
+use Rattle.cs_state.proofs.read_cells.without_leaves.Goals as goal
+
+pub loop-offset-preserved : goal.loop-offset-preserved
+loop-offset-preserved c =
+    rw c.in_ok-remove.ensures.ok (λ o. leaf_out _ _ _ c.loop-offset.others o c.loop-offset-test.true ∙ c.loop-offset.invariant o)

@@ -1,0 +1,53 @@
+//! One attempt to carry out an operation.
+ghost use Rattle.std.specs.Prelude.{◌≡◌, ◌⊎◌, map, OnOk};
+ghost use Rattle.cs_progress.specs.Answering.{IsAnsweredLater};
+ghost use Rattle.cs_steps.specs.Asking.{KeepKinds, IsNoFault};
+
+use cs_access::{Rest, can_check, check};
+use cs_ast::Place;
+use cs_checker::{Checker, Subject};
+use cs_progress::{Next, Pause, Progress};
+use cs_state::State;
+use std::alloc::Global;
+
+/// How far an operation has come, and the checkers that it asks about what it is about to do.
+#[derive(Drop)]
+pub struct Attempt {
+    pub alloc: Global,
+    pub progress: Progress,
+    pub checkers: Vec<Box<dyn Checker>>,
+}
+
+impl Attempt {
+    /// An operation that begins.
+    pub fn new(alloc: Global, checkers: Vec<Box<dyn Checker>>) -> Attempt
+        ensures { result.checkers.items ≡ checkers.items }
+    {
+        Attempt {
+            alloc,
+            progress: Progress::new(),
+            checkers,
+        }
+    }
+
+    /// What is about to be done is no fault, under no valuation that fits. What comes before an event that was answered was checked before
+    /// that event.
+    pub fn check(&mut self, state: &State, at: Place, subject: Subject) -> Result<(), Pause>
+        ensures kinds { KeepKinds (λ b. kind_of b) self.old.checkers.items self.new.checkers.items }
+        ensures passed { OnOk result (IsAnsweredLater state.now self.old.progress.used
+            ⊎ IsNoFault state.now subject (map (λ b. kind_of b) self.old.checkers.items)) }
+    {
+        if self.progress.is_answered_later(state) {
+            return Ok(());
+        }
+        if !can_check(state, &subject) {
+            return Err(Pause::Memory);
+        }
+        let checked = check(self.alloc, state, &subject, &mut self.checkers)?;
+        if let Rest::Whole = checked.rest {
+            return Ok(());
+        }
+        let checked = Box::new(self.alloc, checked)?;
+        Err(self.progress.wait(Next::Checks(at, checked)))
+    }
+}

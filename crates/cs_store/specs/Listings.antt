@@ -1,0 +1,64 @@
+-- Listings: the words of the values that are bound in a region, and the symbols that they mention. A term is listed by its slope, its value
+-- where its symbol is 0, and the number of its symbol; what numbers the symbol may have isn't listed.
+use Rattle.std.specs.Prelude.{◌≡◌, ℕ, ℤ, ◌-ℤ◌, ◌*ℤ◌, List, [], Option, None, Some}
+use Rattle.std.specs.FinMap as finite
+use Rattle.std.specs.Int.{w128, int_wrap}
+use Rattle.std.specs.List.{flat_map}
+use Rattle.std.specs.Option.{option_to_list}
+use Rattle.cs_word_lists.specs.Written.{with_word, with_integer, with_list}
+use Rattle.cs_pmap.specs.Keys.{key_cmp}
+use Rattle.cs_terms.specs.declared.symbol.Sym.{Sym}
+use Rattle.cs_terms.specs.declared.term.Lin.{Lin}
+use Rattle.cs_store.specs.declared.value.Value.{Value}
+use Rattle.cs_store.specs.declared.value.Value.TheVariants.{Number, Null, At, Start, Unset}
+use Rattle.cs_store.specs.Contents.{by_number}
+
+-- the value of a term where its symbol is 0, in the arithmetic of 128 bits
+abbrev pub origin_of : Lin → ℤ
+origin_of term = int_wrap w128 (term.value -ℤ (term.slope *ℤ term.at))
+
+-- a term ends with 0 where it is a constant, and with 1 where it has a symbol
+abbrev pub list_term_over : Option Sym → List ℕ → Lin → List ℕ
+list_term_over None words term = with_word (with_integer words term.value) 0
+list_term_over (Some sym) words term =
+    with_word (with_word (with_integer (with_integer words term.slope) (origin_of term)) sym.0) 1
+
+abbrev pub list_term : List ℕ → Lin → List ℕ
+list_term words term = list_term_over term.sym words term
+
+-- a value ends with the number of its form
+abbrev pub list_value : List ℕ → Value → List ℕ
+list_value words (Number term) = with_word (list_term words term) 0
+list_value words Null = with_word words 1
+list_value words (At base offset) = with_word (with_word (list_term words offset) base) 2
+list_value words (Start base offset) = with_word (with_word (with_word words offset) base) 3
+list_value words Unset = with_word words 4
+
+-- a value after which its offset comes
+abbrev pub list_binding : List ℕ → ℕ × Value → List ℕ
+list_binding words binding = with_word (list_value words binding.1) binding.0
+
+-- the symbol that a value mentions, if there is one
+abbrev pub symbol_in : Value → Option Sym
+symbol_in (Number term) = term.sym
+symbol_in Null = None
+symbol_in (At base offset) = offset.sym
+symbol_in (Start base offset) = None
+symbol_in Unset = None
+
+-- the symbols that bindings mention, in order
+abbrev pub symbols_in : List (ℕ × Value) → List Sym
+symbols_in bindings = flat_map (λ binding. option_to_list (symbol_in binding.1)) bindings
+
+pub record Listed : Type 0 where
+  pub words : List ℕ
+  pub symbols : List Sym
+
+-- the listing of bindings
+abbrev pub listing_of : List (ℕ × Value) → Listed
+listing_of bindings = record { words = with_list list_binding [] bindings; symbols = symbols_in bindings }
+
+-- what is kept beside the bindings of a region is their listing
+abbrev pub IsListed : finite.FinMap key_cmp Value → Option Listed → Type 0
+IsListed direct None = Unit {0}
+IsListed direct (Some listing) = listing ≡ listing_of (by_number (finite.entries direct))

@@ -1,0 +1,4 @@
+pub mod Coding
+pub mod Digests
+pub mod Folding
+pub mod After

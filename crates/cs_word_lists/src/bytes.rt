@@ -1,0 +1,23 @@
+//! Words as bytes.
+ghost use Rattle.std.specs.Prelude.{◌≡◌, ◌++◌, OnOk, OnErr};
+ghost use Rattle.cs_word_lists.specs.Bytes.{bytes_of_word};
+
+use std::alloc::AllocError;
+
+// The most bytes that a word has.
+const LONGEST: usize = 10;
+
+/// Appends the bytes of a word, all or none.
+pub(crate) fn append_digits(bytes: &mut Vec<u8>, word: u64) -> Result<(), AllocError>
+    ensures ok { OnOk result (bytes.new.items ≡ bytes.old.items ++ bytes_of_word word) }
+    ensures err { OnErr result (bytes.new.items ≡ bytes.old.items) }
+{
+    bytes.reserve(LONGEST)?;
+    let mut rest = word;
+    while rest >= 128 {
+        bytes.push_reserved((rest % 128 + 128) as u8);
+        rest /= 128;
+    }
+    bytes.push_reserved(rest as u8);
+    Ok(())
+}
