@@ -1,15 +1,12 @@
--- Statements and pieces in a row: for the contracts of `put_from` and `put_pieces`.
+-- Statements in a row: for the contracts of `put_from` and `count_of`.
 use Rattle.std.proofs.Common.{◌≡◌, ℕ, zero, suc, ◌+◌, ◌<◌, ◌≤◌, List, [], ◌∷◌, drop, take, length, refl, ap, ◌∙◌, arith}
-use Rattle.cs_ast.specs.declared.place.Place.{Place}
 use Rattle.cs_ast.specs.declared.typed.statement.Stmt.{Stmt}
 use Rattle.cs_ast.specs.TypedTree.{count_of}
 use Rattle.cs_ast.specs.TypedView.{statement, statement_list}
-use Rattle.cs_meaning.specs.Initials.{Piece, Evaluated, Spelled}
 use Rattle.cs_meaning.specs.Machine.{Item}
 use Rattle.cs_meaning.specs.CountedPoints.{counted_points, counted_points_in}
 use Rattle.cs_meaning.specs.Jumps.{executes}
-use Rattle.cs_meaning.specs.Statements.{executes_from, stores_pieces}
-use Rattle.cs_frames.specs.Storing.{with_piece}
+use Rattle.cs_meaning.specs.Statements.{executes_from}
 
 -- statements from the one with a number on
 pub executes_from-drop : (ss : List Stmt) (n counted_point : ℕ) (following : List Item) → n ≤ length ss
@@ -37,11 +34,3 @@ executes_from-past (s ∷ ss) (suc n) counted_point following h = executes_from-
 pub count_of-list : (ss : List Stmt) → count_of (statement_list ss) ≡ length ss
 count_of-list [] = refl
 count_of-list (s ∷ ss) = omega (arith, count_of-list ss)
-
--- a piece before others
-pub piece_before : (at : Place) (declaration : ℕ) (piece : Piece) (others : List Piece) (following : List Item)
-    → stores_pieces at declaration (piece ∷ others) following ≡ with_piece at declaration piece (stores_pieces at declaration others following)
-piece_before at declaration (Evaluated offset e) others following = refl
-piece_before at declaration (Spelled offset bytes) others following = refl
-
-pub ruleset in_rows = (count_of-list, piece_before)

@@ -2,7 +2,6 @@ pub mod Beginning
 pub mod Calling
 pub mod InRows
 pub mod NewLocals
-pub mod MachineStates
 pub mod Overwriting
 pub mod Rows
 pub mod Stacks

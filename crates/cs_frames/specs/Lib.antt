@@ -1,4 +1,3 @@
 pub mod Calling
 pub mod Jumping
-pub mod Storing
 pub mod Switching

@@ -5,7 +5,6 @@ pub mod cases;
 pub mod frames;
 pub mod landing;
 pub mod lists;
-pub mod locals;
 pub mod operands;
 pub mod outside;
 pub mod putting;

@@ -68,15 +68,15 @@ impl<'a> Runner<'a> {
             (state_in self.old)) }
     {
         let alloc = *self.machine.callers.allocator();
-        let allocation = next_allocation(&self.machine)?;
+        let allocation = self.machine.next_allocation()?;
         let extent = bytes_of_number(bytes)?;
         let path = root_path(alloc, Root::Malloc(allocation));
         let given = self.log.try_allocation(self.setting, place, path)?;
         if given {
             let block = Block::new(alloc, element_of(element), extent, fill);
-            add_block(&mut self.machine, allocation, block)?;
+            self.machine.add_block(allocation, block)?;
         } else {
-            add_none(&mut self.machine)?;
+            self.machine.add_none()?;
         }
         Ok(())
     }
@@ -101,7 +101,7 @@ impl<'a> Runner<'a> {
                 .operate(self.setting, place, BinOp::Mul, ty, count, size)?;
             self.allocate_bytes(place, element, bytes, Fill::Zero)
         } else {
-            add_none(&mut self.machine)?;
+            self.machine.add_none()?;
             Ok(())
         }
     }
@@ -137,110 +137,12 @@ impl<'a> Runner<'a> {
         ensures { Performs self.old self.new result
             (calls.release_object place (object_of object.now) offset (state_in self.old)) }
     {
-        if let Some(kind) = refused_release(&self.machine, object, offset) {
+        if let Some(kind) = self.machine.refused_release(object, offset) {
             return Err(fault(kind, place));
         }
-        free(&mut self.machine, object)?;
+        self.machine.free(object)?;
         self.machine.push(Operand::Nothing)?;
         Ok(())
-    }
-}
-
-// The number of the next allocation.
-#[tactic(auto, unfolding(cs_run_state::specs::MachineView::state_of))]
-fn next_allocation(state: &Machine) -> Result<u64, AllocError>
-    ensures { IfOk result (λ number. number ≡ (state_of state.now).allocations + 1) }
-{
-    (state.memory.heap.len() as u64)
-        .checked_add(1)
-        .ok_or(AllocError)
-}
-
-// An allocation gives a block.
-#[tactic(auto, unfolding(cs_run_state::specs::MachineView::state_of))]
-fn add_block<'a>(
-    state: &mut Machine<'a>,
-    allocation: u64,
-    block: Block<'a>,
-) -> Result<(), AllocError>
-    requires { allocation ≡ (state_of state.old).allocations + 1 }
-    ensures { OnOk result (state_of state.new
-        ≡ machine.push_cell (PointerCell (HeapBlock allocation) (pos 0))
-        (record (state_of state.old) {
-          allocations = allocation;
-          memory =
-              meaning.with_block (HeapBlock allocation) (block_of block.entry)
-              (state_of state.old).memory;
-        })) }
-{
-    state.memory.allocate(block)?;
-    state.push_cell(Cell::Pointer(Object::Heap(allocation), 0))?;
-    Ok(())
-}
-
-// An allocation gives none.
-#[tactic(auto, unfolding(cs_run_state::specs::MachineView::state_of))]
-fn add_none(state: &mut Machine) -> Result<(), AllocError>
-    ensures { OnOk result (state_of state.new
-        ≡ machine.push_cell NullCell
-        (record (state_of state.old) { allocations = (state_of state.old).allocations + 1 })) }
-{
-    state.memory.allocate_none()?;
-    state.push_cell(Cell::Null)?;
-    Ok(())
-}
-
-// A block is freed.
-#[tactic(auto, unfolding(cs_run_state::specs::MachineView::state_of))]
-fn free(state: &mut Machine, object: &Object) -> Result<(), AllocError>
-    ensures { OnOk result (state_of state.new
-        ≡ machine.with_memory (meaning.changed (meaning.stand Standing.Freed)
-        (object_of object.now) (state_of state.old).memory) (state_of state.old)) }
-{
-    state.memory.change(object, Change::Stand(Standing::Freed))?;
-    Ok(())
-}
-
-// The fault by which `free` refuses a pointer, if it does.
-fn refused_release(state: &Machine, object: &Object, offset: i128) -> Option<Kind>
-    ensures { (place : Place)
-        → calls.release_object place (object_of object.now) offset (state_of state.now)
-        ≡ or_fault place result
-        (Goes (machine.push machine.Nothing
-        (machine.with_memory
-        (meaning.changed (meaning.stand Standing.Freed) (object_of object.now)
-        (state_of state.now).memory) (state_of state.now)))) }
-{
-    match object {
-        Object::Start(_) => refused_standing(state.memory.block(object), offset),
-        Object::Heap(_) => refused_standing(state.memory.block(object), offset),
-        Object::Global(_) => Some(Kind::BadFree),
-        Object::Literal(_) => Some(Kind::BadFree),
-        Object::Local(_, _) => Some(Kind::BadFree),
-    }
-}
-
-// The same by what is known of the block.
-fn refused_standing(block: Option<&Block>, offset: i128) -> Option<Kind>
-    ensures { (place : Place) (object : PlainObject) (m : State)
-        → calls.release_known place (option_map block_of (option_copied block.entry)) object
-        offset m ≡ or_fault place result
-        (Goes (machine.push machine.Nothing
-        (machine.with_memory (meaning.changed (meaning.stand Standing.Freed) object m.memory) m))) }
-{
-    match block {
-        Some(block) => match block.standing {
-            Standing::Live => {
-                if offset == 0 {
-                    None
-                } else {
-                    Some(Kind::BadFree)
-                }
-            }
-            Standing::Freed => Some(Kind::DoubleFree),
-            Standing::Ended => Some(Kind::BadFree),
-        },
-        None => Some(Kind::BadFree),
     }
 }
 

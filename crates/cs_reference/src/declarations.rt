@@ -10,7 +10,6 @@ use crate::runner::Runner;
 use cs_ast::Place;
 use cs_ast::typed::statement::Initial;
 use cs_frames::frames::number_of;
-use cs_frames::locals::{initialize, refill_local, scalar_local, store_newest};
 use cs_memory::access::touch_store;
 use cs_objects::blocks::Fill;
 use cs_objects::pieces::pieces;
@@ -53,11 +52,13 @@ impl<'a> Runner<'a> {
                 Ok(())
             }
             Initial::List(_) => {
-                initialize(&mut self.machine, program, place, declaration, first)?;
+                self.machine
+                    .initialize_local(program, place, declaration, first)?;
                 Ok(())
             }
             Initial::Text(_) => {
-                initialize(&mut self.machine, program, place, declaration, first)?;
+                self.machine
+                    .initialize_local(program, place, declaration, first)?;
                 Ok(())
             }
         }
@@ -69,10 +70,10 @@ impl<'a> Runner<'a> {
             (meaning.clear_local (program_of self.old) place declaration (state_in self.old)) }
     {
         let frame = number_of(&self.machine);
-        if let Some(local) = scalar_local(&self.machine, self.setting.program, declaration) {
+        if let Some(local) = self.machine.scalar_local(self.setting.program, declaration) {
             self.log.touch(Touch::Clears(frame, local, place))?;
         }
-        refill_local(&mut self.machine, declaration, Fill::Unset)?;
+        self.machine.refill_local(declaration, Fill::Unset)?;
         Ok(())
     }
 
@@ -90,9 +91,10 @@ impl<'a> Runner<'a> {
             (state_in self.old)) }
     {
         let frame = number_of(&self.machine);
-        let local = scalar_local(&self.machine, self.setting.program, declaration);
+        let local = self.machine.scalar_local(self.setting.program, declaration);
         touch_store(&mut self.log, frame, place, local)?;
-        store_newest(&mut self.machine, self.setting, ty, declaration, offset)?;
+        self.machine
+            .store_newest(self.setting, ty, declaration, offset)?;
         Ok(())
     }
 }

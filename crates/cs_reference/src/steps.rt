@@ -14,7 +14,6 @@ use cs_ast::Place;
 use cs_ast::typed::expression::Expr;
 use cs_ast::typed::statement::Stmt;
 use cs_events::PointKind;
-use cs_frames::locals::spell_local;
 use cs_frames::rounds::go_again;
 use cs_objects::blocks::BlockType;
 use cs_run_log::{Stop, Touch};
@@ -58,7 +57,8 @@ impl<'a> Runner<'a> {
             }
             Item::Spell(declaration, offset, bytes) => {
                 let program = self.setting.program;
-                spell_local(&mut self.machine, program, declaration, offset, bytes)?;
+                self.machine
+                    .spell_local(program, declaration, offset, bytes)?;
                 Ok(())
             }
             Item::Pass(_) => Ok(()),

@@ -8,7 +8,6 @@ ghost use Rattle.cs_replay.specs.Works.{works};
 
 use cs_ast::Place;
 use cs_frames::frames::number_of;
-use cs_frames::locals::{refill_local, spell_local, store_newest};
 use cs_memory::access::touch_store;
 use cs_objects::blocks::Fill;
 use cs_reference::runner::Runner;
@@ -25,7 +24,7 @@ pub fn clear(run: &mut Runner, place: Place, declaration: u32, scalar: bool) -> 
     if let Some(local) = if_local(scalar, declaration) {
         run.log.touch(Touch::Clears(frame, local, place))?;
     }
-    refill_local(&mut run.machine, declaration, Fill::Unset)?;
+    run.machine.refill_local(declaration, Fill::Unset)?;
     Ok(())
 }
 
@@ -35,7 +34,7 @@ pub fn zero(run: &mut Runner, place: Place, declaration: u32) -> Result<(), Stop
         (works (program_of run.old) (budgets_of run.old) place (graph.Zero declaration)
         (state_in run.old)) }
 {
-    refill_local(&mut run.machine, declaration, Fill::Zero)?;
+    run.machine.refill_local(declaration, Fill::Zero)?;
     Ok(())
 }
 
@@ -55,7 +54,8 @@ pub fn store_local(
 {
     let frame = number_of(&run.machine);
     touch_store(&mut run.log, frame, place, if_local(scalar, declaration))?;
-    store_newest(&mut run.machine, run.setting, ty, declaration, offset)?;
+    run.machine
+        .store_newest(run.setting, ty, declaration, offset)?;
     Ok(())
 }
 
@@ -73,7 +73,8 @@ pub fn spell(
         (graph.Spell declaration offset bytes.now) (state_in run.old)) }
 {
     let program = run.setting.program;
-    spell_local(&mut run.machine, program, declaration, offset, bytes)?;
+    run.machine
+        .spell_local(program, declaration, offset, bytes)?;
     Ok(())
 }
 

@@ -1,1 +1,2 @@
+pub mod MachineStates
 pub mod States

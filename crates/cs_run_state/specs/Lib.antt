@@ -1,3 +1,5 @@
 pub mod Choosing
 pub mod MachineView
+pub mod Storing
 pub mod Updates
+pub mod Visits

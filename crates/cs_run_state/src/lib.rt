@@ -1,8 +1,11 @@
-//! The state of a run, and what expressions do with their parts.
+//! The state of a run: what expressions do with their parts, and what is stored, allocated, released and counted.
 #![tactic(auto, using(cs_run_log::proofs::Performing::silent))]
 
 mod choosing;
 mod evaluating;
+mod heap;
 pub mod items;
+mod locals;
 pub mod machine;
 mod updates;
+mod visits;

@@ -3,7 +3,7 @@ use Rattle.cs_meaning.specs.Calls.{without_locals}
 use Rattle.cs_values.specs.View.{operand_of}
 use Rattle.cs_memory.specs.MemoryView.{memory_of}
 use Rattle.cs_run_state.specs.MachineView.{state_of}
-use Rattle.cs_frames.proofs.MachineStates.{state_in_frame}
+use Rattle.cs_run_state.proofs.MachineStates.{state_in_frame}
 use Rattle.cs_reference.proofs.calls.come_back.Goals as goal
 
 pub returns : goal.returns

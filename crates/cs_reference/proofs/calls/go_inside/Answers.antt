@@ -3,7 +3,7 @@ use Rattle.cs_run_state.specs.declared.machine.Frame.{Frame}
 use Rattle.cs_memory.specs.MemoryView.{memory_of, with_frame}
 use Rattle.cs_objects.specs.BlockView.{block_at}
 use Rattle.cs_run_state.specs.MachineView.{state_of}
-use Rattle.cs_frames.proofs.MachineStates.{state_inside}
+use Rattle.cs_run_state.proofs.MachineStates.{state_inside}
 use Rattle.cs_reference.proofs.calls.go_inside.Goals as goal
 
 pub returns : goal.returns

@@ -12,7 +12,7 @@ use Rattle.cs_objects.specs.BlockView.{type_of}
 use Rattle.cs_run_state.specs.MachineView.{state_of}
 use Rattle.cs_run_log.proofs.Chains.{ends_following}
 use Rattle.cs_run_log.proofs.Performing.{perform-Goes}
-use Rattle.cs_frames.proofs.MachineStates.{state_called}
+use Rattle.cs_run_state.proofs.MachineStates.{state_called}
 use Rattle.cs_reference.proofs.runner.Runner.call_outside.Goals as goal
 
 pub returns-in_err-given : goal.returns-in_err-given

@@ -7,7 +7,7 @@ use Rattle.cs_run_state.specs.MachineView.{state_of}
 use Rattle.cs_replay.specs.CodeStates.{code_state}
 use Rattle.cs_replay.specs.Points.{point_of}
 use Rattle.cs_replay.specs.ReplayerView.{callers_of}
-use Rattle.cs_frames.proofs.MachineStates.{state_in_frame}
+use Rattle.cs_run_state.proofs.MachineStates.{state_in_frame}
 use Rattle.cs_replay.proofs.replayer.Replayer.come_back.Goals as goal
 
 pub returns-clause-state : goal.returns-clause-state

@@ -7,8 +7,8 @@ use Rattle.cs_meaning.specs.Machine.{Operand, State, with_memory, operand_at}
 use Rattle.cs_meaning.specs.Memory.{changed}
 use Rattle.cs_memory.specs.MemoryView.{memory_of}
 use Rattle.cs_run_state.specs.MachineView.{state_of}
-use Rattle.cs_frames.proofs.MachineStates.{state_with}
-use Rattle.cs_frames.proofs.locals.store_newest.Goals as goal
+use Rattle.cs_run_state.proofs.MachineStates.{state_with}
+use Rattle.cs_run_state.proofs.machine.Machine.store_newest.Goals as goal
 
 pub returns : goal.returns
 unfolding state_of
@@ -20,7 +20,7 @@ returns c =
     ∙ ap (λ (o : Operand).
     changed (write_operand program ty c.args.offset o) (LocalObject popped.frame.number c.args.declaration) (memory_of popped.memory))
     c.pop-operand.ensures.operand in
-    let newest = operand_at (state_of c.args.state.now) 0 in
+    let newest = operand_at (state_of c.args.self.now) 0 in
     state_with popped c.write_operand.new.self
     (changed (write_operand program ty c.args.offset newest) (LocalObject popped.frame.number c.args.declaration) (memory_of popped.memory)) stored
     c.in_ok-write_operand.ensures.counts
