@@ -31,6 +31,6 @@ executes_from-past (s ∷ ss) zero counted_point following h = absurd (omega ari
 executes_from-past (s ∷ ss) (suc n) counted_point following h = executes_from-past ss n (counted_point + counted_points (statement s)) following (omega arith)
 
 -- as many as there are
-pub count_of-list : (ss : List Stmt) → count_of (statement_list ss) ≡ length ss
-count_of-list [] = refl
-count_of-list (s ∷ ss) = omega (arith, count_of-list ss)
+pub count_of_list : (ss : List Stmt) → count_of (statement_list ss) ≡ length ss
+count_of_list [] = refl
+count_of_list (s ∷ ss) = omega (arith, count_of_list ss)

@@ -67,7 +67,7 @@ fn otherwise(cases: &[Case], statements: &[Stmt]) -> Result<Chosen, AllocError>
 }
 
 // How many statements there are.
-#[tactic(auto, using(crate::proofs::InRows::count_of-list))]
+#[tactic(auto, using(crate::proofs::InRows::count_of_list))]
 fn count_of(statements: &[Stmt]) -> Result<u32, AllocError>
     ensures { IfOk result (λ count. count ≡ typed.count_of (statement_list statements.now)) }
 {
