@@ -1,17 +1,9 @@
 //! Allocations and releases (C11 7.22.3).
-ghost use Rattle.std.specs.Prelude.{◌≡◌, ◌+◌, pos, OnOk, IfErr, IfOk, option_map, option_copied};
+ghost use Rattle.std.specs.Prelude.{◌≡◌, IfOk};
 ghost use Rattle.cs_types.specs.Shape.{shape_of};
-ghost use Rattle.cs_events.specs.Acts.{Goes};
-ghost use Rattle.cs_events.specs.Objects.{Object as PlainObject, HeapBlock, NullCell, PointerCell};
-ghost use Rattle.cs_meaning.specs.Initials.{number_in};
 ghost use Rattle.cs_meaning.specs.Calls as calls;
-ghost use Rattle.cs_meaning.specs.Machine as machine;
-ghost use Rattle.cs_meaning.specs.Machine.{State};
-ghost use Rattle.cs_meaning.specs.Memory as meaning;
 ghost use Rattle.cs_values.specs.View.{cell_of, object_of};
-ghost use Rattle.cs_objects.specs.BlockView.{block_of, fill_of};
-ghost use Rattle.cs_run_state.specs.MachineView.{state_of};
-ghost use Rattle.cs_run_log.specs.Pieces.{or_fault};
+ghost use Rattle.cs_objects.specs.BlockView.{fill_of};
 ghost use Rattle.cs_reference.specs.RunnerView.{program_of, state_in, Performs};
 
 use crate::runner::Runner;
@@ -19,12 +11,10 @@ use cs_ast::Place;
 use cs_ast::typed::operator::{Allocator, BinOp};
 use cs_events::{Label, Operation};
 use cs_inputs::Root;
-use cs_model::{Kind, Standing};
-use cs_objects::blocks::{Block, Change, Fill};
+use cs_objects::blocks::{Block, Fill};
 use cs_objects::inputs::element_of;
 use cs_run_log::Stop;
 use cs_run_log::operators::fault;
-use cs_run_state::machine::Machine;
 use cs_types::{CType, size_type};
 use cs_values::arithmetic::is_true;
 use cs_values::paths::root_path;

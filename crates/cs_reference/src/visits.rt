@@ -1,18 +1,14 @@
 //! Counted points that are reached.
-ghost use Rattle.std.specs.Prelude.{◌≡◌, ◌<◌, length, slice_get, OnOk, IfErr};
 ghost use Rattle.cs_meaning.specs.CountedPoints as meaning;
-ghost use Rattle.cs_run_state.specs.MachineView.{state_of};
 ghost use Rattle.cs_reference.specs.RunnerView.{budgets_of, state_in, Performs};
 
 use crate::runner::Runner;
 use cs_ast::Place;
 use cs_events::{Budget, Outcome, PointKind};
 use cs_run_log::{Stop, Touch};
-use cs_run_state::machine::Machine;
 
 impl<'a> Runner<'a> {
     /// A counted point is reached once more, unless the budget of visits is used up; one that has no count is over.
-    #[tactic(auto, using(cs_run_log::proofs::Performing::silent, std::proofs::lemmas::Option::slice_get_within))]
     pub fn reach_counted_point(
         &mut self,
         place: Place,
