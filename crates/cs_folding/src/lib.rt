@@ -4,4 +4,4 @@
 mod arithmetic;
 mod folding;
 
-pub use folding::{is_null, number_in};
+pub use folding::{is_null, is_null_cast, number_in};

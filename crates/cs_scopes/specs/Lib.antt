@@ -7,3 +7,5 @@ pub mod Entries
 pub mod Sizes
 pub mod Scalars
 pub mod TypeNames
+pub mod Members
+pub mod Moves
