@@ -9,3 +9,6 @@ pub mod Scalars
 pub mod TypeNames
 pub mod Members
 pub mod Moves
+pub mod Parts
+pub mod Constness
+pub mod Layouts
