@@ -22,7 +22,8 @@ use Rattle.cs_ast.specs.declared.raw.expression.RawExpr.{RawExpr}
 use Rattle.cs_ast.specs.TypedTree.{Typed, Initial, Initials, Value, Bytes, Parts}
 use Rattle.cs_consts.specs.Roles.{operand_of}
 use Rattle.cs_expressions.specs.Primary.{Literals}
-use Rattle.cs_declarations.specs.Initializers.{Storage, Reading, part_types, types_or_none, literals_read, initial_read, item_fault, items_fault, list_fault}
+use Rattle.cs_declarations.specs.Initializers.{Storage, Reading, types_or_none, literals_read, initial_read, item_fault, items_fault, list_fault}
+use Rattle.cs_scopes.specs.Parts.{part_types}
 use Rattle.cs_declarations.specs.Initializers.{initial_fault, whole_fault, reading_fault, value_read, expression_read, text_of}
 use Rattle.cs_declarations.specs.Answered.{AnswersWith, UnlessMemory}
 use Rattle.cs_declarations.specs.View.{reading}

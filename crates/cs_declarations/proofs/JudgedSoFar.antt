@@ -21,7 +21,8 @@ use Rattle.cs_scopes.specs.Verdicts.{Verdict, Fine, Fault, lift, IsRefused}
 use Rattle.cs_scopes.proofs.Lifting.{lift-refused}
 use Rattle.cs_consts.proofs.SingleParts.{lift_is}
 use Rattle.cs_scopes.proofs.Lifting.{refused_as}
-use Rattle.cs_declarations.specs.Initializers.{Storage, part_types, types_or_none, is_admitted, value_held, value_judged, part_judged, parts_judged}
+use Rattle.cs_declarations.specs.Initializers.{Storage, types_or_none, is_admitted, value_held, value_judged, part_judged, parts_judged}
+use Rattle.cs_scopes.specs.Parts.{part_types}
 use Rattle.cs_declarations.specs.Initializers.{before_others}
 use Rattle.cs_declarations.proofs.PartTypes.{types_from, types_past}
 use Rattle.cs_scopes.proofs.LesserCodes.{lesser-comm, lesser-assoc}

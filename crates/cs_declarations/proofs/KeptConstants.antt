@@ -16,7 +16,8 @@ use Rattle.cs_folding.specs.TypedParts.{type_of}
 use Rattle.cs_folding.specs.Folding.{number_in, is_null, is_zero}
 use Rattle.cs_expressions.specs.Integers.{in_type, is_integer}
 use Rattle.cs_expressions.specs.Conversions.{converted, conversion_fault, pointed, null_at}
-use Rattle.cs_declarations.specs.Initializers.{Storage, InFile, InFunction, is_number, is_address, is_admitted, is_braceless, value_held, value_judged}
+use Rattle.cs_declarations.specs.Initializers.{Storage, InFile, InFunction, is_admitted, is_braceless, value_held, value_judged}
+use Rattle.cs_folding.specs.Addresses.{is_number, is_address}
 use Rattle.cs_declarations.specs.Initializers.{item_judged}
 
 -- a number by an option, and the same after a function of it

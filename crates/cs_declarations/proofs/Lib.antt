@@ -11,7 +11,6 @@ pub mod GrownTables
 pub mod InitialsInTurn
 pub mod InnerNames
 pub mod JudgedSoFar
-pub mod LastStars
 pub mod PartTypes
 pub mod PassedArrays
 pub mod PlainWords

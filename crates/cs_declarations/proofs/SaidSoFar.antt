@@ -10,7 +10,7 @@ use Rattle.cs_scopes.specs.declared.refusal.TypeCode.{TypeCode}
 use Rattle.cs_scopes.specs.declared.refusal.TypeCode.TheVariants.{Size}
 use Rattle.cs_scopes.specs.declared.refusal.TypeRefusal.{TypeRefusal}
 use Rattle.cs_scopes.specs.Verdicts.{Verdict, Fine, Fault, lift, lift2, IsRefused}
-use Rattle.cs_scopes.proofs.Lifting.{lift-fault, lift-refused, lift2-refused-first}
+use Rattle.cs_scopes.proofs.Lifting.{lift-fault}
 use Rattle.cs_declarations.specs.Sizes.{size_said, size_or_one, sizes_said, fault_in, refused_bound, all_said}
 
 -- what is said after others

@@ -10,7 +10,8 @@ use Rattle.cs_types.specs.declared.structs.StructType.{StructType}
 use Rattle.cs_ast.specs.declared.raw.declaration.RawInitial as first_value
 use Rattle.cs_ast.specs.declared.raw.declaration.RawInitial.{RawInitial}
 use Rattle.cs_scopes.specs.Scalars.{few}
-use Rattle.cs_declarations.specs.Initializers.{part_types, types_or_none, together, stored, row_stored, list_stored}
+use Rattle.cs_declarations.specs.Initializers.{types_or_none, together, stored, row_stored, list_stored}
+use Rattle.cs_scopes.specs.Parts.{part_types}
 use Rattle.cs_declarations.proofs.PartTypes.{types_from, types_past}
 use Rattle.cs_declarations.proofs.WrittenLists.{items_of}
 

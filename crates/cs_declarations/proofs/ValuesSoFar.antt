@@ -24,7 +24,8 @@ use Rattle.cs_scopes.specs.Verdicts.{Verdict, Fine, Fault, lift, IsRefused}
 use Rattle.cs_scopes.proofs.Lifting.{lift-fine, lift-fault, lift-refused}
 use Rattle.cs_consts.proofs.SingleParts.{lift_is}
 use Rattle.cs_scopes.proofs.Lifting.{refused_as}
-use Rattle.cs_declarations.specs.Initializers.{Reading, Readings, part_types, types_or_none, value_read, expression_read, parts_read, one_more, initial_read}
+use Rattle.cs_declarations.specs.Initializers.{Reading, Readings, types_or_none, value_read, expression_read, parts_read, one_more, initial_read}
+use Rattle.cs_scopes.specs.Parts.{part_types}
 use Rattle.cs_declarations.specs.Initializers.{items_read, list_read}
 use Rattle.cs_declarations.proofs.PartTypes.{types_from, types_past}
 use Rattle.cs_declarations.proofs.WrittenLists.{items_of}

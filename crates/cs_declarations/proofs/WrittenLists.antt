@@ -7,7 +7,8 @@ use Rattle.cs_types.specs.Shape.{Shape}
 use Rattle.cs_types.specs.declared.structs.StructType.{StructType}
 use Rattle.cs_ast.specs.declared.raw.declaration.RawInitial as first_value
 use Rattle.cs_ast.specs.declared.raw.declaration.RawInitial.{RawInitial}
-use Rattle.cs_declarations.specs.Initializers.{Storage, part_types, has_form, have_forms, list_has_forms, row_count, elements_given}
+use Rattle.cs_declarations.specs.Initializers.{Storage, has_form, have_forms, list_has_forms, row_count, elements_given}
+use Rattle.cs_scopes.specs.Parts.{part_types}
 use Rattle.cs_declarations.proofs.PartTypes.{types_from, types_past}
 use mathlib.Core.Former.{Count}
 

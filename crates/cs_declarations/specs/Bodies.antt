@@ -29,6 +29,7 @@ use Rattle.cs_scopes.specs.Verdicts.{Verdict, Fine, Fault, lift}
 use Rattle.cs_scopes.specs.Meanings.{Typedef, Constant}
 use Rattle.cs_scopes.specs.Scopes.{newest, tagged}
 use Rattle.cs_consts.specs.Roles.{value_of}
+use Rattle.cs_scopes.specs.Layouts.{struct_of}
 use Rattle.cs_scopes.specs.Sizes.{bytes_in}
 use Rattle.cs_scopes.specs.TypeNames.{is_word, integer_type, whole_word, typedef_at, enum_at, tag_place, starred, complete_at}
 use Rattle.cs_declarations.specs.Environment.{Environment, model_of, table_of, declarations_of, with_table, with_reading, with_tag, declaring, is_declared_here}
@@ -137,8 +138,7 @@ members_declared c base (d ∷ ds) before = lift (members_declared c base ds) (m
 -- the struct with this number has these members (C11 6.7.2.1, paragraph 17)
 abbrev pub with_members : ℕ → List ℕ → Laying → Environment → Environment
 with_members number name laying k =
-    with_table (slice_set (table_of k) number
-    (record { tag = name; members = Some laying.members; size = round_up laying.size laying.align; align = laying.align })) k
+    with_table (slice_set (table_of k) number (struct_of name laying.members laying.size laying.align)) k
 
 -- a number that `int` holds (C11 6.7.2.2, paragraph 2)
 abbrev pub is_int : Environment → ℤ → Bool
@@ -292,14 +292,6 @@ struct_body k at name groups =
 -- the type of what stands before declarators (C11 6.7.2)
 abbrev pub specs_type : Environment → Place → RawSpecs → Verdict Typing
 specs_type k at s = words_type k s.tag at (plain_words s.words.items) s.words.items
-
--- `const` stands among the words
-abbrev pub is_const_word : SpecWord → Bool
-is_const_word (words.TheVariants.Plain word.Const) = true
-is_const_word other = false
-
-abbrev pub has_const : RawSpecs → Bool
-has_const s = list_any is_const_word s.words.items
 
 -- a name of a typedef (C11 6.7.8)
 abbrev pub typedef_added : Shape → RawDeclarator → Environment → Verdict Environment

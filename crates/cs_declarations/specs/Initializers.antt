@@ -1,6 +1,6 @@
 -- What objects hold at first (C11 6.7.9): the items of a list go to the elements or members in order, each as its own braces say.
-use Rattle.std.specs.Prelude.{ℕ, zero, suc, ◌+◌, nat_le, nat_lt, Bool, true, false, ◌&&◌, ◌||◌, if◌then◌else◌, List, []}
-use Rattle.std.specs.Prelude.{◌∷◌, length, map, Option, Some, None, is_some}
+use Rattle.std.specs.Prelude.{ℕ, suc, ◌+◌, nat_le, nat_lt, Bool, true, false, ◌&&◌, ◌||◌, if◌then◌else◌, List, []}
+use Rattle.std.specs.Prelude.{◌∷◌, length, Option, Some, None, is_some}
 use Rattle.cs_types.specs.declared.int_type.IntType.TheVariants.{Char, SChar, UChar}
 use Rattle.cs_types.specs.Shape.{Shape, integer, array, struct}
 use Rattle.cs_ast.specs.declared.place.Place.{Place}
@@ -10,17 +10,16 @@ use Rattle.cs_ast.specs.declared.raw.expression.RawExprKind.TheVariants as kind
 use Rattle.cs_ast.specs.declared.raw.declaration.RawInitial as first_value
 use Rattle.cs_ast.specs.declared.raw.declaration.RawInitial.{RawInitial}
 use Rattle.cs_types.specs.declared.data_model.DataModel.{DataModel}
-use Rattle.cs_ast.specs.TypedTree.{Typed, Of, Null, Address, Decay, Sum, Convert, Text, Index, Global as GlobalObject, Member as MemberOf, Initial, Value}
+use Rattle.cs_ast.specs.TypedTree.{Typed, Initial, Value}
 use Rattle.cs_ast.specs.TypedTree.{Parts, Bytes, Initials, NoPart, Part}
-use Rattle.cs_types.specs.Layout.{members_of}
-use Rattle.cs_types.specs.Members.{Member}
 use Rattle.cs_types.specs.declared.structs.StructType.{StructType}
 use Rattle.cs_scopes.specs.declared.context.Context.{Context}
 use Rattle.cs_scopes.specs.declared.refusal.TypeCode.{TypeCode}
 use Rattle.cs_scopes.specs.declared.refusal.TypeCode.TheVariants.{Initializer, TooManyScalars}
 use Rattle.cs_scopes.specs.Verdicts.{Verdict, Fine, Fault, lift}
 use Rattle.cs_folding.specs.TypedParts.{type_of}
-use Rattle.cs_folding.specs.Folding.{number_in}
+use Rattle.cs_folding.specs.Addresses.{is_number, is_address}
+use Rattle.cs_scopes.specs.Parts.{part_types}
 use Rattle.cs_scopes.specs.Scalars.{few, scalars_in}
 use Rattle.cs_expressions.specs.Conversions.{converted}
 use Rattle.cs_scopes.specs.Faults.{lesser, least, least_code, code_in, unless_fault}
@@ -40,57 +39,10 @@ is_character (integer SChar) = true
 is_character (integer UChar) = true
 is_character other = false
 
--- the members' types
-abbrev pub member_types : Option (List Member) → List Shape
-member_types (Some members) = map (λ (m : Member). m.ty) members
-member_types None = []
-
--- the same type once more
-abbrev pub copies : ℕ → Shape → List Shape
-copies zero ty = []
-copies (suc n) ty = ty ∷ copies n ty
-
--- the types of the parts that a list of items is for: the elements of an array, the members of a struct
-abbrev pub part_types : List StructType → Shape → Option (List Shape)
-part_types table (array element count) = Some (copies count element)
-part_types table (struct number) = Some (member_types (members_of table number))
-part_types table other = None
-
 -- the bytes of an expression that is a text
 abbrev pub text_of : RawExprKind → List ℕ
 text_of (kind.Text bytes) = bytes
 text_of other = []
-
--- the expression is an integer constant expression (C11 6.6, paragraph 6)
-abbrev pub is_number : DataModel → Typed → Bool
-is_number model e = is_some (number_in model true e)
-
-abbrev mutual
-  -- the value points to a file-scope object or a string literal, or to a part of one at constant subscripts, plus or minus constants
-  pub is_static_address : DataModel → Typed → Bool
-  is_static_address model (Of at ty (Address object)) = is_static_part model object
-  is_static_address model (Of at ty (Decay object)) = is_static_part model object
-  is_static_address model (Of at ty (Sum address amount direction order)) = is_static_address model address && is_number model amount
-  is_static_address model (Of at ty (Convert e)) = is_static_address model e
-  is_static_address model (Of at ty other) = false
-
-  -- the object is a file-scope object, a string literal, or a part of one at constant subscripts
-  pub is_static_part : DataModel → Typed → Bool
-  is_static_part model (Of at ty (GlobalObject number)) = true
-  is_static_part model (Of at ty (Text number)) = true
-  is_static_part model (Of at ty (MemberOf object offset)) = is_static_part model object
-  is_static_part model (Of at ty (Index elements number order)) = is_static_address model elements && is_number model number
-  is_static_part model (Of at ty other) = false
-
--- the value is the null pointer, converted or not
-abbrev pub is_null_address : Typed → Bool
-is_null_address (Of at ty Null) = true
-is_null_address (Of at ty (Convert e)) = is_null_address e
-is_null_address (Of at ty other) = false
-
--- the value is an address constant (C11 6.6, paragraph 9); the null pointer has no elements, so that nothing is added to it
-abbrev pub is_address : DataModel → Typed → Bool
-is_address model e = is_null_address e || is_static_address model e
 
 -- the value may be the initializer of an object that stands there (paragraph 4)
 abbrev pub is_admitted : DataModel → Storage → Typed → Bool

@@ -4,10 +4,6 @@ use Rattle.std.specs.Prelude.{Some, None}
 use Rattle.cs_types.specs.Shape.{Shape, void, pointer, array, struct}
 use Rattle.cs_ast.specs.declared.place.Place.{Place}
 use Rattle.cs_ast.specs.declared.raw.name.RawName.{RawName}
-use Rattle.cs_ast.specs.declared.raw.expression.RawExpr.{RawExpr}
-use Rattle.cs_ast.specs.declared.raw.written_type.PointerWord.{PointerWord}
-use Rattle.cs_ast.specs.declared.raw.written_type.PointerWord.TheVariants.{Star, Const}
-use Rattle.cs_ast.specs.declared.raw.declaration.RawSpecs.{RawSpecs}
 use Rattle.cs_ast.specs.declared.raw.declaration.RawParameter.{RawParameter}
 use Rattle.cs_ast.specs.declared.raw.declaration.RawParameters.{RawParameters}
 use Rattle.cs_ast.specs.declared.raw.declaration.RawParameters.TheVariants as parameter_lists
@@ -21,7 +17,8 @@ use Rattle.cs_scopes.specs.Meanings.{Local}
 use Rattle.cs_scopes.specs.TypeNames.{array_of, starred}
 use Rattle.cs_declarations.specs.Environment.{Environment, declaring, is_declared_here}
 use Rattle.cs_declarations.specs.Sizes.{sizes_said, refused_bound, unless_refused, bounded, element_of}
-use Rattle.cs_declarations.specs.Bodies.{Typing, specs_type, has_const}
+use Rattle.cs_declarations.specs.Bodies.{Typing, specs_type}
+use Rattle.cs_scopes.specs.Constness.{points_to_const}
 
 -- the place of a parameter: its name, or its first token where it has none
 abbrev pub place_of : Place → Option RawName → Place
@@ -57,40 +54,6 @@ array_passed c at None element = Fine (elements_passed element None)
 abbrev pub passed : Context → Place → Shape → List (Option ℤ) → Verdict Passed
 passed c at base [] = plainly_passed at base
 passed c at base (first ∷ others) = lift (array_passed c at first) (element_of c at base others)
-
-abbrev pub begins_const : List PointerWord → Bool
-begins_const (Const ∷ others) = true
-begins_const others = false
-
--- for each star, the last one first, whether `const` stands after it
-abbrev pub consts_after : List PointerWord → List Bool
-consts_after [] = []
-consts_after (Star ∷ others) = consts_after others ++ begins_const others ∷ []
-consts_after (Const ∷ others) = consts_after others
-
--- the first and the second of them, if they are there
-abbrev pub first_of : List Bool → Option Bool
-first_of [] = None
-first_of (first ∷ others) = Some first
-
-abbrev pub second_of : List Bool → Option Bool
-second_of [] = None
-second_of (first ∷ others) = first_of others
-
--- what a parameter with a bracket points to is const: after its last star, or without a star among its words
-abbrev pub elements_const : RawSpecs → List Bool → Bool
-elements_const s [] = has_const s
-elements_const s (last ∷ others) = last
-
--- what a parameter without a bracket points to is const: after its last star but one, or with one star among its words
-abbrev pub target_const : RawSpecs → List Bool → Bool
-target_const s [] = false
-target_const s (last ∷ []) = has_const s
-target_const s (last ∷ before ∷ others) = before
-
-abbrev pub points_to_const : RawSpecs → List PointerWord → List (Option RawExpr) → Bool
-points_to_const s pointers [] = target_const s (consts_after pointers)
-points_to_const s pointers (bound ∷ bounds) = elements_const s (consts_after pointers)
 
 abbrev pub is_pointer : Shape → Bool
 is_pointer (pointer target) = true

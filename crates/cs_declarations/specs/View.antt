@@ -1,5 +1,5 @@
 -- What is known, and parts of declarations, of the program seen as plain data.
-use Rattle.std.specs.Prelude.{◌≡◌, ℕ, ℤ, List, map}
+use Rattle.std.specs.Prelude.{ℕ, ℤ, List, map}
 use Rattle.cs_types.specs.declared.ctype.CType.{CType}
 use Rattle.cs_types.specs.Shape.{Shape, shape_of}
 use Rattle.cs_ast.specs.declared.typed.program.Local.{Local}
@@ -14,17 +14,12 @@ use Rattle.cs_declarations.specs.declared.parameters.Head.{Head as HeldHead}
 use Rattle.cs_declarations.specs.Environment.{Environment, ScopeSnapshot}
 use Rattle.cs_declarations.specs.Sizes.{Extent, Whole, Unsized}
 use Rattle.cs_declarations.specs.Bodies.{Laying, Counting, Opening, Body}
-use Rattle.cs_declarations.specs.Parameters.{Passed, Head, consts_after, first_of, second_of}
+use Rattle.cs_declarations.specs.Parameters.{Passed, Head}
 use Rattle.cs_ast.specs.declared.typed.statement.Initial.{Initial as HeldInitial}
 use Rattle.cs_ast.specs.TypedView.{initial, initial_list}
-use Rattle.cs_declarations.specs.Initializers.{Storage, InFile, InFunction, copies, Reading, Readings}
+use Rattle.cs_declarations.specs.Initializers.{Storage, InFile, InFunction, Reading, Readings}
 use Rattle.cs_declarations.specs.declared.storage.Storage.{Storage as HeldStorage}
 use Rattle.cs_declarations.specs.declared.storage.Storage.TheVariants as stands
-use Rattle.cs_declarations.specs.declared.forms.Parts.{Parts as HeldParts}
-use Rattle.cs_declarations.specs.declared.forms.Parts.TheVariants as held_parts
-use Rattle.cs_declarations.specs.declared.constness.Stars.{Stars}
-use Rattle.cs_ast.specs.declared.raw.written_type.PointerWord.{PointerWord}
-use Rattle.cs_types.specs.Members.{Member}
 
 abbrev pub environment_of : Held → Environment
 environment_of k = record { context = k.context; reading = k.reading.items; outer = k.outer; literals = k.literals.items }
@@ -61,19 +56,9 @@ body l k = record { laying = laying l; known = environment_of k }
 abbrev pub head : HeldHead → Held → Head
 head h k = record { variables = map variable h.parameters.items; written = h.written.items; twice = h.twice; known = environment_of k }
 
--- the last star of some words, and the one before it
-pub record AreLastStars (pointers : List PointerWord) (stars : Stars) : Type 0 where
-  pub last : stars.last ≡ first_of (consts_after pointers)
-  pub before : stars.before ≡ second_of (consts_after pointers)
-
 abbrev pub storage : HeldStorage → Storage
 storage stands.File = InFile
 storage stands.Function = InFunction
-
--- the types of the parts that a list is for
-abbrev pub types_of : HeldParts → List Shape
-types_of (held_parts.Elements element count) = copies count (shape_of element.now)
-types_of (held_parts.Members members) = map (λ (m : Member). m.ty) members.now
 
 -- what is read, with the string literals after it
 abbrev pub reading : HeldInitial → List (List ℕ) → Reading

@@ -10,11 +10,11 @@ ghost use Rattle.cs_declarations.specs.Answered.{Leaves};
 ghost use Rattle.cs_declarations.specs.LaidOut.{IsSound};
 ghost use Rattle.cs_declarations.specs.View.{environment_of, snapshot, laying};
 
-use crate::laying::{Laying, rounded_up};
+use crate::laying::Laying;
 use crate::sizes::declarator_type;
 use cs_ast::raw::declaration::RawDeclarator;
 use cs_names::{Bytes, Name};
-use cs_scopes::{Context, Declaration, Meaning, Tag, TagMeaning, TypeCode, TypeRefusal};
+use cs_scopes::{Context, Declaration, Meaning, Tag, TagMeaning, TypeCode, TypeRefusal, struct_of};
 use cs_types::{CType, StructType, members_of};
 use std::alloc::{AllocError, Global};
 
@@ -167,13 +167,8 @@ impl Environment {
             (environment_of self.old).reading)
             (with_members number (name_or_none tag.now) (laying laid) (environment_of self.old))) }
     {
-        let size = rounded_up(laid.size, laid.align).ok_or(AllocError)?;
-        let complete = StructType {
-            tag: name_or_none(alloc, tag)?,
-            members: Some(laid.members),
-            size,
-            align: laid.align,
-        };
+        let tag = name_or_none(alloc, tag)?;
+        let complete = struct_of(tag, laid.members, laid.size, laid.align)?;
         let _ = self.reading.pop();
         let number = number as usize;
         if number < self.context.table.list.as_slice().len() {

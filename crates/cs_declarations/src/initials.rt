@@ -10,9 +10,10 @@ ghost use Rattle.cs_expressions.specs.Primary.{Literals};
 ghost use Rattle.cs_declarations.specs.Answered.{AnswersWith, UnlessMemory};
 ghost use Rattle.cs_declarations.specs.Initializers.{Reading, text_of, expression_read, reading_fault, initial_read, item_fault, list_read, list_fault, part_judged, initial_judged, initial_fault, whole_fault, scalar_limit, whole_read, initial_typed};
 ghost use Rattle.cs_declarations.specs.View as view;
-ghost use Rattle.cs_declarations.specs.View.{reading, readings, types_of};
+ghost use Rattle.cs_declarations.specs.View.{reading, readings};
+ghost use Rattle.cs_scopes.specs.Parts.{types_of};
 
-use crate::forms::{Parts, has_form, parts_of};
+use crate::forms::has_form;
 use crate::judging::{item_fault, judged, value_fault};
 use crate::storage::Storage;
 use crate::stored::stores_few;
@@ -22,7 +23,7 @@ use cs_ast::raw::expression::{RawExpr, RawExprKind};
 use cs_ast::typed::statement::Initial;
 use cs_consts::operand;
 use cs_names::Bytes;
-use cs_scopes::{Context, TypeCode, TypeRefusal, least, least_code};
+use cs_scopes::{Context, Parts, TypeCode, TypeRefusal, least, least_code, parts_of};
 use cs_types::{CType, StructTable};
 use std::alloc::{AllocError, Global};
 

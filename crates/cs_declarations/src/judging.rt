@@ -7,16 +7,14 @@ ghost use Rattle.cs_scopes.specs.Faults.{code_in};
 ghost use Rattle.cs_ast.specs.TypedView.{typed, initial, initial_list};
 ghost use Rattle.cs_declarations.specs.Initializers.{is_braceless, value_judged, item_judged, part_judged, parts_judged, initial_judged};
 ghost use Rattle.cs_declarations.specs.View as view;
-ghost use Rattle.cs_declarations.specs.View.{types_of};
+ghost use Rattle.cs_scopes.specs.Parts.{types_of};
 
-use crate::addresses::is_admitted;
-use crate::forms::{Parts, parts_of};
-use crate::storage::Storage;
+use crate::storage::{Storage, is_admitted};
 use cs_ast::Place;
 use cs_ast::typed::expression::Expr;
 use cs_ast::typed::statement::Initial;
 use cs_expressions::{conversion_fault, converted};
-use cs_scopes::{Context, TypeCode, TypeRefusal, least};
+use cs_scopes::{Context, Parts, TypeCode, TypeRefusal, least, parts_of};
 use cs_types::CType;
 use std::alloc::Global;
 

@@ -1,7 +1,6 @@
 //! Members of structs, one after another (C11 6.7.2.1).
-ghost use Rattle.std.specs.Prelude.{◌≡◌, ◌≤◌, ◌+◌, ◌^◌, nat_le, Some, None, IfSome, if◌then◌else◌};
+ghost use Rattle.std.specs.Prelude.{◌≡◌};
 ghost use Rattle.cs_types.specs.Shape.{shape_of};
-ghost use Rattle.cs_types.specs.Layout.{round_up};
 ghost use Rattle.cs_scopes.specs.Verdicts.{Answers};
 ghost use Rattle.cs_declarations.specs.Answered.{Leaves};
 ghost use Rattle.cs_declarations.specs.Bodies.{align_in, has_member, placed, member_added, member_declared, members_declared};
@@ -11,7 +10,7 @@ use crate::sizes::declarator_type;
 use cs_ast::Place;
 use cs_ast::raw::declaration::RawDeclarator;
 use cs_names::Name;
-use cs_scopes::{Context, TypeCode, TypeRefusal, bytes_in, complete_at};
+use cs_scopes::{Context, TypeCode, TypeRefusal, bytes_in, complete_at, end_of};
 use cs_types::{
     CType, DataModel, Member, Members, StructTable, bytes, complete_struct, pointer_bytes,
 };
@@ -24,9 +23,6 @@ pub struct Laying {
     pub size: u64,
     pub align: u64,
 }
-
-/// The most bytes that an object has.
-const MOST_BYTES: u64 = 1 << 20;
 
 // The alignment of a complete type (C11 6.2.8).
 fn align_in(model: DataModel, table: &StructTable, ty: &CType) -> u64
@@ -52,18 +48,6 @@ fn has_member(members: &Members, name: &Name) -> bool
         .as_slice()
         .iter()
         .any(|member| *member.name() == *name)
-}
-
-/// The least multiple of an alignment that is at least so many bytes, if a machine's word holds it.
-pub fn rounded_up(bytes: u64, align: u64) -> Option<u64>
-    ensures some { IfSome result (λ rounded. rounded ≡ round_up bytes align) }
-    ensures none { result ≡ None → 2 ^ 63 ≤ round_up bytes align }
-{
-    if align == 0 {
-        return Some(0);
-    }
-    let last = bytes.checked_add(align - 1)? / align;
-    last.checked_mul(align)
 }
 
 impl Laying {
@@ -148,16 +132,4 @@ pub fn add_members(
         add_member(alloc, context, base, declarator, &mut so_far)?;
     }
     Ok(so_far)
-}
-
-// Where so many bytes with this alignment begin and end after others, if an object may have so many.
-fn end_of(before: u64, bytes: u64, align: u64) -> Option<(u64, u64)>
-    ensures { result ≡ (if nat_le (round_up before align + bytes) (2 ^ 20)
-        then Some (round_up before align, round_up before align + bytes) else None) }
-{
-    let offset = rounded_up(before, align)?;
-    if offset > MOST_BYTES || bytes > MOST_BYTES - offset {
-        return None;
-    }
-    Some((offset, offset + bytes))
 }

@@ -1,9 +1,7 @@
 //! The typing of declarations (C11 6.7): types with their bodies, declarators, parameters, and what objects hold at first.
 #![tactic(auto)]
 
-mod addresses;
 mod bodies;
-mod constness;
 mod enums;
 mod environment;
 mod forms;
@@ -19,7 +17,6 @@ mod stored;
 mod words;
 
 pub use bodies::specs_type;
-pub use constness::is_constant_object;
 pub use environment::{Environment, ScopeSnapshot};
 pub use initials::initial_typed;
 pub use objects::object_type;

@@ -9,14 +9,13 @@ ghost use Rattle.cs_declarations.specs.Parameters.{place_of, plainly_passed, arr
 ghost use Rattle.cs_declarations.specs.View.{environment_of, passed_of, head, typing};
 
 use crate::bodies::specs_type;
-use crate::constness::points_to_const;
 use crate::environment::Environment;
 use crate::sizes::{bounded, bounds_taken, element_of, sizes_said};
 use cs_ast::Place;
 use cs_ast::raw::declaration::{RawParameter, RawParameters};
 use cs_ast::typed::program::Local;
 use cs_names::Name;
-use cs_scopes::{Context, Meaning, TypeCode, TypeRefusal, array_of, starred};
+use cs_scopes::{Context, Meaning, TypeCode, TypeRefusal, array_of, points_to_const, starred};
 use cs_types::CType;
 use std::alloc::{AllocError, Global};
 

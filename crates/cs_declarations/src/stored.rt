@@ -2,12 +2,11 @@
 ghost use Rattle.std.specs.Prelude.{◌≡◌, is_some, length};
 ghost use Rattle.cs_types.specs.Shape.{shape_of};
 ghost use Rattle.cs_declarations.specs.Initializers.{text_of, bytes_stored, value_stored, stored, list_stored};
-ghost use Rattle.cs_declarations.specs.View.{types_of};
+ghost use Rattle.cs_scopes.specs.Parts.{types_of};
 
-use crate::forms::{Parts, parts_of};
 use cs_ast::raw::declaration::RawInitial;
 use cs_ast::raw::expression::RawExprKind;
-use cs_scopes::{few, scalars_in};
+use cs_scopes::{Parts, few, parts_of, scalars_in};
 use cs_types::{CType, StructTable};
 
 // How many bytes an expression has that is a text.

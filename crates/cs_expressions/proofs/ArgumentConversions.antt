@@ -1,6 +1,6 @@
 -- How arguments come to their parameters, from the last to the first: for the loop that converts them.
 use Rattle.std.proofs.Common.{◌≡◌, ◌≢◌, ℕ, suc, ◌+◌, ◌<◌, List, [], ◌∷◌, ◌++◌, length, map, drop, get_or, reverse, drop-cons}
-use Rattle.std.proofs.Common.{add-one, append_assoc, Option, Some, None, refl, sym, ap, subst, ◌∙◌}
+use Rattle.std.proofs.Common.{add-one, append_assoc, Option, Some, None, refl, sym, ap, ◌∙◌}
 use Rattle.std.specs.Prelude.{◌==◌, Bool, true, false}
 use Rattle.std.proofs.lemmas.List.{reverse-append}
 use Rattle.cs_types.specs.declared.ctype.CType.{CType}
@@ -10,9 +10,9 @@ use Rattle.cs_types.specs.declared.data_model.DataModel.{DataModel}
 use Rattle.cs_types.specs.Shape.{Shape, shape_of}
 use Rattle.cs_scopes.specs.declared.refusal.TypeCode.TheVariants as code_of
 use Rattle.cs_ast.specs.declared.place.Place.{Place}
-use Rattle.cs_ast.specs.TypedTree.{Typed, TypedList, NoMore, Further}
+use Rattle.cs_ast.specs.TypedTree.{Typed, TypedList, Further}
 use Rattle.cs_scopes.specs.declared.refusal.TypeCode.{TypeCode}
-use Rattle.cs_scopes.specs.Verdicts.{Verdict, Fine, Fault}
+use Rattle.cs_scopes.specs.Verdicts.{Fine, Fault}
 use Rattle.cs_folding.specs.TypedParts.{type_of}
 use Rattle.cs_expressions.specs.Conversions.{converted}
 use Rattle.cs_expressions.specs.Calls.{converted_list, before_others, freed, outcome}

@@ -2,14 +2,14 @@
 use Rattle.std.specs.Prelude.{ℕ, Bool, true, false, not, ◌&&◌, ◌==◌, if◌then◌else◌, List, [], ◌∷◌, length, Option, Some, None}
 use Rattle.cs_types.specs.declared.ctype.CType.{CType}
 use Rattle.cs_types.specs.declared.int_type.IntType.TheVariants.{UChar}
-use Rattle.cs_types.specs.Shape.{Shape, void, integer, pointer, array, struct, shape_of}
+use Rattle.cs_types.specs.Shape.{Shape, void, integer, pointer, shape_of}
 use Rattle.cs_ast.specs.declared.place.Place.{Place}
 use Rattle.cs_ast.specs.declared.raw.expression.RawExprKind.{RawExprKind}
 use Rattle.cs_ast.specs.declared.raw.expression.RawExprKind.TheVariants as kind
 use Rattle.cs_ast.specs.declared.typed.operator.Allocator.{Allocator}
 use Rattle.cs_ast.specs.declared.typed.operator.Allocator.TheVariants.{Malloc, Calloc}
 use Rattle.std.specs.Borrow.{Bor}
-use Rattle.cs_ast.specs.TypedTree.{Typed, Of, Form, Call, Allocate, Free, TypedList, NoMore, Further}
+use Rattle.cs_ast.specs.TypedTree.{Typed, Of, Call, Allocate, Free, TypedList, NoMore, Further}
 use Rattle.cs_types.specs.declared.data_model.DataModel.{DataModel}
 use Rattle.cs_scopes.specs.declared.refusal.TypeCode.{TypeCode}
 use Rattle.cs_scopes.specs.declared.refusal.TypeCode.TheVariants as code

@@ -1,10 +1,9 @@
 -- Conversions that an operator, a call or a cast asks for (C11 6.3, 6.5.4, 6.5.16.1).
-use Rattle.std.specs.Prelude.{ℕ, Bool, ◌||◌, ◌==◌, if◌then◌else◌, Option}
+use Rattle.std.specs.Prelude.{◌||◌, ◌==◌, if◌then◌else◌, Option}
 use Rattle.cs_types.specs.declared.data_model.DataModel.{DataModel}
-use Rattle.cs_types.specs.declared.int_type.IntType.{IntType}
-use Rattle.cs_types.specs.Shape.{Shape, void, integer, pointer, array, struct, same_shape}
+use Rattle.cs_types.specs.Shape.{Shape, void, integer, pointer, struct, same_shape}
 use Rattle.cs_ast.specs.declared.place.Place.{Place}
-use Rattle.cs_ast.specs.TypedTree.{Typed, Of, Form, Null, Convert}
+use Rattle.cs_ast.specs.TypedTree.{Typed, Of, Null, Convert}
 use Rattle.cs_scopes.specs.declared.refusal.TypeCode.TheVariants as code
 use Rattle.cs_scopes.specs.declared.refusal.TypeCode.{TypeCode}
 use Rattle.cs_scopes.specs.Verdicts.{Verdict, Fine, Fault}

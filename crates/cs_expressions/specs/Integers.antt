@@ -1,9 +1,9 @@
 -- Integer types of expressions, and operators on two integers (C11 6.3.1, 6.5.5 to 6.5.7, 6.5.10 to 6.5.12).
-use Rattle.std.specs.Prelude.{ℕ, Bool, true, false, if◌then◌else◌, ◌==◌}
+use Rattle.std.specs.Prelude.{Bool, false, if◌then◌else◌, ◌==◌}
 use Rattle.cs_types.specs.declared.data_model.DataModel.{DataModel}
 use Rattle.cs_types.specs.declared.int_type.IntType.{IntType}
 use Rattle.cs_types.specs.Conversions.{common_type, promoted}
-use Rattle.cs_types.specs.Shape.{Shape, void, integer, pointer, array, struct, place_of}
+use Rattle.cs_types.specs.Shape.{Shape, integer, place_of}
 use Rattle.cs_ast.specs.declared.place.Place.{Place}
 use Rattle.cs_ast.specs.declared.typed.operator.BinOp.{BinOp}
 use Rattle.cs_ast.specs.declared.typed.operator.UnOp.{UnOp}

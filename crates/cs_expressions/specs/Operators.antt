@@ -1,15 +1,14 @@
 -- Operators on values (C11 6.5.3.3, 6.5.6, 6.5.8, 6.5.9, 6.5.13 to 6.5.15).
-use Rattle.std.specs.Prelude.{ℕ, Bool, true, false, ◌&&◌, ◌==◌, if◌then◌else◌, List}
+use Rattle.std.specs.Prelude.{Bool, true, false, ◌&&◌, ◌==◌, if◌then◌else◌, List}
 use Rattle.cs_types.specs.declared.data_model.DataModel.{DataModel}
 use Rattle.cs_types.specs.declared.int_type.IntType.TheVariants.{Int}
 use Rattle.cs_types.specs.declared.structs.StructType.{StructType}
 use Rattle.cs_types.specs.Conversions.{common_type}
 use Rattle.cs_types.specs.DataModel.{difference_type_of}
-use Rattle.cs_types.specs.Shape.{Shape, void, integer, pointer, array, struct, same_shape}
+use Rattle.cs_types.specs.Shape.{Shape, void, integer, pointer, struct, same_shape}
 use Rattle.cs_ast.specs.declared.place.Place.{Place}
 use Rattle.cs_ast.specs.declared.raw.operator.InfixOp.{InfixOp}
 use Rattle.cs_ast.specs.declared.raw.operator.InfixOp.TheVariants as infix_op
-use Rattle.cs_ast.specs.declared.typed.operator.BinOp.{BinOp}
 use Rattle.cs_ast.specs.declared.typed.operator.BinOp.TheVariants as bin
 use Rattle.cs_ast.specs.declared.typed.operator.CmpOp.{CmpOp}
 use Rattle.cs_ast.specs.declared.typed.operator.CmpOp.TheVariants as cmp
@@ -23,7 +22,7 @@ use Rattle.cs_scopes.specs.Verdicts.{Verdict, Fine, Fault, lift}
 use Rattle.cs_folding.specs.TypedParts.{type_of}
 use Rattle.cs_expressions.specs.Integers.{in_type, joined, shifted}
 use Rattle.cs_types.specs.Kinds.{is_scalar, is_complete}
-use Rattle.cs_expressions.specs.Conversions.{Pair, null_at, pointers_met, pointed_from_integer}
+use Rattle.cs_expressions.specs.Conversions.{Pair, null_at, pointers_met}
 use Rattle.cs_folding.specs.Folding.{is_null}
 
 -- an `int` that tells a truth

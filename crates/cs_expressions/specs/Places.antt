@@ -1,15 +1,15 @@
 -- Operators that name objects (C11 6.5.2.1, 6.5.2.3, 6.5.3.2).
-use Rattle.std.specs.Prelude.{ℕ, nat_eq, Bool, true, false, if◌then◌else◌, List, [], ◌∷◌, Option, Some, None}
-use Rattle.std.specs.Cmp.Lexicographic.{pointwise}
+use Rattle.std.specs.Prelude.{ℕ, if◌then◌else◌, List, Option, Some, None}
 use Rattle.cs_types.specs.declared.structs.StructType.{StructType}
 use Rattle.cs_types.specs.Layout.{members_of}
 use Rattle.cs_types.specs.Members.{Member}
-use Rattle.cs_types.specs.Shape.{Shape, void, integer, pointer, array, struct}
+use Rattle.cs_types.specs.Shape.{Shape, integer, pointer, struct}
 use Rattle.cs_ast.specs.declared.place.Place.{Place}
 use Rattle.cs_ast.specs.declared.typed.operator.Order.{Order}
 use Rattle.cs_ast.specs.declared.typed.operator.Order.TheVariants.{PointerFirst, AmountFirst}
-use Rattle.cs_ast.specs.TypedTree.{Typed, Of, Form, Through, Index, Member as MemberForm, Arrow, Address}
+use Rattle.cs_ast.specs.TypedTree.{Typed, Of, Through, Index, Member as MemberForm, Arrow, Address}
 use Rattle.cs_scopes.specs.declared.refusal.TypeCode.TheVariants as code
+use Rattle.cs_scopes.specs.Members.{member_found}
 use Rattle.cs_scopes.specs.Verdicts.{Verdict, Fine, Fault, lift}
 use Rattle.cs_folding.specs.TypedParts.{type_of, form_of}
 use Rattle.cs_expressions.specs.Objects.{is_object, unless_void}
@@ -35,21 +35,6 @@ unfoldable pub indexed : List StructType → Place → Typed → Typed → Shape
 indexed table at left right (pointer t) (integer s) = element table at left right t PointerFirst
 indexed table at left right (integer s) (pointer t) = element table at right left t AmountFirst
 indexed table at left right t s = Fault code.OperandTypes at
-
--- the first member of this name
-abbrev pub member_named : List ℕ → List Member → Option Member
-member_named name [] = None
-member_named name (m ∷ ms) = if pointwise nat_eq m.name name then Some m else member_named name ms
-
--- a member that is there
-abbrev pub member_at : Place → Option Member → Verdict Member
-member_at at (Some m) = Fine m
-member_at at None = Fault code.NoMember at
-
--- the member of this name of a struct that has its members
-unfoldable pub member_found : Place → List ℕ → Option (List Member) → Verdict Member
-member_found at name (Some members) = member_at at (member_named name members)
-member_found at name None = Fault code.UnknownName at
 
 -- a member of an object, and of the object that a pointer points to
 abbrev pub member_in : Place → Typed → Member → Verdict Typed

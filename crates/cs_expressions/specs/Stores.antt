@@ -1,21 +1,19 @@
 -- Operators that store (C11 6.5.2.4, 6.5.3.1, 6.5.16).
-use Rattle.std.specs.Prelude.{ℕ, pos, Bool, true, false, not, ◌&&◌, if◌then◌else◌, List, Option, Some, None}
+use Rattle.std.specs.Prelude.{pos, Bool, true, false, not, ◌&&◌, if◌then◌else◌, List, Option, Some, None}
 use Rattle.cs_types.specs.declared.data_model.DataModel.{DataModel}
 use Rattle.cs_types.specs.declared.int_type.IntType.{IntType}
 use Rattle.cs_types.specs.declared.int_type.IntType.TheVariants.{Int}
 use Rattle.cs_types.specs.declared.structs.StructType.{StructType}
 use Rattle.cs_types.specs.Conversions.{common_type, promoted}
-use Rattle.cs_types.specs.Shape.{Shape, void, integer, pointer, array, struct}
+use Rattle.cs_types.specs.Shape.{Shape, integer, pointer}
 use Rattle.cs_ast.specs.declared.place.Place.{Place}
 use Rattle.cs_ast.specs.declared.raw.operator.Step.{Step}
 use Rattle.cs_ast.specs.declared.raw.operator.Step.TheVariants.{Up, Down}
 use Rattle.cs_ast.specs.declared.typed.operator.BinOp.{BinOp}
-use Rattle.cs_ast.specs.declared.typed.operator.BinOp.TheVariants.{Add, Sub, Mul, Div, Rem, Shl, Shr, And, Xor, Or}
-use Rattle.cs_ast.specs.declared.typed.operator.Direction.{Direction}
-use Rattle.cs_ast.specs.declared.typed.operator.Direction.TheVariants.{Forward, Back}
+use Rattle.cs_ast.specs.declared.typed.operator.BinOp.TheVariants.{Add, Sub, Shl, Shr}
 use Rattle.cs_ast.specs.declared.typed.operator.Gives.{Gives}
-use Rattle.cs_ast.specs.declared.typed.operator.Gives.TheVariants.{Old, New}
-use Rattle.cs_ast.specs.TypedTree.{Typed, Of, Form, Number, Assign, Update, Move}
+use Rattle.cs_ast.specs.declared.typed.operator.Gives.TheVariants.{New}
+use Rattle.cs_ast.specs.TypedTree.{Typed, Of, Number, Assign, Update, Move}
 use Rattle.cs_scopes.specs.declared.refusal.TypeCode.{TypeCode}
 use Rattle.cs_scopes.specs.declared.refusal.TypeCode.TheVariants as code
 use Rattle.cs_scopes.specs.Verdicts.{Verdict, Fine, Fault, lift}
@@ -24,8 +22,8 @@ use Rattle.cs_expressions.specs.Integers.{in_type}
 use Rattle.cs_expressions.specs.Objects.{is_object, unless_void}
 use Rattle.cs_types.specs.Kinds.{is_array, is_complete}
 use Rattle.cs_scopes.specs.Scalars.{has_few_scalars}
-use Rattle.cs_expressions.specs.Conversions.{converted}
 use Rattle.cs_scopes.specs.Faults.{lesser}
+use Rattle.cs_scopes.specs.Moves.{direction_of}
 
 -- an lvalue that can be stored to (C11 6.3.2.1, paragraph 1)
 abbrev pub is_stored_to : Typed → Bool
@@ -55,11 +53,6 @@ abbrev pub is_shift : BinOp → Bool
 is_shift Shl = true
 is_shift Shr = true
 is_shift other = false
-
--- the way in which a pointer moves that is added to or subtracted from
-abbrev pub way_of : BinOp → Direction
-way_of Sub = Back
-way_of other = Forward
 
 -- an object of this type can be updated by an operator (C11 6.5.16.2)
 unfoldable pub updatable_as : BinOp → Place → Typed → Shape → Verdict Typed
@@ -108,7 +101,7 @@ taken_in model op s t = if is_shift op then promoted model t else common_type mo
 unfoldable pub updated : DataModel → BinOp → Place → Typed → Typed → Shape → Shape → Verdict Typed
 updated model op at object value (integer s) (integer t) =
     Fine (Of at (integer s) (Update op object (in_type at (taken_in model op s t) value) (works_in model op s t) New))
-updated model op at object value (pointer target) (integer t) = Fine (Of at (pointer target) (Move object value (way_of op) New))
+updated model op at object value (pointer target) (integer t) = Fine (Of at (pointer target) (Move object value (direction_of op) New))
 updated model op at object value s t = Fault code.OperandTypes at
 
 -- the operator of a step
@@ -124,5 +117,5 @@ one_in at ty = Of at (integer ty) (Number (pos 1))
 unfoldable pub stepped : DataModel → BinOp → Gives → Place → Typed → Shape → Verdict Typed
 stepped model op gives at object (integer s) =
     Fine (Of at (integer s) (Update op object (one_in at (promoted model s)) (promoted model s) gives))
-stepped model op gives at object (pointer target) = Fine (Of at (pointer target) (Move object (one_in at Int) (way_of op) gives))
+stepped model op gives at object (pointer target) = Fine (Of at (pointer target) (Move object (one_in at Int) (direction_of op) gives))
 stepped model op gives at object ty = Fault code.OperandTypes at

@@ -1,6 +1,5 @@
 -- How a value comes to a type, and two values to one: what the parts of conversions answer to one another.
-use Rattle.std.specs.Prelude.{◌≡◌}
-use Rattle.cs_types.specs.Shape.{Shape, shape_of, integer}
+use Rattle.cs_types.specs.Shape.{shape_of}
 use Rattle.cs_ast.specs.declared.place.Place.{Place}
 use Rattle.cs_ast.specs.TypedTree.{Typed, Of, Null, Convert}
 use Rattle.cs_scopes.specs.declared.refusal.TypeCode.TheVariants as code

@@ -12,7 +12,7 @@ use crate::nodes::{convert, null};
 use crate::ways::Way;
 use cs_ast::Place;
 use cs_ast::typed::expression::Expr;
-use cs_folding::is_null;
+use cs_folding::{is_null, is_null_cast};
 use cs_scopes::{TypeCode, TypeRefusal};
 use cs_types::{CType, DataModel, is_void};
 use std::alloc::Global;
@@ -156,7 +156,7 @@ fn cast_way<'a>(model: DataModel, value: &Expr, target: &'a CType) -> Way<'a>
 }
 
 // How a pointer is cast to a pointer type, by what both point to.
-#[tactic(auto, unfolding(crate::specs::Conversions::pointer_cast))]
+#[tactic(auto, unfolding(crate::specs::Conversions::pointer_cast, cs_folding::specs::Folding::is_null_cast))]
 fn pointer_cast_way<'a>(
     model: DataModel,
     value: &Expr,
@@ -169,10 +169,10 @@ fn pointer_cast_way<'a>(
         → pointer_cast model at (typed value.now) (shape_of to.now) (shape_of from.now)
         ≡ by_way at (typed value.now) result }
 {
-    if *to == *from || is_void(to) {
-        Way::Convert(target)
-    } else if is_null(model, value) {
+    if is_null_cast(model, value, to, from) {
         Way::Null(target)
+    } else if *to == *from || is_void(to) {
+        Way::Convert(target)
     } else {
         Way::Refused(TypeCode::PointerConversion)
     }

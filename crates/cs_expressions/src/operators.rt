@@ -19,7 +19,7 @@ use cs_ast::raw::operator::InfixOp;
 use cs_ast::typed::expression::Expr;
 use cs_ast::typed::operator::{BinOp, CmpOp, Direction, Order};
 use cs_folding::is_null;
-use cs_scopes::{TypeCode, TypeRefusal};
+use cs_scopes::{TypeCode, TypeRefusal, direction_of};
 use cs_types::{
     CType, DataModel, IntType, StructTable, difference_type, is_complete, is_scalar, is_void, usual,
 };
@@ -239,11 +239,11 @@ fn added(
     match (&left.ty, &right.ty) {
         (CType::Int(_), CType::Int(_)) => joined(alloc, model, BinOp::Add, place, left, right),
         (CType::Pointer(_), CType::Int(_)) => {
-            let (direction, order) = (Direction::Forward, Order::PointerFirst);
+            let (direction, order) = (direction_of(BinOp::Add), Order::PointerFirst);
             moved(alloc, table, place, left, right, direction, order)
         }
         (CType::Int(_), CType::Pointer(_)) => {
-            let (direction, order) = (Direction::Forward, Order::AmountFirst);
+            let (direction, order) = (direction_of(BinOp::Add), Order::AmountFirst);
             moved(alloc, table, place, right, left, direction, order)
         }
         _ => Err(TypeRefusal::Code(TypeCode::OperandTypes, place)),
@@ -294,7 +294,7 @@ fn subtracted(
     match (&left.ty, &right.ty) {
         (CType::Int(_), CType::Int(_)) => joined(alloc, model, BinOp::Sub, place, left, right),
         (CType::Pointer(_), CType::Int(_)) => {
-            let (direction, order) = (Direction::Back, Order::PointerFirst);
+            let (direction, order) = (direction_of(BinOp::Sub), Order::PointerFirst);
             moved(alloc, table, place, left, right, direction, order)
         }
         (CType::Pointer(_), CType::Pointer(_)) => apart(alloc, model, table, place, left, right),

@@ -1,10 +1,9 @@
 //! Operators that name objects (C11 6.5.2.1, 6.5.2.3, 6.5.3.2).
-ghost use Rattle.std.specs.Prelude.{◌≡◌, option_copied};
-ghost use Rattle.cs_types.specs.Layout.{members_of};
+ghost use Rattle.std.specs.Prelude.{◌≡◌};
 ghost use Rattle.cs_types.specs.Shape.{Shape, shape_of, pointer};
 ghost use Rattle.cs_ast.specs.TypedView.{typed};
-ghost use Rattle.cs_scopes.specs.Verdicts.{Yields, Answers};
-ghost use Rattle.cs_expressions.specs.Places.{address_of, through, element, indexed, member_named, member_found, selected, selected_through, struct_after, struct_number};
+ghost use Rattle.cs_scopes.specs.Verdicts.{Yields};
+ghost use Rattle.cs_expressions.specs.Places.{address_of, through, element, indexed, selected, selected_through, struct_after, struct_number};
 
 use crate::nodes::{address, arrow, index, member, pointer_to, through as through_node};
 use crate::objects::is_object;
@@ -12,9 +11,8 @@ use cs_ast::Place;
 use cs_ast::raw::name::RawName;
 use cs_ast::typed::expression::Expr;
 use cs_ast::typed::operator::Order;
-use cs_names::Name;
-use cs_scopes::{TypeCode, TypeRefusal};
-use cs_types::{CType, Member, StructTable, is_complete, is_void, members_of};
+use cs_scopes::{TypeCode, TypeRefusal, member_of};
+use cs_types::{CType, StructTable, is_complete, is_void};
 use std::alloc::Global;
 
 /// `&`.
@@ -93,38 +91,6 @@ pub fn indexed(
             element(alloc, table, place, right, left, Order::AmountFirst)
         }
         _ => Err(TypeRefusal::Code(TypeCode::OperandTypes, place)),
-    }
-}
-
-// The first member of this name.
-fn member_named<'a>(name: &Name, members: &'a [Member]) -> Option<&'a Member>
-    ensures { option_copied result ≡ member_named name.now members.now }
-{
-    for member in members {
-        if *member.name() == *name {
-            return Some(member);
-        }
-    }
-    None
-}
-
-// The member of a struct, by the struct's number.
-#[tactic(auto, unfolding(crate::specs::Places::member_found))]
-fn member_of<'a>(
-    table: &'a StructTable,
-    place: Place,
-    name: &Name,
-    number: u32,
-) -> Result<&'a Member, TypeRefusal>
-    ensures { Answers (λ found. found.now)
-        (member_found place name.now (members_of table.now.list number)) result }
-{
-    let Some(members) = members_of(table, number) else {
-        return Err(TypeRefusal::Code(TypeCode::UnknownName, place));
-    };
-    match member_named(name, members.as_slice()) {
-        Some(member) => Ok(member),
-        None => Err(TypeRefusal::Code(TypeCode::NoMember, place)),
     }
 }
 

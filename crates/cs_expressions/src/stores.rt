@@ -7,7 +7,7 @@ ghost use Rattle.cs_expressions.specs.Integers.{in_type};
 ghost use Rattle.cs_scopes.specs.Verdicts.{Verdict, Fine};
 ghost use Rattle.cs_ast.specs.TypedView.{typed};
 ghost use Rattle.cs_scopes.specs.Verdicts.{Yields};
-ghost use Rattle.cs_expressions.specs.Stores.{is_stored_to, assignable, assigned_fault, assigned, is_additive, is_shift, way_of, updatable_as, updatable, updated_fault, weighed, led, moved_by_step, steppable, works_in, taken_in, updated, step_operator, stepped};
+ghost use Rattle.cs_expressions.specs.Stores.{is_stored_to, assignable, assigned_fault, assigned, is_additive, is_shift, updatable_as, updatable, updated_fault, weighed, led, moved_by_step, steppable, works_in, taken_in, updated, step_operator, stepped};
 
 use crate::integers::in_type;
 use crate::nodes::{assign, number, shift, update};
@@ -15,8 +15,8 @@ use crate::objects::is_object;
 use cs_ast::Place;
 use cs_ast::raw::operator::Step;
 use cs_ast::typed::expression::Expr;
-use cs_ast::typed::operator::{BinOp, Direction, Gives};
-use cs_scopes::{TypeCode, TypeRefusal, has_few_scalars, least};
+use cs_ast::typed::operator::{BinOp, Gives};
+use cs_scopes::{TypeCode, TypeRefusal, direction_of, has_few_scalars, least};
 use cs_types::{
     CType, DataModel, IntType, StructTable, is_array, is_complete, is_void, promote, usual,
 };
@@ -85,16 +85,6 @@ fn is_shift(operator: BinOp) -> bool
     match operator {
         BinOp::Shl | BinOp::Shr => true,
         _ => false,
-    }
-}
-
-// The way in which a pointer moves that is added to or subtracted from.
-fn way_of(operator: BinOp) -> Direction
-    ensures { result ≡ way_of operator }
-{
-    match operator {
-        BinOp::Sub => Direction::Back,
-        _ => Direction::Forward,
     }
 }
 
@@ -230,7 +220,7 @@ pub fn updated(
         }
         (CType::Pointer(_), CType::Int(_)) => {
             let ty = object.ty.copy(alloc)?;
-            let (direction, gives) = (way_of(operator), Gives::New);
+            let (direction, gives) = (direction_of(operator), Gives::New);
             let made = shift(alloc, place, ty, object, value, direction, gives)?;
             Ok(made)
         }
@@ -295,7 +285,7 @@ pub fn stepped(
         CType::Pointer(_) => {
             let ty = object.ty.copy(alloc)?;
             let one = number(alloc, place, IntType::Int, 1)?;
-            let made = shift(alloc, place, ty, object, one, way_of(operator), gives)?;
+            let made = shift(alloc, place, ty, object, one, direction_of(operator), gives)?;
             Ok(made)
         }
         _ => Err(TypeRefusal::Code(TypeCode::OperandTypes, place)),

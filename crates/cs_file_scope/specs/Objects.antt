@@ -16,7 +16,8 @@ use Rattle.cs_types.specs.Kinds.{is_complete}
 use Rattle.cs_scopes.specs.TypeNames.{starred}
 use Rattle.cs_declarations.specs.Environment.{Environment, with_literals, declaring, meaning_here}
 use Rattle.cs_declarations.specs.Initializers.{InFile, Reading, initial_typed}
-use Rattle.cs_declarations.specs.Objects.{object_type, is_constant_object}
+use Rattle.cs_declarations.specs.Objects.{object_type}
+use Rattle.cs_scopes.specs.Constness.{is_constant_object}
 
 -- a file so far; its functions stand in the order of the whole file, and those that aren't declared yet are blank
 pub record Filed : Type 0 where

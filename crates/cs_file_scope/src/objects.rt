@@ -13,9 +13,9 @@ use crate::filed::Filed;
 use cs_ast::raw::declaration::{RawDeclarator, RawFirstValue, RawInit, RawSpecs};
 use cs_ast::typed::program::Global;
 use cs_ast::typed::statement::Initial;
-use cs_declarations::{Storage, initial_typed, is_constant_object, object_type};
+use cs_declarations::{Storage, initial_typed, object_type};
 use cs_names::Name;
-use cs_scopes::{Meaning, TypeCode, TypeRefusal, starred};
+use cs_scopes::{Meaning, TypeCode, TypeRefusal, is_constant_object, starred};
 use cs_types::{CType, is_complete};
 use std::alloc::{AllocError, Global as Allocation};
 

@@ -17,7 +17,8 @@ use Rattle.cs_scopes.specs.Verdicts.{Verdict, Fine, Fault, lift}
 use Rattle.cs_scopes.proofs.LesserCodes.{least_code-assoc}
 use Rattle.cs_expressions.specs.Primary.{Literals}
 use Rattle.cs_consts.specs.Roles.{operand_of}
-use Rattle.cs_declarations.specs.Initializers.{Storage, part_types, has_form, Reading, Readings, expression_read, types_or_none, parts_read, one_more}
+use Rattle.cs_declarations.specs.Initializers.{Storage, has_form, Reading, Readings, expression_read, types_or_none, parts_read, one_more}
+use Rattle.cs_scopes.specs.Parts.{part_types}
 use Rattle.cs_declarations.specs.Initializers.{initial_read, items_read, before_others, part_judged, parts_judged, initial_judged, literals_read}
 use Rattle.cs_declarations.specs.Initializers.{reading_fault, item_fault, items_fault, initial_fault, whole_fault, scalar_limit, whole_read, kept_with}
 use Rattle.cs_declarations.specs.Initializers.{initial_typed}

@@ -26,7 +26,8 @@ use Rattle.cs_scopes.specs.Faults.{lesser}
 use Rattle.cs_expressions.specs.Conversions.{Pair, converted, pointed, recast, pointer_cast, pointers_met}
 use Rattle.cs_expressions.specs.Objects.{is_object, operand}
 use Rattle.cs_expressions.specs.Operators.{met, tested, chosen, chosen_pair, alike}
-use Rattle.cs_expressions.specs.Places.{address_of, member_found, selected, selected_through, struct_number, struct_after}
+use Rattle.cs_expressions.specs.Places.{address_of, selected, selected_through, struct_number, struct_after}
+use Rattle.cs_scopes.specs.Members.{member_found}
 use Rattle.cs_expressions.specs.Stores.{is_additive, assignable, assigned, assigned_fault, updatable, updatable_as, updated, updated_fault, weighed}
 use Rattle.cs_expressions.specs.Stores.{moved_by_step}
 use Rattle.cs_expressions.specs.Stores.{steppable, stepped}

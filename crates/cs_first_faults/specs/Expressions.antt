@@ -25,7 +25,8 @@ use Rattle.cs_expressions.specs.Calls.{called, parameters_of, call_fault}
 use Rattle.cs_expressions.specs.Conversions.{converted, recast}
 use Rattle.cs_expressions.specs.Objects.{is_object, unless_void, operand, valued}
 use Rattle.cs_expressions.specs.Operators.{combined, tested, met, alike}
-use Rattle.cs_expressions.specs.Places.{member_found, struct_number, struct_after}
+use Rattle.cs_expressions.specs.Places.{struct_number, struct_after}
+use Rattle.cs_scopes.specs.Members.{member_found}
 use Rattle.cs_expressions.specs.Primary.{Literals, named, text_at}
 use Rattle.cs_expressions.specs.Stores.{is_stored_to, is_additive, updated_fault, step_operator}
 use Rattle.cs_consts.specs.declared.purpose.Purpose.{Purpose}

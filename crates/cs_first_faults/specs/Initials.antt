@@ -9,7 +9,8 @@ use Rattle.cs_scopes.specs.declared.context.Context.{Context}
 use Rattle.cs_scopes.specs.declared.refusal.TypeCode.{TypeCode}
 use Rattle.cs_scopes.specs.declared.refusal.TypeCode.TheVariants.{Initializer}
 use Rattle.cs_expressions.specs.Primary.{Literals}
-use Rattle.cs_declarations.specs.Initializers.{Storage, part_types, has_form, Reading, expression_read, types_or_none, initial_read, part_judged}
+use Rattle.cs_declarations.specs.Initializers.{Storage, has_form, Reading, expression_read, types_or_none, initial_read, part_judged}
+use Rattle.cs_scopes.specs.Parts.{part_types}
 use Rattle.cs_declarations.specs.Initializers.{initial_judged, literals_read, scalar_limit}
 use Rattle.cs_first_faults.specs.Failures.{FailingPlace, failing_at, codes_of, if_typed}
 use Rattle.cs_first_faults.specs.Roles.{value_asked_failures}

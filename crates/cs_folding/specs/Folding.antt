@@ -1,5 +1,5 @@
 -- Constant expressions (C11 6.6): their numbers, which are exact.
-use Rattle.std.specs.Prelude.{ℕ, suc, ◌+◌, ◌*◌, ◌-◌, ◌^◌, ℤ, pos, negsuc, ◌+ℤ◌, ◌-ℤ◌, ◌*ℤ◌, int_lt, int_le, int_div}
+use Rattle.std.specs.Prelude.{ℕ, suc, ◌*◌, ◌-◌, ◌^◌, ℤ, pos, negsuc, ◌+ℤ◌, ◌-ℤ◌, ◌*ℤ◌, int_lt, int_le, int_div}
 use Rattle.std.specs.Prelude.{int_rem, unsigned_abs, bit_and, bit_or, bit_xor, Bool, true, false, not, ◌&&◌, ◌||◌, if◌then◌else◌, Option, Some}
 use Rattle.std.specs.Prelude.{None}
 use Rattle.std.specs.Ordering.{int_eq}
@@ -7,7 +7,8 @@ use Rattle.std.specs.Option.{option_map, option_and_then}
 use Rattle.cs_types.specs.declared.data_model.DataModel.{DataModel}
 use Rattle.cs_types.specs.declared.int_type.IntType.{IntType}
 use Rattle.cs_types.specs.IntType.{bytes_of, has_sign, modulus_of, least_of, greatest_of}
-use Rattle.cs_types.specs.Shape.{Shape, void, integer, pointer, array, struct}
+use Rattle.cs_types.specs.Kinds.{is_void}
+use Rattle.cs_types.specs.Shape.{Shape, void, integer, pointer, array, struct, same_shape}
 use Rattle.cs_types.specs.Wrap.{floor_div, wrap_quotient, wrapped}
 use Rattle.cs_ast.specs.declared.typed.operator.BinOp.{BinOp}
 use Rattle.cs_ast.specs.declared.typed.operator.BinOp.TheVariants.{Add, Sub, Mul, Div, Rem, Shl, Shr, And as BitAnd, Xor, Or as BitOr}
@@ -145,3 +146,8 @@ is_void_pointer other = false
 -- a null pointer constant (C11 6.3.2.3, paragraph 3): an integer constant expression of value 0, or one that is cast to `void *`
 unfoldable pub is_null : DataModel → Typed → Bool
 is_null model e = (is_void_pointer (type_of e) && is_null_form (form_of e)) || is_zero (number_in model true e)
+
+-- a pointer is the null pointer once it is cast to a pointer type: a null pointer constant that is cast neither to its own type nor to
+-- `void *`
+unfoldable pub is_null_cast : DataModel → Typed → Shape → Shape → Bool
+is_null_cast model e target source = not (same_shape target source || is_void target) && is_null model e

@@ -1,2 +1,3 @@
 pub mod TypedParts
 pub mod Folding
+pub mod Addresses

@@ -3,7 +3,7 @@ ghost use Rattle.std.specs.Prelude.{◌≡◌, IfSome};
 ghost use Rattle.cs_types.specs.Shape.{shape_of};
 ghost use Rattle.cs_types.specs.IntType.{IsIntegerOfC};
 ghost use Rattle.cs_ast.specs.TypedView.{typed, form};
-ghost use Rattle.cs_folding.specs.Folding.{number_in, is_null, is_null_form, is_void_pointer};
+ghost use Rattle.cs_folding.specs.Folding.{number_in, is_null, is_null_cast, is_null_form, is_void_pointer};
 
 use crate::arithmetic::{applied, compared, is_zero, kept, truth, turned};
 use cs_ast::typed::expression::{Expr, ExprKind};
@@ -73,6 +73,15 @@ pub fn is_null(model: DataModel, value: &Expr) -> bool
         return true;
     }
     is_zero(number_in(model, true, value))
+}
+
+/// Whether a pointer is the null pointer once it is cast to a pointer type, by what both types point to: it is a null pointer
+/// constant that is cast neither to its own type nor to `void *` (C11 6.3.2.3, paragraph 3).
+#[tactic(auto, unfolding(crate::specs::Folding::is_null_cast))]
+pub fn is_null_cast(model: DataModel, value: &Expr, to: &CType, from: &CType) -> bool
+    ensures { result ≡ is_null_cast model (typed value.now) (shape_of to.now) (shape_of from.now) }
+{
+    *to != *from && !is_void(to) && is_null(model, value)
 }
 
 // Whether the type is `void *`.

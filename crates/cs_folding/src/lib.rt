@@ -1,7 +1,9 @@
-//! The numbers of integer constant expressions, which are exact (C11 6.6).
+//! Constant expressions (C11 6.6): their numbers, which are exact, null pointers and addresses.
 #![tactic(auto)]
 
+mod addresses;
 mod arithmetic;
 mod folding;
 
-pub use folding::{is_null, number_in};
+pub use addresses::{is_address, is_number};
+pub use folding::{is_null, is_null_cast, number_in};

@@ -27,11 +27,13 @@ use Rattle.cs_declarations.specs.Sizes.{unless_refused}
 use Rattle.cs_declarations.specs.Bodies.{Typing, Laying, nothing_laid, has_member, member_added, member_declared, members_declared}
 use Rattle.cs_declarations.specs.Bodies.{Counting, constant_added, number_said, constant_declared, constants_declared, with_enum_tag, is_new_enum, enum_body}
 use Rattle.cs_declarations.specs.Bodies.{Opening, opening, Body, struct_read, group_declared, first_name, plain_row, row_type, members_read, plain_words}
-use Rattle.cs_declarations.specs.Bodies.{words_type, specs_type, is_const_word, has_const, typedef_added, typedefs_added}
-use Rattle.cs_declarations.specs.Parameters.{place_of, name_in, Passed, passed, consts_after, elements_const, target_const, points_to_const, is_pointer}
+use Rattle.cs_declarations.specs.Bodies.{words_type, specs_type, typedef_added, typedefs_added}
+use Rattle.cs_scopes.specs.Constness.{is_const_word, has_const}
+use Rattle.cs_declarations.specs.Parameters.{place_of, name_in, Passed, passed, is_pointer}
+use Rattle.cs_scopes.specs.Constness.{consts_after, elements_const, target_const, points_to_const}
 use Rattle.cs_declarations.specs.Parameters.{Head, naming, is_free_name, twice_after, after_twice, with_parameter, parameter_passed}
 use Rattle.cs_declarations.specs.Parameters.{parameter_typed, parameters_after, no_parameter, parameters_typed}
-use Rattle.cs_declarations.specs.Objects.{is_constant_by, is_constant_object}
+use Rattle.cs_scopes.specs.Constness.{is_constant_by, is_constant_object}
 use Rattle.cs_one_program.specs.SameExpressions.{SameExpr, Pairwise, none, more, IfBoth, absent, present}
 use Rattle.cs_one_program.specs.SameDeclarations.{SameBounds, SameDeclarator, SameConstant, SameSpec, Static, Plain, Struct, Enum, SameSpecs, NoSpec}
 use Rattle.cs_one_program.specs.SameDeclarations.{MoreSpecs, SameMembers, NoMember, MoreMembers, SameBefore, SameParameter, SameParameters, Empty}

@@ -28,7 +28,8 @@ use Rattle.cs_consts.specs.declared.purpose.Purpose.{Purpose}
 use Rattle.cs_consts.specs.declared.purpose.Purpose.TheVariants.{Run, Constant}
 use Rattle.cs_consts.specs.Typing.{done, value_in, operand_in, formed}
 use Rattle.cs_consts.specs.Roles.{number_of_constant, value_of, operand_of, assigned_value, test_of, testing_fault, test_fault, selector_of, discarded_value}
-use Rattle.cs_declarations.specs.Initializers.{Storage, InFile, InFunction, part_types, text_of, takes_expression, has_form, have_forms, Reading}
+use Rattle.cs_declarations.specs.Initializers.{Storage, InFile, InFunction, text_of, takes_expression, has_form, have_forms, Reading}
+use Rattle.cs_scopes.specs.Parts.{part_types}
 use Rattle.cs_declarations.specs.Initializers.{expression_read, types_or_none, parts_read, one_more, initial_read, items_read, part_judged, initial_judged}
 use Rattle.cs_declarations.specs.Initializers.{literals_read, reading_fault, item_fault, items_fault, initial_fault, whole_fault}
 use Rattle.cs_declarations.specs.Initializers.{together, bytes_stored, value_stored, stored, row_stored, scalar_limit, whole_read, kept_with, initial_typed}

@@ -1,12 +1,12 @@
 -- Arrays of arrays, from the innermost outward: for the type of a written type with bounds.
-use Rattle.std.proofs.Common.{◌≡◌, ℕ, ℤ, pos, ◌+◌, ◌<◌, zero, suc, List, [], ◌∷◌, drop, length, get_or, add-one, drop-cons, refl, sym}
+use Rattle.std.proofs.Common.{◌≡◌, ℕ, ℤ, pos, ◌+◌, ◌<◌, zero, suc, List, [], ◌∷◌, drop, length, get_or, add-one, drop-cons, sym}
 use Rattle.std.proofs.Common.{ap, ◌∙◌}
 use Rattle.cs_types.specs.declared.data_model.DataModel.{DataModel}
 use Rattle.cs_types.specs.declared.structs.StructType.{StructType}
 use Rattle.cs_types.specs.Shape.{Shape}
 use Rattle.cs_ast.specs.declared.place.Place.{Place}
 use Rattle.cs_scopes.specs.declared.refusal.TypeRefusal.{TypeRefusal}
-use Rattle.cs_scopes.specs.Verdicts.{Verdict, Fine, lift, IsRefused}
+use Rattle.cs_scopes.specs.Verdicts.{Fine, lift, IsRefused}
 use Rattle.cs_scopes.specs.TypeNames.{array_of, arrayed}
 use Rattle.cs_scopes.proofs.Lifting.{lift-fine, lift-refused, refused_as}
 

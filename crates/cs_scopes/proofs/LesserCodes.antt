@@ -7,7 +7,7 @@ use Rattle.cs_scopes.specs.declared.refusal.TypeCode.TheVariants.{UnknownName, D
 use Rattle.cs_scopes.specs.declared.refusal.TypeCode.TheVariants.{NoTarget, PointerConversion, CaseTwice, Jump, NoMember, Initializer, FunctionName}
 use Rattle.cs_scopes.specs.declared.refusal.TypeCode.TheVariants.{NotConstant, VoidValue, Return, TooManyScalars}
 use Rattle.cs_scopes.specs.Verdicts.{number_of}
-use Rattle.cs_scopes.specs.Faults.{lesser, least, least_code}
+use Rattle.cs_scopes.specs.Faults.{lesser, least_code}
 
 -- the codes by their numbers, which begin at 1
 abbrev codes : List TypeCode

@@ -7,3 +7,8 @@ pub mod Entries
 pub mod Sizes
 pub mod Scalars
 pub mod TypeNames
+pub mod Members
+pub mod Moves
+pub mod Parts
+pub mod Constness
+pub mod Layouts

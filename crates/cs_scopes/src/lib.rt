@@ -1,21 +1,31 @@
 //! The declarations in force, the types that words name, and why a file is refused by its types.
 #![tactic(auto)]
 
+mod constness;
 mod context;
 mod declarations;
 mod entries;
 mod faults;
 mod integer_words;
+mod layouts;
+mod members;
+mod moves;
+mod parts;
 mod refusal;
 mod scalars;
 mod scope;
 mod sizes;
 mod type_names;
 
+pub use constness::{is_constant_object, points_to_const};
 pub use context::{Context, Scope};
 pub use declarations::{Declarations, Tags};
 pub use faults::{least, least_code};
 pub use integer_words::{IntegerWords, is_word};
+pub use layouts::{end_of, struct_of};
+pub use members::member_of;
+pub use moves::direction_of;
+pub use parts::{Parts, parts_of};
 pub use refusal::{TypeCode, TypeRefusal};
 pub use scalars::{few, has_few_scalars, scalars_in};
 pub use scope::{Callee, Declaration, Function, Meaning, Tag, TagMeaning};

@@ -11,7 +11,8 @@ use Rattle.cs_consts.specs.Roles.{operand_of}
 use Rattle.cs_expressions.specs.Primary.{Literals}
 use Rattle.cs_scopes.specs.Faults.{least_code}
 use Rattle.cs_scopes.specs.Verdicts.{lift}
-use Rattle.cs_declarations.specs.Initializers.{Storage, has_form, part_types, types_or_none, Reading, Readings, value_read, expression_read, parts_read}
+use Rattle.cs_declarations.specs.Initializers.{Storage, has_form, types_or_none, Reading, Readings, value_read, expression_read, parts_read}
+use Rattle.cs_scopes.specs.Parts.{part_types}
 use Rattle.cs_declarations.specs.Initializers.{one_more, initial_read, items_read, whole_fault, scalar_limit, whole_read}
 use Rattle.cs_declarations.specs.Initializers.{initial_judged, kept_with, initial_typed}
 use Rattle.cs_well_formed.proofs.Names.{Begins, begins-self, begins-trans, literals-begin}

@@ -19,7 +19,8 @@ use Rattle.cs_scopes.specs.Meanings.{Meaning, Typedef, Constant, Global, Local, 
 use Rattle.cs_scopes.specs.Verdicts.{Fine, Fault}
 use Rattle.cs_declarations.specs.Initializers.{InFile}
 use Rattle.cs_declarations.specs.Environment.{Environment, meaning_here}
-use Rattle.cs_declarations.specs.Objects.{object_type, is_constant_object}
+use Rattle.cs_declarations.specs.Objects.{object_type}
+use Rattle.cs_scopes.specs.Constness.{is_constant_object}
 use Rattle.cs_file_scope.specs.Objects.{Filed, Object, with_known, is_completed, may_be_object, new_object, object_of, changed, made_constant, holding}
 use Rattle.cs_file_scope.specs.Objects.{with_initial, object_initialized, marked, object_added, objects_added}
 use Rattle.cs_well_formed.specs.Nodes.{initial_nodes, all_nodes, object_nodes, routine_nodes}

@@ -17,7 +17,8 @@ use Rattle.cs_scopes.specs.Meanings.{Meaning, Typedef, Constant, Global, Local, 
 use Rattle.cs_scopes.specs.Verdicts.{Fault}
 use Rattle.cs_declarations.specs.Initializers.{InFile, Reading, initial_typed}
 use Rattle.cs_declarations.specs.Environment.{table_of, declarations_of, with_literals, meaning_here}
-use Rattle.cs_declarations.specs.Objects.{is_constant_object, object_type}
+use Rattle.cs_declarations.specs.Objects.{object_type}
+use Rattle.cs_scopes.specs.Constness.{is_constant_object}
 use Rattle.cs_file_scope.specs.Objects.{Filed, Object, with_globals, is_completed, may_be_object, new_object, object_of, changed, made_constant, holding}
 use Rattle.cs_file_scope.specs.Objects.{with_initial, object_initialized, marked, object_added, objects_added}
 use Rattle.cs_file_scope.specs.Beginning.{allocators}

@@ -19,7 +19,8 @@ use Rattle.cs_scopes.specs.Verdicts.{Verdict, Fine, Fault, lift}
 use Rattle.cs_folding.specs.TypedParts.{type_of}
 use Rattle.cs_expressions.specs.Primary.{Literals}
 use Rattle.cs_consts.specs.Roles.{operand_of}
-use Rattle.cs_declarations.specs.Initializers.{Storage, InFile, InFunction, part_types, text_of, is_admitted, has_form, Reading, Readings, value_read}
+use Rattle.cs_declarations.specs.Initializers.{Storage, InFile, InFunction, text_of, is_admitted, has_form, Reading, Readings, value_read}
+use Rattle.cs_scopes.specs.Parts.{part_types}
 use Rattle.cs_declarations.specs.Initializers.{expression_read, types_or_none, parts_read, one_more, initial_read, items_read, is_braceless, value_held}
 use Rattle.cs_scopes.specs.Faults.{least_code}
 use Rattle.cs_declarations.specs.Initializers.{value_judged, before_others, part_judged, parts_judged, initial_judged, kept_with}

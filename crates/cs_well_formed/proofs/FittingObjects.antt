@@ -24,7 +24,8 @@ use Rattle.cs_scopes.specs.Faults.{least_code}
 use Rattle.cs_folding.specs.TypedParts.{type_of, form_of}
 use Rattle.cs_expressions.specs.Objects.{is_object}
 use Rattle.cs_types.specs.Kinds.{is_void, is_complete}
-use Rattle.cs_expressions.specs.Places.{address_of, through, element, indexed, member_found, member_in, member_after, struct_number, struct_after, member_by}
+use Rattle.cs_expressions.specs.Places.{address_of, through, element, indexed, member_in, member_after, struct_number, struct_after, member_by}
+use Rattle.cs_scopes.specs.Members.{member_found}
 use Rattle.cs_expressions.specs.Places.{object_member}
 use Rattle.cs_expressions.specs.Places.{selected, selected_through}
 use Rattle.cs_expressions.specs.Stores.{is_stored_to, assignable, assigned, is_additive, updatable_as, updatable, updated_fault, led, moved_by_step, steppable}

@@ -22,7 +22,8 @@ use Rattle.cs_expressions.specs.Conversions.{converted}
 use Rattle.cs_expressions.specs.Primary.{Literals}
 use Rattle.cs_consts.specs.Typing.{literals_after}
 use Rattle.cs_consts.specs.Roles.{operand_of}
-use Rattle.cs_declarations.specs.Initializers.{Storage, InFile, InFunction, is_character, copies, member_types, part_types, text_of, is_admitted}
+use Rattle.cs_declarations.specs.Initializers.{Storage, InFile, InFunction, is_character, text_of, is_admitted}
+use Rattle.cs_scopes.specs.Parts.{copies, member_types, part_types}
 use Rattle.cs_declarations.specs.Initializers.{takes_expression, has_form, have_forms, Reading, Readings, value_read, expression_read, types_or_none}
 use Rattle.cs_declarations.specs.Initializers.{parts_read, one_more, initial_read, items_read, is_braceless, value_held, value_judged, item_judged}
 use Rattle.cs_scopes.specs.Faults.{least_code}

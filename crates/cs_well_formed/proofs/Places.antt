@@ -14,7 +14,8 @@ use Rattle.cs_scopes.specs.declared.context.Context.{Context}
 use Rattle.cs_folding.specs.TypedParts.{type_of, form_of}
 use Rattle.cs_expressions.specs.Objects.{is_object}
 use Rattle.cs_types.specs.Kinds.{is_void, is_complete}
-use Rattle.cs_expressions.specs.Places.{address_of, through, element, indexed, member_named, member_at, member_found, member_in, member_after, struct_number}
+use Rattle.cs_expressions.specs.Places.{address_of, through, element, indexed, member_in, member_after, struct_number}
+use Rattle.cs_scopes.specs.Members.{member_named, member_at, member_found}
 use Rattle.cs_expressions.specs.Places.{object_member, selected, selected_through}
 use Rattle.cs_well_formed.specs.Expressions.{Setting, IsWell, IsValueOf, HasType, HasMember}
 use Rattle.cs_well_formed.specs.Agreement.{Agrees}

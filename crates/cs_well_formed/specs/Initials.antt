@@ -6,7 +6,8 @@ use Rattle.cs_types.specs.Layout.{members_of}
 use Rattle.cs_types.specs.Shape.{Shape, array, struct}
 use Rattle.cs_ast.specs.TypedTree.{Initial, Value, Parts, Bytes, Initials, NoPart, Part}
 use Rattle.cs_ast.specs.TypedProgram.{TypedProgram}
-use Rattle.cs_declarations.specs.Initializers.{InFile, is_admitted, is_character, copies}
+use Rattle.cs_declarations.specs.Initializers.{InFile, is_admitted, is_character}
+use Rattle.cs_scopes.specs.Parts.{copies}
 use Rattle.cs_well_formed.specs.Expressions.{Setting, IsWell, IsValueOf}
 
 -- the types of the parts that a list of initializers is for: the elements of an array, or the members of a struct

@@ -1,9 +1,10 @@
 use Rattle.std.proofs.Common.{◌≡◌, ◌+◌, suc, drop, Some, sym, ap, ◌∙◌, add-one}
 use Rattle.std.specs.Prelude.{◌&&◌, slice_get}
 use Rattle.cs_types.specs.Shape.{shape_of}
-use Rattle.cs_declarations.specs.Initializers.{list_has_forms, part_types}
+use Rattle.cs_declarations.specs.Initializers.{list_has_forms}
+use Rattle.cs_scopes.specs.Parts.{part_types}
 use Rattle.cs_declarations.specs.View as view
-use Rattle.cs_declarations.specs.View.{types_of}
+use Rattle.cs_scopes.specs.Parts.{types_of}
 use Rattle.cs_declarations.proofs.PartTypes.{part_is, no_part}
 use Rattle.cs_declarations.proofs.WrittenLists.{has_form-List, item_there, item_forms, item_too_many, no_item_left}
 use Rattle.cs_declarations.proofs.forms.+forms.Goals as goal

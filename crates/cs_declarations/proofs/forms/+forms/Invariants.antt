@@ -2,7 +2,7 @@ use Rattle.std.proofs.Common.{◌≡◌, ◌+◌, ◌*◌, drop}
 use Rattle.cs_ast.specs.declared.raw.declaration.RawInitial.{size-RawInitial}
 use Rattle.cs_declarations.specs.Initializers.{list_has_forms}
 use Rattle.cs_declarations.specs.View as view
-use Rattle.cs_declarations.specs.View.{types_of}
+use Rattle.cs_scopes.specs.Parts.{types_of}
 use Rattle.cs_declarations.proofs.forms.+forms.Given as goal
 
 abbrev pub decreases-has_form : goal.decreases-has_form

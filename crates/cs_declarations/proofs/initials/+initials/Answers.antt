@@ -1,8 +1,7 @@
-use Rattle.std.proofs.Common.{rules, suc, ◌≡◌, ◌+◌, Some, None, Err, drop, length, refl, sym, ap, ap₂, subst, ◌∙◌, add-one}
+use Rattle.std.proofs.Common.{rules, suc, ◌≡◌, Some, None, Err, drop, refl, sym, ap, ap₂, subst, ◌∙◌, add-one}
 use Rattle.std.specs.Prelude.{slice_get}
 use Rattle.std.specs.Option.{option_or}
 use Rattle.cs_types.specs.Shape.{shape_of}
-use Rattle.cs_ast.specs.declared.place.Place.{Place}
 use Rattle.cs_ast.specs.declared.typed.statement.Initial.{Initial as Held}
 use Rattle.cs_ast.specs.declared.typed.statement.Initial.TheVariants as held
 use Rattle.cs_ast.specs.TypedTree.{Parts}
@@ -11,9 +10,11 @@ use Rattle.cs_ast.proofs.TypedRows.{initial-List}
 use Rattle.cs_scopes.specs.Verdicts.{Fine, Fault, lift, IsRefused}
 use Rattle.cs_scopes.specs.Faults.{least_code, unless_stopped}
 use Rattle.cs_scopes.proofs.LesserCodes.{least_code-none}
-use Rattle.cs_declarations.specs.Initializers.{part_types, initial_read, item_fault, list_read, list_fault}
+use Rattle.cs_declarations.specs.Initializers.{initial_read, item_fault, list_read, list_fault}
+use Rattle.cs_scopes.specs.Parts.{part_types}
 use Rattle.cs_declarations.specs.View as view
-use Rattle.cs_declarations.specs.View.{reading, readings, types_of}
+use Rattle.cs_declarations.specs.View.{reading, readings}
+use Rattle.cs_scopes.specs.Parts.{types_of}
 use Rattle.cs_declarations.proofs.PartTypes.{part_is, no_part}
 use Rattle.cs_declarations.proofs.WrittenLists.{item_there}
 use Rattle.cs_declarations.specs.Answered.{AnswersWith, UnlessMemory}

@@ -5,7 +5,7 @@ use Rattle.cs_scopes.specs.Verdicts.{lift}
 use Rattle.cs_scopes.specs.Faults.{least_code, unless_stopped}
 use Rattle.cs_declarations.specs.Initializers.{list_read, list_fault}
 use Rattle.cs_declarations.specs.View as view
-use Rattle.cs_declarations.specs.View.{types_of}
+use Rattle.cs_scopes.specs.Parts.{types_of}
 use Rattle.cs_declarations.proofs.ValuesSoFar.{following}
 use Rattle.cs_declarations.proofs.initials.+initials.Given as goal
 

@@ -1,4 +1,4 @@
-use Rattle.std.proofs.Common.{◌≡◌, Some, ◌∙◌, sym, ap}
+use Rattle.std.proofs.Common.{Some, ◌∙◌, sym, ap}
 use Rattle.cs_types.specs.Shape.{shape_of}
 use Rattle.cs_scopes.specs.Faults.{least}
 use Rattle.cs_scopes.specs.declared.refusal.TypeCode.TheVariants.{Initializer}

@@ -1,4 +1,4 @@
-use Rattle.std.proofs.Common.{sym, ap, ◌∙◌}
+use Rattle.std.proofs.Common.{ap, ◌∙◌}
 use Rattle.cs_types.specs.Shape.{shape_of}
 use Rattle.cs_scopes.specs.Faults.{least_code}
 use Rattle.cs_declarations.specs.Initializers.{initial_read, scalar_limit, whole_fault}

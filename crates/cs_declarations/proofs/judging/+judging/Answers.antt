@@ -8,9 +8,10 @@ use Rattle.cs_ast.specs.TypedTree.{Parts, NoPart}
 use Rattle.cs_ast.specs.TypedView.{initial, initial_list}
 use Rattle.cs_ast.proofs.TypedRows.{initial-List}
 use Rattle.cs_scopes.specs.Verdicts.{Fine, Fault}
-use Rattle.cs_declarations.specs.Initializers.{part_types, part_judged, parts_judged}
+use Rattle.cs_declarations.specs.Initializers.{part_judged, parts_judged}
+use Rattle.cs_scopes.specs.Parts.{part_types}
 use Rattle.cs_declarations.specs.View as view
-use Rattle.cs_declarations.specs.View.{types_of}
+use Rattle.cs_scopes.specs.Parts.{types_of}
 use Rattle.cs_declarations.proofs.PartTypes.{part_is, no_part}
 use Rattle.cs_declarations.proofs.Refusing.{refused}
 use Rattle.cs_declarations.proofs.JudgedSoFar.{joined, judged_refused, judged_is, judged_none, nothing_judged, judged_over, judged_end, judged_fine}

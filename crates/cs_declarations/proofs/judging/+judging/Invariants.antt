@@ -4,7 +4,7 @@ use Rattle.cs_ast.specs.declared.typed.statement.Initial.{size-Initial}
 use Rattle.cs_ast.specs.TypedView.{initial_list}
 use Rattle.cs_declarations.specs.Initializers.{parts_judged}
 use Rattle.cs_declarations.specs.View as view
-use Rattle.cs_declarations.specs.View.{types_of}
+use Rattle.cs_scopes.specs.Parts.{types_of}
 use Rattle.cs_declarations.proofs.JudgedSoFar.{joined}
 use Rattle.cs_declarations.proofs.judging.+judging.Given as goal
 

@@ -2,8 +2,9 @@ use Rattle.std.proofs.Common.{rules, arith, ◌≡◌, ◌+◌, drop, Some, None
 use Rattle.std.specs.Prelude.{slice_get}
 use Rattle.cs_types.specs.Shape.{shape_of}
 use Rattle.cs_scopes.specs.Scalars.{few}
-use Rattle.cs_declarations.specs.Initializers.{part_types, together, list_stored}
-use Rattle.cs_declarations.specs.View.{types_of}
+use Rattle.cs_declarations.specs.Initializers.{together, list_stored}
+use Rattle.cs_scopes.specs.Parts.{part_types}
+use Rattle.cs_scopes.specs.Parts.{types_of}
 use Rattle.cs_declarations.proofs.PartTypes.{part_is, no_part}
 use Rattle.cs_declarations.proofs.WrittenLists.{item_there}
 use Rattle.cs_declarations.proofs.StoredSoFar.{few_is, few_same, nothing_yet, stored-List, stored-none, stored_over, stored_end, stored_stops, stored_past}

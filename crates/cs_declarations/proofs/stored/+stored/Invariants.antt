@@ -1,7 +1,7 @@
 use Rattle.std.proofs.Common.{◌≡◌, ◌+◌, ◌*◌, ◌≤◌, drop, Some}
 use Rattle.cs_ast.specs.declared.raw.declaration.RawInitial.{size-RawInitial}
 use Rattle.cs_declarations.specs.Initializers.{list_stored, together}
-use Rattle.cs_declarations.specs.View.{types_of}
+use Rattle.cs_scopes.specs.Parts.{types_of}
 use Rattle.cs_declarations.proofs.stored.+stored.Given as goal
 
 abbrev pub decreases-stored : goal.decreases-stored

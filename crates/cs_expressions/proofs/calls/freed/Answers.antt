@@ -1,4 +1,4 @@
-use Rattle.std.proofs.Common.{◌≡◌, ◌≢◌, length, vec_len, arith}
+use Rattle.std.proofs.Common.{◌≢◌, length, vec_len, arith}
 use Rattle.cs_expressions.proofs.ArgumentConversions.{freed-many, not_none}
 use Rattle.cs_expressions.proofs.calls.freed.Goals as goal
 

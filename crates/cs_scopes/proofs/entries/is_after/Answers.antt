@@ -1,4 +1,4 @@
-use Rattle.std.proofs.Common.{◌≡◌, Some, None, sym, ◌∙◌}
+use Rattle.std.proofs.Common.{Some, None, sym, ◌∙◌}
 use Rattle.cs_scopes.proofs.DeclaredNames.{after_says}
 use Rattle.cs_scopes.proofs.entries.is_after.Goals as goal
 

@@ -2,7 +2,7 @@ use Rattle.std.proofs.Common.{◌≡◌, ◌-◌, Some, None, rules, sym, ap, �
 use Rattle.std.specs.Prelude.{option_copied}
 use Rattle.cs_types.specs.Layout.{members_of}
 use Rattle.cs_types.specs.Shape.{shape_of}
-use Rattle.cs_scopes.specs.Scalars.{scalars_alone, scalars_times, scalars_with, scalars_after, scalars_of_members, struct_scalars}
+use Rattle.cs_scopes.specs.Scalars.{scalars_alone, scalars_times, scalars_with, scalars_of_members, struct_scalars}
 use Rattle.cs_scopes.proofs.ScalarCounts.{scalars-times, struct_scalars-members, member_past, member_there, members_counted}
 use Rattle.cs_scopes.proofs.scalars.+scalars.Goals as goal
 

@@ -1,9 +1,9 @@
-use Rattle.std.proofs.Common.{◌≡◌, ◌<◌, ◌≤◌, ◌+◌, ◌-◌, length, get_or, Err, rules, arith, refl, sym, subst}
-use Rattle.std.specs.Prelude.{ℤ, pos, FitsSigned}
+use Rattle.std.proofs.Common.{◌≡◌, ◌<◌, ◌+◌, ◌-◌, length, get_or, Err, rules, arith, refl, sym, subst}
+use Rattle.std.specs.Prelude.{pos, FitsSigned}
 use Rattle.std.specs.Int.{w128}
 use Rattle.std.proofs.lemmas.Int.{to_z-of_z}
-use Rattle.cs_types.specs.Shape.{Shape, shape_of}
-use Rattle.cs_scopes.specs.Verdicts.{Verdict, Fine, IsRefused, Answers}
+use Rattle.cs_types.specs.Shape.{shape_of}
+use Rattle.cs_scopes.specs.Verdicts.{Fine, IsRefused, Answers}
 use Rattle.cs_scopes.specs.TypeNames.{array_of, arrayed}
 use Rattle.cs_scopes.proofs.ArraySizes.{array_taken, array_stops}
 use Rattle.cs_scopes.proofs.type_names.arrayed.Goals as goal

@@ -1,4 +1,4 @@
-use Rattle.std.proofs.Common.{◌≡◌, take, sym, ap, ◌∙◌}
+use Rattle.std.proofs.Common.{take, sym, ap, ◌∙◌}
 use Rattle.std.proofs.lemmas.List.{take-map}
 use Rattle.cs_scopes.specs.declared.entries.Entry.{Entry}
 use Rattle.cs_scopes.specs.Meanings.{declaration_of}

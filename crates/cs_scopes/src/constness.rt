@@ -1,17 +1,14 @@
 //! Where `const` stands among the words and the pointers of a declaration.
 ghost use Rattle.std.specs.Prelude.{◌≡◌, List, ◌++◌, [], ◌∷◌};
-ghost use Rattle.cs_declarations.specs.Bodies.{has_const, is_const_word};
 ghost use Rattle.cs_ast.specs.declared.raw.written_type.PointerWord.{PointerWord};
-ghost use Rattle.cs_declarations.specs.Parameters.{points_to_const};
-ghost use Rattle.cs_declarations.specs.Objects.{is_constant_object};
-ghost use Rattle.cs_declarations.specs.View.{AreLastStars};
+ghost use Rattle.cs_scopes.specs.Constness.{is_const_word, has_const, points_to_const, is_constant_object, AreLastStars};
 
 use cs_ast::raw::declaration::{RawSpecs, SpecWord};
 use cs_ast::raw::expression::RawExpr;
 use cs_ast::raw::written_type::{PointerWord, TypeWord};
 
-/// Whether `const` stands among the words.
-pub fn has_const(specs: &RawSpecs) -> bool
+// Whether `const` stands among the words.
+fn has_const(specs: &RawSpecs) -> bool
     ensures { result ≡ has_const specs.now }
 {
     specs.words.iter().any(is_const_word)

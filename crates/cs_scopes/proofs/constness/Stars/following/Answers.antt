@@ -1,8 +1,8 @@
 use Rattle.std.proofs.Common.{◌++◌, ◌∷◌, [], sym, subst}
 use Rattle.std.specs.Prelude.{Some, false, true}
-use Rattle.cs_declarations.specs.View.{AreLastStars}
-use Rattle.cs_declarations.proofs.LastStars.{star_after, const_after, const_first}
-use Rattle.cs_declarations.proofs.constness.Stars.following.Goals as goal
+use Rattle.cs_scopes.specs.Constness.{AreLastStars}
+use Rattle.cs_scopes.proofs.LastStars.{star_after, const_after, const_first}
+use Rattle.cs_scopes.proofs.constness.Stars.following.Goals as goal
 
 pub returns-in-Star-default : goal.returns-in-Star-default
 returns-in-Star-default c = λ before are.

@@ -2,9 +2,9 @@
 use Rattle.std.proofs.Common.{◌≡◌, Bool, true, false, List, [], ◌∷◌, ◌++◌, Some, None, refl, sym, ap, ◌∙◌}
 use Rattle.cs_ast.specs.declared.raw.written_type.PointerWord.{PointerWord}
 use Rattle.cs_ast.specs.declared.raw.written_type.PointerWord.TheVariants.{Star, Const}
-use Rattle.cs_declarations.specs.declared.constness.Stars.{Stars}
-use Rattle.cs_declarations.specs.Parameters.{begins_const, consts_after, first_of, second_of}
-use Rattle.cs_declarations.specs.View.{AreLastStars}
+use Rattle.cs_scopes.specs.declared.constness.Stars.{Stars}
+use Rattle.cs_scopes.specs.Constness.{begins_const, consts_after, first_of, second_of}
+use Rattle.cs_scopes.specs.Constness.{AreLastStars}
 
 begins_const-star : (ws : List PointerWord) → begins_const (ws ++ Star ∷ []) ≡ begins_const ws
 begins_const-star [] = refl

@@ -1,16 +1,14 @@
-//! Constants that file-scope objects may hold (C11 6.6).
+//! Constants that file-scope objects may hold: numbers and addresses (C11 6.6).
 ghost use Rattle.std.specs.Prelude.{◌≡◌};
 ghost use Rattle.cs_ast.specs.TypedView.{typed};
-ghost use Rattle.cs_declarations.specs.Initializers.{is_number, is_null_address, is_static_address, is_static_part, is_address, is_admitted};
-ghost use Rattle.cs_declarations.specs.View as view;
+ghost use Rattle.cs_folding.specs.Addresses.{is_number, is_null_address, is_static_address, is_static_part, is_address};
 
-use crate::storage::Storage;
+use crate::folding::number_in;
 use cs_ast::typed::expression::{Expr, ExprKind};
-use cs_folding::number_in;
 use cs_types::DataModel;
 
-// Whether the expression is an integer constant expression (C11 6.6, paragraph 6).
-fn is_number(model: DataModel, value: &Expr) -> bool
+/// Whether the expression is an integer constant expression (C11 6.6, paragraph 6).
+pub fn is_number(model: DataModel, value: &Expr) -> bool
     ensures { result ≡ is_number model (typed value.now) }
 {
     number_in(model, true, value).is_some()
@@ -58,19 +56,9 @@ fn is_null_address(value: &Expr) -> bool
     }
 }
 
-// Whether the value is an address constant (C11 6.6, paragraph 9). The null pointer has no elements, so nothing is added to it.
-fn is_address(model: DataModel, value: &Expr) -> bool
+/// Whether the value is an address constant (C11 6.6, paragraph 9). The null pointer has no elements, so nothing is added to it.
+pub fn is_address(model: DataModel, value: &Expr) -> bool
     ensures { result ≡ is_address model (typed value.now) }
 {
     is_null_address(value) || is_static_address(model, value)
-}
-
-/// Whether an object that stands there may hold the value at first (C11 6.7.9, paragraph 4).
-pub fn is_admitted(model: DataModel, storage: Storage, value: &Expr) -> bool
-    ensures { result ≡ is_admitted model (view.storage storage) (typed value.now) }
-{
-    match storage {
-        Storage::Function => true,
-        Storage::File => is_number(model, value) || is_address(model, value),
-    }
 }
