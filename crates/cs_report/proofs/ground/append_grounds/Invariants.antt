@@ -2,7 +2,8 @@
 use Rattle.std.proofs.Common.{◌≡◌, ◌++◌, ℤ, take, codes}
 use Rattle.std.specs.List.{flat_map}
 use Rattle.cs_results.specs.declared.finding.Ground.{Ground}
-use Rattle.cs_report.specs.AnalysisLines.{text_of, ground_lines}
+use Rattle.cs_report_parts.specs.RunLines.{text_of}
+use Rattle.cs_report.specs.AnalysisLines.{ground_lines}
 use Rattle.cs_report.proofs.ground.append_grounds.Given as goal
 
 abbrev pub invariant-loop-reason : goal.invariant-loop-reason

@@ -18,11 +18,7 @@ pub fn append_place(text: &mut Vec<u8>, files: &[Name], place: Place) -> Result<
 }
 
 /// Appends `FILE:LINE:COLUMN`, the file by its name.
-pub(crate) fn append_located(
-    text: &mut Vec<u8>,
-    file: &[u8],
-    place: Place,
-) -> Result<(), AllocError>
+pub fn append_located(text: &mut Vec<u8>, file: &[u8], place: Place) -> Result<(), AllocError>
     ensures { OnOk result (text.new.items ≡ text.old.items ++ located file.now place) }
 {
     text.extend_from_slice(file)?;

@@ -1,7 +1,7 @@
-use Rattle.std.proofs.Common.{◌≡◌, ap, sym, ◌∙◌}
+use Rattle.std.proofs.Common.{ap, sym, ◌∙◌}
 use Rattle.cs_ast.specs.declared.typed.program.Function.{Function}
-use Rattle.cs_report.proofs.Names.{name_at}
-use Rattle.cs_report.proofs.name.function_name.Goals as goal
+use Rattle.cs_report_parts.proofs.Names.{name_at}
+use Rattle.cs_report_parts.proofs.name.function_name.Goals as goal
 
 pub returns-in-Some : goal.returns-in-Some
 returns-in-Some c =

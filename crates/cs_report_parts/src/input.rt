@@ -2,7 +2,7 @@
 ghost use Rattle.std.specs.Prelude.{◌≡◌, ◌++◌, ℤ, OnOk, codes};
 ghost use Rattle.std.specs.List.{flat_map};
 ghost use Rattle.cs_inputs.specs.declared.path.Path.{Path};
-ghost use Rattle.cs_report.specs.AnalysisLines.{text_of, input_text, guess_text};
+ghost use Rattle.cs_report_parts.specs.RunLines.{input_text, guess_text};
 
 use crate::printing::append;
 use cs_events::Guess;
@@ -10,7 +10,7 @@ use cs_inputs::{Path, print};
 use std::alloc::AllocError;
 
 /// Appends a line `  input PATH = N` for each input.
-pub(crate) fn append_inputs(text: &mut Vec<u8>, inputs: &[(Path, i128)]) -> Result<(), AllocError>
+pub fn append_inputs(text: &mut Vec<u8>, inputs: &[(Path, i128)]) -> Result<(), AllocError>
     ensures { OnOk result (text.new.items ≡ text.old.items ++ flat_map
         (λ (input : Path × ℤ). codes "  input " ++ input_text input ++ codes "\n") inputs.now) }
 {
@@ -31,7 +31,7 @@ fn append_input_line(text: &mut Vec<u8>, input: &(Path, i128)) -> Result<(), All
 }
 
 /// Appends `PATH = N`.
-pub(crate) fn append_input(text: &mut Vec<u8>, input: &(Path, i128)) -> Result<(), AllocError>
+pub fn append_input(text: &mut Vec<u8>, input: &(Path, i128)) -> Result<(), AllocError>
     ensures { OnOk result (text.new.items ≡ text.old.items ++ input_text input.now) }
 {
     let printed = print(*text.allocator(), &input.0)?;
@@ -40,7 +40,7 @@ pub(crate) fn append_input(text: &mut Vec<u8>, input: &(Path, i128)) -> Result<(
 }
 
 /// Appends `guess E = N`.
-pub(crate) fn append_guess(text: &mut Vec<u8>, guess: Guess) -> Result<(), AllocError>
+pub fn append_guess(text: &mut Vec<u8>, guess: Guess) -> Result<(), AllocError>
     ensures { OnOk result (text.new.items ≡ text.old.items ++ guess_text guess) }
 {
     append(

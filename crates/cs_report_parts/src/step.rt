@@ -3,8 +3,8 @@ ghost use Rattle.std.specs.Prelude.{◌≡◌, ◌++◌, ℕ, List, Option, OnOk
 ghost use Rattle.std.specs.List.{flat_map};
 ghost use Rattle.cs_ast.specs.TypedProgram.{typed_program};
 ghost use Rattle.cs_events.specs.declared.event.Event.{Event};
-ghost use Rattle.cs_report.specs.AnalysisLines as lines;
-ghost use Rattle.cs_report.specs.AnalysisLines.{text_of, step_lines, truth_text, block_text};
+ghost use Rattle.cs_report_parts.specs.RunLines as lines;
+ghost use Rattle.cs_report_parts.specs.RunLines.{text_of, step_lines, truth_text, block_text};
 
 use crate::name::function_name;
 use crate::place::append_place;
@@ -14,7 +14,7 @@ use cs_events::{Event, Label};
 use std::alloc::{AllocError, Global};
 
 /// Appends a line for each event that is a step.
-pub(crate) fn append_steps(
+pub fn append_steps(
     text: &mut Vec<u8>,
     program: &Program,
     events: &[Event],
@@ -48,7 +48,7 @@ fn append_step(text: &mut Vec<u8>, program: &Program, event: Event) -> Result<()
 }
 
 /// What a step shows, and nothing of an event that is no step.
-pub(crate) fn step_text(
+pub fn step_text(
     alloc: Global,
     program: &Program,
     label: Label,

@@ -2,26 +2,26 @@
 ghost use Rattle.std.specs.Prelude.{◌≡◌, ◌∷◌, [], ℤ, map, IfOk, codes};
 ghost use Rattle.serde_json.specs.View.{view};
 ghost use Rattle.cs_model.specs.Places.{place_text};
-ghost use Rattle.cs_report.specs.AnalysisJson as form;
+ghost use Rattle.cs_report_parts.specs.RunJson as form;
 
 use crate::place::append_place;
 use cs_ast::Place;
 use cs_events::Guess;
 use cs_inputs::{Path, print};
 use cs_names::Name;
-use cs_results::{Ground, Others, Run};
+use cs_results::Run;
 use serde_json::{Value, json};
 use std::alloc::{AllocError, Global};
 
 /// A text. What isn't UTF-8 in it is replaced by U+FFFD.
-pub(crate) fn text_value(alloc: Global, bytes: &[u8]) -> Result<Value, AllocError>
+pub fn text_value(alloc: Global, bytes: &[u8]) -> Result<Value, AllocError>
     ensures { IfOk result (λ value. view value ≡ form.text bytes.now) }
 {
     Ok(Value::String(String::from_utf8_lossy(alloc, bytes)?))
 }
 
 /// The text of a place.
-pub(crate) fn place_value(alloc: Global, files: &[Name], place: Place) -> Result<Value, AllocError>
+pub fn place_value(alloc: Global, files: &[Name], place: Place) -> Result<Value, AllocError>
     ensures { IfOk result (λ value. view value ≡ form.text (place_text files.now place)) }
 {
     let mut text = Vec::new(alloc);
@@ -30,7 +30,7 @@ pub(crate) fn place_value(alloc: Global, files: &[Name], place: Place) -> Result
 }
 
 /// A number, or its digits as a text if it is wider than 64 bits.
-fn number_value(alloc: Global, number: i128) -> Result<Value, AllocError>
+pub fn number_value(alloc: Global, number: i128) -> Result<Value, AllocError>
     ensures { IfOk result (λ value. view value ≡ form.integer number) }
 {
     if let Ok(unsigned) = u64::try_from(number) {
@@ -43,7 +43,7 @@ fn number_value(alloc: Global, number: i128) -> Result<Value, AllocError>
 }
 
 /// A list of two values.
-pub(crate) fn pair(alloc: Global, first: Value, second: Value) -> Result<Value, AllocError>
+pub fn pair(alloc: Global, first: Value, second: Value) -> Result<Value, AllocError>
     ensures { IfOk result (λ value.
         view value ≡ form.list (view first ∷ view second ∷ [])) }
 {
@@ -51,7 +51,7 @@ pub(crate) fn pair(alloc: Global, first: Value, second: Value) -> Result<Value, 
 }
 
 /// The inputs, each a pair of its path and its number.
-pub(crate) fn inputs_value(alloc: Global, inputs: &[(Path, i128)]) -> Result<Value, AllocError>
+pub fn inputs_value(alloc: Global, inputs: &[(Path, i128)]) -> Result<Value, AllocError>
     ensures { IfOk result (λ value. view value ≡ form.inputs_json inputs.now) }
 {
     let mut list = Vec::new(alloc);
@@ -92,53 +92,10 @@ fn guess_value(alloc: Global, guess: Guess) -> Result<Value, AllocError>
 }
 
 /// Another run: its guesses and its inputs.
-fn run_value(alloc: Global, run: &Run) -> Result<Value, AllocError>
+pub fn run_value(alloc: Global, run: &Run) -> Result<Value, AllocError>
     ensures { IfOk result (λ value. view value ≡ form.run_json run.now) }
 {
     let guesses = guesses_value(alloc, &run.guesses)?;
     let inputs = inputs_value(alloc, run.inputs.list())?;
     json!(in alloc; {"guesses": guesses, "inputs": inputs})
-}
-
-/// The other runs of a ground.
-fn others_value(alloc: Global, others: &Others<Run>) -> Result<Value, AllocError>
-    ensures { IfOk result (λ value. view value ≡ form.others_json others.now) }
-{
-    match others {
-        Others::One(first) => {
-            let first = run_value(alloc, first)?;
-            json!(in alloc; [first])
-        }
-        Others::Two(first, second) => {
-            let first = run_value(alloc, first)?;
-            let second = run_value(alloc, second)?;
-            pair(alloc, first, second)
-        }
-    }
-}
-
-/// The guesses of a finding, each with the other runs that are its ground.
-pub(crate) fn grounds_value(
-    alloc: Global,
-    files: &[Name],
-    grounds: &[Ground],
-) -> Result<Value, AllocError>
-    ensures { IfOk result (λ value. view value ≡ form.grounds_json files.now grounds.now) }
-{
-    let mut list = Vec::new(alloc);
-    for reason in grounds {
-        list.push(ground_value(alloc, files, reason)?)?;
-    }
-    Ok(Value::Array(list))
-}
-
-/// A guess with the other runs that are its ground.
-fn ground_value(alloc: Global, files: &[Name], reason: &Ground) -> Result<Value, AllocError>
-    ensures { IfOk result (λ value. view value ≡ form.ground_json files.now reason.now) }
-{
-    let at = place_value(alloc, files, reason.place)?;
-    let number = number_value(alloc, reason.guess.number)?;
-    let others = others_value(alloc, &reason.others)?;
-    let event = reason.guess.event;
-    json!(in alloc; {"at": at, "event": event, "number": number, "others": others})
 }

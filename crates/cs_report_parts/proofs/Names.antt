@@ -1,5 +1,5 @@
 -- The name of a function by its number: for `function_name`.
-use Rattle.std.proofs.Common.{◌≡◌, ℕ, zero, suc, ◌<◌, List, [], ◌∷◌, map, get_or, ap, ◌∙◌, refl, length, arith}
+use Rattle.std.proofs.Common.{◌≡◌, ℕ, zero, suc, ◌<◌, List, [], ◌∷◌, map, get_or, refl, length, arith}
 use Rattle.std.specs.Prelude.{slice_index_or}
 use Rattle.cs_ast.specs.declared.typed.program.Function.{Function}
 use Rattle.cs_ast.specs.TypedProgram.{Routine, routine}
