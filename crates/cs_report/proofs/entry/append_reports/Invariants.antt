@@ -1,5 +1,5 @@
 -- Printed so far: the lines of the selected reports before the index.
-use Rattle.std.proofs.Common.{◌≡◌, ◌++◌, ℤ, take, codes}
+use Rattle.std.proofs.Common.{◌≡◌, ◌++◌, take}
 use Rattle.std.specs.List.{flat_map, filter}
 use Rattle.cs_ast.specs.TypedProgram.{typed_program}
 use Rattle.cs_results.specs.declared.finding.Finding.{Finding}

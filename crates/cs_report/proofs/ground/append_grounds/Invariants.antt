@@ -1,5 +1,5 @@
 -- Printed so far: the lines of the guesses before the index.
-use Rattle.std.proofs.Common.{◌≡◌, ◌++◌, ℤ, take, codes}
+use Rattle.std.proofs.Common.{◌≡◌, ◌++◌, take}
 use Rattle.std.specs.List.{flat_map}
 use Rattle.cs_results.specs.declared.finding.Ground.{Ground}
 use Rattle.cs_report_parts.specs.RunLines.{text_of}

@@ -1,5 +1,5 @@
 -- Printed so far: the lines of the guesses before the index.
-use Rattle.std.proofs.Common.{◌≡◌, ◌++◌, ℤ, take, codes}
+use Rattle.std.proofs.Common.{◌≡◌, ◌++◌, take, codes}
 use Rattle.std.specs.List.{flat_map}
 use Rattle.std.specs.Fmt.{decimal}
 use Rattle.cs_events.specs.declared.guess.Guess.{Guess}
