@@ -9,7 +9,7 @@ use crate::function::control_points;
 use crate::lines::append_points;
 use cs_ast::typed::program::{Function, Program};
 use cs_names::Name;
-use cs_report::append;
+use cs_report_parts::append;
 use std::alloc::{AllocError, Global};
 
 /// Appends the flow of a program: for each function with a body its name and the lines of its control points, function by function.

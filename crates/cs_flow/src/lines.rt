@@ -8,7 +8,7 @@ use crate::point::{ControlPoint, Exit, Met, Way};
 use crate::points::Points;
 use cs_events::PointKind;
 use cs_names::Name;
-use cs_report::{append, append_place};
+use cs_report_parts::{append, append_place};
 use std::alloc::AllocError;
 
 /// Appends the lines of control points, in their order.

@@ -1,5 +1,5 @@
 -- Results in the JSON form have no float, so their text is the compact text: for `json`.
-use Rattle.std.proofs.Common.{◌≡◌, ℕ, ℤ, pos, negsuc, Bool, true, false, cond, Option, Some, None, List, [], ◌∷◌, ◌++◌, map, ap, ◌∙◌, refl}
+use Rattle.std.proofs.Common.{◌≡◌, ℕ, ℤ, pos, negsuc, Bool, true, false, cond, Option, Some, None, List, [], ◌∷◌, ◌++◌, map, refl}
 use Rattle.std.specs.Prelude.{◌||◌}
 use Rattle.std.specs.List.{flat_map, filter}
 use Rattle.std.specs.Fmt.{signed_decimal}
@@ -24,8 +24,9 @@ use Rattle.cs_results.specs.declared.result.Cut.{Cut}
 use Rattle.cs_results.specs.declared.result.Cut.TheVariants.{Nodes, Splits}
 use Rattle.cs_results.specs.declared.result.EntryResult.{EntryResult}
 use Rattle.cs_results.specs.Selected.{is_selected}
-use Rattle.cs_report.specs.AnalysisLines.{step_text}
-use Rattle.cs_report.specs.AnalysisJson.{fits, integer, list, input_json, inputs_json, guess_json, run_json, others_json, ground_json, grounds_json, step_json}
+use Rattle.cs_report_parts.specs.RunLines.{step_text}
+use Rattle.cs_report_parts.specs.RunJson.{fits, integer, list, input_json, inputs_json, guess_json, run_json}
+use Rattle.cs_report.specs.AnalysisJson.{others_json, ground_json, grounds_json, step_json}
 use Rattle.cs_report.specs.AnalysisJson.{steps_json, finding_json, finding_of, is_confirmed, cut_json, entry_json, analysis_json}
 
 -- ---- numbers and lists

@@ -10,7 +10,7 @@ use Rattle.std.specs.Fmt.{decimal}
 use Rattle.cs_model.specs.declared.kind.Kind.{Kind}
 use Rattle.cs_model.specs.Kinds.{kind_name}
 use Rattle.cs_results.specs.declared.result.EntryResult.{EntryResult}
-use Rattle.cs_report.specs.AnalysisLines.{text_of}
+use Rattle.cs_report_parts.specs.RunLines.{text_of}
 use Rattle.cs_report.specs.SummaryLines.{reports_of, count_line, kind_lines}
 
 -- the text of a count, if there is one

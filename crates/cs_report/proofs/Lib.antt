@@ -1,4 +1,3 @@
 mod LineTexts
 mod JsonTexts
-mod Names
 pub mod KindCounts

@@ -13,9 +13,10 @@ use Rattle.cs_results.specs.declared.finding.Finding.{Finding}
 use Rattle.cs_results.specs.declared.result.Cut.{Cut}
 use Rattle.cs_results.specs.declared.result.EntryResult.{EntryResult}
 use Rattle.cs_results.specs.Selected.{is_selected, every_kind}
-use Rattle.cs_report.specs.AnalysisLines.{text_of, input_text, guess_text, other_lines, ground_lines, step_text, step_lines, outcome_text, confidence}
-use Rattle.cs_report.specs.SummaryLines.{is_complete, is_bounded, is_cut, verdicts, kind_lines, summary_text}
-use Rattle.cs_report.specs.AnalysisLines.{finding_lines, cut_line, function_name, verdict_name, entry_lines}
+use Rattle.cs_results.specs.Verdicts.{verdict_name, is_complete, is_bounded, is_cut}
+use Rattle.cs_report_parts.specs.RunLines.{text_of, input_text, guess_text, function_name, step_text, step_lines}
+use Rattle.cs_report.specs.AnalysisLines.{confidence, outcome_text, other_lines, ground_lines, finding_lines, cut_line, entry_lines}
+use Rattle.cs_report.specs.SummaryLines.{verdicts, kind_lines, summary_text}
 
 pub text_of-append : (lines more : List (List ℕ)) → text_of (lines ++ more) ≡ text_of lines ++ text_of more
 text_of-append [] more = refl

@@ -1,17 +1,13 @@
 -- The lines that an analysis prints. An entry's are its verdict, its selected reports, the budgets that its runs meet, and its cuts.
-use Rattle.std.specs.Prelude.{ℕ, ℤ, Bool, true, false, Option, Some, None, List, [], ◌∷◌, ◌++◌, map, codes, slice_index_or}
+use Rattle.std.specs.Prelude.{ℕ, ℤ, List, [], ◌∷◌, ◌++◌, map, codes}
 use Rattle.std.specs.List.{flat_map, filter}
-use Rattle.std.specs.Fmt.{decimal, signed_decimal}
+use Rattle.std.specs.Fmt.{decimal}
 use Rattle.cs_inputs.specs.declared.path.Path.{Path}
-use Rattle.cs_inputs.specs.PathText.{path_text}
-use Rattle.cs_ast.specs.declared.place.Place.{Place}
-use Rattle.cs_ast.specs.TypedProgram.{TypedProgram, Routine}
+use Rattle.cs_ast.specs.TypedProgram.{TypedProgram}
 use Rattle.cs_model.specs.declared.kind.Kind.{Kind}
 use Rattle.cs_model.specs.Kinds.{kind_name}
 use Rattle.cs_model.specs.Places.{place_text}
 use Rattle.cs_events.specs.declared.event.Event.{Event}
-use Rattle.cs_events.specs.declared.event.Label.{Label}
-use Rattle.cs_events.specs.declared.event.Label.TheVariants.{Truth, Branch, Case, Wrap, Look, Offset, Callee, Alloc}
 use Rattle.cs_events.specs.declared.guess.Guess.{Guess}
 use Rattle.cs_events.specs.declared.outcome.Outcome.{Outcome}
 use Rattle.cs_events.specs.declared.outcome.Outcome.TheVariants.{Done, Fault, Over}
@@ -21,25 +17,12 @@ use Rattle.cs_results.specs.declared.run.Others.{Others}
 use Rattle.cs_results.specs.declared.run.Others.TheVariants.{One, Two}
 use Rattle.cs_results.specs.declared.finding.Ground.{Ground}
 use Rattle.cs_results.specs.declared.finding.Finding.{Finding}
-use Rattle.cs_results.specs.declared.result.Cut as cuts
+use Rattle.cs_results.specs.declared.result.Cut.{Cut}
 use Rattle.cs_results.specs.declared.result.Cut.TheVariants.{Nodes, Splits}
-use Rattle.cs_results.specs.declared.result.Verdict.{Verdict}
-use Rattle.cs_results.specs.declared.result.Verdict.TheVariants.{Complete, Bounded, Cut}
 use Rattle.cs_results.specs.declared.result.EntryResult.{EntryResult}
 use Rattle.cs_results.specs.Selected.{is_selected}
-
--- the text of lines: a line feed after each
-abbrev pub text_of : List (List ℕ) → List ℕ
-text_of lines = flat_map (λ (line : List ℕ). line ++ codes "\n") lines
-
--- the name of a function, by its number
-abbrev pub function_name : TypedProgram → ℕ → List ℕ
-function_name program number = slice_index_or (map (λ (r : Routine). r.name) program.routines) number []
-
-abbrev pub verdict_name : Verdict → List ℕ
-verdict_name Complete = codes "complete"
-verdict_name Bounded = codes "bounded"
-verdict_name Cut = codes "cut"
+use Rattle.cs_results.specs.Verdicts.{verdict_name}
+use Rattle.cs_report_parts.specs.RunLines.{text_of, input_text, guess_text, function_name, step_text, step_lines}
 
 -- a finding is confirmed where its run lists no guess
 abbrev pub confidence : List Guess → List ℕ
@@ -51,14 +34,6 @@ abbrev pub outcome_text : List (List ℕ) → Outcome → List ℕ
 outcome_text files (Fault kind at) = codes "report " ++ kind_name kind ++ codes " " ++ place_text files at
 outcome_text files (Over budget at) = codes "over " ++ budget_name budget ++ codes " " ++ place_text files at
 outcome_text files (Done returned) = []
-
--- `PATH = N`
-abbrev pub input_text : Path × ℤ → List ℕ
-input_text input = path_text input.0 ++ codes " = " ++ signed_decimal input.1
-
--- `guess E = N`
-abbrev pub guess_text : Guess → List ℕ
-guess_text guess = codes "guess " ++ decimal guess.event ++ codes " = " ++ signed_decimal guess.number
 
 -- what another run of a ground lists, by the run's number among the others: its inputs, then its guesses
 abbrev pub other_lines : ℕ → Run → List (List ℕ)
@@ -73,31 +48,6 @@ others_lines (Two first second) = other_lines 1 first ++ other_lines 2 second
 abbrev pub ground_lines : List (List ℕ) → Ground → List (List ℕ)
 ground_lines files reason = (codes "  " ++ guess_text reason.guess ++ codes " at " ++ place_text files reason.place) ∷ others_lines reason.others
 
-abbrev pub truth_text : Bool → List ℕ
-truth_text true = codes "true"
-truth_text false = codes "false"
-
-abbrev pub block_text : Bool → List ℕ
-block_text true = codes "a block"
-block_text false = codes "null"
-
--- what a step shows: the way of a test, the case of a switch, the function that is called, and what an allocation gives. Other events
--- are no steps
-abbrev pub step_text : TypedProgram → Label → Option (List ℕ)
-step_text program (Branch way) = Some (codes "branch " ++ truth_text way)
-step_text program (Case number) = Some (codes "case " ++ decimal number)
-step_text program (Callee number) = Some (codes "call " ++ function_name program number)
-step_text program (Alloc block) = Some (codes "allocation gives " ++ block_text block)
-step_text program (Truth holds) = None
-step_text program (Wrap quotient) = None
-step_text program (Look block) = None
-step_text program (Offset offset) = None
-
--- `step PLACE TEXT`, where there is a text
-abbrev pub step_lines : List (List ℕ) → Place → Option (List ℕ) → List (List ℕ)
-step_lines files at None = []
-step_lines files at (Some text) = (codes "  step " ++ place_text files at ++ codes " " ++ text) ∷ []
-
 -- a finding: its outcome, its inputs, its guesses with their grounds, its steps
 abbrev pub finding_lines : TypedProgram → Finding → List (List ℕ)
 finding_lines program finding =
@@ -107,7 +57,7 @@ finding_lines program finding =
     ++ flat_map (λ (event : Event). step_lines program.files event.place (step_text program event.label)) finding.events.items
 
 -- `cut nodes R` or `cut splits PLACE N`
-abbrev pub cut_line : List (List ℕ) → cuts.Cut → List ℕ
+abbrev pub cut_line : List (List ℕ) → Cut → List ℕ
 cut_line files (Nodes nodes) = codes "cut nodes " ++ decimal nodes
 cut_line files (Splits at offsets) = codes "cut splits " ++ place_text files at ++ codes " " ++ decimal offsets
 

@@ -1,30 +1,15 @@
 -- The lines that sum up the results of a generated file.
-use Rattle.std.specs.Prelude.{ℕ, Bool, true, false, List, [], ◌∷◌, ◌++◌, length, codes, if◌then◌else◌, nat_eq}
+use Rattle.std.specs.Prelude.{ℕ, Bool, List, [], ◌∷◌, ◌++◌, length, codes, if◌then◌else◌, nat_eq}
 use Rattle.std.specs.List.{flat_map, count_by, sum_by}
 use Rattle.std.specs.Fmt.{decimal}
 use Rattle.cs_model.specs.declared.kind.Kind.{Kind}
 use Rattle.cs_model.specs.Kinds.{kind_name}
 use Rattle.cs_results.specs.declared.finding.Finding.{Finding}
 use Rattle.cs_results.specs.declared.result.Verdict.{Verdict}
-use Rattle.cs_results.specs.declared.result.Verdict.TheVariants.{Complete, Bounded, Cut}
 use Rattle.cs_results.specs.declared.result.EntryResult.{EntryResult}
 use Rattle.cs_results.specs.Selected.{every_kind, is_kind}
-use Rattle.cs_report.specs.AnalysisLines.{text_of}
-
-abbrev pub is_complete : Verdict → Bool
-is_complete Complete = true
-is_complete Bounded = false
-is_complete Cut = false
-
-abbrev pub is_bounded : Verdict → Bool
-is_bounded Complete = false
-is_bounded Bounded = true
-is_bounded Cut = false
-
-abbrev pub is_cut : Verdict → Bool
-is_cut Complete = false
-is_cut Bounded = false
-is_cut Cut = true
+use Rattle.cs_results.specs.Verdicts.{is_complete, is_bounded, is_cut}
+use Rattle.cs_report_parts.specs.RunLines.{text_of}
 
 -- how many results have a verdict
 abbrev pub verdicts : (Verdict → Bool) → List EntryResult → ℕ

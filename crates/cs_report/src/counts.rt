@@ -5,12 +5,13 @@ ghost use Rattle.cs_model.specs.declared.kind.Kind.{Kind};
 ghost use Rattle.cs_results.specs.declared.finding.Finding.{Finding};
 ghost use Rattle.cs_results.specs.declared.result.EntryResult.{EntryResult};
 ghost use Rattle.cs_results.specs.Selected as selected;
-ghost use Rattle.cs_report.specs.AnalysisLines.{text_of};
+ghost use Rattle.cs_results.specs.Verdicts as verdicts;
+ghost use Rattle.cs_report_parts.specs.RunLines.{text_of};
 ghost use Rattle.cs_report.specs.SummaryLines as lines;
 
-use crate::printing::append;
 use cs_model::Kind;
-use cs_results::{EntryResult, Finding, Verdict, every_kind, is_kind};
+use cs_report_parts::append;
+use cs_results::{EntryResult, Finding, every_kind, is_kind};
 use std::alloc::{AllocError, Global};
 
 /// The summary of the results of a file with so many bytes: how many entries there are, how many of each verdict, and how many
@@ -35,49 +36,34 @@ pub fn summary(alloc: Global, bytes: usize, results: &[EntryResult]) -> Result<V
 /// How many results are complete.
 fn complete_of(results: &[EntryResult]) -> usize
     ensures { result
-        ≡ count_by (λ (r : EntryResult). lines.is_complete r.verdict) results.now }
+        ≡ count_by (λ (r : EntryResult). verdicts.is_complete r.verdict) results.now }
 {
     results
         .iter()
-        .filter(|entry| is_complete(entry.verdict))
+        .filter(|entry| entry.verdict.is_complete())
         .count()
 }
 
 /// How many results are bounded.
 fn bounded_of(results: &[EntryResult]) -> usize
     ensures { result
-        ≡ count_by (λ (r : EntryResult). lines.is_bounded r.verdict) results.now }
+        ≡ count_by (λ (r : EntryResult). verdicts.is_bounded r.verdict) results.now }
 {
     results
         .iter()
-        .filter(|entry| is_bounded(entry.verdict))
+        .filter(|entry| entry.verdict.is_bounded())
         .count()
 }
 
 /// How many results are cut.
 fn cut_of(results: &[EntryResult]) -> usize
     ensures { result
-        ≡ count_by (λ (r : EntryResult). lines.is_cut r.verdict) results.now }
+        ≡ count_by (λ (r : EntryResult). verdicts.is_cut r.verdict) results.now }
 {
-    results.iter().filter(|entry| is_cut(entry.verdict)).count()
-}
-
-fn is_complete(verdict: Verdict) -> bool
-    ensures { result ≡ lines.is_complete verdict }
-{
-    matches!(verdict, Verdict::Complete)
-}
-
-fn is_bounded(verdict: Verdict) -> bool
-    ensures { result ≡ lines.is_bounded verdict }
-{
-    matches!(verdict, Verdict::Bounded)
-}
-
-fn is_cut(verdict: Verdict) -> bool
-    ensures { result ≡ lines.is_cut verdict }
-{
-    matches!(verdict, Verdict::Cut)
+    results
+        .iter()
+        .filter(|entry| entry.verdict.is_cut())
+        .count()
 }
 
 /// Appends a line for each of these kinds that has a report.

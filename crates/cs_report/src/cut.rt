@@ -4,9 +4,8 @@ ghost use Rattle.std.specs.List.{flat_map};
 ghost use Rattle.cs_results.specs.declared.result.Cut.{Cut};
 ghost use Rattle.cs_report.specs.AnalysisLines.{cut_line};
 
-use crate::place::append_place;
-use crate::printing::append;
 use cs_names::Name;
+use cs_report_parts::{append, append_place};
 use cs_results::Cut;
 use std::alloc::AllocError;
 

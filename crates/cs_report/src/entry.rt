@@ -5,14 +5,14 @@ ghost use Rattle.cs_ast.specs.TypedProgram.{typed_program};
 ghost use Rattle.cs_results.specs.declared.finding.Finding.{Finding};
 ghost use Rattle.cs_results.specs.declared.result.EntryResult.{EntryResult};
 ghost use Rattle.cs_results.specs.Selected as selected;
-ghost use Rattle.cs_report.specs.AnalysisLines.{text_of, finding_lines, entry_lines, analysis_text};
+ghost use Rattle.cs_report_parts.specs.RunLines.{text_of};
+ghost use Rattle.cs_report.specs.AnalysisLines.{finding_lines, entry_lines, analysis_text};
 
 use crate::cut::append_cuts;
 use crate::finding::append_finding;
-use crate::name::{function_name, verdict_name};
-use crate::printing::append;
 use cs_ast::typed::program::Program;
 use cs_model::Kind;
+use cs_report_parts::{append, function_name};
 use cs_results::{EntryResult, Finding, is_selected};
 use std::alloc::{AllocError, Global};
 
@@ -60,7 +60,7 @@ fn append_result(
 {
     append(text, "entry ")?;
     text.extend_from_slice(function_name(program, entry.entry))?;
-    append(text, format_args!(" {}\n", verdict_name(entry.verdict)))?;
+    append(text, format_args!(" {}\n", entry.verdict.name()))?;
     append_reports(text, program, kinds, &entry.reports)?;
     append_overs(text, program, &entry.overs)?;
     append_cuts(text, &program.files, &entry.cuts)

@@ -1,17 +1,15 @@
 //! Findings as text.
 ghost use Rattle.std.specs.Prelude.{◌≡◌, ◌++◌, OnOk};
 ghost use Rattle.cs_ast.specs.TypedProgram.{typed_program};
-ghost use Rattle.cs_report.specs.AnalysisLines.{text_of, outcome_text, finding_lines};
+ghost use Rattle.cs_report_parts.specs.RunLines.{text_of};
+ghost use Rattle.cs_report.specs.AnalysisLines as lines;
+ghost use Rattle.cs_report.specs.AnalysisLines.{outcome_text, finding_lines};
 
 use crate::ground::append_grounds;
-use crate::input::append_inputs;
-use crate::name::confidence;
-use crate::place::append_place;
-use crate::printing::append;
-use crate::step::append_steps;
 use cs_ast::typed::program::Program;
-use cs_events::Outcome;
+use cs_events::{Guess, Outcome};
 use cs_names::Name;
+use cs_report_parts::{append, append_inputs, append_place, append_steps};
 use cs_results::Finding;
 use std::alloc::AllocError;
 
@@ -48,5 +46,15 @@ fn append_outcome(text: &mut Vec<u8>, files: &[Name], outcome: Outcome) -> Resul
             append_place(text, files, place)
         }
         Outcome::Done(_) => Ok(()),
+    }
+}
+
+/// The word for how sure a finding is, by the guesses that its run lists.
+fn confidence(guesses: &[Guess]) -> &'static str
+    ensures { result.now ≡ lines.confidence guesses.now }
+{
+    match guesses {
+        [] => "confirmed",
+        [_, ..] => "assumed",
     }
 }

@@ -5,14 +5,13 @@ ghost use Rattle.std.specs.Fmt.{decimal};
 ghost use Rattle.cs_inputs.specs.declared.path.Path.{Path};
 ghost use Rattle.cs_events.specs.declared.guess.Guess.{Guess};
 ghost use Rattle.cs_results.specs.declared.finding.Ground.{Ground};
-ghost use Rattle.cs_report.specs.AnalysisLines.{text_of, input_text, guess_text, other_lines, others_lines, ground_lines};
+ghost use Rattle.cs_report_parts.specs.RunLines.{text_of, input_text, guess_text};
+ghost use Rattle.cs_report.specs.AnalysisLines.{other_lines, others_lines, ground_lines};
 
-use crate::input::{append_guess, append_input};
-use crate::place::append_place;
-use crate::printing::append;
 use cs_events::Guess;
 use cs_inputs::Path;
 use cs_names::Name;
+use cs_report_parts::{append, append_guess, append_input, append_place};
 use cs_results::{Ground, Others, Run};
 use std::alloc::AllocError;
 

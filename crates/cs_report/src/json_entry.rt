@@ -5,14 +5,14 @@ ghost use Rattle.serde_json.specs.View.{view};
 ghost use Rattle.cs_ast.specs.TypedProgram.{typed_program};
 ghost use Rattle.cs_results.specs.declared.finding.Finding.{Finding};
 ghost use Rattle.cs_results.specs.Selected as selected;
+ghost use Rattle.cs_report_parts.specs.RunJson.{list};
 ghost use Rattle.cs_report.specs.AnalysisJson as form;
 
 use crate::json_finding::{cut_value, finding_value};
-use crate::json_run::text_value;
-use crate::name::{function_name, verdict_name};
 use cs_ast::typed::program::Program;
 use cs_model::Kind;
 use cs_names::Name;
+use cs_report_parts::{function_name, text_value};
 use cs_results::{Cut, EntryResult, Finding, is_selected};
 use serde_json::{Value, json};
 use std::alloc::{AllocError, Global};
@@ -65,14 +65,7 @@ fn entry_value(
     let name = text_value(alloc, function_name(program, entry.entry))?;
     let overs = overs_value(alloc, program, &entry.overs)?;
     let reports = reports_value(alloc, program, kinds, &entry.reports)?;
-    object_of(
-        alloc,
-        cuts,
-        name,
-        overs,
-        reports,
-        verdict_name(entry.verdict),
-    )
+    object_of(alloc, cuts, name, overs, reports, entry.verdict.name())
 }
 
 /// The object of an entry with these parts.
@@ -95,7 +88,7 @@ fn object_of(
 /// The cuts.
 fn cuts_value(alloc: Global, files: &[Name], cuts: &[Cut]) -> Result<Value, AllocError>
     ensures { IfOk result (λ value.
-        view value ≡ form.list (map (form.cut_json files.now) cuts.now)) }
+        view value ≡ list (map (form.cut_json files.now) cuts.now)) }
 {
     let mut list = Vec::new(alloc);
     for cut in cuts {
@@ -112,7 +105,7 @@ fn reports_value(
     reports: &[Finding],
 ) -> Result<Value, AllocError>
     ensures { IfOk result (λ value. view value
-        ≡ form.list (map (form.finding_json (typed_program program.now))
+        ≡ list (map (form.finding_json (typed_program program.now))
         (filter (λ (f : Finding). selected.is_selected kinds.now f.what) reports.now))) }
 {
     let mut list = Vec::new(alloc);
@@ -127,7 +120,7 @@ fn reports_value(
 /// The budgets that are met.
 fn overs_value(alloc: Global, program: &Program, overs: &[Finding]) -> Result<Value, AllocError>
     ensures { IfOk result (λ value. view value
-        ≡ form.list (map (form.finding_json (typed_program program.now)) overs.now)) }
+        ≡ list (map (form.finding_json (typed_program program.now)) overs.now)) }
 {
     let mut list = Vec::new(alloc);
     for over in overs {

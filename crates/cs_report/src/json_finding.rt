@@ -4,11 +4,11 @@ ghost use Rattle.serde_json.specs.View.{view};
 ghost use Rattle.cs_ast.specs.TypedProgram.{typed_program};
 ghost use Rattle.cs_report.specs.AnalysisJson as form;
 
-use crate::json_run::{grounds_value, inputs_value, pair, place_value, text_value};
-use crate::step::step_text;
+use crate::json_ground::grounds_value;
 use cs_ast::typed::program::Program;
 use cs_events::{Event, Outcome};
 use cs_names::Name;
+use cs_report_parts::{inputs_value, pair, place_value, step_text, text_value};
 use cs_results::{Cut, Finding};
 use serde_json::{Value, json};
 use std::alloc::{AllocError, Global};

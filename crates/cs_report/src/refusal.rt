@@ -2,10 +2,9 @@
 ghost use Rattle.std.specs.Prelude.{◌≡◌, ◌++◌, OnOk};
 ghost use Rattle.cs_report.specs.RefusalLines.{refusal_line};
 
-use crate::place::append_located;
-use crate::printing::append;
 use cs_ast::Place;
 use cs_names::Name;
+use cs_report_parts::{append, append_located};
 use std::alloc::AllocError;
 
 /// Appends `WORDS FILE:LINE:COLUMN`, the line by which a file is refused at a place. The words have the space after them.

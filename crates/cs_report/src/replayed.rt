@@ -2,10 +2,9 @@
 ghost use Rattle.std.specs.Prelude.{◌≡◌, ◌++◌, OnOk};
 ghost use Rattle.cs_report.specs.ReplayLines.{returned_text, replay_line};
 
-use crate::place::append_place;
-use crate::printing::append;
 use cs_events::{Outcome, Returned};
 use cs_names::Name;
+use cs_report_parts::{append, append_place};
 use std::alloc::AllocError;
 
 /// Appends the line of a run: `done`, `done RETURNED`, `fault KIND PLACE` or `over BUDGET PLACE`.

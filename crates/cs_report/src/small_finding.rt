@@ -4,10 +4,9 @@ ghost use Rattle.std.specs.List.{flat_map};
 ghost use Rattle.cs_events.specs.declared.event.Event.{Event};
 ghost use Rattle.cs_small_meaning.specs.Texts.{outcome_text, input_line, step_line, finding_lines};
 
-use crate::place::append_place;
-use crate::printing::append;
 use cs_events::{Event, Label, Outcome};
 use cs_names::Name;
+use cs_report_parts::{append, append_place};
 use cs_small_meaning::{Finding, Input};
 use std::alloc::AllocError;
 

@@ -4,9 +4,9 @@ ghost use Rattle.std.specs.Prelude.{◌≡◌, ◌++◌, OnOk};
 ghost use Rattle.std.specs.List.{flat_map};
 ghost use Rattle.cs_small_meaning.specs.Texts.{verdict_name, finding_lines, entry_lines};
 
-use crate::printing::append;
 use crate::small_finding::append_finding;
 use cs_names::Name;
+use cs_report_parts::append;
 use cs_small_meaning::{EntryResult, Finding, Verdict};
 use std::alloc::AllocError;
 

@@ -1,2 +1,3 @@
 pub mod RunBudgets
 pub mod Selected
+pub mod Verdicts

@@ -1,4 +1,6 @@
 //! What an analysis says of an entry.
+ghost use Rattle.std.specs.Prelude.{◌≡◌};
+ghost use Rattle.cs_results.specs.Verdicts as verdicts;
 
 use crate::finding::Finding;
 use cs_ast::Place;
@@ -21,6 +23,40 @@ pub enum Verdict {
     Bounded,
     /// Not all of it.
     Cut,
+}
+
+impl Verdict {
+    /// The word for this verdict in the text of results.
+    pub fn name(self) -> &'static str
+        ensures { result.now ≡ verdicts.verdict_name self }
+    {
+        match self {
+            Verdict::Complete => "complete",
+            Verdict::Bounded => "bounded",
+            Verdict::Cut => "cut",
+        }
+    }
+
+    /// Whether all of the entry was explored.
+    pub fn is_complete(self) -> bool
+        ensures { result ≡ verdicts.is_complete self }
+    {
+        matches!(self, Verdict::Complete)
+    }
+
+    /// Whether the entry was explored up to the budgets of a run.
+    pub fn is_bounded(self) -> bool
+        ensures { result ≡ verdicts.is_bounded self }
+    {
+        matches!(self, Verdict::Bounded)
+    }
+
+    /// Whether not all of the entry was explored.
+    pub fn is_cut(self) -> bool
+        ensures { result ≡ verdicts.is_cut self }
+    {
+        matches!(self, Verdict::Cut)
+    }
 }
 
 /// What an analysis says of an entry.

@@ -3,7 +3,7 @@
 use cs_events::Lookup;
 use cs_inputs::print;
 use cs_names::Name;
-use cs_report::{append, append_place};
+use cs_report_parts::{append, append_place};
 use cs_run_log::Pending;
 use cs_values::Object;
 use std::alloc::AllocError;

@@ -4,7 +4,7 @@ use cs_events::{Guess, Outcome};
 use cs_findings::{Finding, Ground, Others, Run, Verdict};
 use cs_inputs::print;
 use cs_names::Name;
-use cs_report::{append, append_place};
+use cs_report_parts::{append, append_place};
 use cs_witness::Witnessed;
 use std::alloc::AllocError;
 

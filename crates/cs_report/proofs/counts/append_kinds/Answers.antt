@@ -1,6 +1,6 @@
 use Rattle.std.proofs.Common.{◌<◌, length, arith}
 use Rattle.cs_model.specs.declared.kind.Kind.{Kind}
-use Rattle.cs_report.specs.AnalysisLines.{text_of}
+use Rattle.cs_report_parts.specs.RunLines.{text_of}
 use Rattle.cs_report.specs.SummaryLines.{kind_lines}
 use Rattle.cs_report.proofs.KindCounts.{lines_more}
 use Rattle.cs_report.proofs.counts.append_kinds.Goals as goal

@@ -2,7 +2,7 @@
 use Rattle.std.proofs.Common.{◌≡◌, ◌++◌, take}
 use Rattle.std.specs.List.{flat_map}
 use Rattle.cs_model.specs.declared.kind.Kind.{Kind}
-use Rattle.cs_report.specs.AnalysisLines.{text_of}
+use Rattle.cs_report_parts.specs.RunLines.{text_of}
 use Rattle.cs_report.specs.SummaryLines.{kind_lines}
 use Rattle.cs_report.proofs.counts.append_kinds.Given as goal
 

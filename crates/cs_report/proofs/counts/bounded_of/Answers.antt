@@ -3,7 +3,7 @@ use Rattle.std.proofs.lemmas.Iterator.{YieldsList-from_slice}
 use Rattle.std.proofs.lemmas.Iterator.Consumers.{YieldsList-from_filter, count_from_yields_List}
 use Rattle.std.proofs.lemmas.List.Sums.{length-filter}
 use Rattle.cs_results.specs.declared.result.EntryResult.{EntryResult}
-use Rattle.cs_report.specs.SummaryLines.{is_bounded}
+use Rattle.cs_results.specs.Verdicts.{is_bounded}
 use Rattle.cs_report.proofs.counts.bounded_of.Goals as goal
 
 pub returns : goal.returns

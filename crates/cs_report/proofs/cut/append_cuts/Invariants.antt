@@ -1,5 +1,5 @@
 -- Printed so far: the lines of the cuts before the index.
-use Rattle.std.proofs.Common.{◌≡◌, ◌++◌, ℤ, take, codes}
+use Rattle.std.proofs.Common.{◌≡◌, ◌++◌, take, codes}
 use Rattle.std.specs.List.{flat_map}
 use Rattle.cs_results.specs.declared.result.Cut.{Cut}
 use Rattle.cs_report.specs.AnalysisLines.{cut_line}

@@ -1,8 +1,9 @@
-use Rattle.std.proofs.Common.{◌≡◌, ℕ, List, ◌++◌, ap, sym, ◌∙◌}
+use Rattle.std.proofs.Common.{ℕ, List, ◌++◌, ap, sym, ◌∙◌}
 use Rattle.std.specs.List.{flat_map}
 use Rattle.cs_ast.specs.TypedProgram.{typed_program}
 use Rattle.cs_results.specs.declared.result.EntryResult.{EntryResult}
-use Rattle.cs_report.specs.AnalysisLines.{text_of, entry_lines}
+use Rattle.cs_report_parts.specs.RunLines.{text_of}
+use Rattle.cs_report.specs.AnalysisLines.{entry_lines}
 use Rattle.cs_report.proofs.LineTexts.{text_of-flat_map}
 use Rattle.cs_report.proofs.entry.text.Goals as goal
 

@@ -1,9 +1,9 @@
 -- Printed so far: the lines of the guesses before the index.
-use Rattle.std.proofs.Common.{◌≡◌, ◌++◌, ℤ, take, codes}
+use Rattle.std.proofs.Common.{◌≡◌, ◌++◌, take, codes}
 use Rattle.std.specs.List.{flat_map}
 use Rattle.std.specs.Fmt.{decimal}
 use Rattle.cs_events.specs.declared.guess.Guess.{Guess}
-use Rattle.cs_report.specs.AnalysisLines.{guess_text}
+use Rattle.cs_report_parts.specs.RunLines.{guess_text}
 use Rattle.cs_report.proofs.ground.append_other_guesses.Given as goal
 
 abbrev pub invariant-loop-guess : goal.invariant-loop-guess

@@ -4,7 +4,7 @@ use Rattle.std.specs.List.{flat_map}
 use Rattle.serde_json.specs.View.{view}
 use Rattle.cs_ast.specs.TypedProgram.{typed_program}
 use Rattle.cs_events.specs.declared.event.Event.{Event}
-use Rattle.cs_report.specs.AnalysisLines.{step_text}
+use Rattle.cs_report_parts.specs.RunLines.{step_text}
 use Rattle.cs_report.specs.AnalysisJson.{step_json}
 use Rattle.cs_report.proofs.json_finding.steps_value.Given as goal
 

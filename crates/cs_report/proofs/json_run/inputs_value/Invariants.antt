@@ -1,8 +1,0 @@
--- Made so far: the values of the inputs before the index.
-use Rattle.std.proofs.Common.{◌≡◌, map, take}
-use Rattle.serde_json.specs.View.{view}
-use Rattle.cs_report.specs.AnalysisJson.{input_json}
-use Rattle.cs_report.proofs.json_run.inputs_value.Given as goal
-
-abbrev pub invariant-loop-input : goal.invariant-loop-input
-invariant-loop-input l = map view l.list.items ≡ map input_json (take l.input-index l.inputs)

@@ -1,0 +1,16 @@
+//! Names of functions in the text of results.
+ghost use Rattle.std.specs.Prelude.{◌≡◌};
+ghost use Rattle.cs_ast.specs.TypedProgram.{typed_program};
+ghost use Rattle.cs_report_parts.specs.RunLines as lines;
+
+use cs_ast::typed::program::Program;
+
+/// The name of a function, by its number. A number that no function has is without a name.
+pub fn function_name(program: &Program, number: u32) -> &[u8]
+    ensures { result.now ≡ lines.function_name (typed_program program.now) number }
+{
+    match program.functions.get(number as usize) {
+        Some(function) => function.name.as_bytes(),
+        None => &[],
+    }
+}
