@@ -1,6 +1,6 @@
 //! Protocols that an exploration watches.
 ghost use Rattle.std.specs.Prelude.{◌≡◌, true};
-ghost use Rattle.cs_engine.specs.Watching.{IsFor, IsPhaseAfter};
+ghost use Rattle.cs_explored.specs.Watching.{IsFor, IsPhaseAfter};
 
 use cs_ast::Place;
 use cs_events::{Event, Label};
