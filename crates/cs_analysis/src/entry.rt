@@ -6,7 +6,8 @@ ghost use Rattle.cs_findings.specs.GoodEntries.{IsGoodEntry};
 ghost use Rattle.cs_witness.specs.Entries.{CanRun};
 
 use cs_checker::Checker;
-use cs_engine::{Exploration, Explored, explore};
+use cs_engine::{Exploration, explore};
+use cs_explored::Explored;
 use cs_inputs::Inputs;
 use cs_objects::Setting;
 use cs_progress::Context;

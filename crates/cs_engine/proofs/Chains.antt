@@ -2,7 +2,7 @@
 use Rattle.std.proofs.Common.{◌≡◌, ◌<◌, ℕ, List, [], ◌∷◌, ◌++◌, refl, sym, ap, ◌∙◌, subst, arith}
 use Rattle.std.proofs.lemmas.Option.{same_Some}
 use Rattle.cs_events.specs.declared.event.Event.{Event}
-use Rattle.cs_engine.specs.declared.explored.Row.{Row}
+use Rattle.cs_explored.specs.declared.explored.Row.{Row}
 use Rattle.cs_engine.specs.Chains.{IsChain, first, further}
 
 none_below : (number : ℕ) → number < 0 → ⊥

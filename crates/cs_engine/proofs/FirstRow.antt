@@ -14,7 +14,7 @@ use Rattle.cs_state.specs.Meaning.{setting_of}
 use Rattle.cs_state.specs.Naming.{Naming}
 use Rattle.cs_state.specs.Starting.{StartsFrom}
 use Rattle.cs_state.specs.Valuations.{cell_read}
-use Rattle.cs_engine.specs.declared.explored.Row.{Row}
+use Rattle.cs_explored.specs.declared.explored.Row.{Row}
 use Rattle.cs_engine.specs.Asking.{IsMoved}
 use Rattle.cs_engine.specs.Chains.{first}
 use Rattle.cs_engine.specs.EntryRuns.{step_of, start_of, begins}

@@ -1,6 +1,4 @@
 pub mod Parameters
-pub mod FirstRules
-pub mod Growing
 pub mod Chains
 pub mod OwnNumbers
 pub mod FirstRow

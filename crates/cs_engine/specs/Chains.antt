@@ -2,7 +2,7 @@
 use Rattle.std.specs.Prelude.{◌≡◌, ◌<◌, ℕ, List, [], ◌∷◌, ◌++◌, Some, None, length, slice_get}
 use Rattle.cs_terms.specs.declared.symbol.Sym.{Sym}
 use Rattle.cs_events.specs.declared.event.Event.{Event}
-use Rattle.cs_engine.specs.declared.explored.Row.{Row}
+use Rattle.cs_explored.specs.declared.explored.Row.{Row}
 
 module _ (rows : List Row) where
   -- these events lead from the first row to the one with a number

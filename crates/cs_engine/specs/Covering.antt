@@ -21,10 +21,10 @@ use Rattle.cs_state.specs.declared.state.State.{State}
 use Rattle.cs_state.specs.Naming.{Naming, naming}
 use Rattle.cs_state.specs.Meaning.{StandsFor}
 use Rattle.cs_keys.specs.Live.{live_part}
-use Rattle.cs_engine.specs.declared.explored.End.{End}
-use Rattle.cs_engine.specs.declared.explored.Explored.{Explored}
-use Rattle.cs_engine.specs.declared.explored.Row.{Row}
-use Rattle.cs_engine.specs.declared.watch.Rule.{Rule}
+use Rattle.cs_explored.specs.declared.explored.End.{End}
+use Rattle.cs_explored.specs.declared.explored.Explored.{Explored}
+use Rattle.cs_explored.specs.declared.explored.Row.{Row}
+use Rattle.cs_explored.specs.declared.watch.Rule.{Rule}
 use Rattle.cs_engine.specs.EntryRuns.{end_of, events_of, setting_with, HasLeft, EndsAfter, EndsWith}
 use Rattle.cs_engine.specs.OwnNumbers.{own_valuation}
 use Rattle.cs_engine.specs.Phases.{IsPhaseAlong}

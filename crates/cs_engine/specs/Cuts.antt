@@ -21,9 +21,9 @@ use Rattle.cs_state.specs.declared.state.State.{State}
 use Rattle.cs_state.specs.Meaning.{setting_of}
 use Rattle.cs_state.specs.Naming.{Naming}
 use Rattle.cs_access.specs.Numbers.{IsAscending}
-use Rattle.cs_engine.specs.declared.explored.End.{End}
-use Rattle.cs_engine.specs.declared.explored.Row.{Row}
-use Rattle.cs_engine.specs.declared.watch.Rule.{Rule}
+use Rattle.cs_explored.specs.declared.explored.End.{End}
+use Rattle.cs_explored.specs.declared.explored.Row.{Row}
+use Rattle.cs_explored.specs.declared.watch.Rule.{Rule}
 use Rattle.cs_engine.specs.Chains.{IsChain}
 use Rattle.cs_engine.specs.EntryRuns.{events_of, setting_with, EndsAfter, PassesTo}
 use Rattle.cs_engine.specs.Graphs.{IsExactGraph}

@@ -22,8 +22,8 @@ use Rattle.cs_state.specs.declared.state.State.{State}
 use Rattle.cs_state.specs.Cells.{Blocks, cell_of}
 use Rattle.cs_state.specs.Naming.{Naming}
 use Rattle.cs_state.specs.Meaning.{StandsFor, setting_of}
-use Rattle.cs_engine.specs.declared.explored.End.{End}
-use Rattle.cs_engine.specs.declared.explored.Row.{Row}
+use Rattle.cs_explored.specs.declared.explored.End.{End}
+use Rattle.cs_explored.specs.declared.explored.Row.{Row}
 use Rattle.cs_engine.specs.Chains.{IsChain}
 use Rattle.cs_engine.specs.EntryRuns.{end_of, events_of, HasLeft, EndsWith}
 

@@ -5,8 +5,8 @@ use Rattle.cs_cfg.specs.Graph.{Code}
 use Rattle.cs_results.specs.declared.budgets.Budgets.{Budgets}
 use Rattle.cs_results.specs.RunBudgets.{run_budgets}
 use Rattle.cs_state.specs.Naming.{naming}
-use Rattle.cs_engine.specs.declared.explored.Explored.{Explored}
-use Rattle.cs_engine.specs.declared.watch.Rule.{Rule}
+use Rattle.cs_explored.specs.declared.explored.Explored.{Explored}
+use Rattle.cs_explored.specs.declared.watch.Rule.{Rule}
 use Rattle.cs_engine.specs.Cuts.{IsCutFor}
 use Rattle.cs_engine.specs.Graphs.{IsExactGraph}
 use Rattle.cs_engine.specs.OwnRuns.{HasOwnRuns}

@@ -6,9 +6,9 @@ use Rattle.cs_events.specs.declared.outcome.RunBudgets.{RunBudgets}
 use Rattle.cs_cfg.specs.Graph.{Code}
 use Rattle.cs_state.specs.declared.state.State.{State}
 use Rattle.cs_state.specs.Naming.{Naming}
-use Rattle.cs_engine.specs.declared.explored.End.{End}
-use Rattle.cs_engine.specs.declared.explored.Row.{Row}
-use Rattle.cs_engine.specs.declared.watch.Rule.{Rule}
+use Rattle.cs_explored.specs.declared.explored.End.{End}
+use Rattle.cs_explored.specs.declared.explored.Row.{Row}
+use Rattle.cs_explored.specs.declared.watch.Rule.{Rule}
 use Rattle.cs_engine.specs.Asking.{AreAskedAlong}
 use Rattle.cs_engine.specs.Chains.{IsChain}
 use Rattle.cs_engine.specs.Distinct.{AreDistinct}

@@ -1,6 +1,3 @@
-pub mod Watching
-pub mod Found
-pub mod Answering
 pub mod Parameters
 pub mod Chains
 pub mod Phases

@@ -14,8 +14,8 @@ use Rattle.cs_cfg.specs.Graph.{Code}
 use Rattle.cs_cfg.specs.Working.{CodeState}
 use Rattle.cs_state.specs.declared.state.State.{State}
 use Rattle.cs_state.specs.Naming.{Naming}
-use Rattle.cs_engine.specs.declared.explored.End.{End}
-use Rattle.cs_engine.specs.declared.explored.Row.{Row}
+use Rattle.cs_explored.specs.declared.explored.End.{End}
+use Rattle.cs_explored.specs.declared.explored.Row.{Row}
 use Rattle.cs_engine.specs.Chains.{IsChain}
 use Rattle.cs_engine.specs.EntryRuns.{end_of, events_of, setting_with, HasLeft, EndsAfter}
 use Rattle.cs_engine.specs.OwnNumbers.{own_valuation, ListsOwn}

@@ -1,8 +1,8 @@
 -- The phase of a watched protocol after the events of a run.
 use Rattle.std.specs.Prelude.{ℕ, List, [], ◌∷◌, ◌++◌}
 use Rattle.cs_events.specs.declared.event.Event.{Event}
-use Rattle.cs_engine.specs.declared.watch.Rule.{Rule}
-use Rattle.cs_engine.specs.Watching.{IsPhaseAfter}
+use Rattle.cs_explored.specs.declared.watch.Rule.{Rule}
+use Rattle.cs_explored.specs.Watching.{IsPhaseAfter}
 
 -- the rules give these events the phase: at the beginning it is 0
 pub data IsPhaseAlong (rules : List Rule) : List Event → ℕ → Type 0 where

@@ -22,8 +22,8 @@ use Rattle.cs_state.specs.declared.state.State.{State}
 use Rattle.cs_state.specs.Cells.{block_of}
 use Rattle.cs_state.specs.Meaning.{setting_of}
 use Rattle.cs_state.specs.Naming.{Naming}
-use Rattle.cs_engine.specs.declared.explored.Row.{Row}
-use Rattle.cs_engine.specs.declared.watch.Rule.{Rule}
+use Rattle.cs_explored.specs.declared.explored.Row.{Row}
+use Rattle.cs_explored.specs.declared.watch.Rule.{Rule}
 use Rattle.cs_engine.specs.Chains.{IsGuessedAlong}
 use Rattle.cs_engine.specs.EntryRuns.{events_of, HasLeft}
 use Rattle.cs_engine.specs.Phases.{IsPhaseAlong}

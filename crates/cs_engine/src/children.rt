@@ -1,31 +1,21 @@
 //! What comes of a state: the states directly after its next events, and its ends.
 ghost use Rattle.std.specs.Prelude.{◌≡◌, map};
 ghost use Rattle.cs_objects.specs.Prepared.{IsReady};
-ghost use Rattle.cs_engine.specs.Answering.{constant, leads_on};
 
 use crate::engine::Exploration;
-use crate::watch::phase_after;
 use cs_access::{Checked, FaultyPart, Reached, ReachedOffset, Rest, is_known, reach};
 use cs_ast::Place;
 use cs_cfg::{BlockEnd, Instruction};
 use cs_checker::Checker;
 use cs_eval::{Guessed, Piece, Question, answers, select};
 use cs_events::{Budget, Event, Label, Outcome};
+use cs_explored::{Child, constant, leads_on, phase_after};
 use cs_progress::Next;
 use cs_results::Cut;
 use cs_state::{Asked, Counters, State, Tables};
 use cs_steps::proceed;
 use cs_terms::{Lin, Sym, SymName};
 use std::alloc::{AllocError, Global};
-
-/// A state directly after an event.
-#[derive(Drop)]
-pub struct Child {
-    pub event: Event,
-    /// The symbol of the number that was guessed at the event.
-    pub guess: Option<Sym>,
-    pub state: Box<State>,
-}
 
 /// What comes of a state.
 #[derive(Drop)]
@@ -330,27 +320,6 @@ fn asked(event: u64, guess: Sym, guessed: Guessed) -> Asked {
         right: guessed.right,
         ends: guessed.ends,
         fact: guessed.fact,
-    }
-}
-
-// The number that leads on: of an allocation whether it gives a block.
-fn leads_on(label: Label, answer: Lin) -> Lin
-    ensures { result ≡ leads_on label answer }
-{
-    match label {
-        Label::Alloc(gives) => constant(if gives { 1 } else { 0 }),
-        _ => answer,
-    }
-}
-
-fn constant(value: i128) -> Lin
-    ensures { result ≡ constant value }
-{
-    Lin {
-        sym: None,
-        slope: 0,
-        at: 0,
-        value,
     }
 }
 

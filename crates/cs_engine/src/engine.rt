@@ -1,14 +1,12 @@
 //! The exploration of an entry, row by row.
 ghost use Rattle.std.specs.Prelude.{◌≡◌, ◌≤◌, map, length, IfOk, OnOk};
 ghost use Rattle.cs_objects.specs.Prepared.{IsReady};
-ghost use Rattle.cs_engine.specs.Found.{IsSound, Grows, AreLinked, AreOfRows};
+ghost use Rattle.cs_explored.specs.Found.{IsSound, Grows, AreLinked, AreOfRows};
 
 use crate::children::Children;
 use crate::entry::start;
-use crate::explored::Explored;
-use crate::findings::Findings;
-use crate::watch::Rule;
 use cs_checker::Checker;
+use cs_explored::{Explored, Findings, Rule};
 use cs_progress::Context;
 use cs_results::Budgets;
 use std::alloc::AllocError;

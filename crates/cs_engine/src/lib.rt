@@ -4,11 +4,5 @@
 mod children;
 mod engine;
 mod entry;
-mod explored;
-mod findings;
-mod visits;
-mod watch;
 
 pub use engine::{Exploration, explore};
-pub use explored::{End, Explored, Row};
-pub use watch::Rule;

@@ -1,12 +1,12 @@
 -- The first rule for a call: for the contract of `phase_after`.
-use Rattle.std.proofs.Common.{◌≡◌, ◌<◌, ◌≤◌, ◌+◌, ℕ, List, Some, length, slice_get, sym, ap, ◌∙◌, subst, arith}
+use Rattle.std.proofs.Common.{◌≡◌, ◌<◌, ◌≤◌, ◌+◌, ℕ, List, Some, length, slice_get, sym, ◌∙◌, subst, arith}
 use Rattle.std.proofs.Common.{below_more, refl}
 use Rattle.std.proofs.lemmas.Option.{same_Some, slice_get_within}
 use Rattle.cs_ast.specs.declared.place.Place.{Place}
 use Rattle.cs_events.specs.declared.event.Label.{Label}
 use Rattle.cs_events.specs.declared.event.Label.TheVariants.{Truth, Branch, Case, Wrap, Look, Offset, Callee, Alloc}
-use Rattle.cs_engine.specs.declared.watch.Rule.{Rule}
-use Rattle.cs_engine.specs.Watching.{Call, IsFor, NoneBefore, IsUnruled, IsPhaseAfterLabel}
+use Rattle.cs_explored.specs.declared.watch.Rule.{Rule}
+use Rattle.cs_explored.specs.Watching.{Call, IsFor, NoneBefore, IsUnruled, IsPhaseAfterLabel}
 
 -- one more rule isn't for the call
 pub none_more : (rules : List Rule) (call : Call) (number : ℕ) (rule : Rule) → slice_get rules number ≡ Some rule

@@ -2,7 +2,6 @@
 use Rattle.std.proofs.Common.{◌≡◌, ◌<◌, ◌≤◌, ◌⊎◌, inl, inr, ℕ, zero, suc, ◌+◌, List, [], ◌∷◌, ◌++◌, Some, length, slice_get, refl, sym, ap, ◌∙◌, subst, arith}
 use Rattle.std.proofs.Common.{length-append}
 use Rattle.std.specs.Prelude.{nat_eq}
-use Rattle.std.specs.List.{All}
 use Rattle.std.specs.Cmp.Lexicographic.{pointwise}
 use Rattle.std.proofs.lemmas.List.Elements.{All-push}
 use Rattle.std.proofs.lemmas.Option.{none-some, same_Some}
@@ -10,10 +9,10 @@ use Rattle.cs_graph.specs.Contents.{Contents}
 use Rattle.cs_graph.specs.Adding.{IsAdded, empty, with_work}
 use Rattle.cs_graph.specs.declared.adding.Added.{Added}
 use Rattle.cs_graph.specs.declared.adding.Added.TheVariants.{New, Old}
-use Rattle.cs_engine.specs.declared.explored.Row.{Row}
-use Rattle.cs_engine.specs.declared.explored.End.{End}
-use Rattle.cs_engine.specs.declared.findings.Findings.{Findings}
-use Rattle.cs_engine.specs.Found.{ComesFromBefore, AreLinked, AreOfRows, IsSound, Grows}
+use Rattle.cs_explored.specs.declared.explored.Row.{Row}
+use Rattle.cs_explored.specs.declared.explored.End.{End}
+use Rattle.cs_explored.specs.declared.findings.Findings.{Findings}
+use Rattle.cs_explored.specs.Found.{ComesFromBefore, AreLinked, AreOfRows, IsSound, Grows}
 
 pub grows_not : (findings : Findings) → Grows findings findings
 grows_not findings = record { nodes = refl; rows = omega arith; sound = λ sound. sound }

@@ -2,14 +2,13 @@
 use Rattle.std.specs.Prelude.{◌≡◌, ◌⊎◌, ◌<◌, ◌≤◌, ℕ, Bool, true, false, nat_eq, List, [], ◌∷◌, ◌++◌, Some, length, slice_get}
 use Rattle.std.specs.List.{All}
 use Rattle.std.specs.Cmp.Lexicographic.{pointwise}
-use Rattle.cs_results.specs.declared.result.Cut.{Cut}
 use Rattle.cs_results.specs.declared.result.Cut.TheVariants.{Nodes}
 use Rattle.cs_graph.specs.Adding.{IsAdded, IsRefused}
 use Rattle.cs_graph.specs.declared.adding.Added.{Added}
 use Rattle.cs_graph.specs.declared.adding.GraphRefusal.TheVariants.{Full}
-use Rattle.cs_engine.specs.declared.explored.Row.{Row}
-use Rattle.cs_engine.specs.declared.explored.End.{End}
-use Rattle.cs_engine.specs.declared.findings.Findings.{Findings}
+use Rattle.cs_explored.specs.declared.explored.Row.{Row}
+use Rattle.cs_explored.specs.declared.explored.End.{End}
+use Rattle.cs_explored.specs.declared.findings.Findings.{Findings}
 
 -- the row with a number comes from one before it, the first one from itself
 abbrev pub ComesFromBefore : ℕ → Row → Type 0

@@ -4,7 +4,7 @@ use Rattle.cs_ast.specs.declared.place.Place.{Place}
 use Rattle.cs_events.specs.declared.event.Event.{Event}
 use Rattle.cs_events.specs.declared.event.Label.{Label}
 use Rattle.cs_events.specs.declared.event.Label.TheVariants.{Callee}
-use Rattle.cs_engine.specs.declared.watch.Rule.{Rule}
+use Rattle.cs_explored.specs.declared.watch.Rule.{Rule}
 
 -- a call of a function at a place, in a phase
 pub record Call : Type 0 where

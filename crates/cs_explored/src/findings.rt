@@ -2,9 +2,9 @@
 ghost use Rattle.std.specs.Prelude.{◌≡◌, ◌≤◌, ◌<◌, length, IfOk, OnOk};
 ghost use Rattle.cs_keys.specs.Live.{live_part};
 ghost use Rattle.cs_keys.specs.Words.{words_of};
-ghost use Rattle.cs_engine.specs.Found.{ComesFromBefore, IsSound, Grows, AreLinked, AreOfRows, IsPlaced};
+ghost use Rattle.cs_explored.specs.Found.{ComesFromBefore, IsSound, Grows, AreLinked, AreOfRows, IsPlaced};
 
-use crate::children::Child;
+use crate::child::Child;
 use crate::explored::{End, Explored, Row};
 use crate::visits::visits_of;
 use cs_events::Outcome;
@@ -16,7 +16,7 @@ use std::alloc::{AllocError, Global};
 
 /// What is found so far.
 #[derive(Drop)]
-pub(crate) struct Findings {
+pub struct Findings {
     pub graph: Graph<Key, Row>,
     pub ends: Vec<End>,
     pub cuts: Vec<Cut>,

@@ -1,6 +1,6 @@
 //! Protocols that an exploration watches.
 ghost use Rattle.std.specs.Prelude.{◌≡◌, true};
-ghost use Rattle.cs_engine.specs.Watching.{IsFor, IsPhaseAfter};
+ghost use Rattle.cs_explored.specs.Watching.{IsFor, IsPhaseAfter};
 
 use cs_ast::Place;
 use cs_events::{Event, Label};
@@ -31,8 +31,8 @@ pub fn phase_after(rules: &[Rule], phase: u32, event: &Event) -> u32
 
 // Whether a rule is for a call of a function at a place, in a phase.
 fn is_for(rule: &Rule, function: u32, place: Place, phase: u32) -> bool
-    ensures yes { result ≡ true → IsFor (record { function = function; place = place; phase = phase })
-        rule.now }
+    ensures yes { result ≡ true
+        → IsFor (record { function = function; place = place; phase = phase }) rule.now }
     ensures no { IsFor (record { function = function; place = place; phase = phase }) rule.now
         → result ≡ true }
 {

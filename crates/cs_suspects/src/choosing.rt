@@ -1,7 +1,7 @@
 //! Which ends of an exploration are suspected.
 
-use cs_engine::End;
 use cs_events::Outcome;
+use cs_explored::End;
 use std::alloc::{AllocError, Global};
 
 /// How many ends of one outcome are suspected.

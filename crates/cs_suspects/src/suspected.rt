@@ -3,8 +3,8 @@ ghost use Rattle.std.specs.Prelude.{◌≡◌, IfOk};
 
 use crate::choosing::chosen;
 use crate::numbers::{inputs_of, number_of, operand_range};
-use cs_engine::{End, Explored};
 use cs_events::Guess;
+use cs_explored::{End, Explored};
 use cs_state::{Asked, State, Tables};
 use cs_suspect_types::{Suspect, SuspectedGuess};
 use std::alloc::{AllocError, Global};

@@ -1,5 +1,5 @@
 use Rattle.std.proofs.Common.{refl, ◌∙◌}
-use Rattle.cs_engine.proofs.Growing.{grows_on, grows_same}
+use Rattle.cs_explored.proofs.Growing.{grows_on, grows_same}
 use Rattle.cs_engine.proofs.engine.begin.Goals as goal
 
 pub returns-clause-sound : goal.returns-clause-sound

@@ -1,5 +1,5 @@
 use Rattle.std.proofs.Common.{refl}
-use Rattle.cs_engine.proofs.Growing.{grows_on, grows_same}
+use Rattle.cs_explored.proofs.Growing.{grows_on, grows_same}
 use Rattle.cs_engine.proofs.engine.expand.Goals as goal
 
 pub returns-clause-grows : goal.returns-clause-grows

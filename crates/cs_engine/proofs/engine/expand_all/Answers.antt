@@ -1,5 +1,5 @@
 use Rattle.std.proofs.Common.{refl, ◌∙◌}
-use Rattle.cs_engine.proofs.Growing.{grows_not, grows_on, grows_worked}
+use Rattle.cs_explored.proofs.Growing.{grows_not, grows_on, grows_worked}
 use Rattle.cs_engine.proofs.engine.expand_all.Goals as goal
 
 pub loop-init : goal.loop-init

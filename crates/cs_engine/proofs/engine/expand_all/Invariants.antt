@@ -1,5 +1,5 @@
 use Rattle.std.proofs.Common.{◌≡◌, map}
-use Rattle.cs_engine.specs.Found.{Grows}
+use Rattle.cs_explored.specs.Found.{Grows}
 use Rattle.cs_engine.proofs.engine.expand_all.Given as goal
 
 abbrev pub invariant-loop : goal.invariant-loop

@@ -1,7 +1,7 @@
 use Rattle.std.proofs.Common.{ap, ◌∙◌}
 use Rattle.std.specs.Box.{with_value}
 use Rattle.cs_state.specs.declared.state.State.{State}
-use Rattle.cs_engine.proofs.findings.listed.Goals as goal
+use Rattle.cs_explored.proofs.findings.listed.Goals as goal
 
 pub returns : goal.returns
 returns c =

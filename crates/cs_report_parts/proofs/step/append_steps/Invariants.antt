@@ -8,4 +8,5 @@ use Rattle.cs_report_parts.proofs.step.append_steps.Given as goal
 
 abbrev pub invariant-loop-event : goal.invariant-loop-event
 invariant-loop-event l = l.text.items ≡ l.initial.text.items
-    ++ flat_map (λ (event : Event). text_of (step_lines (typed_program l.program).files event.place (step_text (typed_program l.program) event.label))) (take l.event-index l.events)
+    ++ flat_map (λ (event : Event). text_of (step_lines (typed_program l.program).files event.place (step_text (typed_program l.program) event.label)))
+    (take l.event-index l.events)

@@ -2,8 +2,8 @@ use Rattle.std.proofs.Common.{List, ℕ, refl, sym, subst}
 use Rattle.std.specs.Prelude.{nat_eq}
 use Rattle.std.specs.Cmp.Lexicographic.{pointwise}
 use Rattle.cs_graph.specs.Adding.{IsAdded, IsUnseen}
-use Rattle.cs_engine.proofs.Growing.{grows_added}
-use Rattle.cs_engine.proofs.findings.Findings.add.Goals as goal
+use Rattle.cs_explored.proofs.Growing.{grows_added}
+use Rattle.cs_explored.proofs.findings.Findings.add.Goals as goal
 
 pub returns-in-Ok-clause-placed : goal.returns-in-Ok-clause-placed
 returns-in-Ok-clause-placed c =

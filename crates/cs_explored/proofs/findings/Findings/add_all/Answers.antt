@@ -1,5 +1,5 @@
-use Rattle.cs_engine.proofs.Growing.{grows_not, grows_on}
-use Rattle.cs_engine.proofs.findings.Findings.add_all.Goals as goal
+use Rattle.cs_explored.proofs.Growing.{grows_not, grows_on}
+use Rattle.cs_explored.proofs.findings.Findings.add_all.Goals as goal
 
 pub loop-child-init : goal.loop-child-init
 loop-child-init c = grows_not c.args.self.now

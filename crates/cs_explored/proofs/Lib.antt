@@ -1,0 +1,2 @@
+mod FirstRules
+pub mod Growing
