@@ -5,3 +5,4 @@ pub mod SeenCells
 pub mod OperandsMean
 pub mod Answers
 pub mod Looks
+pub mod Composing

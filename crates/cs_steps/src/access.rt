@@ -1,12 +1,12 @@
 //! Loads and stores (C11 6.3.2.1, 6.5.16).
 ghost use Rattle.cs_objects.specs.Prepared.{IsReady};
-ghost use Rattle.cs_steps.specs.Asking.{KeepKinds};
+ghost use Rattle.cs_operators.specs.Asking.{KeepKinds};
 
-use crate::attempt::Attempt;
-use crate::cells::{Cell, look_up, read};
-use crate::inputs::Inputs;
-use crate::objects::object;
-use crate::pointers::{named, not_null, ordered};
+use cs_operators::Attempt;
+use cs_cells::cells::{Cell, look_up, read};
+use cs_cells::inputs::Inputs;
+use cs_cells::objects::object;
+use cs_operators::pointers::{named, not_null, ordered};
 use cs_cfg::Access;
 use cs_checker::Subject;
 use cs_progress::operands::value_of;

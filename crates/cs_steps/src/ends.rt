@@ -1,7 +1,7 @@
 //! What the end of a block does, and what a loop head or a label does.
 ghost use Rattle.cs_objects.specs.Prepared.{IsReady};
 
-use crate::operators::test;
+use cs_operators::operators::test;
 use cs_cfg::{BlockEnd, CountedPoint, Spot, SwitchCase};
 use cs_eval::Tested;
 use cs_events::{Budget, Outcome};

@@ -1,11 +1,11 @@
 //! Allocations and releases (C11 7.22.3).
 ghost use Rattle.cs_objects.specs.Prepared.{IsReady};
-ghost use Rattle.cs_steps.specs.Asking.{KeepKinds};
+ghost use Rattle.cs_operators.specs.Asking.{KeepKinds};
 
-use crate::attempt::Attempt;
-use crate::cells::declare;
-use crate::objects::object;
-use crate::operators::operate;
+use cs_operators::Attempt;
+use cs_cells::cells::declare;
+use cs_cells::objects::object;
+use cs_operators::operators::operate;
 use cs_ast::Place;
 use cs_ast::typed::operator::{Allocator, BinOp};
 use cs_checker::Subject;

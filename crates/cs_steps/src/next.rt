@@ -1,8 +1,8 @@
 //! What stands first in what is left of an operation.
 ghost use Rattle.cs_objects.specs.Prepared.{IsReady};
-ghost use Rattle.cs_steps.specs.Asking.{KeepKinds};
+ghost use Rattle.cs_operators.specs.Asking.{KeepKinds};
 
-use crate::attempt::Attempt;
+use cs_operators::Attempt;
 use crate::ends::{end, reach_counted_point};
 use crate::work::work;
 use cs_cfg::{BlockEnd, Instruction, Operation};

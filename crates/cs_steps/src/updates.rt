@@ -1,10 +1,10 @@
 //! Conversions, and updates of objects in place (C11 6.3, 6.5.2.4, 6.5.16.2).
 ghost use Rattle.cs_objects.specs.Prepared.{IsReady};
-ghost use Rattle.cs_steps.specs.Asking.{KeepKinds};
+ghost use Rattle.cs_operators.specs.Asking.{KeepKinds};
 
 use crate::access::{load, store};
-use crate::attempt::Attempt;
-use crate::operators::{convert_number, directed, operate, sum};
+use cs_operators::Attempt;
+use cs_operators::operators::{convert_number, directed, operate, sum};
 use cs_ast::Place;
 use cs_ast::typed::operator::{BinOp, Direction, Gives};
 use cs_cfg::Access;

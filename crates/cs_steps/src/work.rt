@@ -1,14 +1,14 @@
 //! What each operation of the code does.
 ghost use Rattle.cs_objects.specs.Prepared.{IsReady};
-ghost use Rattle.cs_steps.specs.Asking.{KeepKinds};
+ghost use Rattle.cs_operators.specs.Asking.{KeepKinds};
 
 use crate::access::{Reached, load, spell, store, write};
-use crate::attempt::Attempt;
+use cs_operators::Attempt;
 use crate::calls::call;
 use crate::ends::go_on;
 use crate::heap::{allocate, release};
-use crate::operators::{compare, difference, directed, number_of, operate, sum, test};
-use crate::pointers::arrow;
+use cs_operators::operators::{compare, difference, directed, number_of, operate, sum, test};
+use cs_operators::pointers::arrow;
 use crate::updates::{convert, fetch_number, move_pointer, update};
 use cs_ast::Place;
 use cs_ast::typed::operator::{BinOp, CmpOp, Direction, Order, UnOp};

@@ -1,6 +1,19 @@
 //! What operators do with their operands (C11 6.3, 6.5.3 to 6.5.10).
+ghost use Rattle.std.specs.Prelude.{◌≡◌, ℤ, Bool, List, IfOk, option_map};
+ghost use Rattle.cs_types.specs.Shape.{shape_of};
+ghost use Rattle.cs_regions.specs.declared.base.Base.{Base};
+ghost use Rattle.cs_regions.specs.Numbering.{IsNumbered};
+ghost use Rattle.cs_terms.specs.Term.{Valuation, value_of};
+ghost use Rattle.cs_checker.specs.Answers as terms;
+ghost use Rattle.cs_events.specs.Operations.{truth_number};
+ghost use Rattle.cs_events.specs.Objects.{Cell};
+ghost use Rattle.cs_meaning.specs.Initials as cells;
+ghost use Rattle.cs_meaning.specs.Operators as operators;
 ghost use Rattle.cs_objects.specs.Prepared.{IsReady};
-ghost use Rattle.cs_steps.specs.Asking.{KeepKinds};
+ghost use Rattle.cs_progress.specs.Acting.{CarriesOut, IsNamed};
+ghost use Rattle.cs_progress.specs.Seeing.{IsSeen, IsSeenNamed};
+ghost use Rattle.cs_operators.specs.Asking.{KeepKinds, HasEveryKind};
+ghost use Rattle.cs_operators.specs.Pointing.{Sees, cell_in, both_values, test, moved_within, equality, related};
 
 use crate::attempt::Attempt;
 use crate::pointers::ordered;
@@ -25,7 +38,12 @@ pub fn test(
     at: Place,
     value: Value,
     tested: Tested,
-) -> Result<bool, Pause> {
+) -> Result<bool, Pause>
+    ensures act { (bases : List Base) → IsNamed bases value
+        → CarriesOut bases state.now progress.old progress.new result
+        (λ valuation. test at tested (cell_in bases state.now value valuation))
+        (λ holds valuation. holds) }
+{
     if let Value::Number(term) = value {
         let term = known(state, term)?;
         progress.ask(state, at, Question::Test(tested, term))?;
@@ -40,7 +58,9 @@ pub fn test(
 }
 
 /// The number of a truth (C11 6.5.8, paragraph 6).
-pub fn number_of(holds: bool) -> Lin {
+pub fn number_of(holds: bool) -> Lin
+    ensures { result ≡ terms.constant (truth_number holds) }
+{
     constant(if holds { 1 } else { 0 })
 }
 
@@ -54,7 +74,12 @@ pub fn operate(
     ty: IntType,
     operands: (Lin, Lin),
 ) -> Result<Lin, Pause>
-    ensures { KeepKinds (λ b. kind_of b) attempt.old.checkers.items attempt.new.checkers.items }
+    ensures kinds { KeepKinds (λ b. kind_of b) attempt.old.checkers.items attempt.new.checkers.items }
+    ensures act { HasEveryKind (λ b. kind_of b) attempt.old.checkers.items
+        → (bases : List Base)
+        → CarriesOut bases state.now attempt.old.progress attempt.new.progress result
+        (λ valuation. operators.operate model at operator ty (value_of valuation operands.0)
+        (value_of valuation operands.1)) (λ made valuation. value_of valuation made) }
 {
     let (left, right) = operands;
     match operator {
@@ -83,7 +108,12 @@ pub fn convert_number(
     at: Place,
     types: (&CType, IntType),
     number: Lin,
-) -> Result<Lin, Pause> {
+) -> Result<Lin, Pause>
+    ensures act { (bases : List Base)
+        → CarriesOut bases state.now progress.old progress.new result
+        (λ valuation. operators.convert_number model at (shape_of types.0.now) types.1
+        (value_of valuation number)) (λ made valuation. value_of valuation made) }
+{
     let (from, to) = types;
     if takes_all(model, from, to) {
         return Ok(number);
@@ -92,7 +122,9 @@ pub fn convert_number(
 }
 
 // Whether a type holds every number of another.
-fn takes_all(model: DataModel, from: &CType, to: IntType) -> bool {
+fn takes_all(model: DataModel, from: &CType, to: IntType) -> bool
+    ensures { result ≡ operators.takes_all model (shape_of from.now) to }
+{
     let CType::Int(from) = from else {
         return false;
     };
@@ -102,7 +134,10 @@ fn takes_all(model: DataModel, from: &CType, to: IntType) -> bool {
 }
 
 /// A number with the sign of a direction.
-pub fn directed(direction: Direction, number: Lin) -> Result<Lin, Pause> {
+pub fn directed(direction: Direction, number: Lin) -> Result<Lin, Pause>
+    ensures { IfOk result (λ made. (valuation : Valuation)
+        → value_of valuation made ≡ cells.directed direction (value_of valuation number)) }
+{
     match direction {
         Direction::Forward => Ok(number),
         Direction::Back => scaled(number, -1),
@@ -120,7 +155,13 @@ pub fn sum(
     size: u64,
 ) -> Result<Value, Pause>
     requires { IsReady context.now.setting.now }
-    ensures { KeepKinds (λ b. kind_of b) attempt.old.checkers.items attempt.new.checkers.items }
+    ensures kinds { KeepKinds (λ b. kind_of b) attempt.old.checkers.items attempt.new.checkers.items }
+    ensures act { HasEveryKind (λ b. kind_of b) attempt.old.checkers.items
+        → (bases : List Base) → IsNamed bases pointer
+        → CarriesOut bases state.now attempt.old.progress attempt.new.progress result
+        (λ valuation. operators.sum context.now.setting.now.program.now.model at
+        (cell_in bases state.now pointer valuation) (value_of valuation amount) size)
+        (cell_in bases state.now) }
 {
     let seen = look(state, &mut attempt.progress, at, pointer)?;
     match seen {
@@ -153,7 +194,13 @@ fn moved(
     size: u64,
 ) -> Result<Lin, Pause>
     requires { IsReady context.now.setting.now }
-    ensures { KeepKinds (λ b. kind_of b) attempt.old.checkers.items attempt.new.checkers.items }
+    ensures kinds { KeepKinds (λ b. kind_of b) attempt.old.checkers.items attempt.new.checkers.items }
+    ensures act { HasEveryKind (λ b. kind_of b) attempt.old.checkers.items
+        → (bases : List Base)
+        → CarriesOut bases state.now attempt.old.progress attempt.new.progress result
+        (λ valuation. moved_within context.now.setting.now.program.now.model at
+        (value_of valuation offset) (value_of valuation amount) size)
+        (λ made valuation. value_of valuation made) }
 {
     let bound = offset_bound(context.model());
     let bytes = scaled(amount, i128::from(size))?;
@@ -174,7 +221,12 @@ pub fn compare(
     left: Value,
     right: Value,
 ) -> Result<Lin, Pause>
-    ensures { KeepKinds (λ b. kind_of b) attempt.old.checkers.items attempt.new.checkers.items }
+    ensures kinds { KeepKinds (λ b. kind_of b) attempt.old.checkers.items attempt.new.checkers.items }
+    ensures act { HasEveryKind (λ b. kind_of b) attempt.old.checkers.items
+        → (bases : List Base) → IsNumbered bases → IsNamed bases left → IsNamed bases right
+        → CarriesOut bases state.now attempt.old.progress attempt.new.progress result
+        (λ valuation. operators.compare at operator (cell_in bases state.now left valuation)
+        (cell_in bases state.now right valuation)) (λ made valuation. value_of valuation made) }
 {
     if !is_pointer(left) && !is_pointer(right) {
         let question = Question::Compare(
@@ -206,7 +258,13 @@ fn equality(
     operator: CmpOp,
     left: Seen,
     right: Seen,
-) -> Result<Lin, Pause> {
+) -> Result<Lin, Pause>
+    ensures act { (bases : List Base) (one other : Valuation → Cell) → IsNumbered bases
+        → Sees bases state.now left one → Sees bases state.now right other
+        → CarriesOut bases state.now progress.old progress.new result
+        (λ valuation. equality at operator (one valuation) (other valuation))
+        (λ made valuation. value_of valuation made) }
+{
     if let Some((one, other)) = in_one_object(left, right) {
         return progress.ask(state, at, Question::Compare(operator, one, other));
     }
@@ -217,7 +275,13 @@ fn equality(
 }
 
 // The offsets of two pointers into one object.
-fn in_one_object(left: Seen, right: Seen) -> Option<(Lin, Lin)> {
+fn in_one_object(left: Seen, right: Seen) -> Option<(Lin, Lin)>
+    ensures { (bases : List Base) (valuation : Valuation) (one other : Cell) → IsNumbered bases
+        → IsSeenNamed bases left → IsSeenNamed bases right
+        → IsSeen bases valuation left one → IsSeen bases valuation right other
+        → operators.in_one_object one other
+        ≡ option_map (λ found. both_values found valuation) result }
+{
     let Seen::At(base, one) = left else {
         return None;
     };
@@ -239,7 +303,12 @@ fn related(
     left: Seen,
     right: Seen,
 ) -> Result<(Lin, Lin), Pause>
-    ensures { KeepKinds (λ b. kind_of b) attempt.old.checkers.items attempt.new.checkers.items }
+    ensures kinds { KeepKinds (λ b. kind_of b) attempt.old.checkers.items attempt.new.checkers.items }
+    ensures act { HasEveryKind (λ b. kind_of b) attempt.old.checkers.items
+        → (bases : List Base) (one other : Valuation → Cell) → IsNumbered bases
+        → Sees bases state.now left one → Sees bases state.now right other
+        → CarriesOut bases state.now attempt.old.progress attempt.new.progress result
+        (λ valuation. related at (one valuation) (other valuation)) both_values }
 {
     let found = match (left, right) {
         (Seen::Null, Seen::Null) => Some((constant(0), constant(0))),
@@ -258,7 +327,14 @@ pub fn difference(
     pointers: (Value, Value),
     size: u64,
 ) -> Result<Lin, Pause>
-    ensures { KeepKinds (λ b. kind_of b) attempt.old.checkers.items attempt.new.checkers.items }
+    ensures kinds { KeepKinds (λ b. kind_of b) attempt.old.checkers.items attempt.new.checkers.items }
+    ensures act { HasEveryKind (λ b. kind_of b) attempt.old.checkers.items
+        → (bases : List Base) → IsNumbered bases → IsNamed bases pointers.0
+        → IsNamed bases pointers.1
+        → CarriesOut bases state.now attempt.old.progress attempt.new.progress result
+        (λ valuation. operators.difference at (cell_in bases state.now pointers.0 valuation)
+        (cell_in bases state.now pointers.1 valuation) size)
+        (λ made valuation. value_of valuation made) }
 {
     let left = look(state, &mut attempt.progress, at, pointers.0)?;
     let right = look(state, &mut attempt.progress, at, pointers.1)?;
@@ -267,7 +343,10 @@ pub fn difference(
     attempt.progress.ask(state, at, question)
 }
 
-fn is_pointer(value: Value) -> bool {
+fn is_pointer(value: Value) -> bool
+    ensures { (bases : List Base) (state : State) (valuation : Valuation) → IsNamed bases value
+        → operators.is_pointer (cell_in bases state value valuation) ≡ result }
+{
     match value {
         Value::Null | Value::At(_, _) | Value::Start(_, _) => true,
         Value::Number(_) | Value::Unset => false,

@@ -1,0 +1,4 @@
+mod Checking
+mod Checks
+mod Pointers
+mod Numbers
