@@ -1,4 +1,4 @@
 mod Checking
 mod Checks
-mod Pointers
-mod Numbers
+mod SeenPointers
+mod Numerals

@@ -111,7 +111,7 @@ pub fn convert_number(
 ) -> Result<Lin, Pause>
     ensures act { (bases : List Base)
         → CarriesOut bases state.now progress.old progress.new result
-        (λ valuation. operators.convert_number model at (shape_of types.0.now) types.1
+        (λ valuation. operators.convert_number model at (shape_of types.entry.0.now) types.entry.1
         (value_of valuation number)) (λ made valuation. value_of valuation made) }
 {
     let (from, to) = types;

@@ -6,3 +6,4 @@ pub mod OperandsMean
 pub mod Answers
 pub mod Looks
 pub mod Composing
+pub mod Carrying

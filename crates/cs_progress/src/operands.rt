@@ -1,6 +1,7 @@
 //! The operands of an operation: the newest temporaries of the frame that runs.
-ghost use Rattle.std.specs.Prelude.{◌≡◌, IfOk, OnOk};
+ghost use Rattle.std.specs.Prelude.{◌≡◌, IfOk, IfErr, OnOk};
 ghost use Rattle.cs_state.specs.declared.temporary.Temporary.TheVariants.{Scalar};
+ghost use Rattle.cs_progress.specs.declared.pause.Pause.TheVariants as pause;
 ghost use Rattle.cs_progress.specs.Operands.{IsOperandAt, IsScalarOf, IsCellAt, IsNumberOf, IsNumberAt, MeansDropped, MeansReplaced};
 
 use crate::pause::Pause;
@@ -33,7 +34,8 @@ pub fn value_of(temporary: &Temporary) -> Value
 
 /// The scalar that an operand is, by its age.
 pub fn value(state: &State, age: usize) -> Result<Value, Pause>
-    ensures { IfOk result (IsCellAt state.now age) }
+    ensures value { IfOk result (IsCellAt state.now age) }
+    ensures memory { IfErr result (λ why. why ≡ pause.Memory) }
 {
     let temporary = operand(state, age)?;
     Ok(value_of(temporary))
@@ -41,7 +43,8 @@ pub fn value(state: &State, age: usize) -> Result<Value, Pause>
 
 /// The number that an operand is, by its age; any other counts as 0.
 pub fn number(state: &State, age: usize) -> Result<Lin, Pause>
-    ensures { IfOk result (IsNumberAt state.now age) }
+    ensures value { IfOk result (IsNumberAt state.now age) }
+    ensures memory { IfErr result (λ why. why ≡ pause.Memory) }
 {
     let value = value(state, age)?;
     number_in(state, value)
@@ -49,7 +52,8 @@ pub fn number(state: &State, age: usize) -> Result<Lin, Pause>
 
 /// The number that a value is; any other counts as 0.
 pub fn number_in(state: &State, value: Value) -> Result<Lin, Pause>
-    ensures { IfOk result (IsNumberOf state.now value) }
+    ensures value { IfOk result (IsNumberOf state.now value) }
+    ensures memory { IfErr result (λ why. why ≡ pause.Memory) }
 {
     match value {
         Value::Number(term) => known(state, term),

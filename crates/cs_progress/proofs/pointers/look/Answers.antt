@@ -1,7 +1,5 @@
 use Rattle.std.proofs.Common.{List}
 use Rattle.std.proofs.lemmas.Result.{IfOk-weaker}
-use Rattle.cs_eval.specs.declared.question.Question.TheVariants.{Test}
-use Rattle.cs_eval.specs.declared.question.Tested.TheVariants.{Look}
 use Rattle.cs_regions.specs.declared.base.Base.{Base}
 use Rattle.cs_progress.specs.Acting.{IsNamed, looked, GetsThrough}
 use Rattle.cs_progress.specs.Seeing.{IsSeenIn}
