@@ -1,5 +1,5 @@
 -- What the silence of checkers of every kind shows of an act, and what the faults do that they find: for the contract of `check`.
-use Rattle.std.proofs.Common.{◌≡◌, ◌<◌, ◌⊎◌, ℕ, ℤ, Bool, true, false, true≢false, List, [], ◌∷◌, length, map, drop, All, Any, refl, sym, ap, ◌∙◌, subst, arith}
+use Rattle.std.proofs.Common.{◌≡◌, ◌<◌, ◌⊎◌, ℕ, zero, suc, ℤ, inl, inr, Bool, true, false, true≢false, List, [], ◌∷◌, length, map, drop, All, Any, Result, Ok, Err, IsErr, OnOk, refl, sym, ap, ◌∙◌, subst, arith}
 use Rattle.std.proofs.lemmas.List.{length-map, length-drop}
 use Rattle.std.proofs.lemmas.List.Folds.{list_any_at, Any-from_list_any}
 use Rattle.std.specs.List.{list_any}
@@ -46,7 +46,7 @@ all_none P k d within = absurd (omega arith)
 pub some_left : (state : State) (used : ℕ) (v : Valuation) → IsAnsweredLater state used → answers_left state used v ≡ [] → ⊥
 some_left state used v later none =
     let long = length-drop used (map (value_of v) state.answers) in
-    let all = length-map (value_of v) state.answers in
+    let all = length-map state.answers (value_of v) in
     let short = ap length none in
     omega (arith, later, long, all, short)
 
@@ -75,7 +75,7 @@ module _ (cells : Path → InputKind → Cell) (subject : Subject) (at : Place) 
       by_truth true faulty = stops_nowhere answers act some faulty
       by_truth false silent = silent_leads answers act every silent
 
-  IsFaultOf : List ℤ → Act CodeState → FaultyPart → Type 0
+  abbrev pub IsFaultOf : List ℤ → Act CodeState → FaultyPart → Type 0
   IsFaultOf answers act part = Fits v part.state.constraints → left_of cells answers (checked act) ≡ Stops (Fault part.kind at)
 
   one_fault : (answers : List ℤ) (act : Act CodeState) (kind : Kind) → is_faulty_for kind subject v ≡ true
@@ -92,6 +92,11 @@ module _ (cells : Path → InputKind → Cell) (subject : Subject) (at : Place) 
       subst (All (IsFaultOf answers act)) (sym all)
       (all_more (IsFaultOf answers act) part rest
       (λ fits.
-          let both = (is_part.exactly v).0 fits in
-          one_fault answers act part.kind (ap (λ k. is_faulty_for k subject v) its_kind ∙ both.1))
+      let both = (is_part.exactly v).0 fits in
+      one_fault answers act part.kind (ap (λ k. is_faulty_for k subject v) its_kind ∙ both.1))
       (faults_begin before kinds rest others answers act))
+
+-- nothing is owed of a success where there is an error
+pub failed : {T E : Type 0} (answer : Result T E) (P : Type 0) → IsErr answer → OnOk answer P
+failed (Ok made) P is = absurd (true≢false (sym is))
+failed (Err why) P is = tt
