@@ -23,7 +23,7 @@ use Rattle.cs_access.specs.declared.checking.FaultyPart.{FaultyPart}
 use Rattle.cs_progress.specs.Acting.{UsesAll, Leads}
 use Rattle.cs_progress.specs.Answering.{answers_left, IsAnsweredLater}
 use Rattle.cs_progress.proofs.Looks.{leads_same}
-use Rattle.cs_operators.specs.Asking.{IsCheckOf}
+use Rattle.cs_operators.specs.Asking.{IsCheckOf, KeepKinds, HasEveryKind}
 
 not_true : (b : Bool) → (b ≡ true → ⊥) → b ≡ false
 not_true true never = absurd (never refl)
@@ -100,3 +100,8 @@ module _ (cells : Path → InputKind → Cell) (subject : Subject) (at : Place) 
 pub failed : {T E : Type 0} (answer : Result T E) (P : Type 0) → IsErr answer → OnOk answer P
 failed (Ok made) P is = absurd (true≢false (sym is))
 failed (Err why) P is = tt
+
+-- where the checkers keep their kinds, each kind still has a checker
+pub every_kept : {Checker : Type 0} (kind : Checker → Kind) (before after : List Checker) → KeepKinds kind before after
+    → HasEveryKind kind before → HasEveryKind kind after
+every_kept kind before after keeps every fault = subst (Any (λ one. one ≡ fault)) (sym keeps) (every fault)

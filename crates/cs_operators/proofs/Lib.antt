@@ -1,4 +1,5 @@
 mod Checking
 mod Checks
+mod Asked
 mod SeenPointers
 mod Numerals

@@ -3,11 +3,11 @@ ghost use Rattle.cs_objects.specs.Prepared.{IsReady};
 ghost use Rattle.cs_operators.specs.Asking.{KeepKinds};
 
 use crate::access::{load, store};
-use cs_operators::Attempt;
-use cs_operators::operators::{convert_number, directed, operate, sum};
 use cs_ast::Place;
 use cs_ast::typed::operator::{BinOp, Direction, Gives};
 use cs_cfg::Access;
+use cs_operators::Attempt;
+use cs_operators::operators::{convert_number, directed, operate, sum};
 use cs_progress::operands::{number, number_in, operand, replace, value, value_of};
 use cs_progress::{Context, Pause, Progress};
 use cs_state::{State, Tables, Temporary};
