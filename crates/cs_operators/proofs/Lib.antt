@@ -3,3 +3,4 @@ mod Checks
 mod Asked
 mod SeenPointers
 mod Numerals
+mod Sums
