@@ -4,3 +4,5 @@ mod Asked
 mod SeenPointers
 mod Numerals
 mod Sums
+mod Computed
+mod Converting
