@@ -1,4 +1,8 @@
+mod Asked
 mod Checking
 mod Checks
+mod Objects
+mod Relations
 mod SeenPointers
 mod Numerals
+mod Tests
