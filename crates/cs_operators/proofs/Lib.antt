@@ -2,6 +2,7 @@ mod Asked
 mod Checking
 mod Checks
 mod Objects
+mod Operating
 mod Relations
 mod SeenPointers
 mod Numerals
