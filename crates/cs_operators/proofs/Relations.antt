@@ -3,12 +3,20 @@ use Rattle.std.proofs.Common.{◌≡◌, ◌≢◌, ℤ, pos, Bool, true, false,
 use Rattle.std.specs.Prelude.{is_some, unwrap_or}
 use Rattle.std.specs.Option.{ok_or}
 use Rattle.cs_ast.specs.declared.place.Place.{Place}
+use Rattle.cs_ast.specs.declared.typed.operator.CmpOp.{CmpOp}
 use Rattle.cs_terms.specs.declared.term.Lin.{Lin}
 use Rattle.cs_terms.specs.Term.{Valuation, value_of}
 use Rattle.cs_constraints.specs.Constraints.{Fits}
+use Rattle.cs_checker.specs.Answers.{constant}
 use Rattle.cs_checker.specs.declared.subject.Subject.TheVariants.{Pair}
 use Rattle.cs_events.specs.Objects.{Cell, NumberCell, NullCell, PointerCell, UnsetCell}
-use Rattle.cs_events.specs.Acts.{Act}
+use Rattle.cs_events.specs.Acts.{Act, Asks}
+use Rattle.cs_events.specs.declared.event.Label.TheVariants as label
+use Rattle.cs_events.specs.declared.operation.Operation.TheVariants as operation
+use Rattle.cs_events.specs.Operations.{truth_number}
+use Rattle.cs_meaning.specs.Access.{shows_then}
+use Rattle.cs_eval.specs.declared.question.Tested.TheVariants.{Truth}
+use Rattle.cs_eval.specs.Questions.{label_of, holds_for}
 use Rattle.cs_meaning.specs.Operators as operators
 use Rattle.cs_cfg.specs.Working.{CodeState}
 use Rattle.cs_regions.specs.declared.base.Base.{Base}
@@ -21,9 +29,11 @@ use Rattle.cs_progress.specs.declared.pointers.Seen.{Seen}
 use Rattle.cs_progress.specs.declared.pointers.Seen.TheVariants.{Null, At, Other}
 use Rattle.cs_progress.specs.Seeing.{IsSeen, IsSeenNamed}
 use Rattle.cs_progress.specs.Acting.{Leads, GetsThrough, CarriesOut}
+use Rattle.cs_progress.specs.Answering.{answers_left}
 use Rattle.cs_progress.proofs.Carrying.{no_wait}
 use Rattle.cs_operators.specs.Asking.{ChecksFor}
-use Rattle.cs_operators.specs.Pointing.{both_values, related}
+use Rattle.cs_operators.specs.Pointing.{both_values, equality, related}
+use Rattle.cs_operators.proofs.Tests.{truth_test}
 use Rattle.cs_operators.proofs.Checks.{is_there, pair_check}
 
 -- whether null was seen, and whether a cell is null
@@ -31,6 +41,18 @@ abbrev pub is_null : Seen → Bool
 is_null Null = true
 is_null (At base offset) = false
 is_null Other = false
+
+pub some_first : (left right : Seen) → (left ≡ Null → ⊥) → (is_null left && is_null right) ≡ false
+some_first Null right some = absurd (some refl)
+some_first (At base offset) right some = refl
+some_first Other right some = refl
+
+pub some_second : (left right : Seen) → (right ≡ Null → ⊥) → (is_null left && is_null right) ≡ false
+some_second left Null some = absurd (some refl)
+some_second Null (At base offset) some = refl
+some_second Null Other some = refl
+some_second (At base offset) right some = refl
+some_second Other right some = refl
 
 is_null_cell : Cell → Bool
 is_null_cell NullCell = true
@@ -52,16 +74,6 @@ null_seen bases v Other NullCell named seen = absurd seen
 null_seen bases v Other (PointerCell object offset) named seen = absurd seen
 null_seen bases v Other UnsetCell named seen = refl
 
-both_cells : (one other : Cell) → operators.both_null one other ≡ (is_null_cell one && is_null_cell other)
-unfolding is_null_cell
-both_cells NullCell NullCell = refl
-both_cells NullCell (NumberCell n) = refl
-both_cells NullCell (PointerCell object offset) = refl
-both_cells NullCell UnsetCell = refl
-both_cells (NumberCell n) other = refl
-both_cells (PointerCell object offset) other = refl
-both_cells UnsetCell other = refl
-
 related_cells : (one other : Cell)
     → operators.related one other ≡ cond {A = Option (ℤ × ℤ)} (is_null_cell one && is_null_cell other) (Some (pos 0, pos 0)) (operators.in_one_object one other)
 unfolding is_null_cell
@@ -78,15 +90,21 @@ module _ (bases : List Base) (v : Valuation) (left right : Seen) (one other : Ce
   cells_null : (is_null_cell one && is_null_cell other) ≡ (is_null left && is_null right)
   cells_null = λ i. null_seen bases v left one left_named left_is i && null_seen bases v right other right_named right_is i
 
-  -- whether both were seen as null
-  pub both_seen : operators.both_null one other ≡ (is_null left && is_null right)
-  both_seen = both_cells one other ∙ cells_null
-
-  pub related_seen : (null : Bool) → (is_null left && is_null right) ≡ null
-      → operators.related one other ≡ cond {A = Option (ℤ × ℤ)} null (Some (pos 0, pos 0)) (operators.in_one_object one other)
-  related_seen null is =
+  -- there are offsets only within one object where null wasn't seen twice
+  pub related_apart : (is_null left && is_null right) ≡ false → operators.related one other ≡ operators.in_one_object one other
+  related_apart apart =
       related_cells one other
-      ∙ ap (λ (both : Bool). cond {A = Option (ℤ × ℤ)} both (Some (pos 0, pos 0)) (operators.in_one_object one other)) (cells_null ∙ is)
+      ∙ ap (λ (both : Bool). cond {A = Option (ℤ × ℤ)} both (Some (pos 0, pos 0)) (operators.in_one_object one other)) (cells_null ∙ apart)
+
+-- what shows where two pointers don't point into one object
+pub equality_apart : (at : Place) (operator : CmpOp) (v : Valuation) (one other : Cell) (holds : Bool) (onward : ℤ → Act CodeState)
+    → operators.in_one_object one other ≡ None → operators.equality_of operator (operators.both_null one other) ≡ holds
+    → equality at operator one other onward
+    ≡ Asks at (operation.Show (label_of Truth (holds_for Truth (value_of v (constant (truth_number holds)))))) (λ answer. onward (truth_number holds))
+equality_apart at operator v one other holds onward none is =
+    ap (λ (found : Option (ℤ × ℤ)). operators.equality at operator (operators.both_null one other) found onward) none
+    ∙ ap (λ (b : Bool). shows_then at (label.Truth b) (onward (truth_number b))) is
+    ∙ truth_test at Truth v holds (onward (truth_number holds))
 
 module _ (at : Place) (state : State) (one other : Valuation → Cell) (found : Option (Lin × Lin))
     (is : (v : Valuation) → Fits v state.constraints → operators.related (one v) (other v) ≡ option_map (λ found. both_values found v) found) where
@@ -94,9 +112,9 @@ module _ (at : Place) (state : State) (one other : Valuation → Cell) (found : 
   pub relation_check : (same : Bool) → same ≡ is_some found
       → ChecksFor state (Pair same) at (λ v. operators.one_object at (operators.related (one v) (other v)))
   relation_check same some v fits =
-      pair_check at v same (operators.related (one v) (other v)) (ap is_there (is v fits) ∙ by found ∙ sym some)
+      pair_check at v same (operators.related (one v) (other v)) (ap (is_there at v) (is v fits) ∙ by found ∙ sym some)
     where
-      by : (found : Option (Lin × Lin)) → is_there (option_map (λ found. both_values found v) found) ≡ is_some found
+      by : (found : Option (Lin × Lin)) → is_there at v (option_map (λ found. both_values found v) found) ≡ is_some found
       by None = refl
       by (Some offsets) = refl
 
@@ -113,8 +131,8 @@ module _ (at : Place) (state : State) (one other : Valuation → Cell) (found : 
       by (Some offsets) is = record {
         through = λ cells v fits onward.
             let act : Act CodeState = onward (unwrap_or (operators.related (one v) (other v)) operators.NO_OFFSETS) in
-            subst (λ (given : ℤ × ℤ). Leads cells _ _ (related at (one v) (other v) onward) (onward given))
-            (ap (λ found. unwrap_or found operators.NO_OFFSETS) (is v fits))
+            subst (λ (given : ℤ × ℤ). Leads cells (answers_left state before.used v) (answers_left state after.used v) (related at (one v) (other v) onward) (onward given))
+            (ap (λ (found : Option (ℤ × ℤ)). unwrap_or found operators.NO_OFFSETS) (is v fits))
             (through cells v fits act);
         waits = tt;
       }

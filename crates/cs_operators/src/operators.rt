@@ -268,8 +268,7 @@ fn equality(
     if let Some((one, other)) = in_one_object(left, right) {
         return progress.ask(state, at, Question::Compare(operator, one, other));
     }
-    let same = matches!((left, right), (Seen::Null, Seen::Null));
-    let holds = same == matches!(operator, CmpOp::Equal);
+    let holds = compares_apart(operator, left, right);
     progress.ask(state, at, Question::Test(Tested::Truth, number_of(holds)))?;
     Ok(number_of(holds))
 }
@@ -295,7 +294,31 @@ fn in_one_object(left: Seen, right: Seen) -> Option<(Lin, Lin)>
     }
 }
 
-// The same, null being an object of its own; else it is a fault (C11 6.5.6, paragraph 9; 6.5.8, paragraph 5).
+// Whether two pointers that don't point into one object compare so: they are equal where both are null.
+fn compares_apart(operator: CmpOp, left: Seen, right: Seen) -> bool
+    ensures { (bases : List Base) (valuation : Valuation) (one other : Cell)
+        → IsSeenNamed bases left → IsSeenNamed bases right
+        → IsSeen bases valuation left one → IsSeen bases valuation right other
+        → operators.equality_of operator (operators.both_null one other) ≡ result }
+{
+    let same = matches!((left, right), (Seen::Null, Seen::Null));
+    same == matches!(operator, CmpOp::Equal)
+}
+
+// The offsets of two pointers into one object, null being an object of its own.
+fn in_relation(left: Seen, right: Seen) -> Option<(Lin, Lin)>
+    ensures { (bases : List Base) (valuation : Valuation) (one other : Cell) → IsNumbered bases
+        → IsSeenNamed bases left → IsSeenNamed bases right
+        → IsSeen bases valuation left one → IsSeen bases valuation right other
+        → operators.related one other ≡ option_map (λ found. both_values found valuation) result }
+{
+    match (left, right) {
+        (Seen::Null, Seen::Null) => Some((constant(0), constant(0))),
+        _ => in_one_object(left, right),
+    }
+}
+
+// The same; it is a fault where there are none (C11 6.5.6, paragraph 9; 6.5.8, paragraph 5).
 fn related(
     state: &State,
     attempt: &mut Attempt,
@@ -310,10 +333,7 @@ fn related(
         → CarriesOut bases state.now attempt.old.progress attempt.new.progress result
         (λ valuation. related at (one valuation) (other valuation)) both_values }
 {
-    let found = match (left, right) {
-        (Seen::Null, Seen::Null) => Some((constant(0), constant(0))),
-        _ => in_one_object(left, right),
-    };
+    let found = in_relation(left, right);
     let same = found.is_some();
     attempt.check(state, at, Subject::Pair { same })?;
     found.ok_or(Pause::Memory)
