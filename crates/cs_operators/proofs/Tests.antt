@@ -130,6 +130,6 @@ module _ (at : Place) (tested : Tested) where
         let no_cell = no_number bases state.blocks v given other in
         let truth : is_set cell ≡ holds = set_seen bases v seen cell named (is bases v fits) no_cell ∙ so in
         let same : test at tested cell onward ≡ look at cell (shows_then at (shows_of tested holds) (onward holds)) =
-            looked_test cell onward no_cell ∙ ap (λ b. look at cell (shows_then at (shows_of tested b) (onward b))) truth in
+        looked_test cell onward no_cell ∙ ap (λ b. look at cell (shows_then at (shows_of tested b) (onward b))) truth in
         subst (λ (act : Act CodeState). Leads cells (answers_left state before v) (answers_left state after v) act (shows_then at (shows_of tested holds) (onward holds))) (sym same)
         (through cells v fits (shows_then at (shows_of tested holds) (onward holds)))

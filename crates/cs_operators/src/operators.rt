@@ -228,14 +228,30 @@ pub fn compare(
         (λ valuation. operators.compare at operator (cell_in bases state.now left valuation)
         (cell_in bases state.now right valuation)) (λ made valuation. value_of valuation made) }
 {
-    if !is_pointer(left) && !is_pointer(right) {
-        let question = Question::Compare(
-            operator,
-            number_in(state, left)?,
-            number_in(state, right)?,
-        );
-        return attempt.progress.ask(state, at, question);
+    if is_pointer(left) || is_pointer(right) {
+        return compare_pointers(state, attempt, at, operator, left, right);
     }
+    let question = Question::Compare(operator, number_in(state, left)?, number_in(state, right)?);
+    attempt.progress.ask(state, at, question)
+}
+
+// A comparison of two pointers, which are looked at first.
+fn compare_pointers(
+    state: &State,
+    attempt: &mut Attempt,
+    at: Place,
+    operator: CmpOp,
+    left: Value,
+    right: Value,
+) -> Result<Lin, Pause>
+    ensures kinds { KeepKinds (λ b. kind_of b) attempt.old.checkers.items attempt.new.checkers.items }
+    ensures act { HasEveryKind (λ b. kind_of b) attempt.old.checkers.items
+        → (bases : List Base) → IsNumbered bases → IsNamed bases left → IsNamed bases right
+        → CarriesOut bases state.now attempt.old.progress attempt.new.progress result
+        (λ valuation. operators.compare_pointers at operator
+        (cell_in bases state.now left valuation) (cell_in bases state.now right valuation))
+        (λ made valuation. value_of valuation made) }
+{
     let left = look(state, &mut attempt.progress, at, left)?;
     let right = look(state, &mut attempt.progress, at, right)?;
     match operator {

@@ -43,9 +43,9 @@ returns-clause-act g c = λ every bases.
     let left = c.args.operands.0 in
     let right = c.args.operands.1 in
     let part = λ (v : Valuation) (onward : ℤ → Act CodeState).
-        operators.operate c.args.model c.args.at c.args.operator c.args.ty (value_of v left) (value_of v right) onward in
+    operators.operate c.args.model c.args.at c.args.operator c.args.ty (value_of v left) (value_of v right) onward in
     let rest = λ (v : Valuation) (onward : ℤ → Act CodeState).
-        Asks c.args.at (Binary c.args.operator c.args.ty (value_of v left) (value_of v right)) onward in
+    Asks c.args.at (Binary c.args.operator c.args.ty (value_of v left) (value_of v right)) onward in
     let leads : LeadsTo c.args.state.now c.args.attempt.now.progress.used c.match-operator.attempt.progress.used part rest =
     elim c.match-operator.branch [
       | in-Div+in_ok-check-in-Div w ↦
