@@ -1,6 +1,7 @@
 mod Asked
 mod Checking
 mod Checks
+mod Comparing
 mod Looking
 mod Objects
 mod Operating

@@ -16,16 +16,17 @@ returns-in_err-one-clause-act g c = λ every bases once left_named right_named.
     let state = c.args.state.now in
     let left = λ (v : Valuation). cell_in bases state c.args.pointers.0 v in
     let right = λ (v : Valuation). cell_in bases state c.args.pointers.1 v in
+    let part = λ (v : Valuation) (onward : ℤ → Act CodeState). operators.difference c.args.at (left v) (right v) c.args.size onward in
     let rest = λ (v : Valuation) (onward : ℤ → Act CodeState).
-        operators.in_relation c.args.at (operators.related (left v) (right v))
-        (λ one other. Asks c.args.at (Difference one other c.args.size) onward) in
+    operators.in_relation c.args.at (operators.related (left v) (right v))
+    (λ one other. Asks c.args.at (Difference one other c.args.size) onward) in
     let carries = c.in_err-one.ensures.act every bases left right once
     (record { named = c.in_ok-left.ensures.named bases left_named; seen_is = c.in_ok-left.ensures.seen bases })
     (record { named = c.in_ok-right.ensures.named bases right_named; seen_is = c.in_ok-right.ensures.seen bases }) in
     carries_on state bases c.args.attempt.now.progress c.related.new.attempt.progress c.from_residual-in_err-one.result c.look-2.new.progress
-    (λ v. operators.difference c.args.at (left v) (right v) c.args.size) rest (λ made v. value_of v made)
+    part rest (λ made v. value_of v made)
     (both_looked state bases c.args.at c.args.pointers.0 c.args.pointers.1
-    c.args.attempt.now.progress.used c.look.new.progress.used c.look-2.new.progress.used rest
+    c.args.attempt.now.progress.used c.look.new.progress.used c.look-2.new.progress.used part rest (λ v onward. refl)
     (c.in_ok-left.ensures.through bases left_named) (c.in_ok-right.ensures.through bases right_named))
     (handed state bases c.look-2.new.progress c.related.new.attempt.progress c.from_residual-in_err-one.result rest (λ made v. value_of v made)
     c.in_err-one.field-0.0 c.from_residual-in_err-one.ensures
@@ -36,18 +37,19 @@ returns-clause-act g c = λ every bases once left_named right_named.
     let state = c.args.state.now in
     let left = λ (v : Valuation). cell_in bases state c.args.pointers.0 v in
     let right = λ (v : Valuation). cell_in bases state c.args.pointers.1 v in
+    let part = λ (v : Valuation) (onward : ℤ → Act CodeState). operators.difference c.args.at (left v) (right v) c.args.size onward in
     let rest = λ (v : Valuation) (onward : ℤ → Act CodeState).
-        operators.in_relation c.args.at (operators.related (left v) (right v))
-        (λ one other. Asks c.args.at (Difference one other c.args.size) onward) in
+    operators.in_relation c.args.at (operators.related (left v) (right v))
+    (λ one other. Asks c.args.at (Difference one other c.args.size) onward) in
     let last = λ (v : Valuation) (onward : ℤ → Act CodeState).
-        Asks c.args.at (Difference (value_of v c.in_ok-one.one) (value_of v c.in_ok-one.other) c.args.size) onward in
+    Asks c.args.at (Difference (value_of v c.in_ok-one.one) (value_of v c.in_ok-one.other) c.args.size) onward in
     let carries = c.in_ok-one.ensures.act every bases left right once
     (record { named = c.in_ok-left.ensures.named bases left_named; seen_is = c.in_ok-left.ensures.seen bases })
     (record { named = c.in_ok-right.ensures.named bases right_named; seen_is = c.in_ok-right.ensures.seen bases }) in
     carries_on state bases c.args.attempt.now.progress c.ask.new.self c.ask.result c.look-2.new.progress
-    (λ v. operators.difference c.args.at (left v) (right v) c.args.size) rest (λ made v. value_of v made)
+    part rest (λ made v. value_of v made)
     (both_looked state bases c.args.at c.args.pointers.0 c.args.pointers.1
-    c.args.attempt.now.progress.used c.look.new.progress.used c.look-2.new.progress.used rest
+    c.args.attempt.now.progress.used c.look.new.progress.used c.look-2.new.progress.used part rest (λ v onward. refl)
     (c.in_ok-left.ensures.through bases left_named) (c.in_ok-right.ensures.through bases right_named))
     (carries_on state bases c.look-2.new.progress c.ask.new.self c.ask.result c.related.new.attempt.progress rest last (λ made v. value_of v made)
     (λ cells v fits onward. carries.through cells v fits (λ given. Asks c.args.at (Difference given.0 given.1 c.args.size) onward))
