@@ -1,5 +1,5 @@
 -- What the silence of checkers of every kind shows of an act, and what the faults do that they find: for the contract of `check`.
-use Rattle.std.proofs.Common.{◌≡◌, ◌<◌, ◌⊎◌, ℕ, zero, suc, ℤ, inl, inr, Bool, true, false, true≢false, List, [], ◌∷◌, length, map, drop, All, Any, Result, Ok, Err, IsErr, OnOk, refl, sym, ap, ◌∙◌, subst, arith}
+use Rattle.std.proofs.Common.{◌≡◌, ℕ, zero, suc, ℤ, inl, inr, Bool, true, false, true≢false, List, [], ◌∷◌, length, map, All, Any, Result, Ok, Err, IsErr, OnOk, refl, sym, ap, ◌∙◌, subst, arith}
 use Rattle.std.proofs.lemmas.List.{length-map, length-drop}
 use Rattle.std.proofs.lemmas.List.Folds.{list_any_at, Any-from_list_any}
 use Rattle.std.specs.List.{list_any}
@@ -10,7 +10,6 @@ use Rattle.cs_terms.specs.Term.{Valuation, value_of}
 use Rattle.cs_constraints.specs.Constraints.{Fits}
 use Rattle.cs_checker.specs.declared.subject.Subject.{Subject}
 use Rattle.cs_checker.specs.Faults.{is_faulty_for}
-use Rattle.cs_events.specs.declared.event.Label.{Label}
 use Rattle.cs_events.specs.declared.input.InputKind.{InputKind}
 use Rattle.cs_events.specs.declared.outcome.Outcome.TheVariants.{Fault}
 use Rattle.cs_events.specs.Objects.{Cell}

@@ -1,5 +1,5 @@
 -- What a conversion leaves as it was: for the contract of `convert`.
-use Rattle.std.proofs.Common.{◌≡◌, ◌<◌, ℕ, ℤ, pos, Bool, true, false, true≢false, List, [], ◌∷◌, length, drop, map, reverse, Option, None, Some, slice_get, if◌then◌else◌, refl, sym, ap, ◌∙◌, subst, arith}
+use Rattle.std.proofs.Common.{◌≡◌, ◌<◌, ℤ, pos, Bool, true, false, true≢false, List, [], ◌∷◌, length, drop, map, Option, None, Some, slice_get, if◌then◌else◌, refl, sym, ap, ◌∙◌, arith}
 use Rattle.std.specs.Option.{unwrap_or}
 use Rattle.std.proofs.lemmas.List.{length-map, length-reverse}
 use Rattle.cs_types.specs.declared.data_model.DataModel.{DataModel}
@@ -10,14 +10,13 @@ use Rattle.cs_ast.specs.TypedProgram.{TypedProgram}
 use Rattle.cs_terms.specs.declared.term.Lin.{Lin}
 use Rattle.cs_terms.specs.Term.{Valuation, value_of}
 use Rattle.cs_regions.specs.declared.base.Base.{Base}
-use Rattle.cs_events.specs.Objects.{Cell, NumberCell, NullCell, PointerCell, UnsetCell}
+use Rattle.cs_events.specs.Objects.{NumberCell, NullCell, UnsetCell}
 use Rattle.cs_events.specs.Acts.{Act, Goes}
 use Rattle.cs_meaning.specs.Initials.{number_in}
 use Rattle.cs_meaning.specs.Machine.{Operand, Scalar as OfCell, push, push_cell, pop, operand_at, cell_of, cell_at}
 use Rattle.cs_meaning.specs.Operators as operators
 use Rattle.cs_cfg.specs.Graph.{Code}
 use Rattle.cs_cfg.specs.Working.{CodeState}
-use Rattle.cs_store.specs.declared.value.Value.{Value}
 use Rattle.cs_store.specs.declared.value.Value.TheVariants as value
 use Rattle.cs_state.specs.declared.state.State.{State}
 use Rattle.cs_state.specs.declared.temporary.Temporary.{Temporary}

@@ -1,8 +1,14 @@
 mod Checking
 mod Checks
 mod Asked
+mod Comparing
+mod Looking
+mod Objects
+mod Operating
+mod Relations
 mod SeenPointers
 mod Numerals
 mod Sums
+mod Tests
 mod Computed
 mod Converting

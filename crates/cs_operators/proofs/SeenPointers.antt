@@ -2,7 +2,6 @@
 use Rattle.std.proofs.Common.{◌≡◌, ◌≢◌, ◌+ℤ◌, ℕ, ℤ, pos, Bool, true, false, List, Option, None, Some, slice_get, refl, sym, ap, ◌∙◌}
 use Rattle.cs_ast.specs.declared.place.Place.{Place}
 use Rattle.cs_model.specs.declared.kind.Kind.TheVariants as kind
-use Rattle.cs_terms.specs.declared.term.Lin.{Lin}
 use Rattle.cs_terms.specs.Term.{Valuation, value_of}
 use Rattle.cs_regions.specs.declared.base.Base.{Base}
 use Rattle.cs_events.specs.declared.outcome.Outcome.TheVariants.{Fault}

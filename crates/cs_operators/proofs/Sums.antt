@@ -8,7 +8,7 @@ use Rattle.cs_events.specs.Acts.{Act}
 use Rattle.cs_meaning.specs.Access as access
 use Rattle.cs_meaning.specs.Operators as operators
 use Rattle.cs_cfg.specs.Working.{CodeState}
-use Rattle.cs_state.specs.Cells.{pointer_to, object_of}
+use Rattle.cs_state.specs.Cells.{pointer_to}
 use Rattle.cs_progress.specs.Seeing.{IsNoPointer}
 use Rattle.cs_operators.specs.Pointing.{moved_within}
 

@@ -230,14 +230,30 @@ pub fn compare(
         (λ valuation. operators.compare at operator (cell_in bases state.now left valuation)
         (cell_in bases state.now right valuation)) (λ made valuation. value_of valuation made) }
 {
-    if !is_pointer(left) && !is_pointer(right) {
-        let question = Question::Compare(
-            operator,
-            number_in(state, left)?,
-            number_in(state, right)?,
-        );
-        return attempt.progress.ask(state, at, question);
+    if is_pointer(left) || is_pointer(right) {
+        return compare_pointers(state, attempt, at, operator, left, right);
     }
+    let question = Question::Compare(operator, number_in(state, left)?, number_in(state, right)?);
+    attempt.progress.ask(state, at, question)
+}
+
+// A comparison of two pointers, which are looked at first.
+fn compare_pointers(
+    state: &State,
+    attempt: &mut Attempt,
+    at: Place,
+    operator: CmpOp,
+    left: Value,
+    right: Value,
+) -> Result<Lin, Pause>
+    ensures kinds { KeepKinds (λ b. kind_of b) attempt.old.checkers.items attempt.new.checkers.items }
+    ensures act { HasEveryKind (λ b. kind_of b) attempt.old.checkers.items
+        → (bases : List Base) → IsNumbered bases → IsNamed bases left → IsNamed bases right
+        → CarriesOut bases state.now attempt.old.progress attempt.new.progress result
+        (λ valuation. operators.compare_pointers at operator
+        (cell_in bases state.now left valuation) (cell_in bases state.now right valuation))
+        (λ made valuation. value_of valuation made) }
+{
     let left = look(state, &mut attempt.progress, at, left)?;
     let right = look(state, &mut attempt.progress, at, right)?;
     match operator {
@@ -270,8 +286,7 @@ fn equality(
     if let Some((one, other)) = in_one_object(left, right) {
         return progress.ask(state, at, Question::Compare(operator, one, other));
     }
-    let same = matches!((left, right), (Seen::Null, Seen::Null));
-    let holds = same == matches!(operator, CmpOp::Equal);
+    let holds = compares_apart(operator, left, right);
     progress.ask(state, at, Question::Test(Tested::Truth, number_of(holds)))?;
     Ok(number_of(holds))
 }
@@ -297,7 +312,31 @@ fn in_one_object(left: Seen, right: Seen) -> Option<(Lin, Lin)>
     }
 }
 
-// The same, null being an object of its own; else it is a fault (C11 6.5.6, paragraph 9; 6.5.8, paragraph 5).
+// Whether two pointers that don't point into one object compare so: they are equal where both are null.
+fn compares_apart(operator: CmpOp, left: Seen, right: Seen) -> bool
+    ensures { (bases : List Base) (valuation : Valuation) (one other : Cell)
+        → IsSeenNamed bases left → IsSeenNamed bases right
+        → IsSeen bases valuation left one → IsSeen bases valuation right other
+        → operators.equality_of operator (operators.both_null one other) ≡ result }
+{
+    let same = matches!((left, right), (Seen::Null, Seen::Null));
+    same == matches!(operator, CmpOp::Equal)
+}
+
+// The offsets of two pointers into one object, null being an object of its own.
+fn in_relation(left: Seen, right: Seen) -> Option<(Lin, Lin)>
+    ensures { (bases : List Base) (valuation : Valuation) (one other : Cell) → IsNumbered bases
+        → IsSeenNamed bases left → IsSeenNamed bases right
+        → IsSeen bases valuation left one → IsSeen bases valuation right other
+        → operators.related one other ≡ option_map (λ found. both_values found valuation) result }
+{
+    match (left, right) {
+        (Seen::Null, Seen::Null) => Some((constant(0), constant(0))),
+        _ => in_one_object(left, right),
+    }
+}
+
+// The same; it is a fault where there are none (C11 6.5.6, paragraph 9; 6.5.8, paragraph 5).
 fn related(
     state: &State,
     attempt: &mut Attempt,
@@ -312,10 +351,7 @@ fn related(
         → CarriesOut bases state.now attempt.old.progress attempt.new.progress result
         (λ valuation. related at (one valuation) (other valuation)) both_values }
 {
-    let found = match (left, right) {
-        (Seen::Null, Seen::Null) => Some((constant(0), constant(0))),
-        _ => in_one_object(left, right),
-    };
+    let found = in_relation(left, right);
     let same = found.is_some();
     attempt.check(state, at, Subject::Pair { same })?;
     found.ok_or(Pause::Memory)

@@ -1,4 +1,4 @@
-use Rattle.std.proofs.Common.{◌≡◌, sym, ap, ◌∙◌}
+use Rattle.std.proofs.Common.{sym, ap, ◌∙◌}
 use Rattle.cs_terms.specs.Term.{Valuation, value_of}
 use Rattle.cs_constraints.specs.Constraints.{Fits}
 use Rattle.cs_events.specs.Objects.{Cell}
@@ -10,7 +10,6 @@ use Rattle.cs_meaning.specs.Operators as operators
 use Rattle.cs_cfg.specs.Graph as graph
 use Rattle.cs_cfg.specs.Working.{CodeState, do_work}
 use Rattle.cs_state.specs.declared.temporary.Temporary.TheVariants as temporary
-use Rattle.cs_progress.proofs.Carrying.{no_wait}
 use Rattle.cs_operators.specs.Pointing.{cell_in}
 use Rattle.cs_operators.proofs.Computed.{stands, cell_left, replaced, waited, part_leads, part_waits}
 use Rattle.cs_operators.proofs.computing.add.Goals as goal

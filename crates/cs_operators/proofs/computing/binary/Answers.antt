@@ -1,4 +1,4 @@
-use Rattle.std.proofs.Common.{◌≡◌, ℤ, sym, ◌∙◌}
+use Rattle.std.proofs.Common.{ℤ, sym, ◌∙◌}
 use Rattle.cs_terms.specs.Term.{Valuation, value_of}
 use Rattle.cs_events.specs.Acts.{Act}
 use Rattle.cs_meaning.specs.Operators as operators

@@ -1,16 +1,12 @@
-use Rattle.std.proofs.Common.{◌≡◌, ℤ, true, false, refl, sym, ap, subst, ◌∙◌}
+use Rattle.std.proofs.Common.{ℤ, refl, sym, ap, ◌∙◌}
 use Rattle.cs_types.specs.Shape.{shape_of, integer, void}
-use Rattle.cs_terms.specs.declared.term.Lin.{Lin}
 use Rattle.cs_terms.specs.Term.{Valuation, value_of}
-use Rattle.cs_constraints.specs.Constraints.{Fits}
 use Rattle.cs_events.specs.Acts.{Act, Goes}
-use Rattle.cs_meaning.specs.Initials as cells
 use Rattle.cs_meaning.specs.Machine as machine
 use Rattle.cs_meaning.specs.Operators as operators
 use Rattle.cs_cfg.specs.Graph as graph
 use Rattle.cs_cfg.specs.Working.{CodeState, do_work}
 use Rattle.cs_state.specs.declared.temporary.Temporary.TheVariants as temporary
-use Rattle.cs_state.specs.Cells.{operand_of}
 use Rattle.cs_store.specs.declared.value.Value.TheVariants as value
 use Rattle.cs_progress.proofs.Looks.{leads_same}
 use Rattle.cs_operators.proofs.Computed.{stands, number_left, replaced, waited, part_leads, part_waits}

@@ -1,14 +1,11 @@
 use Rattle.std.proofs.Common.{ap, sym, ◌∙◌}
-use Rattle.cs_events.specs.Acts.{Goes}
 use Rattle.cs_meaning.specs.Initials as cells
-use Rattle.cs_meaning.specs.Machine.{push_cell, pop_many}
 use Rattle.cs_cfg.specs.Graph as graph
 use Rattle.cs_cfg.specs.Working.{do_work}
 use Rattle.cs_state.specs.declared.temporary.Temporary.TheVariants as temporary
-use Rattle.cs_progress.specs.declared.pause.Pause.TheVariants as pause
 use Rattle.cs_progress.proofs.Looks.{leads_same}
 use Rattle.cs_progress.proofs.Carrying.{no_wait}
-use Rattle.cs_operators.proofs.Computed.{stands, cell_left, replaced, waited}
+use Rattle.cs_operators.proofs.Computed.{cell_left, replaced, waited}
 use Rattle.cs_operators.proofs.computing.member.Goals as goal
 
 pub returns-in_err-place : goal.returns-in_err-place

@@ -1,5 +1,4 @@
-use Rattle.std.proofs.Common.{◌≡◌}
-use Rattle.cs_terms.specs.Term.{Valuation, value_of}
+use Rattle.cs_terms.specs.Term.{Valuation}
 use Rattle.cs_events.specs.Acts.{Act}
 use Rattle.cs_meaning.specs.Operators as operators
 use Rattle.cs_events.specs.Objects.{Cell}
@@ -8,7 +7,6 @@ use Rattle.cs_cfg.specs.Graph as graph
 use Rattle.cs_cfg.specs.Working.{do_work}
 use Rattle.cs_cfg.specs.Working.{CodeState}
 use Rattle.cs_state.specs.declared.temporary.Temporary.TheVariants as temporary
-use Rattle.cs_store.specs.declared.value.Value.TheVariants as value
 use Rattle.cs_operators.proofs.Computed.{cell_left, replaced, waited, part_leads, part_waits}
 use Rattle.cs_operators.proofs.computing.member_through.Goals as goal
 

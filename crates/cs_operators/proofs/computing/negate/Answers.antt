@@ -1,15 +1,14 @@
-use Rattle.std.proofs.Common.{◌≡◌, ℤ, Bool, not, ap, sym, ◌∙◌}
-use Rattle.cs_terms.specs.Term.{Valuation, value_of}
+use Rattle.std.proofs.Common.{Bool, not}
+use Rattle.cs_terms.specs.Term.{Valuation}
 use Rattle.cs_events.specs.Acts.{Act}
 use Rattle.cs_cfg.specs.Graph as graph
 use Rattle.cs_cfg.specs.Working.{do_work}
 use Rattle.cs_cfg.specs.Working.{CodeState}
 use Rattle.cs_eval.specs.declared.question.Tested.TheVariants as tested
 use Rattle.cs_state.specs.declared.temporary.Temporary.TheVariants as temporary
-use Rattle.cs_state.specs.Cells.{operand_of}
 use Rattle.cs_store.specs.declared.value.Value.TheVariants as value
 use Rattle.cs_operators.specs.Pointing.{cell_in, test}
-use Rattle.cs_operators.proofs.Computed.{truth_left, leaves, replaced, waited, part_leads, part_waits}
+use Rattle.cs_operators.proofs.Computed.{truth_left, replaced, waited, part_leads, part_waits}
 use Rattle.cs_operators.proofs.computing.negate.Goals as goal
 
 pub returns-in_err-holds : goal.returns-in_err-holds

@@ -1,5 +1,5 @@
-use Rattle.std.proofs.Common.{◌≡◌, ℤ}
-use Rattle.cs_terms.specs.Term.{Valuation, value_of}
+use Rattle.std.proofs.Common.{ℤ}
+use Rattle.cs_terms.specs.Term.{Valuation}
 use Rattle.cs_events.specs.Acts.{Act}
 use Rattle.cs_meaning.specs.Operators as operators
 use Rattle.cs_operators.specs.Pointing.{cell_in}

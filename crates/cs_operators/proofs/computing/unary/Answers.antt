@@ -1,5 +1,5 @@
-use Rattle.std.proofs.Common.{◌≡◌, ℤ, Ok, Err}
-use Rattle.cs_terms.specs.Term.{Valuation, value_of}
+use Rattle.std.proofs.Common.{ℤ, Ok, Err, refl}
+use Rattle.cs_terms.specs.Term.{Valuation}
 use Rattle.cs_events.specs.Acts.{Act}
 use Rattle.cs_events.specs.Acts.{Asks}
 use Rattle.cs_events.specs.declared.operation.Operation.TheVariants.{Unary}
@@ -24,8 +24,8 @@ returns-in_err-result c = record {
       waited code names program state state _ _ c.from_residual-in_err-result.result act c.in_err-result.field-0.0 c.from_residual-in_err-result.ensures
       (λ waits. part_waits code names program state act part rest
       (λ v fits i. Asks at (Unary c.args.operator c.args.ty (c.in_ok-operand.ensures.value code names program v fits i)) (rest v))
-      _ _ ((asked names.bases state c.args.progress.now c.ask.new.self at (question.Unary c.args.operator c.args.ty c.in_ok-operand.operand)
-      (Err c.in_err-result.field-0.0) tt c.in_err-result.ensures.none c.in_err-result.ensures.first).waits waits));
+      _ _ ((asked state at (question.Unary c.args.operator c.args.ty c.in_ok-operand.operand) names.bases c.args.progress.now c.ask.new.self
+      (Err c.in_err-result.field-0.0) part (λ v fits onward. refl) tt c.in_err-result.ensures.none c.in_err-result.ensures.first).waits waits));
 }
 
 pub returns : goal.returns
@@ -40,6 +40,6 @@ returns c = record {
       c.replace_with.ensures.means c.replace_with.ensures.memory
       (part_leads code names program state act part rest
       (λ v fits i. Asks at (Unary c.args.operator c.args.ty (c.in_ok-operand.ensures.value code names program v fits i)) (rest v))
-      _ _ _ (asked names.bases state c.args.progress.now c.ask.new.self at (question.Unary c.args.operator c.args.ty c.in_ok-operand.operand)
-      (Ok c.in_ok-result.result) c.in_ok-result.ensures.answered tt tt).through);
+      _ _ _ (asked state at (question.Unary c.args.operator c.args.ty c.in_ok-operand.operand) names.bases c.args.progress.now c.ask.new.self
+      (Ok c.in_ok-result.result) part (λ v fits onward. refl) c.in_ok-result.ensures.answered tt tt).through);
 }

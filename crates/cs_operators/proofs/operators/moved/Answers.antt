@@ -1,10 +1,7 @@
-use Rattle.std.proofs.Common.{◌≡◌, ◌+ℤ◌, ◌*ℤ◌, ◌-ℤ◌, neg_ℤ, ℤ, pos, negsuc, to_z, of_z, ap, ◌∙◌, rules}
+use Rattle.std.proofs.Common.{◌≡◌, ◌+ℤ◌, ◌*ℤ◌, pos, negsuc, to_z, of_z, refl, ap, ◌∙◌, rules}
 use Rattle.std.specs.Int.{w128}
 use Rattle.cs_types.specs.DataModel.{offset_bound_of}
-use Rattle.cs_terms.specs.Term.{Valuation, value_of}
-use Rattle.cs_events.specs.Acts.{Act}
-use Rattle.cs_meaning.specs.Access.{ordered}
-use Rattle.cs_cfg.specs.Working.{CodeState}
+use Rattle.cs_terms.specs.Term.{value_of}
 use Rattle.cs_eval.specs.declared.question.Question.TheVariants as question
 use Rattle.cs_progress.proofs.Looks.{leads_same}
 use Rattle.cs_progress.proofs.Composing.{leads_on, waits_on}
@@ -85,4 +82,5 @@ returns-clause-act g c = λ every bases.
     leads_on cells _ _ _ _ _ _ (leads_same cells _ _ _ one)
     (leads_on cells _ _ _ _ rest _ ((c.in_ok-ordered.ensures.act every bases).through cells v fits rest)
     (leads_on cells _ _ _ _ _ last (leads_same cells _ _ _ two) ((c.in_ok-ordered-2.ensures.act still bases).through cells v fits last))))
-    (asked bases state _ _ at question c.ask.result c.ask.ensures.answered c.ask.ensures.none c.ask.ensures.first)
+    (asked state at question bases _ _ c.ask.result (asks at question) (λ v fits onward. refl)
+    c.ask.ensures.answered c.ask.ensures.none c.ask.ensures.first)

@@ -1,12 +1,9 @@
-use Rattle.std.proofs.Common.{ap, ◌∙◌}
-use Rattle.cs_terms.specs.Term.{Valuation, value_of}
-use Rattle.cs_events.specs.Objects.{NullCell, UnsetCell}
-use Rattle.cs_events.specs.Acts.{Act}
+use Rattle.cs_terms.specs.Term.{value_of}
+use Rattle.cs_events.specs.Objects.{NullCell}
 use Rattle.cs_meaning.specs.Access as access
 use Rattle.cs_meaning.specs.Operators as operators
-use Rattle.cs_cfg.specs.Working.{CodeState}
 use Rattle.cs_state.specs.Cells.{pointer_to}
-use Rattle.std.proofs.Common.{ℤ, slice_get}
+use Rattle.std.proofs.Common.{slice_get}
 use Rattle.cs_progress.proofs.Looks.{leads_same}
 use Rattle.cs_progress.proofs.Composing.{leads_on, waits_on}
 use Rattle.cs_progress.proofs.Carrying.{handed}

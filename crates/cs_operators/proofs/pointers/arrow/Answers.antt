@@ -4,7 +4,6 @@ use Rattle.cs_terms.specs.Term.{value_of}
 use Rattle.cs_events.specs.Objects.{UnsetCell}
 use Rattle.cs_meaning.specs.Access as access
 use Rattle.cs_meaning.specs.Operators as operators
-use Rattle.cs_regions.specs.declared.base.Base.{Base}
 use Rattle.cs_progress.proofs.Looks.{leads_same}
 use Rattle.cs_progress.proofs.Composing.{leads_on, waits_on}
 use Rattle.cs_progress.proofs.Carrying.{handed}
