@@ -12,7 +12,7 @@ ghost use Rattle.cs_objects.specs.Prepared.{IsReady};
 ghost use Rattle.cs_state.specs.Naming.{Naming};
 ghost use Rattle.cs_progress.specs.Computing.{HaveNames, Computes};
 ghost use Rattle.cs_operators.specs.Asking.{KeepKinds, HasEveryKind};
-ghost use Rattle.cs_operators.specs.Pointing.{is_number};
+ghost use Rattle.cs_operators.specs.Pointing.{is_number, is_unset};
 
 use crate::attempt::Attempt;
 use crate::operators::{
@@ -21,6 +21,7 @@ use crate::operators::{
 use crate::pointers::arrow;
 use cs_ast::Place;
 use cs_ast::typed::operator::{BinOp, CmpOp, Direction, Order, UnOp};
+use cs_checker::Subject;
 use cs_eval::{Question, Tested};
 use cs_progress::operands::{number, operand, replace, replace_with, value};
 use cs_progress::pointers::further;
@@ -230,6 +231,35 @@ pub fn convert(
             replace(state, 1, Temporary::Scalar(Value::Number(after)))
         }
         CType::Pointer(_) | CType::Array(_, _) | CType::Struct(_) => Ok(()),
+    }
+}
+
+/// The result of a call that is used was set (C11 6.9.1, paragraph 12).
+pub fn use_result(state: &State, attempt: &mut Attempt, at: Place) -> Result<(), Pause>
+    ensures kinds { KeepKinds (λ b. kind_of b) attempt.old.checkers.items attempt.new.checkers.items }
+    ensures act { HasEveryKind (λ b. kind_of b) attempt.old.checkers.items
+        → (code : Code) (names : Naming) (program : TypedProgram) (budgets : RunBudgets)
+        → HaveNames names.bases state.now
+        → Computes code names program state.now state.now attempt.old.progress
+        attempt.new.progress result (do_work code program budgets at graph.Use) }
+{
+    let used = operand(state, 0)?;
+    attempt.check(
+        state,
+        at,
+        Subject::Cell {
+            unset: is_unset(used),
+        },
+    )
+}
+
+// Whether an operand is a scalar that was never set.
+fn is_unset(operand: &Temporary) -> bool
+    ensures { result ≡ is_unset operand.now }
+{
+    match operand {
+        Temporary::Scalar(value) => matches!(value, Value::Unset),
+        Temporary::Whole(_) | Temporary::Nothing => false,
     }
 }
 

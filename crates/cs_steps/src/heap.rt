@@ -6,7 +6,7 @@ use cs_ast::Place;
 use cs_ast::typed::operator::{Allocator, BinOp};
 use cs_cells::cells::declare;
 use cs_cells::objects::object;
-use cs_checker::Subject;
+use cs_checker::{Checker, Subject};
 use cs_eval::{Question, Tested};
 use cs_inputs::Root;
 use cs_model::Standing;
@@ -34,7 +34,8 @@ pub fn allocate(
     element: &CType,
 ) -> Result<(), Pause>
     requires { IsReady context.now.setting.now }
-    ensures { KeepKinds (λ b. kind_of b) attempt.old.checkers.items attempt.new.checkers.items }
+    ensures { KeepKinds (λ b. (⟦<dyn Checker as Checker>⟧ b.vtable).kind_of b.value)
+        attempt.old.checkers.items attempt.new.checkers.items }
 {
     match allocator {
         Allocator::Malloc => {
@@ -61,7 +62,8 @@ fn zeros(
     element: &CType,
 ) -> Result<Value, Pause>
     requires { IsReady context.now.setting.now }
-    ensures { KeepKinds (λ b. kind_of b) attempt.old.checkers.items attempt.new.checkers.items }
+    ensures { KeepKinds (λ b. (⟦<dyn Checker as Checker>⟧ b.vtable).kind_of b.value)
+        attempt.old.checkers.items attempt.new.checkers.items }
 {
     let model = context.model();
     let count = number(state, 1)?;
@@ -154,7 +156,8 @@ pub fn release(
     at: Place,
 ) -> Result<(), Pause>
     requires { IsReady context.now.setting.now }
-    ensures { KeepKinds (λ b. kind_of b) attempt.old.checkers.items attempt.new.checkers.items }
+    ensures { KeepKinds (λ b. (⟦<dyn Checker as Checker>⟧ b.vtable).kind_of b.value)
+        attempt.old.checkers.items attempt.new.checkers.items }
 {
     let pointer = value(state, 0)?;
     if let Seen::At(base, offset) = look(state, &mut attempt.progress, at, pointer)? {

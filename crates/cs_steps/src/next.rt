@@ -54,7 +54,8 @@ fn step(
     attempt: &mut Attempt,
 ) -> Result<(), Pause>
     requires { IsReady context.now.setting.now }
-    ensures { KeepKinds (λ b. kind_of b) attempt.old.checkers.items attempt.new.checkers.items }
+    ensures { KeepKinds (λ b. (⟦<dyn Checker as Checker>⟧ b.vtable).kind_of b.value)
+        attempt.old.checkers.items attempt.new.checkers.items }
 {
     match context.code.instruction_at(state.frame.spot) {
         Instruction::CountedPoint(point) => {

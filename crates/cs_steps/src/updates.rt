@@ -6,6 +6,7 @@ use crate::access::{load, store};
 use cs_ast::Place;
 use cs_ast::typed::operator::{BinOp, Direction, Gives};
 use cs_cfg::Access;
+use cs_checker::Checker;
 use cs_operators::Attempt;
 use cs_operators::operators::{convert_number, directed, operate, sum};
 use cs_progress::operands::{number, number_in, replace, value, value_of};
@@ -25,7 +26,8 @@ pub fn fetch_number(
     access: &Access,
 ) -> Result<(), Pause>
     requires { IsReady context.now.setting.now }
-    ensures { KeepKinds (λ b. kind_of b) attempt.old.checkers.items attempt.new.checkers.items }
+    ensures { KeepKinds (λ b. (⟦<dyn Checker as Checker>⟧ b.vtable).kind_of b.value)
+        attempt.old.checkers.items attempt.new.checkers.items }
 {
     let (at, ty) = how;
     let model = context.model();
@@ -50,7 +52,8 @@ pub fn update(
     how: (BinOp, IntType, Gives),
 ) -> Result<(), Pause>
     requires { IsReady context.now.setting.now }
-    ensures { KeepKinds (λ b. kind_of b) attempt.old.checkers.items attempt.new.checkers.items }
+    ensures { KeepKinds (λ b. (⟦<dyn Checker as Checker>⟧ b.vtable).kind_of b.value)
+        attempt.old.checkers.items attempt.new.checkers.items }
 {
     let (operator, ty, gives) = how;
     let model = context.model();
@@ -85,7 +88,8 @@ pub fn move_pointer(
     how: (u64, Direction, Gives),
 ) -> Result<(), Pause>
     requires { IsReady context.now.setting.now }
-    ensures { KeepKinds (λ b. kind_of b) attempt.old.checkers.items attempt.new.checkers.items }
+    ensures { KeepKinds (λ b. (⟦<dyn Checker as Checker>⟧ b.vtable).kind_of b.value)
+        attempt.old.checkers.items attempt.new.checkers.items }
 {
     let (bytes, direction, gives) = how;
     let amount = directed(direction, number(state, 0)?)?;

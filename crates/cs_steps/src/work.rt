@@ -9,10 +9,11 @@ use crate::heap::{allocate, release};
 use crate::updates::{fetch_number, move_pointer, update};
 use cs_ast::Place;
 use cs_cfg::{Access, Operation, Work};
-use cs_checker::Subject;
+use cs_checker::Checker;
 use cs_operators::Attempt;
 use cs_operators::computing::{
     add, binary, compare_operands, convert, judge, member, member_through, negate, subtract, unary,
+    use_result,
 };
 use cs_progress::operands::{drop_newest, operand, replace, value};
 use cs_progress::terms::constant;
@@ -31,7 +32,8 @@ pub fn work(
     operation: &Operation,
 ) -> Result<(), Pause>
     requires { IsReady context.now.setting.now }
-    ensures { KeepKinds (λ b. kind_of b) attempt.old.checkers.items attempt.new.checkers.items }
+    ensures { KeepKinds (λ b. (⟦<dyn Checker as Checker>⟧ b.vtable).kind_of b.value)
+        attempt.old.checkers.items attempt.new.checkers.items }
 {
     let at = operation.place;
     if let Work::Call(function, count) = &operation.work {
@@ -66,7 +68,8 @@ fn compute(
     operation: &Operation,
 ) -> Result<(), Pause>
     requires { IsReady context.now.setting.now }
-    ensures { KeepKinds (λ b. kind_of b) attempt.old.checkers.items attempt.new.checkers.items }
+    ensures { KeepKinds (λ b. (⟦<dyn Checker as Checker>⟧ b.vtable).kind_of b.value)
+        attempt.old.checkers.items attempt.new.checkers.items }
 {
     let at = operation.place;
     match &operation.work {
@@ -95,7 +98,8 @@ fn access(
     operation: &Operation,
 ) -> Result<(), Pause>
     requires { IsReady context.now.setting.now }
-    ensures { KeepKinds (λ b. kind_of b) attempt.old.checkers.items attempt.new.checkers.items }
+    ensures { KeepKinds (λ b. (⟦<dyn Checker as Checker>⟧ b.vtable).kind_of b.value)
+        attempt.old.checkers.items attempt.new.checkers.items }
 {
     let at = operation.place;
     match &operation.work {
@@ -151,7 +155,8 @@ fn load_in_place(
     access: &Access,
 ) -> Result<(), Pause>
     requires { IsReady context.now.setting.now }
-    ensures { KeepKinds (λ b. kind_of b) attempt.old.checkers.items attempt.new.checkers.items }
+    ensures { KeepKinds (λ b. (⟦<dyn Checker as Checker>⟧ b.vtable).kind_of b.value)
+        attempt.old.checkers.items attempt.new.checkers.items }
 {
     let place = value(state, 0)?;
     let loaded = load(context, state, tables, attempt, access, place)?;
@@ -167,7 +172,8 @@ fn fetch(
     access: &Access,
 ) -> Result<(), Pause>
     requires { IsReady context.now.setting.now }
-    ensures { KeepKinds (λ b. kind_of b) attempt.old.checkers.items attempt.new.checkers.items }
+    ensures { KeepKinds (λ b. (⟦<dyn Checker as Checker>⟧ b.vtable).kind_of b.value)
+        attempt.old.checkers.items attempt.new.checkers.items }
 {
     let place = value(state, 0)?;
     let loaded = load(context, state, tables, attempt, access, place)?;
@@ -184,7 +190,8 @@ fn assign(
     access: &Access,
 ) -> Result<(), Pause>
     requires { IsReady context.now.setting.now }
-    ensures { KeepKinds (λ b. kind_of b) attempt.old.checkers.items attempt.new.checkers.items }
+    ensures { KeepKinds (λ b. (⟦<dyn Checker as Checker>⟧ b.vtable).kind_of b.value)
+        attempt.old.checkers.items attempt.new.checkers.items }
 {
     let place = value(state, 1)?;
     let stored = operand(state, 0)?.clone()?;
@@ -241,16 +248,5 @@ fn clear(state: &mut State, tables: &mut Tables, decl: u32) -> Result<(), Pause>
 fn zero(state: &mut State, tables: &mut Tables, decl: u32) -> Result<(), Pause> {
     let base = tables.base(local(state, decl))?;
     state.fill(base, Fill::Zero)?;
-    Ok(())
-}
-
-// The result of a call that is used was set (C11 6.9.1, paragraph 12).
-fn use_result(state: &State, attempt: &mut Attempt, at: Place) -> Result<(), Pause>
-    ensures { KeepKinds (λ b. kind_of b) attempt.old.checkers.items attempt.new.checkers.items }
-{
-    if let Temporary::Scalar(value) = operand(state, 0)? {
-        let unset = matches!(value, Value::Unset);
-        attempt.check(state, at, Subject::Cell { unset })?;
-    }
     Ok(())
 }
