@@ -1,5 +1,5 @@
 -- A question that an operator asks, the last of its act or one before: for the contracts of operators.
-use Rattle.std.proofs.Common.{◌≡◌, ℕ, ℤ, List, [], Result, Ok, Err, IsErr, IsErrAnd, IfOk, IfErr, sym, ap, ◌∙◌, subst}
+use Rattle.std.proofs.Common.{◌≡◌, ℕ, ℤ, List, Result, Ok, Err, IsErr, IsErrAnd, IfOk, IfErr, sym, ap, ◌∙◌, subst}
 use Rattle.cs_inputs.specs.declared.path.Path.{Path}
 use Rattle.cs_ast.specs.declared.place.Place.{Place}
 use Rattle.cs_terms.specs.declared.term.Lin.{Lin}
@@ -24,6 +24,11 @@ use Rattle.cs_progress.specs.Answering.{answers_left, HasNextValue, HasNoAnswer}
 use Rattle.cs_progress.proofs.Composing.{leads_answered, asks_first}
 use Rattle.cs_progress.proofs.Carrying.{handed}
 
+-- an act leads on as the same act does
+pub same_leads : (cells : Path → InputKind → Cell) (before after : List ℤ) (one same act : Act CodeState)
+    → one ≡ same → Leads cells before after same act → Leads cells before after one act
+same_leads cells before after one same act is leads = subst (λ (begin : Act CodeState). Leads cells before after begin act) (sym is) leads
+
 module _ (state : State) (at : Place) (question : Question) where
   -- under each valuation that fits, an act begins with the question
   abbrev pub AsksFirst : (Valuation → Act CodeState) → Type 0
@@ -47,7 +52,8 @@ module _ (state : State) (at : Place) (question : Question) where
       → CarriesOut bases state before after answer part (λ made v. value_of v made)
   asked bases before after (Ok made) part asks answered none first = record {
     through = λ cells v fits onward.
-        subst (λ (act : Act CodeState). Leads cells (answers_left state before.used v) (answers_left state after.used v) act (onward (value_of v made))) (sym (asks v fits onward))
+        same_leads cells (answers_left state before.used v) (answers_left state after.used v)
+        (part v onward) (Asks at (operation_of v question) onward) (onward (value_of v made)) (asks v fits onward)
         (leads_answered cells _ _ (value_of v made) at (operation_of v question) onward (answered v fits));
     waits = tt;
   }
@@ -67,7 +73,8 @@ module _ (state : State) (at : Place) (question : Question) where
       → ShowsThen part (value made) → HasNextValue state before.used after.used answer → CarriesOut bases state before after (Ok made) part value
   shown bases before after answer made part value shows answered = record {
     through = λ cells v fits onward.
-        subst (λ (act : Act CodeState). Leads cells (answers_left state before.used v) (answers_left state after.used v) act (onward (value made v))) (sym (shows v fits onward))
+        same_leads cells (answers_left state before.used v) (answers_left state after.used v)
+        (part v onward) (Asks at (operation_of v question) (λ number. onward (value made v))) (onward (value made v)) (shows v fits onward)
         (leads_answered cells _ _ (value_of v answer) at (operation_of v question) (λ number. onward (value made v)) (answered v fits));
     waits = tt;
   }

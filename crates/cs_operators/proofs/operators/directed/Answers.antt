@@ -1,9 +1,7 @@
-use Rattle.std.proofs.Common.{◌≡◌, ℤ, pos, negsuc, ◌*ℤ◌, sym, ap, ◌∙◌, arith}
+use Rattle.std.proofs.Common.{◌≡◌, ℤ, negsuc, ◌*ℤ◌, ◌∙◌, arith}
 use Rattle.std.specs.Prelude.{neg_ℤ}
 use Rattle.std.proofs.lemmas.Int.{ints}
 use Rattle.std.proofs.lemmas.Result.{IfOk-weaker}
-use Rattle.cs_terms.specs.Term.{Valuation, value_of}
-use Rattle.cs_meaning.specs.Initials as cells
 use Rattle.cs_operators.proofs.operators.directed.Goals as goal
 
 turned : (n : ℤ) → n *ℤ negsuc 0 ≡ neg_ℤ n

@@ -1,8 +1,5 @@
-use Rattle.std.proofs.Common.{◌≡◌, ◌≢◌, None, slice_get, ap, sym, ◌∙◌}
-use Rattle.cs_terms.specs.Term.{value_of}
-use Rattle.cs_events.specs.Objects.{Cell}
+use Rattle.std.proofs.Common.{slice_get, ◌∙◌}
 use Rattle.cs_meaning.specs.Operators as operators
-use Rattle.cs_state.specs.Cells.{pointer_to}
 use Rattle.cs_operators.proofs.Objects.{one_region, two_regions}
 use Rattle.cs_operators.proofs.operators.in_one_object.Goals as goal
 

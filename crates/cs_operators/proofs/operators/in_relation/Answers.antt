@@ -1,4 +1,4 @@
-use Rattle.std.proofs.Common.{◌≡◌, false, ◌&&◌, ap, ◌∙◌}
+use Rattle.std.proofs.Common.{◌≡◌, false, ◌&&◌, ◌∙◌}
 use Rattle.cs_operators.proofs.Relations.{is_null, some_first, some_second, related_apart}
 use Rattle.cs_operators.proofs.operators.in_relation.Goals as goal
 use Rattle.cs_operators.proofs.operators.in_relation.Goals.{in_default-via-in-Null+in_default, in_default-via-in_default}

@@ -1,4 +1,4 @@
-use Rattle.std.proofs.Common.{◌≡◌, Bool, true, false, not, refl, sym, ap, ◌∙◌}
+use Rattle.std.proofs.Common.{◌≡◌, not, refl, sym, ap, ◌∙◌}
 use Rattle.cs_terms.specs.Term.{value_of}
 use Rattle.cs_events.specs.Operations.{is_true}
 use Rattle.cs_eval.specs.declared.question.Question.TheVariants as question
@@ -40,7 +40,8 @@ returns-in_err-look c = record {
       handed c.args.state.now bases c.args.progress.now c.look.new.progress c.from_residual-in_err-look.result
       (λ v. test c.args.at c.args.tested (cell_in bases c.args.state.now c.args.value v)) (λ holds v. holds) c.in_err-look.field-0.0
       c.from_residual-in_err-look.ensures
-      (λ waits. look_waits c.args.at c.args.tested c.args.state.now bases c.args.value c.in_default.not-Number c.args.progress.now.used c.look.new.progress.first
+      (λ waits. look_waits c.args.at c.args.tested c.args.state.now bases c.args.value c.in_default.not-Number
+      c.args.progress.now.used c.look.new.progress.first
       (c.in_err-look.ensures.waits waits bases named));
 }
 
