@@ -33,11 +33,7 @@ impl Key {
     }
 
     // What was bound in a region.
-    fn bindings(
-        &mut self,
-        constraints: &Constraints,
-        region: &Region,
-    ) -> Result<(), AllocError>
+    fn bindings(&mut self, constraints: &Constraints, region: &Region) -> Result<(), AllocError>
         ensures { OnOk result
             (self.new ≡ with_bindings self.old
             (map (live_binding constraints.now) (bindings_of region.now))) }

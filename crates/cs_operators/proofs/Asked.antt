@@ -29,6 +29,10 @@ pub same_leads : (cells : Path → InputKind → Cell) (before after : List ℤ)
     → one ≡ same → Leads cells before after same act → Leads cells before after one act
 same_leads cells before after one same act is leads = subst (λ (begin : Act CodeState). Leads cells before after begin act) (sym is) leads
 
+-- the act with a question
+abbrev pub asks : Place → Question → Valuation → (ℤ → Act CodeState) → Act CodeState
+asks at question v onward = Asks at (operation_of v question) onward
+
 module _ (state : State) (at : Place) (question : Question) where
   -- under each valuation that fits, an act begins with the question
   abbrev pub AsksFirst : (Valuation → Act CodeState) → Type 0

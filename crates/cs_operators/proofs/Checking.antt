@@ -1,5 +1,5 @@
 -- What the silence of checkers of every kind shows of an act, and what the faults do that they find: for the contract of `check`.
-use Rattle.std.proofs.Common.{◌≡◌, ◌<◌, ◌⊎◌, ℕ, zero, suc, ℤ, inl, inr, Bool, true, false, true≢false, List, [], ◌∷◌, length, map, drop, All, Any, Result, Ok, Err, IsErr, OnOk, refl, sym, ap, ◌∙◌, subst, arith}
+use Rattle.std.proofs.Common.{◌≡◌, ℕ, zero, suc, ℤ, inl, inr, Bool, true, false, true≢false, List, [], ◌∷◌, length, map, All, Any, Result, Ok, Err, IsErr, OnOk, refl, sym, ap, ◌∙◌, subst, arith}
 use Rattle.std.proofs.lemmas.List.{length-map, length-drop}
 use Rattle.std.proofs.lemmas.List.Folds.{list_any_at, Any-from_list_any}
 use Rattle.std.specs.List.{list_any}
@@ -10,7 +10,6 @@ use Rattle.cs_terms.specs.Term.{Valuation, value_of}
 use Rattle.cs_constraints.specs.Constraints.{Fits}
 use Rattle.cs_checker.specs.declared.subject.Subject.{Subject}
 use Rattle.cs_checker.specs.Faults.{is_faulty_for}
-use Rattle.cs_events.specs.declared.event.Label.{Label}
 use Rattle.cs_events.specs.declared.input.InputKind.{InputKind}
 use Rattle.cs_events.specs.declared.outcome.Outcome.TheVariants.{Fault}
 use Rattle.cs_events.specs.Objects.{Cell}
@@ -23,7 +22,7 @@ use Rattle.cs_access.specs.declared.checking.FaultyPart.{FaultyPart}
 use Rattle.cs_progress.specs.Acting.{UsesAll, Leads}
 use Rattle.cs_progress.specs.Answering.{answers_left, IsAnsweredLater}
 use Rattle.cs_progress.proofs.Looks.{leads_same}
-use Rattle.cs_operators.specs.Asking.{IsCheckOf}
+use Rattle.cs_operators.specs.Asking.{IsCheckOf, KeepKinds, HasEveryKind}
 
 not_true : (b : Bool) → (b ≡ true → ⊥) → b ≡ false
 not_true true never = absurd (never refl)
@@ -100,3 +99,8 @@ module _ (cells : Path → InputKind → Cell) (subject : Subject) (at : Place) 
 pub failed : {T E : Type 0} (answer : Result T E) (P : Type 0) → IsErr answer → OnOk answer P
 failed (Ok made) P is = absurd (true≢false (sym is))
 failed (Err why) P is = tt
+
+-- where the checkers keep their kinds, each kind still has a checker
+pub every_kept : {Checker : Type 0} (kind : Checker → Kind) (before after : List Checker) → KeepKinds kind before after
+    → HasEveryKind kind before → HasEveryKind kind after
+every_kept kind before after keeps every fault = subst (Any (λ one. one ≡ fault)) (sym keeps) (every fault)

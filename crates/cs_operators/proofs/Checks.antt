@@ -1,12 +1,11 @@
 -- What each check of an operator does in its act: it stops in its kind of fault exactly where the subject is faulty for it.
-use Rattle.std.proofs.Common.{◌≡◌, ◌<◌, ◌≤◌, ℕ, ◌*◌, ℤ, pos, negsuc, int_lt, int_le, Bool, true, false, not, ◌&&◌, ◌||◌, true≢false, Option, None, Some, if◌then◌else◌, refl, sym, ap, ◌∙◌, subst, arith}
+use Rattle.std.proofs.Common.{◌≡◌, ℕ, ◌*◌, ℤ, pos, negsuc, int_lt, int_le, Bool, true, false, not, ◌&&◌, ◌||◌, true≢false, Option, None, Some, if◌then◌else◌, refl, sym, ap, ◌∙◌, arith}
 use Rattle.std.proofs.lemmas.Int.{ints}
 use Rattle.std.specs.Ordering.{int_eq}
 use Rattle.cs_types.specs.declared.data_model.DataModel.{DataModel}
 use Rattle.cs_types.specs.declared.int_type.IntType.{IntType}
 use Rattle.cs_types.specs.IntType.{bytes_of}
 use Rattle.cs_ast.specs.declared.place.Place.{Place}
-use Rattle.cs_ast.specs.declared.typed.operator.BinOp.{BinOp}
 use Rattle.cs_model.specs.declared.kind.Kind.{Kind}
 use Rattle.cs_model.specs.declared.kind.Kind.TheVariants as kind
 use Rattle.cs_terms.specs.declared.term.Lin.{Lin}
@@ -24,6 +23,22 @@ use Rattle.cs_meaning.specs.Access as access
 use Rattle.cs_meaning.specs.Operators as operators
 use Rattle.cs_cfg.specs.Working.{CodeState}
 use Rattle.cs_operators.specs.Asking.{IsCheckOf}
+
+-- whether a cell is null
+abbrev pub is_null : Cell → Bool
+is_null NullCell = true
+is_null (NumberCell n) = false
+is_null (PointerCell object offset) = false
+is_null UnsetCell = false
+
+-- what an order test leaves: 0 where it holds, else -1
+abbrev pub rest_of : Bool → Lin2
+rest_of holds = record { first = constant (if holds then pos 0 else negsuc 0); second = constant (pos 0) }
+
+-- whether two pointers point into one object
+abbrev pub is_there : Option (ℤ × ℤ) → Bool
+is_there None = false
+is_there (Some offsets) = true
 
 module _ (at : Place) (v : Valuation) where
   -- a check of a single kind
@@ -132,12 +147,6 @@ module _ (at : Place) (v : Valuation) where
   only_unrelated same kind.ConstWrite holds = absurd (true≢false (sym holds))
 
   -- `*p` and `p->m`
-  abbrev pub is_null : Cell → Bool
-  is_null NullCell = true
-  is_null (NumberCell n) = false
-  is_null (PointerCell object offset) = false
-  is_null UnsetCell = false
-
   if_null : (cell : Cell) (act : Act CodeState) → is_null cell ≡ true → access.not_null at cell act ≡ Stops (Fault kind.Null at)
   if_null NullCell act null = refl
   if_null (NumberCell n) act null = absurd (true≢false (sym null))
@@ -208,9 +217,6 @@ module _ (at : Place) (v : Valuation) where
       (λ never none act. absurd (true≢false never)) (λ is act. refl) refl
 
   -- an order test
-  abbrev pub rest_of : Bool → Lin2
-  rest_of holds = record { first = constant (if holds then pos 0 else negsuc 0); second = constant (pos 0) }
-
   below : (holds : Bool) → int_lt (value_of_sum v (rest_of holds)) (pos 0) ≡ not holds
   below true = refl
   below false = refl
@@ -231,10 +237,6 @@ module _ (at : Place) (v : Valuation) where
       (λ bad act. ap (λ b. if b then act else Stops (Fault kind.Bounds at)) (is ∙ fails_not _ holds (below holds) bad)) refl
 
   -- two pointers that have to point into one object
-  abbrev pub is_there : Option (ℤ × ℤ) → Bool
-  is_there None = false
-  is_there (Some offsets) = true
-
   no_object : (found : Option (ℤ × ℤ)) (act : Act CodeState) → not (is_there found) ≡ true
       → operators.one_object at found act ≡ Stops (Fault kind.Unrelated at)
   no_object None act none = refl

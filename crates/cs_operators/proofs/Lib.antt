@@ -1,6 +1,6 @@
-mod Asked
 mod Checking
 mod Checks
+mod Asked
 mod Comparing
 mod Looking
 mod Objects
@@ -8,4 +8,7 @@ mod Operating
 mod Relations
 mod SeenPointers
 mod Numerals
+mod Sums
 mod Tests
+mod Computed
+mod Converting

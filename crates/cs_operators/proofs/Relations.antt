@@ -111,9 +111,9 @@ module _ (at : Place) (state : State) (one other : Valuation → Cell) (found : 
   pub relation_check : (same : Bool) → same ≡ is_some found
       → ChecksFor state (Pair same) at (λ v. operators.one_object at (operators.related (one v) (other v)))
   relation_check same some v fits =
-      pair_check at v same (operators.related (one v) (other v)) (ap (is_there at v) (is v fits) ∙ by found ∙ sym some)
+      pair_check at v same (operators.related (one v) (other v)) (ap is_there (is v fits) ∙ by found ∙ sym some)
     where
-      by : (found : Option (Lin × Lin)) → is_there at v (option_map (λ found. both_values found v) found) ≡ is_some found
+      by : (found : Option (Lin × Lin)) → is_there (option_map (λ found. both_values found v) found) ≡ is_some found
       by None = refl
       by (Some offsets) = refl
 

@@ -1,5 +1,5 @@
 -- Pointers that were looked at, and tests.
-use Rattle.std.specs.Prelude.{◌≡◌, ℕ, ℤ, pos, ◌+ℤ◌, ◌-ℤ◌, ◌*ℤ◌, neg_ℤ, Bool, not, List, slice_get}
+use Rattle.std.specs.Prelude.{ℕ, ℤ, pos, ◌+ℤ◌, ◌-ℤ◌, ◌*ℤ◌, neg_ℤ, Bool, true, false, not, List, slice_get}
 use Rattle.cs_types.specs.declared.data_model.DataModel.{DataModel}
 use Rattle.cs_types.specs.DataModel.{offset_bound_of}
 use Rattle.cs_ast.specs.declared.place.Place.{Place}
@@ -20,7 +20,10 @@ use Rattle.cs_cfg.specs.Working.{CodeState}
 use Rattle.cs_eval.specs.declared.question.Tested.{Tested}
 use Rattle.cs_eval.specs.declared.question.Tested.TheVariants.{Not}
 use Rattle.cs_eval.specs.Questions.{label_of}
+use Rattle.cs_store.specs.declared.value.Value.TheVariants.{Number}
 use Rattle.cs_state.specs.declared.state.State.{State}
+use Rattle.cs_state.specs.declared.temporary.Temporary.{Temporary}
+use Rattle.cs_state.specs.declared.temporary.Temporary.TheVariants.{Scalar}
 use Rattle.cs_state.specs.Cells.{cell_of, pointer_to}
 use Rattle.cs_progress.specs.declared.pointers.Seen.{Seen}
 use Rattle.cs_progress.specs.Seeing.{IsSeen, IsSeenNamed}
@@ -64,3 +67,8 @@ equality at operator one other onward = operators.equality at operator (operator
 -- two pointers that were looked at have to point into one object: their offsets
 abbrev pub related : Place → Cell → Cell → (ℤ × ℤ → Act CodeState) → Act CodeState
 related at one other onward = operators.in_relation at (operators.related one other) (λ first second. onward (first, second))
+
+-- whether an operand is a number
+abbrev pub is_number : Temporary → Bool
+is_number (Scalar (Number term)) = true
+is_number other = false

@@ -2,6 +2,7 @@
 #![tactic(auto)]
 
 mod attempt;
+pub mod computing;
 pub mod operators;
 pub mod pointers;
 

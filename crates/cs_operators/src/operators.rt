@@ -1,5 +1,5 @@
 //! What operators do with their operands (C11 6.3, 6.5.3 to 6.5.10).
-ghost use Rattle.std.specs.Prelude.{◌≡◌, ℤ, Bool, List, IfOk, option_map};
+ghost use Rattle.std.specs.Prelude.{◌≡◌, ℤ, Bool, List, IfOk, IfErr, option_map};
 ghost use Rattle.cs_types.specs.Shape.{shape_of};
 ghost use Rattle.cs_regions.specs.declared.base.Base.{Base};
 ghost use Rattle.cs_regions.specs.Numbering.{IsNumbered};
@@ -10,6 +10,7 @@ ghost use Rattle.cs_events.specs.Objects.{Cell};
 ghost use Rattle.cs_meaning.specs.Initials as cells;
 ghost use Rattle.cs_meaning.specs.Operators as operators;
 ghost use Rattle.cs_objects.specs.Prepared.{IsReady};
+ghost use Rattle.cs_progress.specs.declared.pause.Pause.TheVariants as pause;
 ghost use Rattle.cs_progress.specs.Acting.{CarriesOut, IsNamed};
 ghost use Rattle.cs_progress.specs.Seeing.{IsSeen, IsSeenNamed};
 ghost use Rattle.cs_operators.specs.Asking.{KeepKinds, HasEveryKind};
@@ -135,8 +136,9 @@ fn takes_all(model: DataModel, from: &CType, to: IntType) -> bool
 
 /// A number with the sign of a direction.
 pub fn directed(direction: Direction, number: Lin) -> Result<Lin, Pause>
-    ensures { IfOk result (λ made. (valuation : Valuation)
+    ensures value { IfOk result (λ made. (valuation : Valuation)
         → value_of valuation made ≡ cells.directed direction (value_of valuation number)) }
+    ensures memory { IfErr result (λ why. why ≡ pause.Memory) }
 {
     match direction {
         Direction::Forward => Ok(number),

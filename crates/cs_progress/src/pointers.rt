@@ -91,7 +91,8 @@ pub fn block(state: &State, base: u64) -> Result<&Block, AllocError>
 
 /// A pointer so many bytes further on; null stays null.
 pub fn further(state: &State, value: Value, bytes: u64) -> Result<Value, Pause>
-    ensures { IfOk result (IsFurther state.now value bytes) }
+    ensures moved { IfOk result (IsFurther state.now value bytes) }
+    ensures memory { IfErr result (λ why. why ≡ pause.Memory) }
 {
     match value {
         Value::At(base, offset) => {

@@ -2,13 +2,13 @@
 ghost use Rattle.cs_objects.specs.Prepared.{IsReady};
 ghost use Rattle.cs_operators.specs.Asking.{KeepKinds};
 
-use cs_operators::Attempt;
 use cs_cells::cells::{Cell, look_up, read};
 use cs_cells::inputs::Inputs;
 use cs_cells::objects::object;
-use cs_operators::pointers::{named, not_null, ordered};
 use cs_cfg::Access;
 use cs_checker::Subject;
+use cs_operators::Attempt;
+use cs_operators::pointers::{named, not_null, ordered};
 use cs_progress::operands::value_of;
 use cs_progress::pointers::{look, resolved};
 use cs_progress::terms::{constant, scaled, shifted};

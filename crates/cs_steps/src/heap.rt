@@ -2,16 +2,16 @@
 ghost use Rattle.cs_objects.specs.Prepared.{IsReady};
 ghost use Rattle.cs_operators.specs.Asking.{KeepKinds};
 
-use cs_operators::Attempt;
-use cs_cells::cells::declare;
-use cs_cells::objects::object;
-use cs_operators::operators::operate;
 use cs_ast::Place;
 use cs_ast::typed::operator::{Allocator, BinOp};
+use cs_cells::cells::declare;
+use cs_cells::objects::object;
 use cs_checker::Subject;
 use cs_eval::{Question, Tested};
 use cs_inputs::Root;
 use cs_model::Standing;
+use cs_operators::Attempt;
+use cs_operators::operators::operate;
 use cs_progress::operands::{number, replace, replace_with, value};
 use cs_progress::pointers::{Seen, look, truth};
 use cs_progress::terms::{constant, own};

@@ -2,11 +2,11 @@
 ghost use Rattle.cs_objects.specs.Prepared.{IsReady};
 ghost use Rattle.cs_operators.specs.Asking.{KeepKinds};
 
-use cs_operators::Attempt;
 use crate::ends::{end, reach_counted_point};
 use crate::work::work;
 use cs_cfg::{BlockEnd, Instruction, Operation};
 use cs_checker::Checker;
+use cs_operators::Attempt;
 use cs_progress::{Context, Next, Pause, leave};
 use cs_state::{State, Tables, Temporary};
 use cs_store::Value;
