@@ -1,9 +1,12 @@
 -- A question that an operator asks, the last of its act or one before: for the contracts of operators.
 use Rattle.std.proofs.Common.{◌≡◌, ℕ, ℤ, List, Result, Ok, Err, IsErr, IsErrAnd, IfOk, IfErr, sym, ap, ◌∙◌, subst}
+use Rattle.cs_inputs.specs.declared.path.Path.{Path}
 use Rattle.cs_ast.specs.declared.place.Place.{Place}
 use Rattle.cs_terms.specs.declared.term.Lin.{Lin}
 use Rattle.cs_terms.specs.Term.{Valuation, value_of}
 use Rattle.cs_constraints.specs.Constraints.{Fits}
+use Rattle.cs_events.specs.declared.input.InputKind.{InputKind}
+use Rattle.cs_events.specs.Objects.{Cell}
 use Rattle.cs_events.specs.Acts.{Act, Asks}
 use Rattle.cs_event_runs.specs.Left.{left_of}
 use Rattle.cs_cfg.specs.Working.{CodeState}
@@ -20,6 +23,11 @@ use Rattle.cs_progress.specs.Acting.{Leads, BeginsWith, WaitsFor, CarriesOut}
 use Rattle.cs_progress.specs.Answering.{answers_left, HasNextValue, HasNoAnswer}
 use Rattle.cs_progress.proofs.Composing.{leads_answered, asks_first}
 use Rattle.cs_progress.proofs.Carrying.{handed}
+
+-- an act leads on as the same act does
+pub same_leads : (cells : Path → InputKind → Cell) (before after : List ℤ) (one same act : Act CodeState)
+    → one ≡ same → Leads cells before after same act → Leads cells before after one act
+same_leads cells before after one same act is leads = subst (λ (begin : Act CodeState). Leads cells before after begin act) (sym is) leads
 
 -- the act with a question
 abbrev pub asks : Place → Question → Valuation → (ℤ → Act CodeState) → Act CodeState
@@ -48,7 +56,8 @@ module _ (state : State) (at : Place) (question : Question) where
       → CarriesOut bases state before after answer part (λ made v. value_of v made)
   asked bases before after (Ok made) part asks answered none first = record {
     through = λ cells v fits onward.
-        subst (λ (act : Act CodeState). Leads cells (answers_left state before.used v) (answers_left state after.used v) act (onward (value_of v made))) (sym (asks v fits onward))
+        same_leads cells (answers_left state before.used v) (answers_left state after.used v)
+        (part v onward) (Asks at (operation_of v question) onward) (onward (value_of v made)) (asks v fits onward)
         (leads_answered cells _ _ (value_of v made) at (operation_of v question) onward (answered v fits));
     waits = tt;
   }
@@ -68,7 +77,8 @@ module _ (state : State) (at : Place) (question : Question) where
       → ShowsThen part (value made) → HasNextValue state before.used after.used answer → CarriesOut bases state before after (Ok made) part value
   shown bases before after answer made part value shows answered = record {
     through = λ cells v fits onward.
-        subst (λ (act : Act CodeState). Leads cells (answers_left state before.used v) (answers_left state after.used v) act (onward (value made v))) (sym (shows v fits onward))
+        same_leads cells (answers_left state before.used v) (answers_left state after.used v)
+        (part v onward) (Asks at (operation_of v question) (λ number. onward (value made v))) (onward (value made v)) (shows v fits onward)
         (leads_answered cells _ _ (value_of v answer) at (operation_of v question) (λ number. onward (value made v)) (answered v fits));
     waits = tt;
   }

@@ -1,5 +1,5 @@
 -- Two pointers are looked at, one after the other: for the contracts of `difference` and `compare_pointers`.
-use Rattle.std.proofs.Common.{◌≡◌, ℕ, ℤ, List, Result, Ok, Err, IsErr, IsErrAnd, IfOk, IfErr, sym, ap, subst}
+use Rattle.std.proofs.Common.{◌≡◌, ℕ, ℤ, List, Result, Ok, Err, IsErr, IsErrAnd, IfOk, IfErr, sym, ap}
 use Rattle.cs_ast.specs.declared.place.Place.{Place}
 use Rattle.cs_terms.specs.declared.term.Lin.{Lin}
 use Rattle.cs_terms.specs.Term.{Valuation, value_of}
@@ -16,12 +16,12 @@ use Rattle.cs_progress.specs.declared.next.Next.TheVariants as next
 use Rattle.cs_progress.specs.declared.pause.Pause.{Pause}
 use Rattle.cs_progress.specs.declared.pause.Pause.TheVariants as pause
 use Rattle.cs_progress.specs.declared.progress.Progress.{Progress}
-use Rattle.cs_progress.specs.Acting.{Leads, GetsThrough, CarriesOut, looked}
+use Rattle.cs_progress.specs.Acting.{GetsThrough, CarriesOut, looked}
 use Rattle.cs_progress.specs.Answering.{answers_left, HasNextValue, HasNoAnswer}
 use Rattle.cs_progress.proofs.Composing.{leads_on}
 use Rattle.cs_progress.proofs.Carrying.{LeadsTo, handed, carries_on}
 use Rattle.cs_operators.specs.Pointing.{cell_in, both_values, related}
-use Rattle.cs_operators.proofs.Asked.{asked}
+use Rattle.cs_operators.proofs.Asked.{same_leads, asked}
 
 module _ (state : State) (bases : List Base) (at : Place) (left right : Value) where
   -- a part begins with both looks
@@ -32,7 +32,8 @@ module _ (state : State) (bases : List Base) (at : Place) (left right : Value) w
       → LeadsTo state before after part rest
   both_looked before between after part rest begins first second cells v fits onward =
       let left_over : Act CodeState = looked bases state at right v (rest v onward) in
-      subst (λ (act : Act CodeState). Leads cells (answers_left state before v) (answers_left state after v) act (rest v onward)) (sym (begins v onward))
+      same_leads cells (answers_left state before v) (answers_left state after v)
+      (part v onward) (looked bases state at left v left_over) (rest v onward) (begins v onward)
       (leads_on cells (answers_left state before v) (answers_left state between v) (answers_left state after v)
       (looked bases state at left v left_over) left_over (rest v onward) (first cells v fits left_over) (second cells v fits (rest v onward)))
 

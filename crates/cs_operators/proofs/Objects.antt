@@ -1,5 +1,6 @@
 -- Base regions and the objects that they are: for the contract of `in_one_object`.
-use Rattle.std.proofs.Common.{◌≡◌, ◌≢◌, ℕ, zero, suc, ℤ, Bool, true, false, cond, true≢false, List, [], ◌∷◌, Option, None, Some, slice_get, is_some, refl, sym, ap, ◌∙◌}
+use Rattle.std.proofs.Common.{◌≡◌, ◌≢◌, ℕ, zero, suc, ℤ, Bool, true, false, cond, true≢false, List}
+use Rattle.std.proofs.Common.{[], ◌∷◌, Option, None, Some, slice_get, is_some, refl, sym, ap, ◌∙◌}
 use Rattle.std.proofs.lemmas.Option.{same_Some}
 use Rattle.cs_regions.specs.declared.base.Base.{Base}
 use Rattle.cs_regions.specs.Numbering.{IsNumbered}

@@ -129,9 +129,10 @@ module _ (at : Place) (state : State) (one other : Valuation → Cell) (found : 
       by None is = record { through = tt; waits = λ waits. no_wait pause.Memory refl waits }
       by (Some offsets) is = record {
         through = λ cells v fits onward.
-            let act : Act CodeState = onward (unwrap_or (operators.related (one v) (other v)) operators.NO_OFFSETS) in
-            subst (λ (given : ℤ × ℤ). Leads cells (answers_left state before.used v) (answers_left state after.used v) (related at (one v) (other v) onward) (onward given))
+            let answers = answers_left state before.used v in
+            let others = answers_left state after.used v in
+            subst (λ (given : ℤ × ℤ). Leads cells answers others (related at (one v) (other v) onward) (onward given))
             (ap (λ (found : Option (ℤ × ℤ)). unwrap_or found operators.NO_OFFSETS) (is v fits))
-            (through cells v fits act);
+            (through cells v fits (onward (unwrap_or (operators.related (one v) (other v)) operators.NO_OFFSETS)));
         waits = tt;
       }

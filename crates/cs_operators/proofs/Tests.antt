@@ -22,11 +22,12 @@ use Rattle.cs_state.specs.Cells.{Blocks, cell_of, pointer_to, is_there, block_of
 use Rattle.cs_progress.specs.declared.pointers.Seen.{Seen}
 use Rattle.cs_progress.specs.declared.pointers.Seen.TheVariants.{Null, At, Other}
 use Rattle.cs_progress.specs.declared.next.Next.{Next}
-use Rattle.cs_progress.specs.Acting.{Leads, GetsThrough, StandsFirst, WaitsFor, looked}
+use Rattle.cs_progress.specs.Acting.{GetsThrough, StandsFirst, WaitsFor, looked}
 use Rattle.cs_progress.specs.Answering.{answers_left}
 use Rattle.cs_progress.specs.Seeing.{IsSeen, IsSeenIn, IsSeenNamed}
 use Rattle.cs_progress.proofs.Carrying.{LeadsTo}
 use Rattle.cs_operators.specs.Pointing.{cell_in, shows_of, test}
+use Rattle.cs_operators.proofs.Asked.{same_leads}
 
 -- what the question about a number shows
 label_shown : (tested : Tested) (number : ℤ) → shows_of tested (is_true number) ≡ label_of tested (holds_for tested number)
@@ -129,7 +130,8 @@ module _ (at : Place) (tested : Tested) where
         let cell = cell_in bases state given v in
         let no_cell = no_number bases state.blocks v given other in
         let truth : is_set cell ≡ holds = set_seen bases v seen cell named (is bases v fits) no_cell ∙ so in
-        let same : test at tested cell onward ≡ look at cell (shows_then at (shows_of tested holds) (onward holds)) =
-        looked_test cell onward no_cell ∙ ap (λ b. look at cell (shows_then at (shows_of tested b) (onward b))) truth in
-        subst (λ (act : Act CodeState). Leads cells (answers_left state before v) (answers_left state after v) act (shows_then at (shows_of tested holds) (onward holds))) (sym same)
-        (through cells v fits (shows_then at (shows_of tested holds) (onward holds)))
+        let act : Act CodeState = shows_then at (shows_of tested holds) (onward holds) in
+        same_leads cells (answers_left state before v) (answers_left state after v)
+        (test at tested cell onward) (look at cell act) act
+        (looked_test cell onward no_cell ∙ ap (λ b. look at cell (shows_then at (shows_of tested b) (onward b))) truth)
+        (through cells v fits act)

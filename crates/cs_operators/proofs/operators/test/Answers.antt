@@ -40,7 +40,8 @@ returns-in_err-look c = record {
       handed c.args.state.now bases c.args.progress.now c.look.new.progress c.from_residual-in_err-look.result
       (λ v. test c.args.at c.args.tested (cell_in bases c.args.state.now c.args.value v)) (λ holds v. holds) c.in_err-look.field-0.0
       c.from_residual-in_err-look.ensures
-      (λ waits. look_waits c.args.at c.args.tested c.args.state.now bases c.args.value c.in_default.not-Number c.args.progress.now.used c.look.new.progress.first
+      (λ waits. look_waits c.args.at c.args.tested c.args.state.now bases c.args.value c.in_default.not-Number
+      c.args.progress.now.used c.look.new.progress.first
       (c.in_err-look.ensures.waits waits bases named));
 }
 
