@@ -20,6 +20,7 @@ use Rattle.cs_events.specs.Operations.{is_true}
 use Rattle.cs_events.specs.Objects.{Cell, NumberCell, NullCell, PointerCell, UnsetCell}
 use Rattle.cs_events.specs.Acts.{Act, Stops}
 use Rattle.cs_meaning.specs.Access as access
+use Rattle.cs_meaning.specs.Machine.{Operand, Scalar, Whole, Nothing}
 use Rattle.cs_meaning.specs.Operators as operators
 use Rattle.cs_cfg.specs.Working.{CodeState}
 use Rattle.cs_operators.specs.Asking.{IsCheckOf}
@@ -39,6 +40,16 @@ rest_of holds = record { first = constant (if holds then pos 0 else negsuc 0); s
 abbrev pub is_there : Option (ℤ × ℤ) → Bool
 is_there None = false
 is_there (Some offsets) = true
+
+-- whether an operand is a scalar that was never set, and what its use checks
+abbrev pub is_never_set : Operand → Bool
+is_never_set (Scalar UnsetCell) = true
+is_never_set other = false
+
+abbrev pub used : Place → Operand → Act CodeState → Act CodeState
+used at (Scalar cell) act = access.set_then at cell act
+used at (Whole cells) act = act
+used at Nothing act = act
 
 module _ (at : Place) (v : Valuation) where
   -- a check of a single kind
@@ -215,6 +226,28 @@ module _ (at : Place) (v : Valuation) where
   unset_check =
       of_kind (OfCell true) kind.Unset true (λ act. Stops (Fault kind.Unset at)) (only_unset true)
       (λ never none act. absurd (true≢false never)) (λ is act. refl) refl
+
+  -- the use of a call's result
+  if_set : (operand : Operand) (act : Act CodeState) → is_never_set operand ≡ false → used at operand act ≡ act
+  if_set (Scalar (NumberCell n)) act set = refl
+  if_set (Scalar NullCell) act set = refl
+  if_set (Scalar (PointerCell object offset)) act set = refl
+  if_set (Scalar UnsetCell) act set = absurd (true≢false set)
+  if_set (Whole cells) act set = refl
+  if_set Nothing act set = refl
+
+  if_unset : (operand : Operand) (act : Act CodeState) → is_never_set operand ≡ true → used at operand act ≡ Stops (Fault kind.Unset at)
+  if_unset (Scalar (NumberCell n)) act unset = absurd (true≢false (sym unset))
+  if_unset (Scalar NullCell) act unset = absurd (true≢false (sym unset))
+  if_unset (Scalar (PointerCell object offset)) act unset = absurd (true≢false (sym unset))
+  if_unset (Scalar UnsetCell) act unset = refl
+  if_unset (Whole cells) act unset = absurd (true≢false (sym unset))
+  if_unset Nothing act unset = absurd (true≢false (sym unset))
+
+  pub used_check : (unset : Bool) (operand : Operand) → is_never_set operand ≡ unset → IsCheckOf (OfCell unset) at v (used at operand)
+  used_check unset operand same =
+      of_kind (OfCell unset) kind.Unset unset (used at operand) (only_unset unset)
+      (λ set none act. if_set operand act (same ∙ set)) (λ is act. if_unset operand act (same ∙ is)) refl
 
   -- an order test
   below : (holds : Bool) → int_lt (value_of_sum v (rest_of holds)) (pos 0) ≡ not holds

@@ -12,3 +12,4 @@ mod Sums
 mod Tests
 mod Computed
 mod Converting
+mod Using

@@ -1,19 +1,23 @@
-use Rattle.std.proofs.Common.{rules, ◌≡◌, ℕ, ◌+◌, ◌-◌, ◌*◌, ◌<◌, ◌≤◌, length, ◌/◌, ◌%◌, Bool, true, false, nat_eq, nat_lt, List, [], ◌∷◌, ◌++◌, slice_index_or, slice_set, bit_and, bit_or, Fits, w8, w32, w64, Bor, MutBor}
-use Rattle.cs_types.specs.Shape.{shape_of}
-use Rattle.cs_ast.specs.TypedProgram.{TypedProgram}
-use Rattle.cs_events.specs.declared.outcome.RunBudgets.{RunBudgets}
-use Rattle.cs_regions.specs.Numbering.{IsNumbered}
-use Rattle.cs_meaning.specs.Expressions as expressions
+use Rattle.std.proofs.Common.{sym, ap, ◌∙◌}
+use Rattle.cs_meaning.specs.Expressions.{use_result}
 use Rattle.cs_cfg.specs.Graph as graph
-use Rattle.cs_cfg.specs.Graph.{Code}
 use Rattle.cs_cfg.specs.Working.{do_work}
-use Rattle.cs_objects.specs.Prepared.{IsReady}
-use Rattle.cs_state.specs.Naming.{Naming}
-use Rattle.cs_progress.specs.Computing.{HaveNames, Computes}
-use Rattle.cs_operators.specs.Asking.{KeepKinds, HasEveryKind}
-use Rattle.cs_operators.specs.Pointing.{is_number, is_unset}
+use Rattle.cs_state.specs.Cells.{operand_of}
+use Rattle.cs_operators.proofs.Checks.{used, used_check}
+use Rattle.cs_operators.proofs.Computed.{stands}
+use Rattle.cs_operators.proofs.Using.{never_set, use_is, checks_alone}
 use Rattle.cs_operators.proofs.computing.use_result.Goals as goal
 
--- src/computing.rt:238:1
 pub returns-clause-act : goal.returns-clause-act
-returns-clause-act g c = ?
+returns-clause-act g c = λ every code names program budgets have.
+    let state = c.args.state.now in
+    let at = c.args.at in
+    let operand = c.in_ok-used.used.now in
+    let named = c.in_ok-used.ensures.named names.bases have in
+    checks_alone code names program state _ _ c.check.result (do_work code program budgets at graph.Use)
+    (λ v. used at (operand_of names.bases state.blocks v operand))
+    (λ v fits. ap (λ o. use_result at o (stands code names program state v)) (c.in_ok-used.ensures.operand code names program v)
+    ∙ use_is at (operand_of names.bases state.blocks v operand) (stands code names program state v))
+    (c.check.ensures.act every names.bases (λ v. used at (operand_of names.bases state.blocks v operand))
+    (λ v fits. used_check at v c.is_unset.result (operand_of names.bases state.blocks v operand)
+    (never_set names.bases state.blocks v operand named ∙ sym c.is_unset.ensures)))
