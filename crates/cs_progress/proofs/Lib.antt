@@ -5,3 +5,5 @@ pub mod SeenCells
 pub mod OperandsMean
 pub mod Answers
 pub mod Looks
+pub mod Composing
+pub mod Carrying

@@ -1,6 +1,6 @@
 -- What is left of an operation in progress: its act, of which some answers are used. The operation goes on where the answers that are left lead
 -- through its act, and waits where none is left for what stands first.
-use Rattle.std.specs.Prelude.{◌≡◌, ◌≢◌, ℕ, ℤ, List, [], ◌∷◌, Option, None, Some, slice_get}
+use Rattle.std.specs.Prelude.{◌≡◌, ◌≢◌, ℕ, ℤ, List, [], ◌∷◌, All, Option, None, Some, slice_get, Result, IfOk, IfErr}
 use Rattle.cs_inputs.specs.declared.path.Path.{Path}
 use Rattle.cs_ast.specs.declared.place.Place.{Place}
 use Rattle.cs_terms.specs.Term.{Valuation, value_of}
@@ -8,6 +8,7 @@ use Rattle.cs_terms.specs.declared.term.Lin.{Lin}
 use Rattle.cs_constraints.specs.Constraints.{Fits}
 use Rattle.cs_events.specs.declared.event.Label.TheVariants as label
 use Rattle.cs_events.specs.declared.input.InputKind.{InputKind}
+use Rattle.cs_events.specs.declared.outcome.Outcome.TheVariants.{Fault}
 use Rattle.cs_events.specs.Operations.{is_true}
 use Rattle.cs_events.specs.Objects.{Cell}
 use Rattle.cs_events.specs.Acts.{Act, Goes, Stops, Reads, Asks, Allocates, Reaches, Touches}
@@ -18,9 +19,11 @@ use Rattle.cs_regions.specs.declared.base.Base.{Base}
 use Rattle.cs_store.specs.declared.value.Value.{Value}
 use Rattle.cs_store.specs.declared.value.Value.TheVariants as value
 use Rattle.cs_state.specs.declared.state.State.{State}
-use Rattle.cs_state.specs.Cells.{cell_of}
-use Rattle.cs_eval.specs.declared.question.Question.{Question}
+use Rattle.cs_state.specs.Cells.{cell_of, object_of}
 use Rattle.cs_eval.specs.Questions.{operation_of}
+use Rattle.cs_progress.specs.declared.pause.Pause.{Pause}
+use Rattle.cs_progress.specs.declared.pause.Pause.TheVariants as pause
+use Rattle.cs_progress.specs.declared.progress.Progress.{Progress}
 use Rattle.cs_progress.specs.declared.next.Next.{Next}
 use Rattle.cs_progress.specs.declared.next.Next.TheVariants as next
 use Rattle.cs_progress.specs.Answering.{answers_left}
@@ -48,14 +51,49 @@ abbrev pub GetsThrough : State → ℕ → ℕ → (Valuation → Act CodeState 
 GetsThrough state before after part = (cells : Path → InputKind → Cell) (valuation : Valuation) → Fits valuation state.constraints
     → (act : Act CodeState) → Leads cells (answers_left state before valuation) (answers_left state after valuation) (part valuation act) act
 
--- under each valuation that fits, a question stands first in what is left of the act
-pub record WaitsToAsk (state : State) (used : ℕ) (first : Next) (act : Valuation → Act CodeState) : Type 0 where
-  pub at : Place
-  pub question : Question
-  pub first_is : first ≡ next.Asks at question
-  pub stands : (cells : Path → InputKind → Cell) (valuation : Valuation) → Fits valuation state.constraints
-      → (onward : ℤ → Act CodeState)
-      × (left_of cells (answers_left state used valuation) (act valuation) ≡ Asks at (operation_of valuation question) onward)
+-- under each valuation that fits, an operation gets through the first part of its act, which gives what comes after it a result
+abbrev pub Gives : {Given : Type 0} → State → ℕ → ℕ → (Valuation → (Given → Act CodeState) → Act CodeState) → (Valuation → Given) → Type 0
+Gives {Given} state before after part given =
+    (cells : Path → InputKind → Cell) (valuation : Valuation) → Fits valuation state.constraints → (onward : Given → Act CodeState)
+    → Leads cells (answers_left state before valuation) (answers_left state after valuation) (part valuation onward) (onward (given valuation))
+
+-- what is left of an act begins with what was named: with a question, or with the offset of an access; it is a fault under each valuation
+-- that fits one of the faulty parts; or the end of the run. An operator doesn't wait for anything else
+abbrev pub BeginsWith : List Base → Valuation → Next → Act CodeState → Type 0
+BeginsWith bases valuation next.Done act = ⊥
+BeginsWith bases valuation (next.Asks at question) act = (onward : ℤ → Act CodeState) × (act ≡ Asks at (operation_of valuation question) onward)
+BeginsWith bases valuation (next.Selects at term) act = ⊥
+BeginsWith bases valuation (next.Reaches at base offset) act =
+    (region : Base) × (onward : Act CodeState) × (slice_get bases base ≡ Some region)
+    × (act ≡ Reaches at (object_of region) (value_of valuation offset) onward)
+BeginsWith bases valuation (next.Checks at checked) act =
+    All (λ part. Fits valuation part.state.constraints → act ≡ Stops (Fault part.kind at)) checked.value.faults.items
+BeginsWith bases valuation (next.Ends outcome) act = act ≡ Stops outcome
+
+-- this stands first in what is left of an act, if that uses all answers
+abbrev pub StandsFirst : List Base → State → ℕ → Next → (Path → InputKind → Cell) → Valuation → Act CodeState → Type 0
+StandsFirst bases state used first cells valuation act =
+    UsesAll cells (answers_left state used valuation) act → BeginsWith bases valuation first (left_of cells (answers_left state used valuation) act)
+
+-- the same under each valuation that fits
+abbrev pub WaitsFor : List Base → State → ℕ → Next → (Valuation → Act CodeState) → Type 0
+WaitsFor bases state used first act =
+    (cells : Path → InputKind → Cell) (valuation : Valuation) → Fits valuation state.constraints
+    → StandsFirst bases state used first cells valuation (act valuation)
+
+-- an operation carries out a part of its act that gives a number, a cell or a truth: it gets through it, or what it waits for stands first
+pub record CarriesOut {T Given : Type 0} (bases : List Base) (state : State) (before after : Progress) (answer : Result T Pause)
+    (part : Valuation → (Given → Act CodeState) → Act CodeState) (given : T → Valuation → Given) : Type 0 where
+  pub through : IfOk answer (λ made. Gives state before.used after.used part (given made))
+  pub waits : IfErr answer (λ why. why ≡ pause.Waits
+      → (onward : Given → Act CodeState) → WaitsFor bases state before.used after.first (λ valuation. part valuation onward))
+
+-- the same of a part that gives nothing
+pub record Passes {T : Type 0} (bases : List Base) (state : State) (before after : Progress) (answer : Result T Pause)
+    (part : Valuation → Act CodeState → Act CodeState) : Type 0 where
+  pub through : IfOk answer (λ done. GetsThrough state before.used after.used part)
+  pub waits : IfErr answer (λ why. why ≡ pause.Waits
+      → (act : Act CodeState) → WaitsFor bases state before.used after.first (λ valuation. part valuation act))
 
 -- the base region of a pointer has a name
 abbrev pub IsNamed : List Base → Value → Type 0

@@ -4,3 +4,4 @@ pub mod Leaving
 pub mod Operands
 pub mod Answering
 pub mod Acting
+pub mod Computing

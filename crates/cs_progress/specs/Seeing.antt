@@ -1,5 +1,5 @@
 -- Where a pointer points that was looked at.
-use Rattle.std.specs.Prelude.{◌≡◌, List, slice_get}
+use Rattle.std.specs.Prelude.{◌≡◌, ◌≢◌, List, None, slice_get}
 use Rattle.cs_terms.specs.Term.{Valuation, value_of}
 use Rattle.cs_constraints.specs.Constraints.{Fits}
 use Rattle.cs_regions.specs.declared.base.Base.{Base}
@@ -28,3 +28,9 @@ abbrev pub IsSeenIn : State → Value → Seen → Type 0
 IsSeenIn state value seen =
     (bases : List Base) (valuation : Valuation) → Fits valuation state.constraints
     → IsSeen bases valuation seen (cell_of bases state.blocks valuation value)
+
+-- the base region that is seen has a name
+abbrev pub IsSeenNamed : List Base → Seen → Type 0
+IsSeenNamed bases Null = Unit {0}
+IsSeenNamed bases (At base offset) = slice_get bases base ≢ None
+IsSeenNamed bases Other = Unit {0}

@@ -34,7 +34,9 @@ impl<'a> Context<'a> {
     }
 
     /// The data model of the program.
-    pub fn model(&self) -> DataModel {
+    pub fn model(&self) -> DataModel
+        ensures { result ≡ self.now.setting.now.program.now.model }
+    {
         self.setting.program.model
     }
 

@@ -1,6 +1,10 @@
 //! The operands of an operation: the newest temporaries of the frame that runs.
-ghost use Rattle.std.specs.Prelude.{◌≡◌, IfOk, OnOk};
+ghost use Rattle.std.specs.Prelude.{◌≡◌, ◌<◌, length, List, IfOk, IfErr, OnOk};
+ghost use Rattle.cs_regions.specs.declared.base.Base.{Base};
 ghost use Rattle.cs_state.specs.declared.temporary.Temporary.TheVariants.{Scalar};
+ghost use Rattle.cs_progress.specs.declared.pause.Pause.TheVariants as pause;
+ghost use Rattle.cs_progress.specs.Acting.{IsNamed};
+ghost use Rattle.cs_progress.specs.Computing.{IsNamedTemporary, HaveNames};
 ghost use Rattle.cs_progress.specs.Operands.{IsOperandAt, IsScalarOf, IsCellAt, IsNumberOf, IsNumberAt, MeansDropped, MeansReplaced};
 
 use crate::pause::Pause;
@@ -12,7 +16,10 @@ use std::alloc::AllocError;
 
 /// An operand by its age, the newest being 0.
 pub fn operand(state: &State, age: usize) -> Result<&Temporary, AllocError>
-    ensures { IfOk result (λ operand. IsOperandAt state.now age operand.now) }
+    ensures operand { IfOk result (λ operand. IsOperandAt state.now age operand.now) }
+    ensures named { IfOk result (λ operand. (bases : List Base) → HaveNames bases state.now
+        → IsNamedTemporary bases operand.now) }
+    ensures there { OnOk result (age < length state.now.frame.temporaries) }
 {
     let list = state.frame.temporaries.as_slice();
     if age >= list.len() {
@@ -23,7 +30,8 @@ pub fn operand(state: &State, age: usize) -> Result<&Temporary, AllocError>
 
 /// The scalar that an operand is; any other counts as unset.
 pub fn value_of(temporary: &Temporary) -> Value
-    ensures { IsScalarOf temporary.now result }
+    ensures scalar { IsScalarOf temporary.now result }
+    ensures named { (bases : List Base) → IsNamedTemporary bases temporary.now → IsNamed bases result }
 {
     match temporary {
         Temporary::Scalar(value) => *value,
@@ -33,7 +41,10 @@ pub fn value_of(temporary: &Temporary) -> Value
 
 /// The scalar that an operand is, by its age.
 pub fn value(state: &State, age: usize) -> Result<Value, Pause>
-    ensures { IfOk result (IsCellAt state.now age) }
+    ensures value { IfOk result (IsCellAt state.now age) }
+    ensures named { IfOk result (λ value. (bases : List Base) → HaveNames bases state.now
+        → IsNamed bases value) }
+    ensures memory { IfErr result (λ why. why ≡ pause.Memory) }
 {
     let temporary = operand(state, age)?;
     Ok(value_of(temporary))
@@ -41,7 +52,8 @@ pub fn value(state: &State, age: usize) -> Result<Value, Pause>
 
 /// The number that an operand is, by its age; any other counts as 0.
 pub fn number(state: &State, age: usize) -> Result<Lin, Pause>
-    ensures { IfOk result (IsNumberAt state.now age) }
+    ensures value { IfOk result (IsNumberAt state.now age) }
+    ensures memory { IfErr result (λ why. why ≡ pause.Memory) }
 {
     let value = value(state, age)?;
     number_in(state, value)
@@ -49,7 +61,8 @@ pub fn number(state: &State, age: usize) -> Result<Lin, Pause>
 
 /// The number that a value is; any other counts as 0.
 pub fn number_in(state: &State, value: Value) -> Result<Lin, Pause>
-    ensures { IfOk result (IsNumberOf state.now value) }
+    ensures value { IfOk result (IsNumberOf state.now value) }
+    ensures memory { IfErr result (λ why. why ≡ pause.Memory) }
 {
     match value {
         Value::Number(term) => known(state, term),
@@ -59,7 +72,8 @@ pub fn number_in(state: &State, value: Value) -> Result<Lin, Pause>
 
 /// Drops so many of the newest operands, and leaves one in their place.
 pub fn replace(state: &mut State, count: usize, left: Temporary) -> Result<(), Pause>
-    ensures { OnOk result (MeansReplaced count left state.old state.new) }
+    ensures means { OnOk result (MeansReplaced count left state.old state.new) }
+    ensures memory { IfErr result (λ why. why ≡ pause.Memory) }
 {
     drop_newest(state, count)?;
     state.push(left)?;
@@ -68,7 +82,8 @@ pub fn replace(state: &mut State, count: usize, left: Temporary) -> Result<(), P
 
 /// The same with a scalar.
 pub fn replace_with(state: &mut State, count: usize, value: Value) -> Result<(), Pause>
-    ensures { OnOk result (MeansReplaced count (Scalar value) state.old state.new) }
+    ensures means { OnOk result (MeansReplaced count (Scalar value) state.old state.new) }
+    ensures memory { IfErr result (λ why. why ≡ pause.Memory) }
 {
     replace(state, count, Temporary::Scalar(value))
 }
@@ -77,6 +92,7 @@ pub fn replace_with(state: &mut State, count: usize, value: Value) -> Result<(),
 pub fn drop_newest(state: &mut State, count: usize) -> Result<(), Pause>
     ensures means { OnOk result (MeansDropped count state.old state.new) }
     ensures blocks { state.new.blocks ≡ state.old.blocks }
+    ensures memory { IfErr result (λ why. why ≡ pause.Memory) }
 {
     let length = state.frame.temporaries.as_slice().len();
     if count > length {

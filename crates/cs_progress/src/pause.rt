@@ -22,6 +22,11 @@ impl From<AllocError> for Pause {
 }
 
 impl<T: Drop> From<AllocFailed<T>> for Pause {
+    ghost use Rattle.std.specs.Prelude.{◌≡◌};
+    ghost use Rattle.cs_progress.specs.declared.pause.Pause.TheVariants.{Memory};
+
+    ghost from_gives = { λ error made. made ≡ Memory };
+
     fn from(_error: AllocFailed<T>) -> Pause {
         Pause::Memory
     }

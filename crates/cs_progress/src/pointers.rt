@@ -1,13 +1,15 @@
 //! Pointers: whether they are null, and where they point.
 ghost use Rattle.std.specs.Prelude.{◌≡◌, List, Some, IfOk, IfErr};
 ghost use Rattle.cs_regions.specs.declared.base.Base.{Base};
+ghost use Rattle.cs_terms.specs.Term.{Valuation, value_of};
+ghost use Rattle.cs_events.specs.Operations.{is_true};
 ghost use Rattle.cs_events.specs.Acts.{Act};
 ghost use Rattle.cs_cfg.specs.Working.{CodeState};
 ghost use Rattle.cs_state.specs.Cells.{block_of};
 ghost use Rattle.cs_progress.specs.declared.pause.Pause.TheVariants as pause;
-ghost use Rattle.cs_progress.specs.Acting.{GetsThrough, WaitsToAsk, IsNamed, looked, ShowsLook};
+ghost use Rattle.cs_progress.specs.Acting.{GetsThrough, WaitsFor, IsNamed, looked, ShowsLook};
 ghost use Rattle.cs_progress.specs.Operands.{IsFurther};
-ghost use Rattle.cs_progress.specs.Seeing.{IsSeenIn};
+ghost use Rattle.cs_progress.specs.Seeing.{IsSeenIn, IsSeenNamed};
 
 use crate::pause::Pause;
 use crate::progress::Progress;
@@ -32,12 +34,14 @@ pub enum Seen {
 /// A pointer shows whether it is null; nothing else shows.
 pub fn look(state: &State, progress: &mut Progress, at: Place, value: Value) -> Result<Seen, Pause>
     ensures seen { IfOk result (IsSeenIn state.now value) }
+    ensures named { IfOk result (λ seen. (bases : List Base) → IsNamed bases value
+        → IsSeenNamed bases seen) }
     ensures through { IfOk result (λ seen. (bases : List Base) → IsNamed bases value
         → GetsThrough state.now progress.old.used progress.new.used
         (looked bases state.now at value)) }
     ensures waits { IfErr result (λ why. why ≡ pause.Waits
         → (bases : List Base) → IsNamed bases value → (act : Act CodeState)
-        → WaitsToAsk state.now progress.old.used progress.new.first
+        → WaitsFor bases state.now progress.old.used progress.new.first
         (λ valuation. looked bases state.now at value valuation act)) }
 {
     if let Some(there) = shown_by(state, value)? {
@@ -62,6 +66,8 @@ fn shown_by(state: &State, value: Value) -> Result<Option<Lin>, AllocError>
 /// Where a value points that was looked at.
 pub fn resolved(state: &State, value: Value) -> Result<Seen, Pause>
     ensures seen { IfOk result (IsSeenIn state.now value) }
+    ensures named { IfOk result (λ seen. (bases : List Base) → IsNamed bases value
+        → IsSeenNamed bases seen) }
     ensures memory { IfErr result (λ why. why ≡ pause.Memory) }
 {
     match value {
@@ -85,7 +91,8 @@ pub fn block(state: &State, base: u64) -> Result<&Block, AllocError>
 
 /// A pointer so many bytes further on; null stays null.
 pub fn further(state: &State, value: Value, bytes: u64) -> Result<Value, Pause>
-    ensures { IfOk result (IsFurther state.now value bytes) }
+    ensures moved { IfOk result (IsFurther state.now value bytes) }
+    ensures memory { IfErr result (λ why. why ≡ pause.Memory) }
 {
     match value {
         Value::At(base, offset) => {
@@ -105,7 +112,11 @@ pub fn further(state: &State, value: Value, bytes: u64) -> Result<Value, Pause>
 }
 
 /// The truth that an answer is, which is a constant.
-pub fn truth(answer: Lin) -> Result<bool, Pause> {
+pub fn truth(answer: Lin) -> Result<bool, Pause>
+    ensures truth { IfOk result (λ holds. (valuation : Valuation)
+        → is_true (value_of valuation answer) ≡ holds) }
+    ensures memory { IfErr result (λ why. why ≡ pause.Memory) }
+{
     match answer.sym {
         Some(_) => Err(Pause::Memory),
         None => Ok(answer.value != 0),

@@ -151,7 +151,8 @@ fn solution(term: Lin, value: i128) -> Result<Option<i128>, AllocError>
 
 /// A term moved by a number.
 pub fn shifted(term: Lin, by: i128) -> Result<Lin, Pause>
-    ensures { IfOk result (λ moved. (valuation : Valuation)
+    ensures memory { IfErr result (λ why. why ≡ pause.Memory) }
+    ensures value { IfOk result (λ moved. (valuation : Valuation)
         → value_of valuation moved ≡ value_of valuation term +ℤ by) }
 {
     let Some(value) = term.value.checked_add(by) else {
@@ -162,7 +163,8 @@ pub fn shifted(term: Lin, by: i128) -> Result<Lin, Pause>
 
 /// A term times a number.
 pub fn scaled(term: Lin, factor: i128) -> Result<Lin, Pause>
-    ensures { IfOk result (λ made. (valuation : Valuation)
+    ensures memory { IfErr result (λ why. why ≡ pause.Memory) }
+    ensures value { IfOk result (λ made. (valuation : Valuation)
         → value_of valuation made ≡ value_of valuation term *ℤ factor) }
 {
     if factor == 0 {

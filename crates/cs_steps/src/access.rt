@@ -1,14 +1,14 @@
 //! Loads and stores (C11 6.3.2.1, 6.5.16).
 ghost use Rattle.cs_objects.specs.Prepared.{IsReady};
-ghost use Rattle.cs_steps.specs.Asking.{KeepKinds};
+ghost use Rattle.cs_operators.specs.Asking.{KeepKinds};
 
-use crate::attempt::Attempt;
-use crate::cells::{Cell, look_up, read};
-use crate::inputs::Inputs;
-use crate::objects::object;
-use crate::pointers::{named, not_null, ordered};
+use cs_cells::cells::{Cell, look_up, read};
+use cs_cells::inputs::Inputs;
+use cs_cells::objects::object;
 use cs_cfg::Access;
-use cs_checker::Subject;
+use cs_checker::{Checker, Subject};
+use cs_operators::Attempt;
+use cs_operators::pointers::{named, not_null, ordered};
 use cs_progress::operands::value_of;
 use cs_progress::pointers::{look, resolved};
 use cs_progress::terms::{constant, scaled, shifted};
@@ -35,7 +35,8 @@ pub fn locate(
     place: Value,
 ) -> Result<Reached, Pause>
     requires { IsReady context.now.setting.now }
-    ensures { KeepKinds (λ b. kind_of b) attempt.old.checkers.items attempt.new.checkers.items }
+    ensures { KeepKinds (λ b. (⟦<dyn Checker as Checker>⟧ b.vtable).kind_of b.value)
+        attempt.old.checkers.items attempt.new.checkers.items }
 {
     if access.direct {
         let (base, offset) = named(state, attempt, access.place, resolved(state, place)?)?;
@@ -61,7 +62,8 @@ fn reach(
     pointer: (u64, Lin),
 ) -> Result<Reached, Pause>
     requires { IsReady context.now.setting.now }
-    ensures { KeepKinds (λ b. kind_of b) attempt.old.checkers.items attempt.new.checkers.items }
+    ensures { KeepKinds (λ b. (⟦<dyn Checker as Checker>⟧ b.vtable).kind_of b.value)
+        attempt.old.checkers.items attempt.new.checkers.items }
 {
     let (base, offset) = pointer;
     let at = access.place;
@@ -96,7 +98,8 @@ pub fn load(
     place: Value,
 ) -> Result<Temporary, Pause>
     requires { IsReady context.now.setting.now }
-    ensures { KeepKinds (λ b. kind_of b) attempt.old.checkers.items attempt.new.checkers.items }
+    ensures { KeepKinds (λ b. (⟦<dyn Checker as Checker>⟧ b.vtable).kind_of b.value)
+        attempt.old.checkers.items attempt.new.checkers.items }
 {
     let reached = locate(context, state, tables, attempt, access, place)?;
     if let CType::Struct(_) = &access.ty {
@@ -146,7 +149,8 @@ pub fn locate_for_store(
     place: Value,
 ) -> Result<Reached, Pause>
     requires { IsReady context.now.setting.now }
-    ensures { KeepKinds (λ b. kind_of b) attempt.old.checkers.items attempt.new.checkers.items }
+    ensures { KeepKinds (λ b. (⟦<dyn Checker as Checker>⟧ b.vtable).kind_of b.value)
+        attempt.old.checkers.items attempt.new.checkers.items }
 {
     let reached = locate(context, state, tables, attempt, access, place)?;
     let constant = object(context, state, tables, reached.base)?.constant;
@@ -205,7 +209,8 @@ pub fn store(
     operand: Temporary,
 ) -> Result<(), Pause>
     requires { IsReady context.now.setting.now }
-    ensures { KeepKinds (λ b. kind_of b) attempt.old.checkers.items attempt.new.checkers.items }
+    ensures { KeepKinds (λ b. (⟦<dyn Checker as Checker>⟧ b.vtable).kind_of b.value)
+        attempt.old.checkers.items attempt.new.checkers.items }
 {
     let reached = locate_for_store(context, state, tables, attempt, access, place)?;
     write(context, state, &access.ty, reached, operand)

@@ -1,11 +1,11 @@
 //! Calls of functions (C11 6.5.2.2), with a body and without one.
 ghost use Rattle.cs_objects.specs.Prepared.{IsReady};
 
-use crate::cells::{kind_of, received};
 use crate::ends::go_on;
-use crate::objects::object;
 use cs_ast::Place;
 use cs_ast::typed::program::Function;
+use cs_cells::cells::{kind_of, received};
+use cs_cells::objects::object;
 use cs_cfg::{Flow, Spot};
 use cs_eval::Question;
 use cs_events::{Budget, Outcome};

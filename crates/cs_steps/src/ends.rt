@@ -1,10 +1,10 @@
 //! What the end of a block does, and what a loop head or a label does.
 ghost use Rattle.cs_objects.specs.Prepared.{IsReady};
 
-use crate::operators::test;
 use cs_cfg::{BlockEnd, CountedPoint, Spot, SwitchCase};
 use cs_eval::Tested;
 use cs_events::{Budget, Outcome};
+use cs_operators::operators::test;
 use cs_progress::operands::{drop_newest, number, operand, value};
 use cs_progress::terms::has_value;
 use cs_progress::{Context, Pause, Progress, leave};

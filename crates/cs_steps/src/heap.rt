@@ -1,17 +1,17 @@
 //! Allocations and releases (C11 7.22.3).
 ghost use Rattle.cs_objects.specs.Prepared.{IsReady};
-ghost use Rattle.cs_steps.specs.Asking.{KeepKinds};
+ghost use Rattle.cs_operators.specs.Asking.{KeepKinds};
 
-use crate::attempt::Attempt;
-use crate::cells::declare;
-use crate::objects::object;
-use crate::operators::operate;
 use cs_ast::Place;
 use cs_ast::typed::operator::{Allocator, BinOp};
-use cs_checker::Subject;
+use cs_cells::cells::declare;
+use cs_cells::objects::object;
+use cs_checker::{Checker, Subject};
 use cs_eval::{Question, Tested};
 use cs_inputs::Root;
 use cs_model::Standing;
+use cs_operators::Attempt;
+use cs_operators::operators::operate;
 use cs_progress::operands::{number, replace, replace_with, value};
 use cs_progress::pointers::{Seen, look, truth};
 use cs_progress::terms::{constant, own};
@@ -34,7 +34,8 @@ pub fn allocate(
     element: &CType,
 ) -> Result<(), Pause>
     requires { IsReady context.now.setting.now }
-    ensures { KeepKinds (λ b. kind_of b) attempt.old.checkers.items attempt.new.checkers.items }
+    ensures { KeepKinds (λ b. (⟦<dyn Checker as Checker>⟧ b.vtable).kind_of b.value)
+        attempt.old.checkers.items attempt.new.checkers.items }
 {
     match allocator {
         Allocator::Malloc => {
@@ -61,7 +62,8 @@ fn zeros(
     element: &CType,
 ) -> Result<Value, Pause>
     requires { IsReady context.now.setting.now }
-    ensures { KeepKinds (λ b. kind_of b) attempt.old.checkers.items attempt.new.checkers.items }
+    ensures { KeepKinds (λ b. (⟦<dyn Checker as Checker>⟧ b.vtable).kind_of b.value)
+        attempt.old.checkers.items attempt.new.checkers.items }
 {
     let model = context.model();
     let count = number(state, 1)?;
@@ -154,7 +156,8 @@ pub fn release(
     at: Place,
 ) -> Result<(), Pause>
     requires { IsReady context.now.setting.now }
-    ensures { KeepKinds (λ b. kind_of b) attempt.old.checkers.items attempt.new.checkers.items }
+    ensures { KeepKinds (λ b. (⟦<dyn Checker as Checker>⟧ b.vtable).kind_of b.value)
+        attempt.old.checkers.items attempt.new.checkers.items }
 {
     let pointer = value(state, 0)?;
     if let Seen::At(base, offset) = look(state, &mut attempt.progress, at, pointer)? {

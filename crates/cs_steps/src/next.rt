@@ -1,12 +1,12 @@
 //! What stands first in what is left of an operation.
 ghost use Rattle.cs_objects.specs.Prepared.{IsReady};
-ghost use Rattle.cs_steps.specs.Asking.{KeepKinds};
+ghost use Rattle.cs_operators.specs.Asking.{KeepKinds};
 
-use crate::attempt::Attempt;
 use crate::ends::{end, reach_counted_point};
 use crate::work::work;
 use cs_cfg::{BlockEnd, Instruction, Operation};
 use cs_checker::Checker;
+use cs_operators::Attempt;
 use cs_progress::{Context, Next, Pause, leave};
 use cs_state::{State, Tables, Temporary};
 use cs_store::Value;
@@ -54,7 +54,8 @@ fn step(
     attempt: &mut Attempt,
 ) -> Result<(), Pause>
     requires { IsReady context.now.setting.now }
-    ensures { KeepKinds (λ b. kind_of b) attempt.old.checkers.items attempt.new.checkers.items }
+    ensures { KeepKinds (λ b. (⟦<dyn Checker as Checker>⟧ b.vtable).kind_of b.value)
+        attempt.old.checkers.items attempt.new.checkers.items }
 {
     match context.code.instruction_at(state.frame.spot) {
         Instruction::CountedPoint(point) => {

@@ -1,45 +1,20 @@
-//! Conversions, and updates of objects in place (C11 6.3, 6.5.2.4, 6.5.16.2).
+//! Updates of objects in place (C11 6.5.2.4, 6.5.16.2).
 ghost use Rattle.cs_objects.specs.Prepared.{IsReady};
-ghost use Rattle.cs_steps.specs.Asking.{KeepKinds};
+ghost use Rattle.cs_operators.specs.Asking.{KeepKinds};
 
 use crate::access::{load, store};
-use crate::attempt::Attempt;
-use crate::operators::{convert_number, directed, operate, sum};
 use cs_ast::Place;
 use cs_ast::typed::operator::{BinOp, Direction, Gives};
 use cs_cfg::Access;
-use cs_progress::operands::{number, number_in, operand, replace, value, value_of};
-use cs_progress::{Context, Pause, Progress};
+use cs_checker::Checker;
+use cs_operators::Attempt;
+use cs_operators::operators::{convert_number, directed, operate, sum};
+use cs_progress::operands::{number, number_in, replace, value, value_of};
+use cs_progress::{Context, Pause};
 use cs_state::{State, Tables, Temporary};
 use cs_store::Value;
 use cs_types::{CType, IntType};
 use cs_values::constants::integer_of;
-
-/// A conversion of a value of a type: only that of a number to an integer type changes it; of a void value nothing is left (C11 6.3.2.2).
-pub fn convert(
-    context: &Context,
-    state: &mut State,
-    progress: &mut Progress,
-    at: Place,
-    from: &CType,
-    to: &CType,
-) -> Result<(), Pause>
-    requires { IsReady context.now.setting.now }
-{
-    let model = context.model();
-    match to {
-        CType::Void => replace(state, 1, Temporary::Nothing),
-        CType::Int(ty) => {
-            let Temporary::Scalar(Value::Number(_)) = operand(state, 0)? else {
-                return Ok(());
-            };
-            let before = number(state, 0)?;
-            let after = convert_number(model, state, progress, at, (from, *ty), before)?;
-            replace(state, 1, Temporary::Scalar(Value::Number(after)))
-        }
-        CType::Pointer(_) | CType::Array(_, _) | CType::Struct(_) => Ok(()),
-    }
-}
 
 /// The load of an update of a number, which is converted to the type of the operator.
 pub fn fetch_number(
@@ -51,7 +26,8 @@ pub fn fetch_number(
     access: &Access,
 ) -> Result<(), Pause>
     requires { IsReady context.now.setting.now }
-    ensures { KeepKinds (λ b. kind_of b) attempt.old.checkers.items attempt.new.checkers.items }
+    ensures { KeepKinds (λ b. (⟦<dyn Checker as Checker>⟧ b.vtable).kind_of b.value)
+        attempt.old.checkers.items attempt.new.checkers.items }
 {
     let (at, ty) = how;
     let model = context.model();
@@ -76,7 +52,8 @@ pub fn update(
     how: (BinOp, IntType, Gives),
 ) -> Result<(), Pause>
     requires { IsReady context.now.setting.now }
-    ensures { KeepKinds (λ b. kind_of b) attempt.old.checkers.items attempt.new.checkers.items }
+    ensures { KeepKinds (λ b. (⟦<dyn Checker as Checker>⟧ b.vtable).kind_of b.value)
+        attempt.old.checkers.items attempt.new.checkers.items }
 {
     let (operator, ty, gives) = how;
     let model = context.model();
@@ -111,7 +88,8 @@ pub fn move_pointer(
     how: (u64, Direction, Gives),
 ) -> Result<(), Pause>
     requires { IsReady context.now.setting.now }
-    ensures { KeepKinds (λ b. kind_of b) attempt.old.checkers.items attempt.new.checkers.items }
+    ensures { KeepKinds (λ b. (⟦<dyn Checker as Checker>⟧ b.vtable).kind_of b.value)
+        attempt.old.checkers.items attempt.new.checkers.items }
 {
     let (bytes, direction, gives) = how;
     let amount = directed(direction, number(state, 0)?)?;

@@ -1,28 +1,27 @@
 //! What each operation of the code does.
 ghost use Rattle.cs_objects.specs.Prepared.{IsReady};
-ghost use Rattle.cs_steps.specs.Asking.{KeepKinds};
+ghost use Rattle.cs_operators.specs.Asking.{KeepKinds};
 
 use crate::access::{Reached, load, spell, store, write};
-use crate::attempt::Attempt;
 use crate::calls::call;
 use crate::ends::go_on;
 use crate::heap::{allocate, release};
-use crate::operators::{compare, difference, directed, number_of, operate, sum, test};
-use crate::pointers::arrow;
-use crate::updates::{convert, fetch_number, move_pointer, update};
+use crate::updates::{fetch_number, move_pointer, update};
 use cs_ast::Place;
-use cs_ast::typed::operator::{BinOp, CmpOp, Direction, Order, UnOp};
 use cs_cfg::{Access, Operation, Work};
-use cs_checker::Subject;
-use cs_eval::{Question, Tested};
-use cs_progress::operands::{drop_newest, number, operand, replace, replace_with, value};
-use cs_progress::pointers::further;
+use cs_checker::Checker;
+use cs_operators::Attempt;
+use cs_operators::computing::{
+    add, binary, compare_operands, convert, judge, member, member_through, negate, subtract, unary,
+    use_result,
+};
+use cs_progress::operands::{drop_newest, operand, replace, value};
 use cs_progress::terms::constant;
-use cs_progress::{Context, Pause, Progress};
+use cs_progress::{Context, Pause};
 use cs_regions::Base;
 use cs_state::{State, Tables, Temporary};
 use cs_store::{Fill, Value};
-use cs_types::{CType, IntType};
+use cs_types::CType;
 
 /// What an operation does, after which the frame goes on.
 pub fn work(
@@ -33,7 +32,8 @@ pub fn work(
     operation: &Operation,
 ) -> Result<(), Pause>
     requires { IsReady context.now.setting.now }
-    ensures { KeepKinds (λ b. kind_of b) attempt.old.checkers.items attempt.new.checkers.items }
+    ensures { KeepKinds (λ b. (⟦<dyn Checker as Checker>⟧ b.vtable).kind_of b.value)
+        attempt.old.checkers.items attempt.new.checkers.items }
 {
     let at = operation.place;
     if let Work::Call(function, count) = &operation.work {
@@ -68,7 +68,8 @@ fn compute(
     operation: &Operation,
 ) -> Result<(), Pause>
     requires { IsReady context.now.setting.now }
-    ensures { KeepKinds (λ b. kind_of b) attempt.old.checkers.items attempt.new.checkers.items }
+    ensures { KeepKinds (λ b. (⟦<dyn Checker as Checker>⟧ b.vtable).kind_of b.value)
+        attempt.old.checkers.items attempt.new.checkers.items }
 {
     let at = operation.place;
     match &operation.work {
@@ -78,8 +79,8 @@ fn compute(
         Work::Member(offset) => member(state, *offset),
         Work::Arrow(offset) => member_through(state, attempt, at, *offset),
         Work::Unary(operator, ty) => unary(state, &mut attempt.progress, at, *operator, *ty),
-        Work::Not => judge(state, &mut attempt.progress, at, Tested::Not),
-        Work::Judge => judge(state, &mut attempt.progress, at, Tested::Truth),
+        Work::Not => negate(state, &mut attempt.progress, at),
+        Work::Judge => judge(state, &mut attempt.progress, at),
         Work::Binary(operator, ty) => binary(context, state, attempt, at, *operator, *ty),
         Work::Compare(operator) => compare_operands(state, attempt, at, *operator),
         Work::Difference(bytes) => subtract(state, attempt, at, *bytes),
@@ -97,7 +98,8 @@ fn access(
     operation: &Operation,
 ) -> Result<(), Pause>
     requires { IsReady context.now.setting.now }
-    ensures { KeepKinds (λ b. kind_of b) attempt.old.checkers.items attempt.new.checkers.items }
+    ensures { KeepKinds (λ b. (⟦<dyn Checker as Checker>⟧ b.vtable).kind_of b.value)
+        attempt.old.checkers.items attempt.new.checkers.items }
 {
     let at = operation.place;
     match &operation.work {
@@ -144,87 +146,6 @@ fn set_local(
     }
 }
 
-// The place of a member of the struct at a place.
-fn member(state: &mut State, offset: u64) -> Result<(), Pause> {
-    let place = further(state, value(state, 0)?, offset)?;
-    replace_with(state, 1, place)
-}
-
-// The place of a member of the struct that a pointer points to.
-fn member_through(
-    state: &mut State,
-    attempt: &mut Attempt,
-    at: Place,
-    offset: u64,
-) -> Result<(), Pause>
-    ensures { KeepKinds (λ b. kind_of b) attempt.old.checkers.items attempt.new.checkers.items }
-{
-    let place = arrow(state, attempt, at, value(state, 0)?, offset)?;
-    replace_with(state, 1, place)
-}
-
-fn unary(
-    state: &mut State,
-    progress: &mut Progress,
-    at: Place,
-    operator: UnOp,
-    ty: IntType,
-) -> Result<(), Pause> {
-    let operand = number(state, 0)?;
-    let result = progress.ask(state, at, Question::Unary(operator, ty, operand))?;
-    replace_with(state, 1, Value::Number(result))
-}
-
-// Whether a value isn't zero, or, where that is asked, is zero.
-fn judge(
-    state: &mut State,
-    progress: &mut Progress,
-    at: Place,
-    tested: Tested,
-) -> Result<(), Pause> {
-    let holds = test(state, progress, at, value(state, 0)?, tested)?;
-    let result = number_of(holds != (tested == Tested::Not));
-    replace_with(state, 1, Value::Number(result))
-}
-
-fn binary(
-    context: &Context,
-    state: &mut State,
-    attempt: &mut Attempt,
-    at: Place,
-    operator: BinOp,
-    ty: IntType,
-) -> Result<(), Pause>
-    requires { IsReady context.now.setting.now }
-    ensures { KeepKinds (λ b. kind_of b) attempt.old.checkers.items attempt.new.checkers.items }
-{
-    let operands = (number(state, 1)?, number(state, 0)?);
-    let result = operate(context.model(), state, attempt, at, operator, ty, operands)?;
-    replace_with(state, 2, Value::Number(result))
-}
-
-fn compare_operands(
-    state: &mut State,
-    attempt: &mut Attempt,
-    at: Place,
-    operator: CmpOp,
-) -> Result<(), Pause>
-    ensures { KeepKinds (λ b. kind_of b) attempt.old.checkers.items attempt.new.checkers.items }
-{
-    let (left, right) = (value(state, 1)?, value(state, 0)?);
-    let result = compare(state, attempt, at, operator, left, right)?;
-    replace_with(state, 2, Value::Number(result))
-}
-
-// The difference of two pointers to objects of so many bytes.
-fn subtract(state: &mut State, attempt: &mut Attempt, at: Place, bytes: u64) -> Result<(), Pause>
-    ensures { KeepKinds (λ b. kind_of b) attempt.old.checkers.items attempt.new.checkers.items }
-{
-    let pointers = (value(state, 1)?, value(state, 0)?);
-    let result = difference(state, attempt, at, pointers, bytes)?;
-    replace_with(state, 2, Value::Number(result))
-}
-
 // The object at a place, in the place's stead.
 fn load_in_place(
     context: &Context,
@@ -234,7 +155,8 @@ fn load_in_place(
     access: &Access,
 ) -> Result<(), Pause>
     requires { IsReady context.now.setting.now }
-    ensures { KeepKinds (λ b. kind_of b) attempt.old.checkers.items attempt.new.checkers.items }
+    ensures { KeepKinds (λ b. (⟦<dyn Checker as Checker>⟧ b.vtable).kind_of b.value)
+        attempt.old.checkers.items attempt.new.checkers.items }
 {
     let place = value(state, 0)?;
     let loaded = load(context, state, tables, attempt, access, place)?;
@@ -250,7 +172,8 @@ fn fetch(
     access: &Access,
 ) -> Result<(), Pause>
     requires { IsReady context.now.setting.now }
-    ensures { KeepKinds (λ b. kind_of b) attempt.old.checkers.items attempt.new.checkers.items }
+    ensures { KeepKinds (λ b. (⟦<dyn Checker as Checker>⟧ b.vtable).kind_of b.value)
+        attempt.old.checkers.items attempt.new.checkers.items }
 {
     let place = value(state, 0)?;
     let loaded = load(context, state, tables, attempt, access, place)?;
@@ -267,7 +190,8 @@ fn assign(
     access: &Access,
 ) -> Result<(), Pause>
     requires { IsReady context.now.setting.now }
-    ensures { KeepKinds (λ b. kind_of b) attempt.old.checkers.items attempt.new.checkers.items }
+    ensures { KeepKinds (λ b. (⟦<dyn Checker as Checker>⟧ b.vtable).kind_of b.value)
+        attempt.old.checkers.items attempt.new.checkers.items }
 {
     let place = value(state, 1)?;
     let stored = operand(state, 0)?.clone()?;
@@ -325,38 +249,4 @@ fn zero(state: &mut State, tables: &mut Tables, decl: u32) -> Result<(), Pause> 
     let base = tables.base(local(state, decl))?;
     state.fill(base, Fill::Zero)?;
     Ok(())
-}
-
-// The result of a call that is used was set (C11 6.9.1, paragraph 12).
-fn use_result(state: &State, attempt: &mut Attempt, at: Place) -> Result<(), Pause>
-    ensures { KeepKinds (λ b. kind_of b) attempt.old.checkers.items attempt.new.checkers.items }
-{
-    if let Temporary::Scalar(value) = operand(state, 0)? {
-        let unset = matches!(value, Value::Unset);
-        attempt.check(state, at, Subject::Cell { unset })?;
-    }
-    Ok(())
-}
-
-// A pointer is moved.
-fn add(
-    context: &Context,
-    state: &mut State,
-    attempt: &mut Attempt,
-    at: Place,
-    bytes: u64,
-    direction: Direction,
-    order: Order,
-) -> Result<(), Pause>
-    requires { IsReady context.now.setting.now }
-    ensures { KeepKinds (λ b. kind_of b) attempt.old.checkers.items attempt.new.checkers.items }
-{
-    let (pointer, amount) = match order {
-        Order::PointerFirst => (1, 0),
-        Order::AmountFirst => (0, 1),
-    };
-    let pointer = value(state, pointer)?;
-    let amount = directed(direction, number(state, amount)?)?;
-    let moved = sum(context, state, attempt, at, pointer, amount, bytes)?;
-    replace_with(state, 2, moved)
 }

@@ -5,10 +5,10 @@ use Rattle.cs_terms.specs.declared.term.Lin.{Lin}
 use Rattle.cs_progress.specs.Operands.{IsNumberOf, IsNumberAt}
 use Rattle.cs_progress.proofs.operands.number.Goals as goal
 
-pub returns : goal.returns
-returns c =
+pub returns-clause-value : goal.returns-clause-value
+returns-clause-value c =
     let state = c.args.state.now in
     IfOk-weaker {X = Lin} _ (IsNumberOf state c.in_ok-value.value) (IsNumberAt state c.args.age)
     (λ (term : Lin). λ is. λ code names program v fits.
-    ap cells.number_in (c.in_ok-value.ensures code names program v) ∙ is names.bases v fits)
-    c.number_in.ensures
+    ap cells.number_in (c.in_ok-value.ensures.value code names program v) ∙ is names.bases v fits)
+    c.number_in.ensures.value

@@ -1,7 +1,5 @@
 use Rattle.std.proofs.Common.{List}
 use Rattle.std.proofs.lemmas.Result.{IfOk-weaker}
-use Rattle.cs_eval.specs.declared.question.Question.TheVariants.{Test}
-use Rattle.cs_eval.specs.declared.question.Tested.TheVariants.{Look}
 use Rattle.cs_regions.specs.declared.base.Base.{Base}
 use Rattle.cs_progress.specs.Acting.{IsNamed, looked, GetsThrough}
 use Rattle.cs_progress.specs.Seeing.{IsSeenIn}
@@ -29,12 +27,6 @@ pub returns-in_err-ask-clause-waits : goal.returns-in_err-ask-clause-waits
 returns-in_err-ask-clause-waits c =
     let shows = rw c.in-Some.is at c.in_ok-there.ensures in
     err_given c.from_residual-in_err-ask.result c.in_err-ask.field-0.0 _ c.from_residual-in_err-ask.ensures
-    (λ waits bases named act. record {
-      at = c.args.at;
-      question = Test Look c.in-Some.there;
-      first_is = c.in_err-ask.ensures.first waits;
-      stands = λ cells v fits. (
-        λ number. act,
-        stands_first cells _ c.args.at _ _ act (shows bases v named c.args.at act) (c.in_err-ask.ensures.none waits v),
-      );
-    })
+    (λ waits bases named act cells v fits uses.
+    let first = stands_first cells _ c.args.at _ _ act (shows bases v named c.args.at act) (c.in_err-ask.ensures.none waits v) in
+    rw (c.in_err-ask.ensures.first waits) ((λ number. act), first))

@@ -7,13 +7,13 @@ use Rattle.std.proofs.Math.IntN.{*ℤ-zero}
 use Rattle.cs_terms.proofs.Values.{value_with-scale}
 use Rattle.cs_progress.proofs.terms.scaled.Goals as goal
 
-pub returns-then-factor-eq0 : goal.returns-then-factor-eq0
-returns-then-factor-eq0 c = λ v.
+pub returns-then-factor-eq0-clause-value : goal.returns-then-factor-eq0-clause-value
+returns-then-factor-eq0-clause-value c = λ v.
     let zero : c.args.factor ≡ pos 0 = sym (to_z-of_z w128 c.args.factor c.ranges.factor) ∙ ap (to_z w128) c.if-factor-eq0.true in
     ap (value_of v) c.constant.ensures ∙ sym (ap (λ (n : ℤ). value_of v c.args.term *ℤ n) zero ∙ *ℤ-zero (value_of v c.args.term))
 
-pub returns : goal.returns
-returns c = λ v.
+pub returns-clause-value : goal.returns-clause-value
+returns-clause-value c = λ v.
     let term = c.args.term in
     let slope : to_z w128 (of_z w128 term.slope) ≡ term.slope = search rules in
     let at : to_z w128 (of_z w128 term.at) ≡ term.at = search rules in

@@ -5,8 +5,8 @@ use Rattle.std.proofs.lemmas.Int.{to_z-of_z}
 use Rattle.cs_progress.proofs.KnownTerms.{moved_value}
 use Rattle.cs_progress.proofs.terms.shifted.Goals as goal
 
-pub returns : goal.returns
-returns c = λ v.
+pub returns-clause-value : goal.returns-clause-value
+returns-clause-value c = λ v.
     let term = c.args.term in
     let slope : to_z w128 (of_z w128 term.slope) ≡ term.slope = search rules in
     let at : to_z w128 (of_z w128 term.at) ≡ term.at = search rules in

@@ -1,7 +1,12 @@
 //! One attempt to carry out an operation.
-ghost use Rattle.std.specs.Prelude.{◌≡◌, ◌⊎◌, map, OnOk};
+ghost use Rattle.std.specs.Prelude.{◌≡◌, ◌⊎◌, List, map, OnOk};
+ghost use Rattle.cs_regions.specs.declared.base.Base.{Base};
+ghost use Rattle.cs_terms.specs.Term.{Valuation};
+ghost use Rattle.cs_events.specs.Acts.{Act};
+ghost use Rattle.cs_cfg.specs.Working.{CodeState};
 ghost use Rattle.cs_progress.specs.Answering.{IsAnsweredLater};
-ghost use Rattle.cs_steps.specs.Asking.{KeepKinds, IsNoFault};
+ghost use Rattle.cs_progress.specs.Acting.{Passes};
+ghost use Rattle.cs_operators.specs.Asking.{KeepKinds, IsNoFault, HasEveryKind, ChecksFor};
 
 use cs_access::{Rest, can_check, check};
 use cs_ast::Place;
@@ -36,6 +41,11 @@ impl Attempt {
         ensures kinds { KeepKinds (λ b. kind_of b) self.old.checkers.items self.new.checkers.items }
         ensures passed { OnOk result (IsAnsweredLater state.now self.old.progress.used
             ⊎ IsNoFault state.now subject (map (λ b. kind_of b) self.old.checkers.items)) }
+        ensures used { self.new.progress.used ≡ self.old.progress.used }
+        ensures act { HasEveryKind (λ b. kind_of b) self.old.checkers.items
+            → (bases : List Base) (checked : Valuation → Act CodeState → Act CodeState)
+            → ChecksFor state.now subject at checked
+            → Passes bases state.now self.old.progress self.new.progress result checked }
     {
         if self.progress.is_answered_later(state) {
             return Ok(());

@@ -1,0 +1,285 @@
+-- What each check of an operator does in its act: it stops in its kind of fault exactly where the subject is faulty for it.
+use Rattle.std.proofs.Common.{◌≡◌, ℕ, ◌*◌, ℤ, pos, negsuc, int_lt, int_le, Bool, true, false, not, ◌&&◌, ◌||◌, true≢false, Option, None, Some, if◌then◌else◌, refl, sym, ap, ◌∙◌, arith}
+use Rattle.std.proofs.lemmas.Int.{ints}
+use Rattle.std.specs.Ordering.{int_eq}
+use Rattle.cs_types.specs.declared.data_model.DataModel.{DataModel}
+use Rattle.cs_types.specs.declared.int_type.IntType.{IntType}
+use Rattle.cs_types.specs.IntType.{bytes_of}
+use Rattle.cs_ast.specs.declared.place.Place.{Place}
+use Rattle.cs_model.specs.declared.kind.Kind.{Kind}
+use Rattle.cs_model.specs.declared.kind.Kind.TheVariants as kind
+use Rattle.cs_terms.specs.declared.term.Lin.{Lin}
+use Rattle.cs_terms.specs.declared.term.Lin2.{Lin2}
+use Rattle.cs_terms.specs.Term.{Valuation, value_of, value_of_sum}
+use Rattle.cs_checker.specs.declared.subject.Subject.{Subject}
+use Rattle.cs_checker.specs.declared.subject.Subject.TheVariants.{Through, Move, Divisor, Cell as OfCell, Rest, Shift, Pair}
+use Rattle.cs_checker.specs.Faults.{is_faulty_for}
+use Rattle.cs_checker.specs.Answers.{constant}
+use Rattle.cs_events.specs.declared.outcome.Outcome.TheVariants.{Fault}
+use Rattle.cs_events.specs.Operations.{is_true}
+use Rattle.cs_events.specs.Objects.{Cell, NumberCell, NullCell, PointerCell, UnsetCell}
+use Rattle.cs_events.specs.Acts.{Act, Stops}
+use Rattle.cs_meaning.specs.Access as access
+use Rattle.cs_meaning.specs.Machine.{Operand, Scalar, Whole, Nothing}
+use Rattle.cs_meaning.specs.Operators as operators
+use Rattle.cs_cfg.specs.Working.{CodeState}
+use Rattle.cs_operators.specs.Asking.{IsCheckOf}
+
+-- whether a cell is null
+abbrev pub is_null : Cell → Bool
+is_null NullCell = true
+is_null (NumberCell n) = false
+is_null (PointerCell object offset) = false
+is_null UnsetCell = false
+
+-- what an order test leaves: 0 where it holds, else -1
+abbrev pub rest_of : Bool → Lin2
+rest_of holds = record { first = constant (if holds then pos 0 else negsuc 0); second = constant (pos 0) }
+
+-- whether two pointers point into one object
+abbrev pub is_there : Option (ℤ × ℤ) → Bool
+is_there None = false
+is_there (Some offsets) = true
+
+-- whether an operand is a scalar that was never set, and what its use checks
+abbrev pub is_never_set : Operand → Bool
+is_never_set (Scalar UnsetCell) = true
+is_never_set other = false
+
+abbrev pub used : Place → Operand → Act CodeState → Act CodeState
+used at (Scalar cell) act = access.set_then at cell act
+used at (Whole cells) act = act
+used at Nothing act = act
+
+module _ (at : Place) (v : Valuation) where
+  -- a check of a single kind
+  of_kind : (subject : Subject) (one : Kind) (fault : Bool) (checked : Act CodeState → Act CodeState)
+      → ((other : Kind) → is_faulty_for other subject v ≡ true → (other ≡ one) × (fault ≡ true))
+      → (fault ≡ false → is_faulty_for one subject v ≡ false → (act : Act CodeState) → checked act ≡ act)
+      → (fault ≡ true → (act : Act CodeState) → checked act ≡ Stops (Fault one at))
+      → is_faulty_for one subject v ≡ fault → IsCheckOf subject at v checked
+  of_kind subject one fault checked alone good faulty is = record {
+    faulty = λ other holds act.
+        let (same, so) = alone other holds in
+        faulty so act ∙ ap (λ k. Stops (Fault k at)) (sym same);
+    good = λ never act. good (sym is ∙ never one) (never one) act;
+  }
+
+  -- each subject has a single kind of faults
+  only_null : (null : Bool) (other : Kind) → is_faulty_for other (Through null) v ≡ true → (other ≡ kind.Null) × (null ≡ true)
+  only_null null kind.Null holds = (refl, holds)
+  only_null null kind.Divide holds = absurd (true≢false (sym holds))
+  only_null null kind.Unset holds = absurd (true≢false (sym holds))
+  only_null null kind.Bounds holds = absurd (true≢false (sym holds))
+  only_null null kind.DoubleFree holds = absurd (true≢false (sym holds))
+  only_null null kind.Freed holds = absurd (true≢false (sym holds))
+  only_null null kind.BadFree holds = absurd (true≢false (sym holds))
+  only_null null kind.DeadLocal holds = absurd (true≢false (sym holds))
+  only_null null kind.Shift holds = absurd (true≢false (sym holds))
+  only_null null kind.Unrelated holds = absurd (true≢false (sym holds))
+  only_null null kind.ConstWrite holds = absurd (true≢false (sym holds))
+
+  only_move : (null : Bool) (amount : Lin) (other : Kind) → is_faulty_for other (Move null amount) v ≡ true → (other ≡ kind.Null) × ((null && not (int_eq (value_of v amount) (pos 0))) ≡ true)
+  only_move null amount kind.Null holds = (refl, holds)
+  only_move null amount kind.Divide holds = absurd (true≢false (sym holds))
+  only_move null amount kind.Unset holds = absurd (true≢false (sym holds))
+  only_move null amount kind.Bounds holds = absurd (true≢false (sym holds))
+  only_move null amount kind.DoubleFree holds = absurd (true≢false (sym holds))
+  only_move null amount kind.Freed holds = absurd (true≢false (sym holds))
+  only_move null amount kind.BadFree holds = absurd (true≢false (sym holds))
+  only_move null amount kind.DeadLocal holds = absurd (true≢false (sym holds))
+  only_move null amount kind.Shift holds = absurd (true≢false (sym holds))
+  only_move null amount kind.Unrelated holds = absurd (true≢false (sym holds))
+  only_move null amount kind.ConstWrite holds = absurd (true≢false (sym holds))
+
+  only_divide : (term : Lin) (other : Kind) → is_faulty_for other (Divisor term) v ≡ true → (other ≡ kind.Divide) × (int_eq (value_of v term) (pos 0) ≡ true)
+  only_divide term kind.Null holds = absurd (true≢false (sym holds))
+  only_divide term kind.Divide holds = (refl, holds)
+  only_divide term kind.Unset holds = absurd (true≢false (sym holds))
+  only_divide term kind.Bounds holds = absurd (true≢false (sym holds))
+  only_divide term kind.DoubleFree holds = absurd (true≢false (sym holds))
+  only_divide term kind.Freed holds = absurd (true≢false (sym holds))
+  only_divide term kind.BadFree holds = absurd (true≢false (sym holds))
+  only_divide term kind.DeadLocal holds = absurd (true≢false (sym holds))
+  only_divide term kind.Shift holds = absurd (true≢false (sym holds))
+  only_divide term kind.Unrelated holds = absurd (true≢false (sym holds))
+  only_divide term kind.ConstWrite holds = absurd (true≢false (sym holds))
+
+  only_unset : (unset : Bool) (other : Kind) → is_faulty_for other (OfCell unset) v ≡ true → (other ≡ kind.Unset) × (unset ≡ true)
+  only_unset unset kind.Null holds = absurd (true≢false (sym holds))
+  only_unset unset kind.Divide holds = absurd (true≢false (sym holds))
+  only_unset unset kind.Unset holds = (refl, holds)
+  only_unset unset kind.Bounds holds = absurd (true≢false (sym holds))
+  only_unset unset kind.DoubleFree holds = absurd (true≢false (sym holds))
+  only_unset unset kind.Freed holds = absurd (true≢false (sym holds))
+  only_unset unset kind.BadFree holds = absurd (true≢false (sym holds))
+  only_unset unset kind.DeadLocal holds = absurd (true≢false (sym holds))
+  only_unset unset kind.Shift holds = absurd (true≢false (sym holds))
+  only_unset unset kind.Unrelated holds = absurd (true≢false (sym holds))
+  only_unset unset kind.ConstWrite holds = absurd (true≢false (sym holds))
+
+  only_bounds : (term : Lin2) (other : Kind) → is_faulty_for other (Rest term) v ≡ true → (other ≡ kind.Bounds) × (int_lt (value_of_sum v term) (pos 0) ≡ true)
+  only_bounds term kind.Null holds = absurd (true≢false (sym holds))
+  only_bounds term kind.Divide holds = absurd (true≢false (sym holds))
+  only_bounds term kind.Unset holds = absurd (true≢false (sym holds))
+  only_bounds term kind.Bounds holds = (refl, holds)
+  only_bounds term kind.DoubleFree holds = absurd (true≢false (sym holds))
+  only_bounds term kind.Freed holds = absurd (true≢false (sym holds))
+  only_bounds term kind.BadFree holds = absurd (true≢false (sym holds))
+  only_bounds term kind.DeadLocal holds = absurd (true≢false (sym holds))
+  only_bounds term kind.Shift holds = absurd (true≢false (sym holds))
+  only_bounds term kind.Unrelated holds = absurd (true≢false (sym holds))
+  only_bounds term kind.ConstWrite holds = absurd (true≢false (sym holds))
+
+  only_shift : (count : Lin) (width : ℕ) (other : Kind) → is_faulty_for other (Shift count width) v ≡ true → (other ≡ kind.Shift) × ((int_lt (value_of v count) (pos 0) || int_le (pos width) (value_of v count)) ≡ true)
+  only_shift count width kind.Null holds = absurd (true≢false (sym holds))
+  only_shift count width kind.Divide holds = absurd (true≢false (sym holds))
+  only_shift count width kind.Unset holds = absurd (true≢false (sym holds))
+  only_shift count width kind.Bounds holds = absurd (true≢false (sym holds))
+  only_shift count width kind.DoubleFree holds = absurd (true≢false (sym holds))
+  only_shift count width kind.Freed holds = absurd (true≢false (sym holds))
+  only_shift count width kind.BadFree holds = absurd (true≢false (sym holds))
+  only_shift count width kind.DeadLocal holds = absurd (true≢false (sym holds))
+  only_shift count width kind.Shift holds = (refl, holds)
+  only_shift count width kind.Unrelated holds = absurd (true≢false (sym holds))
+  only_shift count width kind.ConstWrite holds = absurd (true≢false (sym holds))
+
+  only_unrelated : (same : Bool) (other : Kind) → is_faulty_for other (Pair same) v ≡ true → (other ≡ kind.Unrelated) × (not same ≡ true)
+  only_unrelated same kind.Null holds = absurd (true≢false (sym holds))
+  only_unrelated same kind.Divide holds = absurd (true≢false (sym holds))
+  only_unrelated same kind.Unset holds = absurd (true≢false (sym holds))
+  only_unrelated same kind.Bounds holds = absurd (true≢false (sym holds))
+  only_unrelated same kind.DoubleFree holds = absurd (true≢false (sym holds))
+  only_unrelated same kind.Freed holds = absurd (true≢false (sym holds))
+  only_unrelated same kind.BadFree holds = absurd (true≢false (sym holds))
+  only_unrelated same kind.DeadLocal holds = absurd (true≢false (sym holds))
+  only_unrelated same kind.Shift holds = absurd (true≢false (sym holds))
+  only_unrelated same kind.Unrelated holds = (refl, holds)
+  only_unrelated same kind.ConstWrite holds = absurd (true≢false (sym holds))
+
+  -- `*p` and `p->m`
+  if_null : (cell : Cell) (act : Act CodeState) → is_null cell ≡ true → access.not_null at cell act ≡ Stops (Fault kind.Null at)
+  if_null NullCell act null = refl
+  if_null (NumberCell n) act null = absurd (true≢false (sym null))
+  if_null (PointerCell object offset) act null = absurd (true≢false (sym null))
+  if_null UnsetCell act null = absurd (true≢false (sym null))
+
+  if_there : (cell : Cell) (act : Act CodeState) → is_null cell ≡ false → access.not_null at cell act ≡ act
+  if_there NullCell act there = absurd (true≢false there)
+  if_there (NumberCell n) act there = refl
+  if_there (PointerCell object offset) act there = refl
+  if_there UnsetCell act there = refl
+
+  pub through_check : (null : Bool) (cell : Cell) → is_null cell ≡ null → IsCheckOf (Through null) at v (access.not_null at cell)
+  through_check null cell same =
+      of_kind (Through null) kind.Null null (access.not_null at cell) (only_null null)
+      (λ there none act. if_there cell act (same ∙ there)) (λ is act. if_null cell act (same ∙ is)) refl
+
+  -- a pointer that isn't null is moved without a check, null by 0 alone
+  pub moved_check : (amount : Lin) → IsCheckOf (Move false amount) at v (λ act. act)
+  moved_check amount =
+      of_kind (Move false amount) kind.Null false (λ act. act) (only_move false amount) (λ there none act. refl)
+      (λ never act. absurd (true≢false (sym never))) refl
+
+  pub null_check : (amount : Lin) → IsCheckOf (Move true amount) at v (operators.unmoved at (value_of v amount))
+  null_check amount =
+      of_kind (Move true amount) kind.Null (not (int_eq (value_of v amount) (pos 0))) (operators.unmoved at (value_of v amount))
+      (only_move true amount) (λ none never act. stays (int_eq (value_of v amount) (pos 0)) act none)
+      (λ some act. moves (int_eq (value_of v amount) (pos 0)) act some) refl
+    where
+      stays : (zero : Bool) (act : Act CodeState) → not zero ≡ false → (if zero then act else Stops (Fault kind.Null at)) ≡ act
+      stays true act none = refl
+      stays false act none = absurd (true≢false none)
+
+      moves : (zero : Bool) (act : Act CodeState) → not zero ≡ true
+          → (if zero then act else Stops (Fault kind.Null at)) ≡ Stops (Fault kind.Null at)
+      moves true act some = absurd (true≢false (sym some))
+      moves false act some = refl
+
+  -- `/` and `%`
+  pub divide_check : (term : Lin) → IsCheckOf (Divisor term) at v (operators.divide at (value_of v term))
+  divide_check term =
+      of_kind (Divisor term) kind.Divide (int_eq (value_of v term) (pos 0)) (operators.divide at (value_of v term)) (only_divide term)
+      (λ other none act. ap (λ zero. if zero then Stops (Fault kind.Divide at) else act) other)
+      (λ zero act. ap (λ zero. if zero then Stops (Fault kind.Divide at) else act) zero) refl
+
+  -- `<<` and `>>`
+  pub shift_check : (model : DataModel) (ty : IntType) (count : Lin)
+      → IsCheckOf (Shift count (8 * bytes_of model ty)) at v (operators.shift model at ty (value_of v count))
+  shift_check model ty count =
+      of_kind (Shift count width) kind.Shift (int_lt number (pos 0) || int_le (pos width) number) (operators.shift model at ty number)
+      (only_shift count width)
+      (λ none never act. ap (λ within. if within then act else Stops (Fault kind.Shift at)) (opposite number (pos width) ∙ ap not none))
+      (λ some act. ap (λ within. if within then act else Stops (Fault kind.Shift at)) (opposite number (pos width) ∙ ap not some)) refl
+    where
+      width : ℕ
+      width = 8 * bytes_of model ty
+
+      number : ℤ
+      number = value_of v count
+
+      opposite : (n w : ℤ) → (int_le (pos 0) n && int_lt n w) ≡ not (int_lt n (pos 0) || int_le w n)
+      opposite n w = grind (arith, ints)
+
+  -- a pointer that names no object
+  pub unset_check : IsCheckOf (OfCell true) at v (λ act. Stops (Fault kind.Unset at))
+  unset_check =
+      of_kind (OfCell true) kind.Unset true (λ act. Stops (Fault kind.Unset at)) (only_unset true)
+      (λ never none act. absurd (true≢false never)) (λ is act. refl) refl
+
+  -- the use of a call's result
+  if_set : (operand : Operand) (act : Act CodeState) → is_never_set operand ≡ false → used at operand act ≡ act
+  if_set (Scalar (NumberCell n)) act set = refl
+  if_set (Scalar NullCell) act set = refl
+  if_set (Scalar (PointerCell object offset)) act set = refl
+  if_set (Scalar UnsetCell) act set = absurd (true≢false set)
+  if_set (Whole cells) act set = refl
+  if_set Nothing act set = refl
+
+  if_unset : (operand : Operand) (act : Act CodeState) → is_never_set operand ≡ true → used at operand act ≡ Stops (Fault kind.Unset at)
+  if_unset (Scalar (NumberCell n)) act unset = absurd (true≢false (sym unset))
+  if_unset (Scalar NullCell) act unset = absurd (true≢false (sym unset))
+  if_unset (Scalar (PointerCell object offset)) act unset = absurd (true≢false (sym unset))
+  if_unset (Scalar UnsetCell) act unset = refl
+  if_unset (Whole cells) act unset = absurd (true≢false (sym unset))
+  if_unset Nothing act unset = absurd (true≢false (sym unset))
+
+  pub used_check : (unset : Bool) (operand : Operand) → is_never_set operand ≡ unset → IsCheckOf (OfCell unset) at v (used at operand)
+  used_check unset operand same =
+      of_kind (OfCell unset) kind.Unset unset (used at operand) (only_unset unset)
+      (λ set none act. if_set operand act (same ∙ set)) (λ is act. if_unset operand act (same ∙ is)) refl
+
+  -- an order test
+  below : (holds : Bool) → int_lt (value_of_sum v (rest_of holds)) (pos 0) ≡ not holds
+  below true = refl
+  below false = refl
+
+  holds_not : (b c : Bool) → b ≡ not c → b ≡ false → c ≡ true
+  holds_not b true is so = refl
+  holds_not b false is so = absurd (true≢false (sym is ∙ so))
+
+  fails_not : (b c : Bool) → b ≡ not c → b ≡ true → c ≡ false
+  fails_not b true is so = absurd (true≢false (sym so ∙ is))
+  fails_not b false is so = refl
+
+  pub rest_check : (holds : Bool) (number : ℤ) → is_true number ≡ holds → IsCheckOf (Rest (rest_of holds)) at v (access.within at number)
+  rest_check holds number is =
+      of_kind (Rest (rest_of holds)) kind.Bounds (int_lt (value_of_sum v (rest_of holds)) (pos 0)) (access.within at number)
+      (only_bounds (rest_of holds))
+      (λ good none act. ap (λ b. if b then act else Stops (Fault kind.Bounds at)) (is ∙ holds_not _ holds (below holds) good))
+      (λ bad act. ap (λ b. if b then act else Stops (Fault kind.Bounds at)) (is ∙ fails_not _ holds (below holds) bad)) refl
+
+  -- two pointers that have to point into one object
+  no_object : (found : Option (ℤ × ℤ)) (act : Act CodeState) → not (is_there found) ≡ true
+      → operators.one_object at found act ≡ Stops (Fault kind.Unrelated at)
+  no_object None act none = refl
+  no_object (Some offsets) act none = absurd (true≢false (sym none))
+
+  an_object : (found : Option (ℤ × ℤ)) (act : Act CodeState) → not (is_there found) ≡ false → operators.one_object at found act ≡ act
+  an_object None act some = absurd (true≢false some)
+  an_object (Some offsets) act some = refl
+
+  pub pair_check : (same : Bool) (found : Option (ℤ × ℤ)) → is_there found ≡ same → IsCheckOf (Pair same) at v (operators.one_object at found)
+  pair_check same found is =
+      of_kind (Pair same) kind.Unrelated (not same) (operators.one_object at found) (only_unrelated same)
+      (λ some none act. an_object found act (ap not is ∙ some)) (λ none act. no_object found act (ap not is ∙ none)) refl

@@ -1,0 +1,15 @@
+mod Checking
+mod Checks
+mod Asked
+mod Comparing
+mod Looking
+mod Objects
+mod Operating
+mod Relations
+mod SeenPointers
+mod Numerals
+mod Sums
+mod Tests
+mod Computed
+mod Converting
+mod Using

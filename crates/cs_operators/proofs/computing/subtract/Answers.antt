@@ -1,0 +1,43 @@
+use Rattle.std.proofs.Common.{ℤ}
+use Rattle.cs_terms.specs.Term.{Valuation}
+use Rattle.cs_events.specs.Acts.{Act}
+use Rattle.cs_meaning.specs.Operators as operators
+use Rattle.cs_operators.specs.Pointing.{cell_in}
+use Rattle.cs_cfg.specs.Graph as graph
+use Rattle.cs_cfg.specs.Working.{do_work}
+use Rattle.cs_cfg.specs.Working.{CodeState}
+use Rattle.cs_state.specs.declared.temporary.Temporary.TheVariants as temporary
+use Rattle.cs_store.specs.declared.value.Value.TheVariants as value
+use Rattle.cs_operators.proofs.Computed.{number_left, replaced, waited, part_leads, part_waits}
+use Rattle.cs_operators.proofs.computing.subtract.Goals as goal
+
+pub returns-in_err-result-clause-act : goal.returns-in_err-result-clause-act
+returns-in_err-result-clause-act g c = λ every code names program budgets numbered have.
+    let state = c.args.state.now in
+    let at = c.args.at in
+    let part : Valuation → (ℤ → Act CodeState) → Act CodeState =
+    λ v. operators.difference at (cell_in names.bases state c.in_ok-value.field-0 v) (cell_in names.bases state c.in_ok-value-2.field-0 v) c.args.bytes in
+    let act = do_work code program budgets at (graph.Difference c.args.bytes) in
+    let rest = number_left code names program state 2 in
+    waited code names program state state _ _ c.from_residual-in_err-result.result act c.in_err-result.field-0.0 c.from_residual-in_err-result.ensures
+    (λ waits. part_waits code names program state act part rest
+    (λ v fits i. operators.difference at (c.in_ok-value.ensures.value code names program v i)
+    (c.in_ok-value-2.ensures.value code names program v i) c.args.bytes (rest v))
+    _ _ ((c.in_err-result.ensures.act every names.bases numbered (c.in_ok-value.ensures.named names.bases have)
+    (c.in_ok-value-2.ensures.named names.bases have)).waits waits))
+
+pub returns-clause-act : goal.returns-clause-act
+returns-clause-act g c = λ every code names program budgets numbered have.
+    let state = c.args.state.now in
+    let at = c.args.at in
+    let part : Valuation → (ℤ → Act CodeState) → Act CodeState =
+    λ v. operators.difference at (cell_in names.bases state c.in_ok-value.field-0 v) (cell_in names.bases state c.in_ok-value-2.field-0 v) c.args.bytes in
+    let act = do_work code program budgets at (graph.Difference c.args.bytes) in
+    let rest = number_left code names program state 2 in
+    replaced code names program state c.replace_with.new.state _ _ c.replace_with.result act 2 (temporary.Scalar (value.Number c.in_ok-result.result))
+    c.replace_with.ensures.means c.replace_with.ensures.memory
+    (part_leads code names program state act part rest
+    (λ v fits i. operators.difference at (c.in_ok-value.ensures.value code names program v i)
+    (c.in_ok-value-2.ensures.value code names program v i) c.args.bytes (rest v))
+    _ _ _ (c.in_ok-result.ensures.act every names.bases numbered (c.in_ok-value.ensures.named names.bases have)
+    (c.in_ok-value-2.ensures.named names.bases have)).through)

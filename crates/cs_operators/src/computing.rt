@@ -1,0 +1,277 @@
+//! Operations that compute with their operands alone, in whose place they leave their result.
+ghost use Rattle.std.specs.Prelude.{◌≡◌};
+ghost use Rattle.cs_types.specs.Shape.{shape_of};
+ghost use Rattle.cs_ast.specs.TypedProgram.{TypedProgram};
+ghost use Rattle.cs_events.specs.declared.outcome.RunBudgets.{RunBudgets};
+ghost use Rattle.cs_regions.specs.Numbering.{IsNumbered};
+ghost use Rattle.cs_meaning.specs.Expressions as expressions;
+ghost use Rattle.cs_cfg.specs.Graph as graph;
+ghost use Rattle.cs_cfg.specs.Graph.{Code};
+ghost use Rattle.cs_cfg.specs.Working.{do_work};
+ghost use Rattle.cs_objects.specs.Prepared.{IsReady};
+ghost use Rattle.cs_state.specs.Naming.{Naming};
+ghost use Rattle.cs_progress.specs.Computing.{HaveNames, Computes};
+ghost use Rattle.cs_operators.specs.Asking.{KeepKinds, HasEveryKind};
+ghost use Rattle.cs_operators.specs.Pointing.{is_number, is_unset};
+
+use crate::attempt::Attempt;
+use crate::operators::{
+    compare, convert_number, difference, directed, number_of, operate, sum, test,
+};
+use crate::pointers::arrow;
+use cs_ast::Place;
+use cs_ast::typed::operator::{BinOp, CmpOp, Direction, Order, UnOp};
+use cs_checker::Subject;
+use cs_eval::{Question, Tested};
+use cs_progress::operands::{number, operand, replace, replace_with, value};
+use cs_progress::pointers::further;
+use cs_progress::{Context, Pause, Progress};
+use cs_state::{State, Temporary};
+use cs_store::Value;
+use cs_types::{CType, IntType};
+
+/// The place of a member of the struct at a place.
+pub fn member(state: &mut State, offset: u64) -> Result<(), Pause>
+    ensures act { (code : Code) (names : Naming) (program : TypedProgram) (budgets : RunBudgets)
+        (at : Place) (progress : Progress) → Computes code names program state.old state.new
+        progress progress result (do_work code program budgets at (graph.Member offset)) }
+{
+    let place = further(state, value(state, 0)?, offset)?;
+    replace_with(state, 1, place)
+}
+
+/// The place of a member of the struct that a pointer points to (C11 6.5.2.3, paragraph 4).
+pub fn member_through(
+    state: &mut State,
+    attempt: &mut Attempt,
+    at: Place,
+    offset: u64,
+) -> Result<(), Pause>
+    ensures kinds { KeepKinds (λ b. kind_of b) attempt.old.checkers.items attempt.new.checkers.items }
+    ensures act { HasEveryKind (λ b. kind_of b) attempt.old.checkers.items
+        → (code : Code) (names : Naming) (program : TypedProgram) (budgets : RunBudgets)
+        → HaveNames names.bases state.old
+        → Computes code names program state.old state.new attempt.old.progress
+        attempt.new.progress result (do_work code program budgets at (graph.Arrow offset)) }
+{
+    let place = arrow(state, attempt, at, value(state, 0)?, offset)?;
+    replace_with(state, 1, place)
+}
+
+/// An operator of one integer (C11 6.5.3.3).
+pub fn unary(
+    state: &mut State,
+    progress: &mut Progress,
+    at: Place,
+    operator: UnOp,
+    ty: IntType,
+) -> Result<(), Pause>
+    ensures act { (code : Code) (names : Naming) (program : TypedProgram) (budgets : RunBudgets)
+        → Computes code names program state.old state.new progress.old progress.new result
+        (do_work code program budgets at (graph.Unary operator ty)) }
+{
+    let operand = number(state, 0)?;
+    let result = progress.ask(state, at, Question::Unary(operator, ty, operand))?;
+    replace_with(state, 1, Value::Number(result))
+}
+
+/// Whether a value isn't zero, which shows (C11 6.5.13, 6.5.14).
+pub fn judge(state: &mut State, progress: &mut Progress, at: Place) -> Result<(), Pause>
+    ensures act { (code : Code) (names : Naming) (program : TypedProgram) (budgets : RunBudgets)
+        → HaveNames names.bases state.old
+        → Computes code names program state.old state.new progress.old progress.new result
+        (do_work code program budgets at graph.Judge) }
+{
+    let holds = test(state, progress, at, value(state, 0)?, Tested::Truth)?;
+    replace_with(state, 1, Value::Number(number_of(holds)))
+}
+
+/// Whether a value is zero, which shows (C11 6.5.3.3, paragraph 5).
+pub fn negate(state: &mut State, progress: &mut Progress, at: Place) -> Result<(), Pause>
+    ensures act { (code : Code) (names : Naming) (program : TypedProgram) (budgets : RunBudgets)
+        → HaveNames names.bases state.old
+        → Computes code names program state.old state.new progress.old progress.new result
+        (do_work code program budgets at graph.Not) }
+{
+    let holds = test(state, progress, at, value(state, 0)?, Tested::Not)?;
+    replace_with(state, 1, Value::Number(number_of(!holds)))
+}
+
+/// An operator of two integers (C11 6.5.5 to 6.5.7, 6.5.10 to 6.5.12).
+pub fn binary(
+    context: &Context,
+    state: &mut State,
+    attempt: &mut Attempt,
+    at: Place,
+    operator: BinOp,
+    ty: IntType,
+) -> Result<(), Pause>
+    requires { IsReady context.now.setting.now }
+    ensures kinds { KeepKinds (λ b. kind_of b) attempt.old.checkers.items attempt.new.checkers.items }
+    ensures act { HasEveryKind (λ b. kind_of b) attempt.old.checkers.items
+        → (code : Code) (names : Naming) (program : TypedProgram) (budgets : RunBudgets)
+        → program.model ≡ context.now.setting.now.program.now.model
+        → Computes code names program state.old state.new attempt.old.progress
+        attempt.new.progress result (do_work code program budgets at (graph.Binary operator ty)) }
+{
+    let operands = (number(state, 1)?, number(state, 0)?);
+    let result = operate(context.model(), state, attempt, at, operator, ty, operands)?;
+    replace_with(state, 2, Value::Number(result))
+}
+
+/// A comparison (C11 6.5.8, 6.5.9).
+pub fn compare_operands(
+    state: &mut State,
+    attempt: &mut Attempt,
+    at: Place,
+    operator: CmpOp,
+) -> Result<(), Pause>
+    ensures kinds { KeepKinds (λ b. kind_of b) attempt.old.checkers.items attempt.new.checkers.items }
+    ensures act { HasEveryKind (λ b. kind_of b) attempt.old.checkers.items
+        → (code : Code) (names : Naming) (program : TypedProgram) (budgets : RunBudgets)
+        → IsNumbered names.bases → HaveNames names.bases state.old
+        → Computes code names program state.old state.new attempt.old.progress
+        attempt.new.progress result (do_work code program budgets at (graph.Compare operator)) }
+{
+    let (left, right) = (value(state, 1)?, value(state, 0)?);
+    let result = compare(state, attempt, at, operator, left, right)?;
+    replace_with(state, 2, Value::Number(result))
+}
+
+/// The difference of two pointers to objects of so many bytes (C11 6.5.6, paragraph 9).
+pub fn subtract(
+    state: &mut State,
+    attempt: &mut Attempt,
+    at: Place,
+    bytes: u64,
+) -> Result<(), Pause>
+    ensures kinds { KeepKinds (λ b. kind_of b) attempt.old.checkers.items attempt.new.checkers.items }
+    ensures act { HasEveryKind (λ b. kind_of b) attempt.old.checkers.items
+        → (code : Code) (names : Naming) (program : TypedProgram) (budgets : RunBudgets)
+        → IsNumbered names.bases → HaveNames names.bases state.old
+        → Computes code names program state.old state.new attempt.old.progress
+        attempt.new.progress result (do_work code program budgets at (graph.Difference bytes)) }
+{
+    let pointers = (value(state, 1)?, value(state, 0)?);
+    let result = difference(state, attempt, at, pointers, bytes)?;
+    replace_with(state, 2, Value::Number(result))
+}
+
+/// A pointer is moved by an amount of elements of so many bytes (C11 6.5.6, paragraph 8).
+pub fn add(
+    context: &Context,
+    state: &mut State,
+    attempt: &mut Attempt,
+    at: Place,
+    bytes: u64,
+    direction: Direction,
+    order: Order,
+) -> Result<(), Pause>
+    requires { IsReady context.now.setting.now }
+    ensures kinds { KeepKinds (λ b. kind_of b) attempt.old.checkers.items attempt.new.checkers.items }
+    ensures act { HasEveryKind (λ b. kind_of b) attempt.old.checkers.items
+        → (code : Code) (names : Naming) (program : TypedProgram) (budgets : RunBudgets)
+        → program.model ≡ context.now.setting.now.program.now.model
+        → HaveNames names.bases state.old
+        → Computes code names program state.old state.new attempt.old.progress
+        attempt.new.progress result
+        (do_work code program budgets at (graph.Sum bytes direction order)) }
+{
+    let pointer = value(state, pointer_age(order))?;
+    let amount = directed(direction, number(state, amount_age(order))?)?;
+    let moved = sum(context, state, attempt, at, pointer, amount, bytes)?;
+    replace_with(state, 2, moved)
+}
+
+// The age of the operand that is the pointer.
+fn pointer_age(order: Order) -> usize
+    ensures { result ≡ expressions.pointer_age order }
+{
+    match order {
+        Order::PointerFirst => 1,
+        Order::AmountFirst => 0,
+    }
+}
+
+// The age of the other one.
+fn amount_age(order: Order) -> usize
+    ensures { result ≡ expressions.amount_age order }
+{
+    match order {
+        Order::PointerFirst => 0,
+        Order::AmountFirst => 1,
+    }
+}
+
+/// A conversion of a value of a type: only that of a number to an integer type changes it; of a void value nothing is left (C11 6.3.2.2).
+pub fn convert(
+    context: &Context,
+    state: &mut State,
+    progress: &mut Progress,
+    at: Place,
+    from: &CType,
+    to: &CType,
+) -> Result<(), Pause>
+    requires { IsReady context.now.setting.now }
+    ensures act { (code : Code) (names : Naming) (program : TypedProgram) (budgets : RunBudgets)
+        → program.model ≡ context.now.setting.now.program.now.model
+        → Computes code names program state.old state.new progress.old progress.new result
+        (do_work code program budgets at (graph.Convert (shape_of from.now) (shape_of to.now))) }
+{
+    let model = context.model();
+    let converted = operand(state, 0)?;
+    match to {
+        CType::Void => replace(state, 1, Temporary::Nothing),
+        CType::Int(ty) => {
+            if !is_number(converted) {
+                return Ok(());
+            }
+            let before = number(state, 0)?;
+            let after = convert_number(model, state, progress, at, (from, *ty), before)?;
+            replace(state, 1, Temporary::Scalar(Value::Number(after)))
+        }
+        CType::Pointer(_) | CType::Array(_, _) | CType::Struct(_) => Ok(()),
+    }
+}
+
+/// The result of a call that is used was set (C11 6.9.1, paragraph 12).
+pub fn use_result(state: &State, attempt: &mut Attempt, at: Place) -> Result<(), Pause>
+    ensures kinds { KeepKinds (λ b. kind_of b) attempt.old.checkers.items attempt.new.checkers.items }
+    ensures act { HasEveryKind (λ b. kind_of b) attempt.old.checkers.items
+        → (code : Code) (names : Naming) (program : TypedProgram) (budgets : RunBudgets)
+        → HaveNames names.bases state.now
+        → Computes code names program state.now state.now attempt.old.progress
+        attempt.new.progress result (do_work code program budgets at graph.Use) }
+{
+    let used = operand(state, 0)?;
+    attempt.check(
+        state,
+        at,
+        Subject::Cell {
+            unset: is_unset(used),
+        },
+    )
+}
+
+// Whether an operand is a scalar that was never set.
+fn is_unset(operand: &Temporary) -> bool
+    ensures { result ≡ is_unset operand.now }
+{
+    match operand {
+        Temporary::Scalar(value) => matches!(value, Value::Unset),
+        Temporary::Whole(_) | Temporary::Nothing => false,
+    }
+}
+
+// Whether an operand is a number.
+fn is_number(operand: &Temporary) -> bool
+    ensures { result ≡ is_number operand.now }
+{
+    match operand {
+        Temporary::Scalar(value) => match value {
+            Value::Number(_) => true,
+            Value::Null | Value::At(_, _) | Value::Start(_, _) | Value::Unset => false,
+        },
+        Temporary::Whole(_) | Temporary::Nothing => false,
+    }
+}
