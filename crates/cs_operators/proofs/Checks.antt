@@ -79,7 +79,8 @@ module _ (at : Place) (v : Valuation) where
   only_null null kind.Unrelated holds = absurd (true≢false (sym holds))
   only_null null kind.ConstWrite holds = absurd (true≢false (sym holds))
 
-  only_move : (null : Bool) (amount : Lin) (other : Kind) → is_faulty_for other (Move null amount) v ≡ true → (other ≡ kind.Null) × ((null && not (int_eq (value_of v amount) (pos 0))) ≡ true)
+  only_move : (null : Bool) (amount : Lin) (other : Kind) → is_faulty_for other (Move null amount) v ≡ true
+      → (other ≡ kind.Null) × ((null && not (int_eq (value_of v amount) (pos 0))) ≡ true)
   only_move null amount kind.Null holds = (refl, holds)
   only_move null amount kind.Divide holds = absurd (true≢false (sym holds))
   only_move null amount kind.Unset holds = absurd (true≢false (sym holds))
@@ -131,7 +132,8 @@ module _ (at : Place) (v : Valuation) where
   only_bounds term kind.Unrelated holds = absurd (true≢false (sym holds))
   only_bounds term kind.ConstWrite holds = absurd (true≢false (sym holds))
 
-  only_shift : (count : Lin) (width : ℕ) (other : Kind) → is_faulty_for other (Shift count width) v ≡ true → (other ≡ kind.Shift) × ((int_lt (value_of v count) (pos 0) || int_le (pos width) (value_of v count)) ≡ true)
+  only_shift : (count : Lin) (width : ℕ) (other : Kind) → is_faulty_for other (Shift count width) v ≡ true
+      → (other ≡ kind.Shift) × ((int_lt (value_of v count) (pos 0) || int_le (pos width) (value_of v count)) ≡ true)
   only_shift count width kind.Null holds = absurd (true≢false (sym holds))
   only_shift count width kind.Divide holds = absurd (true≢false (sym holds))
   only_shift count width kind.Unset holds = absurd (true≢false (sym holds))

@@ -65,11 +65,13 @@ checks_alone code names program state {T} earlier later answer act part same pas
     by_case : (r : Result T Pause) → Passes names.bases state earlier later r part → Computes code names program state state earlier later r act
     by_case (Ok done) passes = record {
       done = λ cells v fits.
-          leads_on cells _ _ _ _ (part v (Goes (stands code names program state v))) (Goes (stands code names program state v)) (leads_same cells _ _ _ (same v fits)) (passes.through cells v fits (Goes (stands code names program state v)));
+          let goes = Goes (stands code names program state v) in
+          leads_on cells _ _ _ _ (part v goes) goes (leads_same cells _ _ _ (same v fits)) (passes.through cells v fits goes);
       waits = tt;
     }
     by_case (Err why) passes = record {
       done = tt;
       waits = λ waits cells v fits.
-          waits_on cells _ _ _ (part v (Goes (stands code names program state v))) names.bases v _ (leads_same cells _ _ _ (same v fits)) (passes.waits waits (Goes (stands code names program state v)) cells v fits);
+          let goes = Goes (stands code names program state v) in
+          waits_on cells _ _ _ (part v goes) names.bases v _ (leads_same cells _ _ _ (same v fits)) (passes.waits waits goes cells v fits);
     }

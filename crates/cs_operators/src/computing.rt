@@ -47,7 +47,8 @@ pub fn member_through(
     at: Place,
     offset: u64,
 ) -> Result<(), Pause>
-    ensures kinds { KeepKinds (λ b. kind_of b) attempt.old.checkers.items attempt.new.checkers.items }
+    ensures kinds { KeepKinds (λ b. kind_of b) attempt.old.checkers.items
+        attempt.new.checkers.items }
     ensures act { HasEveryKind (λ b. kind_of b) attempt.old.checkers.items
         → (code : Code) (names : Naming) (program : TypedProgram) (budgets : RunBudgets)
         → HaveNames names.bases state.old
@@ -107,7 +108,8 @@ pub fn binary(
     ty: IntType,
 ) -> Result<(), Pause>
     requires { IsReady context.now.setting.now }
-    ensures kinds { KeepKinds (λ b. kind_of b) attempt.old.checkers.items attempt.new.checkers.items }
+    ensures kinds { KeepKinds (λ b. kind_of b) attempt.old.checkers.items
+        attempt.new.checkers.items }
     ensures act { HasEveryKind (λ b. kind_of b) attempt.old.checkers.items
         → (code : Code) (names : Naming) (program : TypedProgram) (budgets : RunBudgets)
         → program.model ≡ context.now.setting.now.program.now.model
@@ -126,7 +128,8 @@ pub fn compare_operands(
     at: Place,
     operator: CmpOp,
 ) -> Result<(), Pause>
-    ensures kinds { KeepKinds (λ b. kind_of b) attempt.old.checkers.items attempt.new.checkers.items }
+    ensures kinds { KeepKinds (λ b. kind_of b) attempt.old.checkers.items
+        attempt.new.checkers.items }
     ensures act { HasEveryKind (λ b. kind_of b) attempt.old.checkers.items
         → (code : Code) (names : Naming) (program : TypedProgram) (budgets : RunBudgets)
         → IsNumbered names.bases → HaveNames names.bases state.old
@@ -145,7 +148,8 @@ pub fn subtract(
     at: Place,
     bytes: u64,
 ) -> Result<(), Pause>
-    ensures kinds { KeepKinds (λ b. kind_of b) attempt.old.checkers.items attempt.new.checkers.items }
+    ensures kinds { KeepKinds (λ b. kind_of b) attempt.old.checkers.items
+        attempt.new.checkers.items }
     ensures act { HasEveryKind (λ b. kind_of b) attempt.old.checkers.items
         → (code : Code) (names : Naming) (program : TypedProgram) (budgets : RunBudgets)
         → IsNumbered names.bases → HaveNames names.bases state.old
@@ -168,7 +172,8 @@ pub fn add(
     order: Order,
 ) -> Result<(), Pause>
     requires { IsReady context.now.setting.now }
-    ensures kinds { KeepKinds (λ b. kind_of b) attempt.old.checkers.items attempt.new.checkers.items }
+    ensures kinds { KeepKinds (λ b. kind_of b) attempt.old.checkers.items
+        attempt.new.checkers.items }
     ensures act { HasEveryKind (λ b. kind_of b) attempt.old.checkers.items
         → (code : Code) (names : Naming) (program : TypedProgram) (budgets : RunBudgets)
         → program.model ≡ context.now.setting.now.program.now.model
@@ -236,7 +241,8 @@ pub fn convert(
 
 /// The result of a call that is used was set (C11 6.9.1, paragraph 12).
 pub fn use_result(state: &State, attempt: &mut Attempt, at: Place) -> Result<(), Pause>
-    ensures kinds { KeepKinds (λ b. kind_of b) attempt.old.checkers.items attempt.new.checkers.items }
+    ensures kinds { KeepKinds (λ b. kind_of b) attempt.old.checkers.items
+        attempt.new.checkers.items }
     ensures act { HasEveryKind (λ b. kind_of b) attempt.old.checkers.items
         → (code : Code) (names : Naming) (program : TypedProgram) (budgets : RunBudgets)
         → HaveNames names.bases state.now

@@ -75,7 +75,8 @@ pub fn operate(
     ty: IntType,
     operands: (Lin, Lin),
 ) -> Result<Lin, Pause>
-    ensures kinds { KeepKinds (λ b. kind_of b) attempt.old.checkers.items attempt.new.checkers.items }
+    ensures kinds { KeepKinds (λ b. kind_of b) attempt.old.checkers.items
+        attempt.new.checkers.items }
     ensures act { HasEveryKind (λ b. kind_of b) attempt.old.checkers.items
         → (bases : List Base)
         → CarriesOut bases state.now attempt.old.progress attempt.new.progress result
@@ -157,7 +158,8 @@ pub fn sum(
     size: u64,
 ) -> Result<Value, Pause>
     requires { IsReady context.now.setting.now }
-    ensures kinds { KeepKinds (λ b. kind_of b) attempt.old.checkers.items attempt.new.checkers.items }
+    ensures kinds { KeepKinds (λ b. kind_of b) attempt.old.checkers.items
+        attempt.new.checkers.items }
     ensures act { HasEveryKind (λ b. kind_of b) attempt.old.checkers.items
         → (bases : List Base) → IsNamed bases pointer
         → CarriesOut bases state.now attempt.old.progress attempt.new.progress result
@@ -196,7 +198,8 @@ fn moved(
     size: u64,
 ) -> Result<Lin, Pause>
     requires { IsReady context.now.setting.now }
-    ensures kinds { KeepKinds (λ b. kind_of b) attempt.old.checkers.items attempt.new.checkers.items }
+    ensures kinds { KeepKinds (λ b. kind_of b) attempt.old.checkers.items
+        attempt.new.checkers.items }
     ensures act { HasEveryKind (λ b. kind_of b) attempt.old.checkers.items
         → (bases : List Base)
         → CarriesOut bases state.now attempt.old.progress attempt.new.progress result
@@ -223,7 +226,8 @@ pub fn compare(
     left: Value,
     right: Value,
 ) -> Result<Lin, Pause>
-    ensures kinds { KeepKinds (λ b. kind_of b) attempt.old.checkers.items attempt.new.checkers.items }
+    ensures kinds { KeepKinds (λ b. kind_of b) attempt.old.checkers.items
+        attempt.new.checkers.items }
     ensures act { HasEveryKind (λ b. kind_of b) attempt.old.checkers.items
         → (bases : List Base) → IsNumbered bases → IsNamed bases left → IsNamed bases right
         → CarriesOut bases state.now attempt.old.progress attempt.new.progress result
@@ -246,7 +250,8 @@ fn compare_pointers(
     left: Value,
     right: Value,
 ) -> Result<Lin, Pause>
-    ensures kinds { KeepKinds (λ b. kind_of b) attempt.old.checkers.items attempt.new.checkers.items }
+    ensures kinds { KeepKinds (λ b. kind_of b) attempt.old.checkers.items
+        attempt.new.checkers.items }
     ensures act { HasEveryKind (λ b. kind_of b) attempt.old.checkers.items
         → (bases : List Base) → IsNumbered bases → IsNamed bases left → IsNamed bases right
         → CarriesOut bases state.now attempt.old.progress attempt.new.progress result
@@ -344,7 +349,8 @@ fn related(
     left: Seen,
     right: Seen,
 ) -> Result<(Lin, Lin), Pause>
-    ensures kinds { KeepKinds (λ b. kind_of b) attempt.old.checkers.items attempt.new.checkers.items }
+    ensures kinds { KeepKinds (λ b. kind_of b) attempt.old.checkers.items
+        attempt.new.checkers.items }
     ensures act { HasEveryKind (λ b. kind_of b) attempt.old.checkers.items
         → (bases : List Base) (one other : Valuation → Cell) → IsNumbered bases
         → Sees bases state.now left one → Sees bases state.now right other
@@ -365,7 +371,8 @@ pub fn difference(
     pointers: (Value, Value),
     size: u64,
 ) -> Result<Lin, Pause>
-    ensures kinds { KeepKinds (λ b. kind_of b) attempt.old.checkers.items attempt.new.checkers.items }
+    ensures kinds { KeepKinds (λ b. kind_of b) attempt.old.checkers.items
+        attempt.new.checkers.items }
     ensures act { HasEveryKind (λ b. kind_of b) attempt.old.checkers.items
         → (bases : List Base) → IsNumbered bases → IsNamed bases pointers.0
         → IsNamed bases pointers.1

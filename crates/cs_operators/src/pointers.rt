@@ -22,7 +22,8 @@ use cs_terms::{Lin, Lin2};
 
 /// Null is a fault where an object is needed (C11 6.5.3.2, paragraph 4).
 pub fn not_null(state: &State, attempt: &mut Attempt, at: Place, seen: Seen) -> Result<(), Pause>
-    ensures kinds { KeepKinds (λ b. kind_of b) attempt.old.checkers.items attempt.new.checkers.items }
+    ensures kinds { KeepKinds (λ b. kind_of b) attempt.old.checkers.items
+        attempt.new.checkers.items }
     ensures act { HasEveryKind (λ b. kind_of b) attempt.old.checkers.items
         → (bases : List Base) (cell : Valuation → Cell) → Sees bases state.now seen cell
         → Passes bases state.now attempt.old.progress attempt.new.progress result
@@ -39,7 +40,8 @@ pub fn named(
     at: Place,
     seen: Seen,
 ) -> Result<(u64, Lin), Pause>
-    ensures kinds { KeepKinds (λ b. kind_of b) attempt.old.checkers.items attempt.new.checkers.items }
+    ensures kinds { KeepKinds (λ b. kind_of b) attempt.old.checkers.items
+        attempt.new.checkers.items }
     ensures act { HasEveryKind (λ b. kind_of b) attempt.old.checkers.items
         → (bases : List Base) (cell : Valuation → Cell) → Sees bases state.now seen cell
         → CarriesOut bases state.now attempt.old.progress attempt.new.progress result
@@ -65,7 +67,8 @@ pub fn arrow(
     value: Value,
     bytes: u64,
 ) -> Result<Value, Pause>
-    ensures kinds { KeepKinds (λ b. kind_of b) attempt.old.checkers.items attempt.new.checkers.items }
+    ensures kinds { KeepKinds (λ b. kind_of b) attempt.old.checkers.items
+        attempt.new.checkers.items }
     ensures act { HasEveryKind (λ b. kind_of b) attempt.old.checkers.items
         → (bases : List Base) → IsNamed bases value
         → CarriesOut bases state.now attempt.old.progress attempt.new.progress result
@@ -89,7 +92,8 @@ pub fn ordered(
     first: Lin,
     second: Lin,
 ) -> Result<(), Pause>
-    ensures kinds { KeepKinds (λ b. kind_of b) attempt.old.checkers.items attempt.new.checkers.items }
+    ensures kinds { KeepKinds (λ b. kind_of b) attempt.old.checkers.items
+        attempt.new.checkers.items }
     ensures act { HasEveryKind (λ b. kind_of b) attempt.old.checkers.items
         → (bases : List Base) → Passes bases state.now attempt.old.progress attempt.new.progress
         result (λ valuation.

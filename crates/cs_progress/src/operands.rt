@@ -31,7 +31,8 @@ pub fn operand(state: &State, age: usize) -> Result<&Temporary, AllocError>
 /// The scalar that an operand is; any other counts as unset.
 pub fn value_of(temporary: &Temporary) -> Value
     ensures scalar { IsScalarOf temporary.now result }
-    ensures named { (bases : List Base) → IsNamedTemporary bases temporary.now → IsNamed bases result }
+    ensures named { (bases : List Base) → IsNamedTemporary bases temporary.now
+        → IsNamed bases result }
 {
     match temporary {
         Temporary::Scalar(value) => *value,

@@ -19,7 +19,8 @@ returns-in_err-seen-clause-act g c = λ every bases named.
     let at = c.args.at in
     let model = c.args.context.now.setting.now.program.now.model in
     let cell = cell_in bases state c.args.pointer in
-    handed state bases _ _ c.from_residual.result (λ v. operators.sum model at (cell v) (value_of v c.args.amount) c.args.size) (cell_in bases state)
+    handed state bases _ _ c.from_residual.result
+    (λ v. operators.sum model at (cell v) (value_of v c.args.amount) c.args.size) (cell_in bases state)
     c.in_err-seen.field-0.0 c.from_residual.ensures
     (λ waits onward cells v fits.
     let amount = value_of v c.args.amount in
@@ -34,7 +35,8 @@ returns-in_err-check-in-Null-clause-act g c = λ every bases named.
     let at = c.args.at in
     let model = c.args.context.now.setting.now.program.now.model in
     let cell = cell_in bases state c.args.pointer in
-    handed state bases _ _ c.from_residual-in_err-check-in-Null.result (λ v. operators.sum model at (cell v) (value_of v c.args.amount) c.args.size) (cell_in bases state)
+    handed state bases _ _ c.from_residual-in_err-check-in-Null.result
+    (λ v. operators.sum model at (cell v) (value_of v c.args.amount) c.args.size) (cell_in bases state)
     c.in_err-check-in-Null.field-0.0 c.from_residual-in_err-check-in-Null.ensures
     (λ waits onward cells v fits.
     let amount = value_of v c.args.amount in
@@ -53,7 +55,8 @@ returns-in_err-check-in-At-clause-act g c = λ every bases named.
     let at = c.args.at in
     let model = c.args.context.now.setting.now.program.now.model in
     let cell = cell_in bases state c.args.pointer in
-    handed state bases _ _ c.from_residual-in_err-check-in-At.result (λ v. operators.sum model at (cell v) (value_of v c.args.amount) c.args.size) (cell_in bases state)
+    handed state bases _ _ c.from_residual-in_err-check-in-At.result
+    (λ v. operators.sum model at (cell v) (value_of v c.args.amount) c.args.size) (cell_in bases state)
     c.in_err-check-in-At.field-0.0 c.from_residual-in_err-check-in-At.ensures
     (λ waits onward cells v fits.
     let amount = value_of v c.args.amount in
@@ -70,7 +73,8 @@ returns-in_err-moved-in-At-clause-act g c = λ every bases named.
     let model = c.args.context.now.setting.now.program.now.model in
     let cell = cell_in bases state c.args.pointer in
     let still = every_kept _ _ _ c.in_ok-check-in-At.ensures.kinds every in
-    handed state bases _ _ c.from_residual-in_err-moved-in-At.result (λ v. operators.sum model at (cell v) (value_of v c.args.amount) c.args.size) (cell_in bases state)
+    handed state bases _ _ c.from_residual-in_err-moved-in-At.result
+    (λ v. operators.sum model at (cell v) (value_of v c.args.amount) c.args.size) (cell_in bases state)
     c.in_err-moved-in-At.field-0.0 c.from_residual-in_err-moved-in-At.ensures
     (λ waits onward cells v fits.
     let amount = value_of v c.args.amount in
