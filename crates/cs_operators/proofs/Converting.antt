@@ -15,7 +15,7 @@ use Rattle.cs_events.specs.Acts.{Act, Goes}
 use Rattle.cs_meaning.specs.Initials.{number_in}
 use Rattle.cs_meaning.specs.Machine.{Operand, Scalar as OfCell, push, push_cell, pop, operand_at, cell_of, cell_at}
 use Rattle.cs_meaning.specs.Operators as operators
-use Rattle.cs_cfg.specs.Graph.{Code}
+use Rattle.cs_cfg.specs.Graph.{Point, Code}
 use Rattle.cs_cfg.specs.Working.{CodeState}
 use Rattle.cs_store.specs.declared.value.Value.TheVariants as value
 use Rattle.cs_state.specs.declared.state.State.{State}
@@ -25,6 +25,7 @@ use Rattle.cs_state.specs.Cells.{Blocks, block_of, is_there, pointer_to, operand
 use Rattle.cs_state.specs.Meaning.{meaning}
 use Rattle.cs_state.specs.Naming.{Naming}
 use Rattle.cs_operators.specs.Pointing.{is_number}
+use Rattle.cs_operators.proofs.Computed.{stands}
 
 -- the newest of some operands, put back before the others
 put_back : (stack : List Operand) (other : Operand) → 0 < length stack → unwrap_or (slice_get stack 0) other ∷ drop 1 stack ≡ stack
@@ -80,15 +81,16 @@ module _ (model : DataModel) (at : Place) (from : Shape) (ty : IntType) (bases :
 
 -- the act of a conversion of a number of the state
 pub is_converted : (model other : DataModel) → model ≡ other → (at : Place) (from : Shape) (ty : IntType)
-    (code : Code) (names : Naming) (program : TypedProgram) (state : State) (v : Valuation) (operand : Temporary) → is_number operand ≡ true
+    (code : Code) (names : Naming) (program : TypedProgram) (state : State) (todo : Point) (v : Valuation) (operand : Temporary)
+    → is_number operand ≡ true
     → operand_at (meaning code names program state v) 0 ≡ operand_of names.bases state.blocks v operand
     → (number : ℤ) → number_in (cell_at (meaning code names program state v) 0) ≡ number
-    → operators.convert model at from (integer ty) (operand_at (meaning code names program state v) 0)
-    (λ made. Goes (push made (pop (meaning code names program state v))))
-    ≡ operators.convert_number other at from ty number (λ made. Goes (push_cell (NumberCell made) (pop (meaning code names program state v))))
-is_converted model other same at from ty code names program state v operand is_one operand_is number is =
-    let m = meaning code names program state v in
-    let onward : Operand → Act CodeState = λ made. Goes (push made (pop m)) in
+    → operators.convert model at from (integer ty) (operand_at (stands code names program state todo v) 0)
+    (λ made. Goes (push made (pop (stands code names program state todo v))))
+    ≡ operators.convert_number other at from ty number
+    (λ made. Goes (push_cell (NumberCell made) (pop (stands code names program state todo v))))
+is_converted model other same at from ty code names program state todo v operand is_one operand_is number is =
+    let onward : Operand → Act CodeState = λ made. Goes (push made (pop (stands code names program state todo v))) in
     (λ i. operators.convert (same i) at from (integer ty) (operand_is i) onward)
     ∙ number_converted other at from ty names.bases state.blocks v onward operand number is_one
     (λ term is_term. sym (ap (λ o. number_in (cell_of (operand_of names.bases state.blocks v o))) is_term)

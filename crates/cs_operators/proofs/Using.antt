@@ -9,7 +9,7 @@ use Rattle.cs_events.specs.Objects.{NullCell}
 use Rattle.cs_events.specs.Acts.{Act, Goes}
 use Rattle.cs_meaning.specs.Expressions.{use_result}
 use Rattle.cs_meaning.specs.Machine.{Operand, Scalar, Whole, Nothing}
-use Rattle.cs_cfg.specs.Graph.{Code}
+use Rattle.cs_cfg.specs.Graph.{Point, Code}
 use Rattle.cs_cfg.specs.Working.{CodeState}
 use Rattle.cs_store.specs.declared.value.Value.TheVariants as value
 use Rattle.cs_state.specs.declared.state.State.{State}
@@ -57,21 +57,21 @@ use_is at Nothing m = refl
 -- an operation that checks alone leaves its state as it is
 pub checks_alone : (code : Code) (names : Naming) (program : TypedProgram) (state : State) {T : Type 0} (earlier later : Progress)
     (answer : Result T Pause) (act : CodeState → Act CodeState) (part : Valuation → Act CodeState → Act CodeState)
-    → ((v : Valuation) → Fits v state.constraints
-    → act (stands code names program state v) ≡ part v (Goes (stands code names program state v)))
+    → ((todo : Point) (v : Valuation) → Fits v state.constraints
+    → act (stands code names program state todo v) ≡ part v (Goes (stands code names program state todo v)))
     → Passes names.bases state earlier later answer part → Computes code names program state state earlier later answer act
 checks_alone code names program state {T} earlier later answer act part same passes = by_case answer passes
   where
     by_case : (r : Result T Pause) → Passes names.bases state earlier later r part → Computes code names program state state earlier later r act
     by_case (Ok done) passes = record {
-      done = λ cells v fits.
-          let goes = Goes (stands code names program state v) in
-          leads_on cells _ _ _ _ (part v goes) goes (leads_same cells _ _ _ (same v fits)) (passes.through cells v fits goes);
+      done = λ todo cells v fits.
+          let goes = Goes (stands code names program state todo v) in
+          leads_on cells _ _ _ _ (part v goes) goes (leads_same cells _ _ _ (same todo v fits)) (passes.through cells v fits goes);
       waits = tt;
     }
     by_case (Err why) passes = record {
       done = tt;
-      waits = λ waits cells v fits.
-          let goes = Goes (stands code names program state v) in
-          waits_on cells _ _ _ (part v goes) names.bases v _ (leads_same cells _ _ _ (same v fits)) (passes.waits waits goes cells v fits);
+      waits = λ waits todo cells v fits.
+          let goes = Goes (stands code names program state todo v) in
+          waits_on cells _ _ _ (part v goes) names.bases v _ (leads_same cells _ _ _ (same todo v fits)) (passes.waits waits goes cells v fits);
     }

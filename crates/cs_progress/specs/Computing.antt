@@ -7,7 +7,8 @@ use Rattle.cs_constraints.specs.Constraints.{Fits}
 use Rattle.cs_events.specs.declared.input.InputKind.{InputKind}
 use Rattle.cs_events.specs.Objects.{Cell}
 use Rattle.cs_events.specs.Acts.{Act, Goes}
-use Rattle.cs_cfg.specs.Graph.{Code}
+use Rattle.cs_meaning.specs.Machine.{to_do}
+use Rattle.cs_cfg.specs.Graph.{Point, Code}
 use Rattle.cs_cfg.specs.Working.{CodeState}
 use Rattle.cs_regions.specs.declared.base.Base.{Base}
 use Rattle.cs_state.specs.declared.state.State.{State}
@@ -32,11 +33,11 @@ abbrev pub HaveNames : List Base → State → Type 0
 HaveNames bases state = All (IsNamedTemporary bases) state.frame.temporaries
 
 -- under each valuation that fits, an operation does the whole of its act, which goes on with the state that is left; or what it waits for
--- stands first in what is left of the act
+-- stands first in what is left of the act. The run's frame goes on at any point of the code then: the operation leaves that as it is
 pub record Computes {T : Type 0} (code : Code) (names : Naming) (program : TypedProgram) (before after : State) (earlier later : Progress)
     (answer : Result T Pause) (act : CodeState → Act CodeState) : Type 0 where
-  pub done : OnOk answer ((cells : Path → InputKind → Cell) (valuation : Valuation) → Fits valuation before.constraints
+  pub done : OnOk answer ((todo : Point) (cells : Path → InputKind → Cell) (valuation : Valuation) → Fits valuation before.constraints
       → Leads cells (answers_left before earlier.used valuation) (answers_left before later.used valuation)
-      (act (meaning code names program before valuation)) (Goes (meaning code names program after valuation)))
-  pub waits : IfErr answer (λ why. why ≡ pause.Waits
-      → WaitsFor names.bases before earlier.used later.first (λ valuation. act (meaning code names program before valuation)))
+      (act (to_do todo (meaning code names program before valuation))) (Goes (to_do todo (meaning code names program after valuation))))
+  pub waits : IfErr answer (λ why. why ≡ pause.Waits → (todo : Point)
+      → WaitsFor names.bases before earlier.used later.first (λ valuation. act (to_do todo (meaning code names program before valuation))))

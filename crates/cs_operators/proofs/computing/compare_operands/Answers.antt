@@ -20,9 +20,9 @@ returns-in_err-result-clause-act g c = λ every code names program budgets numbe
     let act = do_work code program budgets at (graph.Compare c.args.operator) in
     let rest = number_left code names program state 2 in
     waited code names program state state _ _ c.from_residual-in_err-result.result act c.in_err-result.field-0.0 c.from_residual-in_err-result.ensures
-    (λ waits. part_waits code names program state act part rest
+    (λ waits todo. part_waits code names program state todo act part (rest todo)
     (λ v fits i. operators.compare at c.args.operator (c.in_ok-left.ensures.value code names program v i)
-    (c.in_ok-right.ensures.value code names program v i) (rest v))
+    (c.in_ok-right.ensures.value code names program v i) (rest todo v))
     _ _ ((c.in_err-result.ensures.act every names.bases numbered (c.in_ok-left.ensures.named names.bases have)
     (c.in_ok-right.ensures.named names.bases have)).waits waits))
 
@@ -36,8 +36,8 @@ returns-clause-act g c = λ every code names program budgets numbered have.
     let rest = number_left code names program state 2 in
     replaced code names program state c.replace_with.new.state _ _ c.replace_with.result act 2 (temporary.Scalar (value.Number c.in_ok-result.result))
     c.replace_with.ensures.means c.replace_with.ensures.memory
-    (part_leads code names program state act part rest
+    (λ todo. part_leads code names program state todo act part (rest todo)
     (λ v fits i. operators.compare at c.args.operator (c.in_ok-left.ensures.value code names program v i)
-    (c.in_ok-right.ensures.value code names program v i) (rest v))
+    (c.in_ok-right.ensures.value code names program v i) (rest todo v))
     _ _ _ (c.in_ok-result.ensures.act every names.bases numbered (c.in_ok-left.ensures.named names.bases have)
     (c.in_ok-right.ensures.named names.bases have)).through)

@@ -18,8 +18,8 @@ returns-then-not-is_number c = record {
   act = λ code names program budgets model.
       let state = c.args.state.now in
       record {
-        done = λ given v fits.
-            let m = stands code names program state v in
+        done = λ todo given v fits.
+            let m = stands code names program state todo v in
             let onward : machine.Operand → Act CodeState = λ operand. Goes (machine.push operand (machine.pop m)) in
             let operand_is = c.in_ok-converted.ensures.operand code names program v in
             let from = shape_of c.args.from.now in
@@ -27,7 +27,7 @@ returns-then-not-is_number c = record {
             (sym c.is_number.ensures ∙ c.if-not-is_number.true) in
             rw c.in-Int.is (leads_same given _ _ _
             (ap (λ operand. operators.convert program.model c.args.at from (integer c.in-Int.ty) operand onward) operand_is
-            ∙ same ∙ ap onward (sym operand_is) ∙ ap Goes (same_again code names program state v c.in_ok-converted.ensures.there)));
+            ∙ same ∙ ap onward (sym operand_is) ∙ ap (λ same. Goes (machine.to_do todo same)) (same_again code names program state v c.in_ok-converted.ensures.there)));
         waits = tt;
       };
 }
@@ -44,8 +44,8 @@ returns-in_err-after-in-Int c = record {
       let rest = number_left code names program state 1 in
       rw c.in-Int.is (waited code names program state state c.args.progress.now c.convert_number.new.progress
       c.from_residual-in_err-after-in-Int.result act c.in_err-after-in-Int.field-0.0 c.from_residual-in_err-after-in-Int.ensures
-      (λ waits. part_waits code names program state act part rest
-      (λ v fits. is_converted program.model c.model-model.result (model ∙ sym c.model-model.ensures) c.args.at from c.in-Int.ty code names program state v
+      (λ waits todo. part_waits code names program state todo act part (rest todo)
+      (λ v fits. is_converted program.model c.model-model.result (model ∙ sym c.model-model.ensures) c.args.at from c.in-Int.ty code names program state todo v
       converted (sym c.is_number.ensures ∙ c.if-not-is_number.false) (c.in_ok-converted.ensures.operand code names program v)
       (value_of v c.in_ok-before-in-Int.before) (c.in_ok-before-in-Int.ensures.value code names program v fits))
       _ _ ((c.in_err-after-in-Int.ensures.act names.bases).waits waits)));
@@ -56,7 +56,7 @@ returns-in-Void c = record {
   act = λ code names program budgets model. rw c.in-Void.is (
       replaced code names program c.args.state.now c.replace.new.state c.args.progress.now c.args.progress.now c.replace.result
       (do_work code program budgets c.args.at (graph.Convert (shape_of c.args.from.now) void)) 1 temporary.Nothing
-      c.replace.ensures.means c.replace.ensures.memory (λ given v fits. leads_same given _ _ _ refl));
+      c.replace.ensures.means c.replace.ensures.memory (λ todo given v fits. leads_same given _ _ _ refl));
 }
 
 pub returns-in_ok-after-in-Int : goal.returns-in_ok-after-in-Int
@@ -72,8 +72,8 @@ returns-in_ok-after-in-Int c = record {
       rw c.in-Int.is (replaced code names program state c.replace-in-Int.new.state c.args.progress.now c.convert_number.new.progress
       c.replace-in-Int.result act 1 (temporary.Scalar (value.Number c.in_ok-after-in-Int.after))
       c.replace-in-Int.ensures.means c.replace-in-Int.ensures.memory
-      (part_leads code names program state act part rest
-      (λ v fits. is_converted program.model c.model-model.result (model ∙ sym c.model-model.ensures) c.args.at from c.in-Int.ty code names program state v
+      (λ todo. part_leads code names program state todo act part (rest todo)
+      (λ v fits. is_converted program.model c.model-model.result (model ∙ sym c.model-model.ensures) c.args.at from c.in-Int.ty code names program state todo v
       converted (sym c.is_number.ensures ∙ c.if-not-is_number.false) (c.in_ok-converted.ensures.operand code names program v)
       (value_of v c.in_ok-before-in-Int.before) (c.in_ok-before-in-Int.ensures.value code names program v fits))
       _ _ _ (c.in_ok-after-in-Int.ensures.act names.bases).through));

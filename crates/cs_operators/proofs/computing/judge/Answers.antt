@@ -2,6 +2,7 @@ use Rattle.std.proofs.Common.{Bool}
 use Rattle.cs_terms.specs.Term.{Valuation}
 use Rattle.cs_events.specs.Acts.{Act}
 use Rattle.cs_cfg.specs.Graph as graph
+use Rattle.cs_cfg.specs.Graph.{Point}
 use Rattle.cs_cfg.specs.Working.{do_work}
 use Rattle.cs_cfg.specs.Working.{CodeState}
 use Rattle.cs_eval.specs.declared.question.Tested.TheVariants as tested
@@ -18,10 +19,10 @@ returns-in_err-holds c = record {
       let at = c.args.at in
       let part : Valuation → (Bool → Act CodeState) → Act CodeState = λ v. test at tested.Truth (cell_in names.bases state c.in_ok-value.field-0 v) in
       let act = do_work code program budgets at graph.Judge in
-      let rest : Valuation → Bool → Act CodeState = truth_left code names program state 1 in
+      let rest : Point → Valuation → Bool → Act CodeState = truth_left code names program state 1 in
       waited code names program state state _ _ c.from_residual-in_err-holds.result act c.in_err-holds.field-0.0 c.from_residual-in_err-holds.ensures
-      (λ waits. part_waits code names program state act part rest
-      (λ v fits i. test at tested.Truth (c.in_ok-value.ensures.value code names program v i) (rest v))
+      (λ waits todo. part_waits code names program state todo act part (rest todo)
+      (λ v fits i. test at tested.Truth (c.in_ok-value.ensures.value code names program v i) (rest todo v))
       _ _ ((c.in_err-holds.ensures.act names.bases (c.in_ok-value.ensures.named names.bases have)).waits waits));
 }
 
@@ -32,10 +33,10 @@ returns c = record {
       let at = c.args.at in
       let part : Valuation → (Bool → Act CodeState) → Act CodeState = λ v. test at tested.Truth (cell_in names.bases state c.in_ok-value.field-0 v) in
       let act = do_work code program budgets at graph.Judge in
-      let rest : Valuation → Bool → Act CodeState = truth_left code names program state 1 in
+      let rest : Point → Valuation → Bool → Act CodeState = truth_left code names program state 1 in
       replaced code names program state c.replace_with.new.state _ _ c.replace_with.result act 1
       (temporary.Scalar (value.Number c.number_of.result)) c.replace_with.ensures.means c.replace_with.ensures.memory
-      (rw c.number_of.ensures (part_leads code names program state act part rest
-      (λ v fits i. test at tested.Truth (c.in_ok-value.ensures.value code names program v i) (rest v))
+      (rw c.number_of.ensures (λ todo. part_leads code names program state todo act part (rest todo)
+      (λ v fits i. test at tested.Truth (c.in_ok-value.ensures.value code names program v i) (rest todo v))
       _ _ _ (c.in_ok-holds.ensures.act names.bases (c.in_ok-value.ensures.named names.bases have)).through));
 }

@@ -23,8 +23,8 @@ returns c = record {
       replaced code names program state c.replace_with.new.state progress progress c.replace_with.result
       (do_work code program budgets at (graph.Member c.args.offset)) 1 (temporary.Scalar c.in_ok-place.place)
       c.replace_with.ensures.means c.replace_with.ensures.memory
-      (λ given v fits. leads_same given _ _ _
-      (ap (cell_left code names program state 1 v)
+      (λ todo given v fits. leads_same given _ _ _
+      (ap (cell_left code names program state 1 todo v)
       (ap (λ cell. cells.further cell c.args.offset) (c.in_ok-value.ensures.value code names program v)
       ∙ sym (c.in_ok-place.ensures.moved names.bases v fits))));
 }

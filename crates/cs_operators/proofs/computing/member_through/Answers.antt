@@ -18,8 +18,8 @@ returns-in_err-place-clause-act g c = λ every code names program budgets have.
     let act = do_work code program budgets at (graph.Arrow c.args.offset) in
     let rest = cell_left code names program state 1 in
     waited code names program state state _ _ c.from_residual-in_err-place.result act c.in_err-place.field-0.0 c.from_residual-in_err-place.ensures
-    (λ waits. part_waits code names program state act part rest
-    (λ v fits i. operators.arrow at (c.in_ok-value.ensures.value code names program v i) c.args.offset (rest v))
+    (λ waits todo. part_waits code names program state todo act part (rest todo)
+    (λ v fits i. operators.arrow at (c.in_ok-value.ensures.value code names program v i) c.args.offset (rest todo v))
     _ _ ((c.in_err-place.ensures.act every names.bases (c.in_ok-value.ensures.named names.bases have)).waits waits))
 
 pub returns-clause-act : goal.returns-clause-act
@@ -31,6 +31,6 @@ returns-clause-act g c = λ every code names program budgets have.
     let rest = cell_left code names program state 1 in
     replaced code names program state c.replace_with.new.state _ _ c.replace_with.result act 1 (temporary.Scalar c.in_ok-place.place)
     c.replace_with.ensures.means c.replace_with.ensures.memory
-    (part_leads code names program state act part rest
-    (λ v fits i. operators.arrow at (c.in_ok-value.ensures.value code names program v i) c.args.offset (rest v))
+    (λ todo. part_leads code names program state todo act part (rest todo)
+    (λ v fits i. operators.arrow at (c.in_ok-value.ensures.value code names program v i) c.args.offset (rest todo v))
     _ _ _ (c.in_ok-place.ensures.act every names.bases (c.in_ok-value.ensures.named names.bases have)).through)

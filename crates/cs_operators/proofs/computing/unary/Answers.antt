@@ -22,8 +22,8 @@ returns-in_err-result c = record {
       let act = do_work code program budgets at (graph.Unary c.args.operator c.args.ty) in
       let rest = number_left code names program state 1 in
       waited code names program state state _ _ c.from_residual-in_err-result.result act c.in_err-result.field-0.0 c.from_residual-in_err-result.ensures
-      (λ waits. part_waits code names program state act part rest
-      (λ v fits i. Asks at (Unary c.args.operator c.args.ty (c.in_ok-operand.ensures.value code names program v fits i)) (rest v))
+      (λ waits todo. part_waits code names program state todo act part (rest todo)
+      (λ v fits i. Asks at (Unary c.args.operator c.args.ty (c.in_ok-operand.ensures.value code names program v fits i)) (rest todo v))
       _ _ ((asked state at (question.Unary c.args.operator c.args.ty c.in_ok-operand.operand) names.bases c.args.progress.now c.ask.new.self
       (Err c.in_err-result.field-0.0) part (λ v fits onward. refl) tt c.in_err-result.ensures.none c.in_err-result.ensures.first).waits waits));
 }
@@ -38,8 +38,8 @@ returns c = record {
       let rest = number_left code names program state 1 in
       replaced code names program state c.replace_with.new.state _ _ c.replace_with.result act 1 (temporary.Scalar (value.Number c.in_ok-result.result))
       c.replace_with.ensures.means c.replace_with.ensures.memory
-      (part_leads code names program state act part rest
-      (λ v fits i. Asks at (Unary c.args.operator c.args.ty (c.in_ok-operand.ensures.value code names program v fits i)) (rest v))
+      (λ todo. part_leads code names program state todo act part (rest todo)
+      (λ v fits i. Asks at (Unary c.args.operator c.args.ty (c.in_ok-operand.ensures.value code names program v fits i)) (rest todo v))
       _ _ _ (asked state at (question.Unary c.args.operator c.args.ty c.in_ok-operand.operand) names.bases c.args.progress.now c.ask.new.self
       (Ok c.in_ok-result.result) part (λ v fits onward. refl) c.in_ok-result.ensures.answered tt tt).through);
 }

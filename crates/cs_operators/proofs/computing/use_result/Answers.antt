@@ -16,8 +16,8 @@ returns-clause-act g c = λ every code names program budgets have.
     let named = c.in_ok-used.ensures.named names.bases have in
     checks_alone code names program state _ _ c.check.result (do_work code program budgets at graph.Use)
     (λ v. used at (operand_of names.bases state.blocks v operand))
-    (λ v fits. ap (λ o. use_result at o (stands code names program state v)) (c.in_ok-used.ensures.operand code names program v)
-    ∙ use_is at (operand_of names.bases state.blocks v operand) (stands code names program state v))
+    (λ todo v fits. ap (λ o. use_result at o (stands code names program state todo v)) (c.in_ok-used.ensures.operand code names program v)
+    ∙ use_is at (operand_of names.bases state.blocks v operand) (stands code names program state todo v))
     (c.check.ensures.act every names.bases (λ v. used at (operand_of names.bases state.blocks v operand))
     (λ v fits. used_check at v c.is_unset.result (operand_of names.bases state.blocks v operand)
     (never_set names.bases state.blocks v operand named ∙ sym c.is_unset.ensures)))
