@@ -1,7 +1,12 @@
 //! What cells hold: what was bound, else what fills their object.
 ghost use Rattle.cs_objects.specs.Prepared.{IsReady};
-ghost use Rattle.std.specs.Prelude.{IfOk};
+ghost use Rattle.std.specs.Prelude.{◌≡◌, ℕ, IfOk, IfErr};
 ghost use Rattle.cs_ranges.specs.RangeSet.{IsInhabited};
+ghost use Rattle.cs_store.specs.Held.{held};
+ghost use Rattle.cs_state.specs.Naming.{Naming, naming, Extends};
+ghost use Rattle.cs_progress.specs.declared.pause.Pause.TheVariants as pause;
+ghost use Rattle.cs_progress.specs.Locals.{IsLocalOf, IsUnfilled, value_held};
+ghost use Rattle.cs_cells.specs.declared.cells.Cell.TheVariants.{Known};
 
 use crate::objects::{Known, object};
 use cs_events::numbers_of;
@@ -54,6 +59,12 @@ pub fn read(
     offset: u64,
 ) -> Result<Value, Pause>
     requires { IsReady context.now.setting.now }
+    ensures local { IfOk result (λ value. (names : Naming) (frame count : ℕ)
+        → Extends (naming tables.old) names → IsLocalOf names.bases frame count base
+        → IsUnfilled state.old.store base offset
+        → (value ≡ value_held (held state.old.store base offset)) × (state.new ≡ state.old)) }
+    ensures memory { IfErr result (λ why. why ≡ pause.Memory) }
+    ensures extends { Extends (naming tables.old) (naming tables.new) }
 {
     match look_up(context, state, tables, base, offset)? {
         Cell::Known(value) => Ok(value),
@@ -74,6 +85,12 @@ pub fn look_up(
     offset: u64,
 ) -> Result<Cell, Pause>
     requires { IsReady context.now.setting.now }
+    ensures local { IfOk result (λ cell. (names : Naming) (frame count : ℕ)
+        → Extends (naming tables.old) names → IsLocalOf names.bases frame count base
+        → IsUnfilled state.old.store base offset
+        → (cell ≡ Known (value_held (held state.old.store base offset))) × (state.new ≡ state.old)) }
+    ensures memory { IfErr result (λ why. why ≡ pause.Memory) }
+    ensures extends { Extends (naming tables.old) (naming tables.new) }
 {
     let found = found(context, state, tables, base, offset)?;
     match found {

@@ -73,5 +73,5 @@ checks_alone code names program state {T} earlier later answer act part same pas
       done = tt;
       waits = λ waits todo cells v fits.
           let goes = Goes (stands code names program state todo v) in
-          waits_on cells _ _ _ (part v goes) names.bases v _ (leads_same cells _ _ _ (same todo v fits)) (passes.waits waits goes cells v fits);
+          waits_on cells _ _ _ (part v goes) names.bases _ v _ (leads_same cells _ _ _ (same todo v fits)) (passes.waits waits goes cells v fits);
     }

@@ -1,8 +1,9 @@
 //! Operations that compute with their operands alone, in whose place they leave their result.
-ghost use Rattle.std.specs.Prelude.{◌≡◌};
+ghost use Rattle.std.specs.Prelude.{◌≡◌, List, OnOk};
 ghost use Rattle.cs_types.specs.Shape.{shape_of};
 ghost use Rattle.cs_ast.specs.TypedProgram.{TypedProgram};
 ghost use Rattle.cs_events.specs.declared.outcome.RunBudgets.{RunBudgets};
+ghost use Rattle.cs_regions.specs.declared.base.Base.{Base};
 ghost use Rattle.cs_regions.specs.Numbering.{IsNumbered};
 ghost use Rattle.cs_meaning.specs.Expressions as expressions;
 ghost use Rattle.cs_cfg.specs.Graph as graph;
@@ -11,6 +12,7 @@ ghost use Rattle.cs_cfg.specs.Working.{do_work};
 ghost use Rattle.cs_objects.specs.Prepared.{IsReady};
 ghost use Rattle.cs_state.specs.Naming.{Naming};
 ghost use Rattle.cs_progress.specs.Computing.{HaveNames, Computes};
+ghost use Rattle.cs_progress.specs.Stepping.{StaysInFrame, KeepsLocals, WaitsUnchanged};
 ghost use Rattle.cs_operators.specs.Asking.{KeepKinds, HasEveryKind};
 ghost use Rattle.cs_operators.specs.Pointing.{is_number, is_unset};
 
@@ -70,6 +72,10 @@ pub fn unary(
     ensures act { (code : Code) (names : Naming) (program : TypedProgram) (budgets : RunBudgets)
         → Computes code names program state.old state.new progress.old progress.new result
         (do_work code program budgets at (graph.Unary operator ty)) }
+    ensures frame { OnOk result (StaysInFrame state.old state.new) }
+    ensures locals { OnOk result ((program : TypedProgram) (bases : List Base)
+        → KeepsLocals program bases state.old state.new) }
+    ensures unchanged { WaitsUnchanged state.old state.new result }
 {
     let operand = number(state, 0)?;
     let result = progress.ask(state, at, Question::Unary(operator, ty, operand))?;
@@ -82,6 +88,10 @@ pub fn judge(state: &mut State, progress: &mut Progress, at: Place) -> Result<()
         → HaveNames names.bases state.old
         → Computes code names program state.old state.new progress.old progress.new result
         (do_work code program budgets at graph.Judge) }
+    ensures frame { OnOk result (StaysInFrame state.old state.new) }
+    ensures locals { OnOk result ((program : TypedProgram) (bases : List Base)
+        → KeepsLocals program bases state.old state.new) }
+    ensures unchanged { WaitsUnchanged state.old state.new result }
 {
     let holds = test(state, progress, at, value(state, 0)?, Tested::Truth)?;
     replace_with(state, 1, Value::Number(number_of(holds)))
@@ -93,6 +103,10 @@ pub fn negate(state: &mut State, progress: &mut Progress, at: Place) -> Result<(
         → HaveNames names.bases state.old
         → Computes code names program state.old state.new progress.old progress.new result
         (do_work code program budgets at graph.Not) }
+    ensures frame { OnOk result (StaysInFrame state.old state.new) }
+    ensures locals { OnOk result ((program : TypedProgram) (bases : List Base)
+        → KeepsLocals program bases state.old state.new) }
+    ensures unchanged { WaitsUnchanged state.old state.new result }
 {
     let holds = test(state, progress, at, value(state, 0)?, Tested::Not)?;
     replace_with(state, 1, Value::Number(number_of(!holds)))
@@ -115,6 +129,10 @@ pub fn binary(
         → program.model ≡ context.now.setting.now.program.now.model
         → Computes code names program state.old state.new attempt.old.progress
         attempt.new.progress result (do_work code program budgets at (graph.Binary operator ty)) }
+    ensures frame { OnOk result (StaysInFrame state.old state.new) }
+    ensures locals { OnOk result ((program : TypedProgram) (bases : List Base)
+        → KeepsLocals program bases state.old state.new) }
+    ensures unchanged { WaitsUnchanged state.old state.new result }
 {
     let operands = (number(state, 1)?, number(state, 0)?);
     let result = operate(context.model(), state, attempt, at, operator, ty, operands)?;
@@ -135,6 +153,10 @@ pub fn compare_operands(
         → IsNumbered names.bases → HaveNames names.bases state.old
         → Computes code names program state.old state.new attempt.old.progress
         attempt.new.progress result (do_work code program budgets at (graph.Compare operator)) }
+    ensures frame { OnOk result (StaysInFrame state.old state.new) }
+    ensures locals { OnOk result ((program : TypedProgram) (bases : List Base)
+        → KeepsLocals program bases state.old state.new) }
+    ensures unchanged { WaitsUnchanged state.old state.new result }
 {
     let (left, right) = (value(state, 1)?, value(state, 0)?);
     let result = compare(state, attempt, at, operator, left, right)?;
@@ -222,6 +244,10 @@ pub fn convert(
         → program.model ≡ context.now.setting.now.program.now.model
         → Computes code names program state.old state.new progress.old progress.new result
         (do_work code program budgets at (graph.Convert (shape_of from.now) (shape_of to.now))) }
+    ensures frame { OnOk result (StaysInFrame state.old state.new) }
+    ensures locals { OnOk result ((program : TypedProgram) (bases : List Base)
+        → KeepsLocals program bases state.old state.new) }
+    ensures unchanged { WaitsUnchanged state.old state.new result }
 {
     let model = context.model();
     let converted = operand(state, 0)?;

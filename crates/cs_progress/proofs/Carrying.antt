@@ -73,7 +73,7 @@ module _ (state : State) where
         by_case (Err why) carries = record {
           through = tt;
           waits = λ waits onward cells v fits.
-              waits_on cells _ _ (part v onward) (rest v onward) bases v after.first
+              waits_on cells _ _ (part v onward) (rest v onward) bases state v after.first
               (leads cells v fits onward) (carries.waits waits onward cells v fits);
         }
 
@@ -92,5 +92,5 @@ module _ (state : State) where
         by_case (Err why) passes = record {
           through = tt;
           waits = λ waits act cells v fits.
-              waits_on cells _ _ (part v act) (rest v act) bases v after.first (leads cells v fits act) (passes.waits waits act cells v fits);
+              waits_on cells _ _ (part v act) (rest v act) bases state v after.first (leads cells v fits act) (passes.waits waits act cells v fits);
         }

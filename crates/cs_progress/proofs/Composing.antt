@@ -10,6 +10,7 @@ use Rattle.cs_events.specs.Acts.{Act, Asks}
 use Rattle.cs_event_runs.specs.Left.{left_of}
 use Rattle.cs_cfg.specs.Working.{CodeState}
 use Rattle.cs_regions.specs.declared.base.Base.{Base}
+use Rattle.cs_state.specs.declared.state.State.{State}
 use Rattle.cs_progress.specs.declared.next.Next.{Next}
 use Rattle.cs_progress.specs.Acting.{UsesAll, Leads, BeginsWith}
 
@@ -23,12 +24,12 @@ module _ (cells : Path → InputKind → Cell) where
       (led.0 ∙ further.0, further.1)
 
   -- what stands first after a part stands first before it
-  pub waits_on : (a b : List ℤ) (one two : Act CodeState) (bases : List Base) (valuation : Valuation) (first : Next)
-      → Leads cells a b one two → (UsesAll cells b two → BeginsWith bases valuation first (left_of cells b two))
-      → UsesAll cells a one → BeginsWith bases valuation first (left_of cells a one)
-  waits_on a b one two bases valuation first leads stands uses =
+  pub waits_on : (a b : List ℤ) (one two : Act CodeState) (bases : List Base) (state : State) (valuation : Valuation) (first : Next)
+      → Leads cells a b one two → (UsesAll cells b two → BeginsWith bases state valuation first (left_of cells b two))
+      → UsesAll cells a one → BeginsWith bases state valuation first (left_of cells a one)
+  waits_on a b one two bases state valuation first leads stands uses =
       let led = leads uses in
-      subst (BeginsWith bases valuation first) (sym led.0) (stands led.1)
+      subst (BeginsWith bases state valuation first) (sym led.0) (stands led.1)
 
   -- an operation is answered by the next answer
   pub leads_answered : (before after : List ℤ) (number : ℤ) (at : Place) (operation : Operation) (onward : ℤ → Act CodeState)

@@ -3,6 +3,8 @@
 use Rattle.std.specs.Prelude.{◌≡◌, ◌≢◌, ℕ, ℤ, List, [], ◌∷◌, All, Option, None, Some, slice_get, Result, IfOk, IfErr}
 use Rattle.cs_inputs.specs.declared.path.Path.{Path}
 use Rattle.cs_ast.specs.declared.place.Place.{Place}
+use Rattle.cs_model.specs.declared.kind.Kind.{Kind}
+use Rattle.cs_checker.specs.declared.subject.Subject.{Subject}
 use Rattle.cs_terms.specs.Term.{Valuation, value_of}
 use Rattle.cs_terms.specs.declared.term.Lin.{Lin}
 use Rattle.cs_constraints.specs.Constraints.{Fits}
@@ -20,6 +22,8 @@ use Rattle.cs_store.specs.declared.value.Value.{Value}
 use Rattle.cs_store.specs.declared.value.Value.TheVariants as value
 use Rattle.cs_state.specs.declared.state.State.{State}
 use Rattle.cs_state.specs.Cells.{cell_of, object_of}
+use Rattle.cs_access.specs.declared.checking.Checked.{Checked}
+use Rattle.cs_access.specs.Checks.{AreFaults, IsRest}
 use Rattle.cs_eval.specs.Questions.{operation_of}
 use Rattle.cs_progress.specs.declared.pause.Pause.{Pause}
 use Rattle.cs_progress.specs.declared.pause.Pause.TheVariants as pause
@@ -57,23 +61,35 @@ Gives {Given} state before after part given =
     (cells : Path → InputKind → Cell) (valuation : Valuation) → Fits valuation state.constraints → (onward : Given → Act CodeState)
     → Leads cells (answers_left state before valuation) (answers_left state after valuation) (part valuation onward) (onward (given valuation))
 
--- what is left of an act begins with what was named: with a question, or with the offset of an access; it is a fault under each valuation
--- that fits one of the faulty parts; or the end of the run. An operator doesn't wait for anything else
-abbrev pub BeginsWith : List Base → Valuation → Next → Act CodeState → Type 0
-BeginsWith bases valuation next.Done act = ⊥
-BeginsWith bases valuation (next.Asks at question) act = (onward : ℤ → Act CodeState) × (act ≡ Asks at (operation_of valuation question) onward)
-BeginsWith bases valuation (next.Selects at term) act = ⊥
-BeginsWith bases valuation (next.Reaches at base offset) act =
+-- what checkers have made of a state: its faulty parts, and its rest
+pub record ComesOf (state : State) (checked : Checked) : Type 0 where
+  pub subject : Subject
+  pub kinds : List Kind
+  pub faults : AreFaults state subject kinds checked.faults.items
+  pub rest : IsRest state subject kinds checked.rest
+
+-- an act is the fault of each faulty part that the valuation fits, and the parts are those of the state
+pub record BeginsWithCheck (state : State) (valuation : Valuation) (at : Place) (checked : Checked) (act : Act CodeState) : Type 0 where
+  pub faults : All (λ part. Fits valuation part.state.constraints → act ≡ Stops (Fault part.kind at)) checked.faults.items
+  pub parts : ComesOf state checked
+
+-- what is left of an act in a state begins with what was named: with a question, or with the offset of an access; it is a fault under each
+-- valuation that fits one of the faulty parts; or the end of the run. An operator doesn't wait for anything else
+abbrev pub BeginsWith : List Base → State → Valuation → Next → Act CodeState → Type 0
+BeginsWith bases state valuation next.Done act = ⊥
+BeginsWith bases state valuation (next.Asks at question) act =
+    (onward : ℤ → Act CodeState) × (act ≡ Asks at (operation_of valuation question) onward)
+BeginsWith bases state valuation (next.Selects at term) act = ⊥
+BeginsWith bases state valuation (next.Reaches at base offset) act =
     (region : Base) × (onward : Act CodeState) × (slice_get bases base ≡ Some region)
     × (act ≡ Reaches at (object_of region) (value_of valuation offset) onward)
-BeginsWith bases valuation (next.Checks at checked) act =
-    All (λ part. Fits valuation part.state.constraints → act ≡ Stops (Fault part.kind at)) checked.value.faults.items
-BeginsWith bases valuation (next.Ends outcome) act = act ≡ Stops outcome
+BeginsWith bases state valuation (next.Checks at checked) act = BeginsWithCheck state valuation at checked.value act
+BeginsWith bases state valuation (next.Ends outcome) act = act ≡ Stops outcome
 
 -- this stands first in what is left of an act, if that uses all answers
 abbrev pub StandsFirst : List Base → State → ℕ → Next → (Path → InputKind → Cell) → Valuation → Act CodeState → Type 0
 StandsFirst bases state used first cells valuation act =
-    UsesAll cells (answers_left state used valuation) act → BeginsWith bases valuation first (left_of cells (answers_left state used valuation) act)
+    UsesAll cells (answers_left state used valuation) act → BeginsWith bases state valuation first (left_of cells (answers_left state used valuation) act)
 
 -- the same under each valuation that fits
 abbrev pub WaitsFor : List Base → State → ℕ → Next → (Valuation → Act CodeState) → Type 0

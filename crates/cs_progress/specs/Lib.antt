@@ -5,3 +5,5 @@ pub mod Operands
 pub mod Answering
 pub mod Acting
 pub mod Computing
+pub mod Locals
+pub mod Stepping

@@ -1,17 +1,22 @@
 -- What an operand of a state is in the runs that the state stands for, and what replacing operands does there.
-use Rattle.std.specs.Prelude.{◌≡◌, ℕ, List}
+use Rattle.std.specs.Prelude.{◌≡◌, ℕ, ◌-◌, pos, List, [], ◌∷◌, ◌++◌, take, length, Some, slice_get}
 use Rattle.cs_ast.specs.TypedProgram.{TypedProgram}
 use Rattle.cs_cfg.specs.Graph.{Code}
 use Rattle.cs_constraints.specs.Constraints.{Fits}
 use Rattle.cs_meaning.specs.Initials as cells
 use Rattle.cs_meaning.specs.Machine as machine
+use Rattle.cs_checker.specs.Answers.{constant}
 use Rattle.cs_regions.specs.declared.base.Base.{Base}
 use Rattle.cs_state.specs.declared.state.State.{State}
 use Rattle.cs_state.specs.declared.temporary.Temporary.{Temporary}
+use Rattle.cs_state.specs.declared.temporary.Temporary.TheVariants.{Scalar}
 use Rattle.cs_state.specs.Cells.{Blocks, cell_of, operand_of}
 use Rattle.cs_state.specs.Meaning.{meaning}
+use Rattle.cs_state.specs.MeaningOfWrites.{MeansPushed}
 use Rattle.cs_state.specs.Naming.{Naming}
+use Rattle.cs_state.specs.Writes.{with_temporaries}
 use Rattle.cs_store.specs.declared.value.Value.{Value}
+use Rattle.cs_store.specs.declared.value.Value.TheVariants.{At}
 use Rattle.cs_terms.specs.declared.term.Lin.{Lin}
 use Rattle.cs_terms.specs.Term.{Valuation, value_of}
 
@@ -39,6 +44,30 @@ IsNumberOf state value term = (bases : List Base) (valuation : Valuation) → Fi
 abbrev pub IsNumberAt : State → ℕ → Lin → Type 0
 IsNumberAt state age term = (code : Code) (names : Naming) (program : TypedProgram) (valuation : Valuation) → Fits valuation state.constraints
     → cells.number_in (machine.cell_at (meaning code names program state valuation) age) ≡ value_of valuation term
+
+-- the temporaries without so many of the newest
+abbrev pub without_newest : ℕ → List Temporary → List Temporary
+without_newest count temporaries = take (length temporaries - count) temporaries
+
+-- so many of the newest operands are gone, and nothing else has changed
+abbrev pub IsDropped : ℕ → State → State → Type 0
+IsDropped count before after = after ≡ with_temporaries (without_newest count before.frame.temporaries) before
+
+-- the temporary stands in place of so many of the newest operands, and nothing else has changed
+abbrev pub IsReplaced : ℕ → Temporary → State → State → Type 0
+IsReplaced count temporary before after =
+    after ≡ with_temporaries (without_newest count before.frame.temporaries ++ temporary ∷ []) before
+
+-- the temporary is one more operand, and nothing else has changed
+abbrev pub IsPushed : Temporary → State → State → Type 0
+IsPushed temporary before after = after ≡ with_temporaries (before.frame.temporaries ++ temporary ∷ []) before
+
+-- the place of an object is one more operand
+pub record IsPlacePushed (bases : List Base) (base : Base) (before after : State) : Type 0 where
+  pub number : ℕ
+  pub named : slice_get bases number ≡ Some base
+  pub pushed : IsPushed (Scalar (At number (constant (pos 0)))) before after
+  pub means : MeansPushed (Scalar (At number (constant (pos 0)))) before after
 
 -- under each valuation, so many of the newest operands are gone
 abbrev pub MeansDropped : ℕ → State → State → Type 0

@@ -5,7 +5,7 @@ ghost use Rattle.cs_state.specs.declared.temporary.Temporary.TheVariants.{Scalar
 ghost use Rattle.cs_progress.specs.declared.pause.Pause.TheVariants as pause;
 ghost use Rattle.cs_progress.specs.Acting.{IsNamed};
 ghost use Rattle.cs_progress.specs.Computing.{IsNamedTemporary, HaveNames};
-ghost use Rattle.cs_progress.specs.Operands.{IsOperandAt, IsScalarOf, IsCellAt, IsNumberOf, IsNumberAt, MeansDropped, MeansReplaced};
+ghost use Rattle.cs_progress.specs.Operands.{IsOperandAt, IsScalarOf, IsCellAt, IsNumberOf, IsNumberAt, MeansDropped, MeansReplaced, IsDropped, IsReplaced};
 
 use crate::pause::Pause;
 use crate::terms::{constant, known};
@@ -74,6 +74,7 @@ pub fn number_in(state: &State, value: Value) -> Result<Lin, Pause>
 /// Drops so many of the newest operands, and leaves one in their place.
 pub fn replace(state: &mut State, count: usize, left: Temporary) -> Result<(), Pause>
     ensures means { OnOk result (MeansReplaced count left state.old state.new) }
+    ensures left { OnOk result (IsReplaced count left state.old state.new) }
     ensures memory { IfErr result (λ why. why ≡ pause.Memory) }
 {
     drop_newest(state, count)?;
@@ -84,6 +85,7 @@ pub fn replace(state: &mut State, count: usize, left: Temporary) -> Result<(), P
 /// The same with a scalar.
 pub fn replace_with(state: &mut State, count: usize, value: Value) -> Result<(), Pause>
     ensures means { OnOk result (MeansReplaced count (Scalar value) state.old state.new) }
+    ensures left { OnOk result (IsReplaced count (Scalar value) state.old state.new) }
     ensures memory { IfErr result (λ why. why ≡ pause.Memory) }
 {
     replace(state, count, Temporary::Scalar(value))
@@ -92,6 +94,7 @@ pub fn replace_with(state: &mut State, count: usize, value: Value) -> Result<(),
 /// Drops so many of the newest operands.
 pub fn drop_newest(state: &mut State, count: usize) -> Result<(), Pause>
     ensures means { OnOk result (MeansDropped count state.old state.new) }
+    ensures left { OnOk result (IsDropped count state.old state.new) }
     ensures blocks { state.new.blocks ≡ state.old.blocks }
     ensures memory { IfErr result (λ why. why ≡ pause.Memory) }
 {

@@ -1,5 +1,14 @@
 //! What the end of a block does, and what a loop head or a label does.
 ghost use Rattle.cs_objects.specs.Prepared.{IsReady};
+ghost use Rattle.std.specs.Prelude.{◌≡◌, OnOk, IfErr};
+ghost use Rattle.cs_state.specs.Naming.{Naming, naming, Extends};
+ghost use Rattle.cs_cfg.specs.Graph as graph;
+ghost use Rattle.cs_cfg.specs.GraphView as view;
+ghost use Rattle.cs_ast.specs.TypedProgram.{TypedProgram};
+ghost use Rattle.cs_cfg.specs.CodeSteps.{do_end};
+ghost use Rattle.cs_progress.specs.declared.pause.Pause.TheVariants as pause;
+ghost use Rattle.cs_progress.specs.Locals.{HasLocalsAlone};
+ghost use Rattle.cs_progress.specs.Stepping.{DoesWorkAndGoesOn, Leaves, GoesTo, IsMovedOn, IsCutFor};
 
 use cs_cfg::{BlockEnd, CountedPoint, Spot, SwitchCase};
 use cs_eval::Tested;
@@ -21,6 +30,11 @@ pub fn end(
     end: &BlockEnd,
 ) -> Result<(), Pause>
     requires { IsReady context.now.setting.now }
+    ensures extends { Extends (naming tables.old) (naming tables.new) }
+    ensures leaves { (names : Naming) (program : TypedProgram) → Extends (naming tables.new) names
+        → HasLocalsAlone program names.bases state.old → IsCutFor (view.block_end end.now) state.old
+        → Leaves (view.code context.now.code.now) names program state.old state.new progress.old
+        progress.new result (do_end (view.code context.now.code.now) (view.block_end end.now)) }
 {
     match end {
         BlockEnd::Jump(block) => go(context, state, *block),
@@ -62,6 +76,8 @@ fn way(state: &State, term: Lin, cases: &[SwitchCase], otherwise: u32) -> Result
 // The frame goes on with a block of its function.
 fn go(context: &Context, state: &mut State, block: u32) -> Result<(), Pause>
     requires { IsReady context.now.setting.now }
+    ensures goes { OnOk result (GoesTo (view.code context.now.code.now) block state.old state.new) }
+    ensures memory { IfErr result (λ why. why ≡ pause.Memory) }
 {
     let begins = Spot {
         function: state.frame.spot.function,
@@ -73,7 +89,10 @@ fn go(context: &Context, state: &mut State, block: u32) -> Result<(), Pause>
 }
 
 /// The frame goes on after what stands at its spot.
-pub fn go_on(context: &Context, state: &mut State) -> Result<(), Pause> {
+pub fn go_on(context: &Context, state: &mut State) -> Result<(), Pause>
+    ensures moved_on { OnOk result (IsMovedOn (view.code context.now.code.now) state.old state.new) }
+    ensures memory { IfErr result (λ why. why ≡ pause.Memory) }
+{
     let next = context.code.next_at(state.frame.spot);
     state.go_to(next.ok_or(Pause::Memory)?);
     Ok(())
@@ -87,6 +106,10 @@ pub fn reach_counted_point(
     point: CountedPoint,
 ) -> Result<(), Pause>
     requires { IsReady context.now.setting.now }
+    ensures work { (given : Naming) → DoesWorkAndGoesOn (view.code context.now.code.now)
+        context.now.setting.now.program.now.model context.now.setting.now.budgets given state.old
+        state.new progress.old progress.new result point.place
+        (graph.Reach point.kind point.number) }
 {
     let over = Outcome::Over(Budget::Visits, point.place);
     let number = point.number as usize;

@@ -1,6 +1,12 @@
 //! What stands first in what is left of an operation.
 ghost use Rattle.cs_objects.specs.Prepared.{IsReady};
-ghost use Rattle.cs_operators.specs.Asking.{KeepKinds};
+ghost use Rattle.cs_operators.specs.Asking.{KeepKinds, HasEveryKind};
+ghost use Rattle.std.specs.Prelude.{◌≡◌, ◌+◌, OnOk, IfOk, IfErr};
+ghost use Rattle.cs_state.specs.Naming.{naming, Extends};
+ghost use Rattle.cs_cfg.specs.GraphView as view;
+ghost use Rattle.cs_cfg.specs.Working.{takes};
+ghost use Rattle.cs_progress.specs.declared.pause.Pause.TheVariants as pause;
+ghost use Rattle.cs_progress.specs.Stepping.{StepsInLocals, IsCutTo, IsCutForEnd};
 
 use crate::ends::{end, reach_counted_point};
 use crate::work::work;
@@ -25,7 +31,12 @@ pub fn proceed(
     checkers: &mut Vec<Box<dyn Checker>>,
 ) -> Result<Next, AllocError>
     requires { IsReady context.now.setting.now }
-    ensures { KeepKinds (λ b. kind_of b) checkers.old.items checkers.new.items }
+    ensures kinds { KeepKinds (λ b. kind_of b) checkers.old.items checkers.new.items }
+    ensures extends { Extends (naming tables.old) (naming tables.new) }
+    ensures steps { HasEveryKind (λ b. kind_of b) checkers.old.items
+        → IfOk result (StepsInLocals (view.code context.now.code.now)
+        context.now.setting.now.program.now.model context.now.setting.now.budgets
+        (naming tables.new) state.old state.new) }
 {
     let alloc = context.alloc;
     let mut attempt = Attempt::new(alloc, mem::replace(checkers, Vec::new(alloc)));
@@ -77,7 +88,11 @@ fn step(
 }
 
 // Drops the temporaries that an operation doesn't need.
-fn keep(state: &mut State, operation: &Operation) -> Result<(), Pause> {
+fn keep(state: &mut State, operation: &Operation) -> Result<(), Pause>
+    ensures cut { OnOk result (IsCutTo (operation.now.temporary + takes (view.work operation.now.work))
+        state.old state.new) }
+    ensures memory { IfErr result (λ why. why ≡ pause.Memory) }
+{
     let takes = operation.work.takes() as usize;
     let kept = (operation.temporary as usize)
         .checked_add(takes)
@@ -87,7 +102,10 @@ fn keep(state: &mut State, operation: &Operation) -> Result<(), Pause> {
 }
 
 // Drops the temporaries that the end of a block doesn't need.
-fn keep_for_end(state: &mut State, end: &BlockEnd) -> Result<(), Pause> {
+fn keep_for_end(state: &mut State, end: &BlockEnd) -> Result<(), Pause>
+    ensures cut { OnOk result (IsCutForEnd (view.block_end end.now) state.old state.new) }
+    ensures memory { IfErr result (λ why. why ≡ pause.Memory) }
+{
     let temporary = match end {
         BlockEnd::Branch(_, temporary, _, _) => *temporary,
         BlockEnd::Switch(_, temporary, _, _) => *temporary,

@@ -1,6 +1,10 @@
 //! Updates of objects in place (C11 6.5.2.4, 6.5.16.2).
 ghost use Rattle.cs_objects.specs.Prepared.{IsReady};
-ghost use Rattle.cs_operators.specs.Asking.{KeepKinds};
+ghost use Rattle.cs_operators.specs.Asking.{KeepKinds, HasEveryKind};
+ghost use Rattle.cs_state.specs.Naming.{naming, Extends};
+ghost use Rattle.cs_cfg.specs.Graph as graph;
+ghost use Rattle.cs_cfg.specs.GraphView as view;
+ghost use Rattle.cs_progress.specs.Stepping.{DoesWork};
 
 use crate::access::{load, store};
 use cs_ast::Place;
@@ -26,8 +30,13 @@ pub fn fetch_number(
     access: &Access,
 ) -> Result<(), Pause>
     requires { IsReady context.now.setting.now }
-    ensures { KeepKinds (λ b. (⟦<dyn Checker as Checker>⟧ b.vtable).kind_of b.value)
+    ensures kinds { KeepKinds (λ b. (⟦<dyn Checker as Checker>⟧ b.vtable).kind_of b.value)
         attempt.old.checkers.items attempt.new.checkers.items }
+    ensures extends { Extends (naming tables.old) (naming tables.new) }
+    ensures work { HasEveryKind (λ b. (⟦<dyn Checker as Checker>⟧ b.vtable).kind_of b.value)
+        attempt.old.checkers.items
+        → DoesWork context.now.setting.now.program.now.model (naming tables.new) state.old state.new
+        attempt.old.progress attempt.new.progress result how.0 (graph.FetchNumber (view.access access.now) how.1) }
 {
     let (at, ty) = how;
     let model = context.model();
@@ -52,8 +61,13 @@ pub fn update(
     how: (BinOp, IntType, Gives),
 ) -> Result<(), Pause>
     requires { IsReady context.now.setting.now }
-    ensures { KeepKinds (λ b. (⟦<dyn Checker as Checker>⟧ b.vtable).kind_of b.value)
+    ensures kinds { KeepKinds (λ b. (⟦<dyn Checker as Checker>⟧ b.vtable).kind_of b.value)
         attempt.old.checkers.items attempt.new.checkers.items }
+    ensures extends { Extends (naming tables.old) (naming tables.new) }
+    ensures work { HasEveryKind (λ b. (⟦<dyn Checker as Checker>⟧ b.vtable).kind_of b.value)
+        attempt.old.checkers.items
+        → DoesWork context.now.setting.now.program.now.model (naming tables.new) state.old state.new
+        attempt.old.progress attempt.new.progress result at (graph.Update how.0 (view.access access.now) how.1 how.2) }
 {
     let (operator, ty, gives) = how;
     let model = context.model();

@@ -1,6 +1,18 @@
 //! What each operation of the code does.
 ghost use Rattle.cs_objects.specs.Prepared.{IsReady};
-ghost use Rattle.cs_operators.specs.Asking.{KeepKinds};
+ghost use Rattle.cs_operators.specs.Asking.{KeepKinds, HasEveryKind};
+ghost use Rattle.std.specs.Prelude.{◌≡◌, Bool, OnOk, IfErr};
+ghost use Rattle.cs_types.specs.declared.data_model.DataModel.{DataModel};
+ghost use Rattle.cs_types.specs.Shape.{shape_of};
+ghost use Rattle.cs_state.specs.Naming.{naming, Extends};
+ghost use Rattle.cs_cfg.specs.Graph as graph;
+ghost use Rattle.cs_cfg.specs.GraphView as view;
+ghost use Rattle.cs_state.specs.MeaningOfWrites.{MeansPushed};
+ghost use Rattle.cs_state.specs.declared.temporary.Temporary.TheVariants.{Scalar};
+ghost use Rattle.cs_progress.specs.declared.pause.Pause.TheVariants as pause;
+ghost use Rattle.cs_progress.specs.declared.progress.Progress.{Progress};
+ghost use Rattle.cs_progress.specs.Operands.{IsPushed, IsPlacePushed};
+ghost use Rattle.cs_progress.specs.Stepping.{DoesWork, DoesWorkAndGoesOn};
 
 use crate::access::{Reached, load, spell, store, write};
 use crate::calls::call;
@@ -32,8 +44,15 @@ pub fn work(
     operation: &Operation,
 ) -> Result<(), Pause>
     requires { IsReady context.now.setting.now }
-    ensures { KeepKinds (λ b. (⟦<dyn Checker as Checker>⟧ b.vtable).kind_of b.value)
+    ensures kinds { KeepKinds (λ b. (⟦<dyn Checker as Checker>⟧ b.vtable).kind_of b.value)
         attempt.old.checkers.items attempt.new.checkers.items }
+    ensures extends { Extends (naming tables.old) (naming tables.new) }
+    ensures work { HasEveryKind (λ b. (⟦<dyn Checker as Checker>⟧ b.vtable).kind_of b.value)
+        attempt.old.checkers.items
+        → DoesWorkAndGoesOn (view.code context.now.code.now)
+        context.now.setting.now.program.now.model
+        context.now.setting.now.budgets (naming tables.new) state.old state.new attempt.old.progress
+        attempt.new.progress result operation.now.place (view.work operation.now.work) }
 {
     let at = operation.place;
     if let Work::Call(function, count) = &operation.work {
@@ -155,8 +174,13 @@ fn load_in_place(
     access: &Access,
 ) -> Result<(), Pause>
     requires { IsReady context.now.setting.now }
-    ensures { KeepKinds (λ b. (⟦<dyn Checker as Checker>⟧ b.vtable).kind_of b.value)
+    ensures kinds { KeepKinds (λ b. (⟦<dyn Checker as Checker>⟧ b.vtable).kind_of b.value)
         attempt.old.checkers.items attempt.new.checkers.items }
+    ensures extends { Extends (naming tables.old) (naming tables.new) }
+    ensures work { HasEveryKind (λ b. (⟦<dyn Checker as Checker>⟧ b.vtable).kind_of b.value)
+        attempt.old.checkers.items
+        → (at : Place) → DoesWork context.now.setting.now.program.now.model (naming tables.new) state.old state.new
+        attempt.old.progress attempt.new.progress result at (graph.Load (view.access access.now)) }
 {
     let place = value(state, 0)?;
     let loaded = load(context, state, tables, attempt, access, place)?;
@@ -190,8 +214,13 @@ fn assign(
     access: &Access,
 ) -> Result<(), Pause>
     requires { IsReady context.now.setting.now }
-    ensures { KeepKinds (λ b. (⟦<dyn Checker as Checker>⟧ b.vtable).kind_of b.value)
+    ensures kinds { KeepKinds (λ b. (⟦<dyn Checker as Checker>⟧ b.vtable).kind_of b.value)
         attempt.old.checkers.items attempt.new.checkers.items }
+    ensures extends { Extends (naming tables.old) (naming tables.new) }
+    ensures work { HasEveryKind (λ b. (⟦<dyn Checker as Checker>⟧ b.vtable).kind_of b.value)
+        attempt.old.checkers.items
+        → (at : Place) → DoesWork context.now.setting.now.program.now.model (naming tables.new) state.old state.new
+        attempt.old.progress attempt.new.progress result at (graph.Store (view.access access.now)) }
 {
     let place = value(state, 1)?;
     let stored = operand(state, 0)?.clone()?;
@@ -210,6 +239,10 @@ fn initialize(
     ty: &CType,
 ) -> Result<(), Pause>
     requires { IsReady context.now.setting.now }
+    ensures extends { Extends (naming tables.old) (naming tables.new) }
+    ensures work { (at : Place) (scalar : Bool) (progress : Progress)
+        → DoesWork context.now.setting.now.program.now.model (naming tables.new) state.old state.new
+        progress progress result at (graph.StoreLocal decl offset (shape_of ty.now) scalar) }
 {
     let stored = operand(state, 0)?.clone()?;
     let base = tables.base(local(state, decl))?;
@@ -218,13 +251,21 @@ fn initialize(
 }
 
 // One more operand.
-fn push(state: &mut State, value: Value) -> Result<(), Pause> {
+fn push(state: &mut State, value: Value) -> Result<(), Pause>
+    ensures pushed { OnOk result (IsPushed (Scalar value) state.old state.new) }
+    ensures means { OnOk result (MeansPushed (Scalar value) state.old state.new) }
+    ensures memory { IfErr result (λ why. why ≡ pause.Memory) }
+{
     state.push(Temporary::Scalar(value))?;
     Ok(())
 }
 
 // The place of an object.
-fn name(state: &mut State, tables: &mut Tables, base: Base) -> Result<(), Pause> {
+fn name(state: &mut State, tables: &mut Tables, base: Base) -> Result<(), Pause>
+    ensures extends { Extends (naming tables.old) (naming tables.new) }
+    ensures pushed { OnOk result (IsPlacePushed (naming tables.new).bases base state.old state.new) }
+    ensures memory { IfErr result (λ why. why ≡ pause.Memory) }
+{
     let base = tables.base(base)?;
     push(state, Value::At(base, constant(0)))
 }
@@ -238,7 +279,12 @@ fn local(state: &State, decl: u32) -> Base {
 }
 
 // A local becomes unset.
-fn clear(state: &mut State, tables: &mut Tables, decl: u32) -> Result<(), Pause> {
+fn clear(state: &mut State, tables: &mut Tables, decl: u32) -> Result<(), Pause>
+    ensures extends { Extends (naming tables.old) (naming tables.new) }
+    ensures work { (model : DataModel) (at : Place) (scalar : Bool) (progress : Progress)
+        → DoesWork model (naming tables.new) state.old state.new
+        progress progress result at (graph.Clear decl scalar) }
+{
     let base = tables.base(local(state, decl))?;
     state.unbind(&[base])?;
     Ok(())

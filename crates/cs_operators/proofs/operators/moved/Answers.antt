@@ -27,7 +27,7 @@ returns-in_err-ordered-clause-act g c = λ every bases.
     let shifted = c.in_ok-shifted.ensures.value v ∙ ap (λ n. value_of v c.args.offset +ℤ n) bound in
     let bytes = c.in_ok-bytes.ensures.value v ∙ ap (λ n. value_of v c.args.amount *ℤ n) size in
     let same = first_test model at (value_of v c.args.offset) (value_of v c.args.amount) c.args.size onward _ _ shifted bytes in
-    waits_on cells _ _ _ _ bases v _ (leads_same cells _ _ _ same) ((c.in_err-ordered.ensures.act every bases).waits waits rest cells v fits))
+    waits_on cells _ _ _ _ bases _ v _ (leads_same cells _ _ _ same) ((c.in_err-ordered.ensures.act every bases).waits waits rest cells v fits))
 
 pub returns-in_err-ordered-2-clause-act : goal.returns-in_err-ordered-2-clause-act
 returns-in_err-ordered-2-clause-act g c = λ every bases.
@@ -51,7 +51,7 @@ returns-in_err-ordered-2-clause-act g c = λ every bases.
     let left = c.in_ok-left.ensures.value v ∙ (λ i. c.in_ok-scaled.ensures.value v i +ℤ bound i) ∙ up_to offset (pos (offset_bound_of model)) in
     let one = first_test model at offset amount c.args.size onward _ _ shifted bytes in
     let two = second_test model at offset amount c.args.size onward _ _ left minus in
-    waits_on cells _ _ _ _ bases v _
+    waits_on cells _ _ _ _ bases _ v _
     (leads_on cells _ _ _ _ _ _ (leads_same cells _ _ _ one)
     (leads_on cells _ _ _ _ rest _ ((c.in_ok-ordered.ensures.act every bases).through cells v fits rest) (leads_same cells _ _ _ two)))
     ((c.in_err-ordered-2.ensures.act still bases).waits waits last cells v fits))

@@ -26,7 +26,7 @@ returns-in_err-seen-clause-act g c = λ every bases named.
     let amount = value_of v c.args.amount in
     let rest = after_look model at amount c.args.size onward (cell v) in
     let first = looks_first model at amount c.args.size onward (cell v) in
-    waits_on cells _ _ _ (access.look at (cell v) rest) bases v _ (leads_same cells _ _ _ first)
+    waits_on cells _ _ _ (access.look at (cell v) rest) bases _ v _ (leads_same cells _ _ _ first)
     (c.in_err-seen.ensures.waits waits bases named rest cells v fits))
 
 pub returns-in_err-check-in-Null-clause-act : goal.returns-in_err-check-in-Null-clause-act
@@ -45,7 +45,7 @@ returns-in_err-check-in-Null-clause-act g c = λ every bases named.
     let looked = leads_on cells _ _ _ _ _ rest (leads_same cells _ _ _ first) (c.in_ok-seen.ensures.through bases named cells v fits rest) in
     let null = rw c.in-Null.is at c.in_ok-seen.ensures.seen bases v fits in
     let unmoved = moves_null model at amount c.args.size onward (cell v) null in
-    waits_on cells _ _ _ _ bases v _ (leads_on cells _ _ _ _ rest _ looked (leads_same cells _ rest _ unmoved))
+    waits_on cells _ _ _ _ bases _ v _ (leads_on cells _ _ _ _ rest _ looked (leads_same cells _ rest _ unmoved))
     ((c.in_err-check-in-Null.ensures.act every bases (λ w. operators.unmoved at (value_of w c.args.amount))
     (λ w is. null_check at w c.args.amount)).waits waits (onward NullCell) cells v fits))
 
@@ -63,7 +63,7 @@ returns-in_err-check-in-At-clause-act g c = λ every bases named.
     let rest = after_look model at amount c.args.size onward (cell v) in
     let first = looks_first model at amount c.args.size onward (cell v) in
     let looked = leads_on cells _ _ _ _ _ rest (leads_same cells _ _ _ first) (c.in_ok-seen.ensures.through bases named cells v fits rest) in
-    waits_on cells _ _ _ rest bases v _ looked
+    waits_on cells _ _ _ rest bases _ v _ looked
     ((c.in_err-check-in-At.ensures.act every bases (λ w act. act) (λ w is. moved_check at w c.args.amount)).waits waits rest cells v fits))
 
 pub returns-in_err-moved-in-At-clause-act : goal.returns-in_err-moved-in-At-clause-act
@@ -88,7 +88,7 @@ returns-in_err-moved-in-At-clause-act g c = λ every bases named.
     let checks = c.in_ok-check-in-At.ensures.act every bases (λ w act. act) (λ w is. moved_check at w c.args.amount) in
     let ready = leads_on cells _ _ _ _ rest _ looked
     (leads_on cells _ _ _ rest rest _ (checks.through cells v fits rest) (leads_same cells _ rest _ moves)) in
-    waits_on cells _ _ _ _ bases v _ ready
+    waits_on cells _ _ _ _ bases _ v _ ready
     ((c.in_err-moved-in-At.ensures.act still bases).waits waits (λ moved. onward (pointer_to base moved)) cells v fits))
 
 pub returns-in_ok-check-in-Null-clause-act : goal.returns-in_ok-check-in-Null-clause-act

@@ -25,7 +25,7 @@ returns-in_err-not_null-clause-act g c = λ every bases named.
     (λ waits onward cells v fits.
     let rest = onward (operators.pointed (cell v) c.args.bytes) in
     let checked = access.not_null at (cell v) rest in
-    waits_on cells _ _ (access.look at (cell v) checked) checked bases v _
+    waits_on cells _ _ (access.look at (cell v) checked) checked bases _ v _
     (c.in_ok-seen.ensures.through bases named cells v fits checked) (checks.waits waits rest cells v fits))
 
 pub returns-in_ok-shifted-in-At-clause-act : goal.returns-in_ok-shifted-in-At-clause-act

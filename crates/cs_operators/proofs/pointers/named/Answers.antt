@@ -21,5 +21,5 @@ returns-in_err-check-in-Other-clause-act g c = λ every bases cell sees.
     (λ waits onward cells v fits.
     let nothing = rw c.in-Other.is at sees.seen_is v fits in
     let same = names_nothing (cell v) at (λ object offset. onward (PointerCell object offset)) nothing in
-    waits_on cells _ _ _ (Stops (Fault kind.Unset at)) bases v _ (leads_same cells _ _ _ same)
+    waits_on cells _ _ _ (Stops (Fault kind.Unset at)) bases _ v _ (leads_same cells _ _ _ same)
     (stops.waits waits (Stops (Fault kind.Unset at)) cells v fits))

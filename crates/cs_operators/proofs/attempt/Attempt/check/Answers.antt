@@ -39,6 +39,9 @@ returns g c = record {
     through = tt;
     waits = λ waits act cells v fits uses.
         rw (c.wait.ensures.first, c.in_ok-checked-2.ensures.ok)
-        (faults_begin cells c.args.subject c.args.at v [] (checked v) (is v fits) c.args.state.now _ _ c.in_ok-checked.ensures.faults _ act);
+        (record {
+          faults = faults_begin cells c.args.subject c.args.at v [] (checked v) (is v fits) c.args.state.now _ _ c.in_ok-checked.ensures.faults _ act;
+          parts = record { subject = _; kinds = _; faults = c.in_ok-checked.ensures.faults; rest = c.in_ok-checked.ensures.rest };
+        });
   };
 }

@@ -1,0 +1,111 @@
+-- States and code of functions that work with integers alone: their pointers are the places of locals of the frame that runs.
+use Rattle.std.specs.Prelude.{◌≡◌, ◌<◌, ℕ, Bool, true, List, [], Option, None, Some, All, length, slice_get}
+use Rattle.cs_types.specs.declared.int_type.IntType.{IntType}
+use Rattle.cs_types.specs.Shape.{Shape, integer}
+use Rattle.cs_ast.specs.TypedProgram.{TypedProgram}
+use Rattle.cs_meaning.specs.Access.{Access}
+use Rattle.cs_meaning.specs.Machine.{routine_of}
+use Rattle.cs_cfg.specs.Graph.{Work, Number, Local as LocalPlace, Nothing, Convert, Unary, Not, Binary, Compare, Judge, Load, Store, FetchNumber, Update}
+use Rattle.cs_cfg.specs.Graph.{Drop, Clear, StoreLocal, Reach, Meet, Close, Operation, Point, Flow, Code, flow_of}
+use Rattle.cs_regions.specs.declared.base.Base.{Base}
+use Rattle.cs_regions.specs.declared.base.Base.TheVariants.{Local}
+use Rattle.cs_store.specs.declared.value.Value.{Value}
+use Rattle.cs_store.specs.declared.value.Value.TheVariants as value
+use Rattle.cs_store.specs.declared.value.Fill as store
+use Rattle.cs_store.specs.declared.value.Fill.TheVariants.{Unset}
+use Rattle.cs_store.specs.declared.value.Found.{Found}
+use Rattle.cs_store.specs.declared.value.Found.TheVariants.{Direct, Fill}
+use Rattle.cs_store.specs.Held.{Regions, held}
+use Rattle.cs_state.specs.declared.frame.Frame.{Frame}
+use Rattle.cs_state.specs.declared.state.State.{State}
+use Rattle.cs_state.specs.declared.temporary.Temporary.{Temporary}
+use Rattle.cs_state.specs.declared.temporary.Temporary.TheVariants as temporary
+
+-- nothing was filled with anything at an offset of a base region
+abbrev pub IsUnfilled : Regions → ℕ → ℕ → Type 0
+IsUnfilled store base offset = (fill : store.Fill) → held store base offset ≡ Fill fill → fill ≡ Unset
+
+-- what is held there then: what was bound, else nothing that was ever set
+abbrev pub value_held : Found → Value
+value_held (Direct value) = value
+value_held (Fill fill) = value.Unset
+
+-- how many locals a function has, its parameters among them
+abbrev pub count_of_locals : TypedProgram → ℕ → ℕ
+count_of_locals program function = length (routine_of program function).variables
+
+-- a base region is one of the locals of a frame, which has so many
+pub record IsLocalOf (bases : List Base) (frame count base : ℕ) : Type 0 where
+  pub declaration : ℕ
+  pub early : declaration < count
+  pub named : slice_get bases base ≡ Some (Local frame declaration)
+
+-- a value that is no pointer, or points to such a local
+abbrev pub PointsToLocal : List Base → ℕ → ℕ → Value → Type 0
+PointsToLocal bases frame count (value.Number term) = Unit {0}
+PointsToLocal bases frame count value.Null = Unit {0}
+PointsToLocal bases frame count (value.At base offset) = IsLocalOf bases frame count base
+PointsToLocal bases frame count (value.Start base offset) = ⊥
+PointsToLocal bases frame count value.Unset = Unit {0}
+
+-- the same of all values of a temporary
+abbrev pub PointToLocals : List Base → ℕ → ℕ → Temporary → Type 0
+PointToLocals bases frame count (temporary.Scalar value) = PointsToLocal bases frame count value
+PointToLocals bases frame count (temporary.Whole values) = All (PointsToLocal bases frame count) values
+PointToLocals bases frame count temporary.Nothing = Unit {0}
+
+module _ (program : TypedProgram) (bases : List Base) where
+  -- a value may be in the frame
+  abbrev pub IsIn : Frame → Value → Type 0
+  IsIn frame value = PointsToLocal bases frame.number (count_of_locals program frame.spot.function) value
+
+  abbrev pub AreIn : Frame → Temporary → Type 0
+  AreIn frame temporary = PointToLocals bases frame.number (count_of_locals program frame.spot.function) temporary
+
+  -- one frame runs, and its pointers, in temporaries and in memory, point to its locals, of which none was filled with anything
+  pub record HasLocalsAlone (state : State) : Type 0 where
+    pub callers : state.callers ≡ []
+    pub temporaries : All (AreIn state.frame) state.frame.temporaries
+    pub stored : (base offset : ℕ) (value : Value) → held state.store base offset ≡ Direct value → IsIn state.frame value
+    pub filled : (base offset : ℕ) → IsUnfilled state.store base offset
+
+-- an integer variable is accessed
+pub record IsOfInteger (access : Access) : Type 0 where
+  pub direct : access.direct ≡ true
+  pub ty : IntType
+  pub of : access.ty ≡ integer ty
+
+-- the work of a function with so many locals that works with integers alone: the numbers of its locals are below that
+abbrev pub IsIntegerWork : ℕ → Work → Type 0
+IsIntegerWork count (Number n) = Unit {0}
+IsIntegerWork count (LocalPlace declaration) = declaration < count
+IsIntegerWork count Nothing = Unit {0}
+IsIntegerWork count (Load access) = IsOfInteger access
+IsIntegerWork count (Convert from to) = Unit {0}
+IsIntegerWork count (Unary operator ty) = Unit {0}
+IsIntegerWork count Not = Unit {0}
+IsIntegerWork count (Binary operator ty) = Unit {0}
+IsIntegerWork count (Compare operator) = Unit {0}
+IsIntegerWork count Judge = Unit {0}
+IsIntegerWork count (Store access) = IsOfInteger access
+IsIntegerWork count (FetchNumber access ty) = IsOfInteger access
+IsIntegerWork count (Update operator access ty gives) = IsOfInteger access
+IsIntegerWork count Drop = Unit {0}
+IsIntegerWork count (Clear declaration scalar) = declaration < count
+IsIntegerWork count (StoreLocal declaration offset ty scalar) = declaration < count
+IsIntegerWork count (Reach kind counted_point) = Unit {0}
+IsIntegerWork count (Meet kind) = Unit {0}
+IsIntegerWork count (Close nothing) = Unit {0}
+IsIntegerWork count other = ⊥
+
+abbrev pub IsIntegerOperation : ℕ → Operation → Type 0
+IsIntegerOperation count operation = IsIntegerWork count operation.work
+
+-- the same of all operations of a point
+abbrev pub IsIntegerPoint : ℕ → Point → Type 0
+IsIntegerPoint count p = All (IsIntegerOperation count) p.operations
+
+-- a function whose graph works with integers alone
+abbrev pub HasIntegerCode : Code → TypedProgram → ℕ → Type 0
+HasIntegerCode code program function =
+    (flow : Flow) → flow_of code function ≡ Some flow → All (IsIntegerPoint (count_of_locals program function)) flow.blocks
