@@ -1,5 +1,5 @@
 //! Operations that compute with their operands alone, in whose place they leave their result.
-ghost use Rattle.std.specs.Prelude.{◌≡◌, List, OnOk};
+ghost use Rattle.std.specs.Prelude.{◌≡◌, ℕ, Bool, List, OnOk};
 ghost use Rattle.cs_types.specs.Shape.{shape_of};
 ghost use Rattle.cs_ast.specs.TypedProgram.{TypedProgram};
 ghost use Rattle.cs_events.specs.declared.outcome.RunBudgets.{RunBudgets};
@@ -73,8 +73,8 @@ pub fn unary(
         → Computes code names program state.old state.new progress.old progress.new result
         (do_work code program budgets at (graph.Unary operator ty)) }
     ensures frame { OnOk result (StaysInFrame state.old state.new) }
-    ensures locals { OnOk result ((program : TypedProgram) (bases : List Base)
-        → KeepsLocals program bases state.old state.new) }
+    ensures locals { OnOk result ((program : TypedProgram) (bases : List Base) (known : ℕ → Bool)
+        → KeepsLocals program bases known state.old state.new) }
     ensures unchanged { WaitsUnchanged state.old state.new result }
 {
     let operand = number(state, 0)?;
@@ -89,8 +89,8 @@ pub fn judge(state: &mut State, progress: &mut Progress, at: Place) -> Result<()
         → Computes code names program state.old state.new progress.old progress.new result
         (do_work code program budgets at graph.Judge) }
     ensures frame { OnOk result (StaysInFrame state.old state.new) }
-    ensures locals { OnOk result ((program : TypedProgram) (bases : List Base)
-        → KeepsLocals program bases state.old state.new) }
+    ensures locals { OnOk result ((program : TypedProgram) (bases : List Base) (known : ℕ → Bool)
+        → KeepsLocals program bases known state.old state.new) }
     ensures unchanged { WaitsUnchanged state.old state.new result }
 {
     let holds = test(state, progress, at, value(state, 0)?, Tested::Truth)?;
@@ -104,8 +104,8 @@ pub fn negate(state: &mut State, progress: &mut Progress, at: Place) -> Result<(
         → Computes code names program state.old state.new progress.old progress.new result
         (do_work code program budgets at graph.Not) }
     ensures frame { OnOk result (StaysInFrame state.old state.new) }
-    ensures locals { OnOk result ((program : TypedProgram) (bases : List Base)
-        → KeepsLocals program bases state.old state.new) }
+    ensures locals { OnOk result ((program : TypedProgram) (bases : List Base) (known : ℕ → Bool)
+        → KeepsLocals program bases known state.old state.new) }
     ensures unchanged { WaitsUnchanged state.old state.new result }
 {
     let holds = test(state, progress, at, value(state, 0)?, Tested::Not)?;
@@ -130,8 +130,8 @@ pub fn binary(
         → Computes code names program state.old state.new attempt.old.progress
         attempt.new.progress result (do_work code program budgets at (graph.Binary operator ty)) }
     ensures frame { OnOk result (StaysInFrame state.old state.new) }
-    ensures locals { OnOk result ((program : TypedProgram) (bases : List Base)
-        → KeepsLocals program bases state.old state.new) }
+    ensures locals { OnOk result ((program : TypedProgram) (bases : List Base) (known : ℕ → Bool)
+        → KeepsLocals program bases known state.old state.new) }
     ensures unchanged { WaitsUnchanged state.old state.new result }
 {
     let operands = (number(state, 1)?, number(state, 0)?);
@@ -154,8 +154,8 @@ pub fn compare_operands(
         → Computes code names program state.old state.new attempt.old.progress
         attempt.new.progress result (do_work code program budgets at (graph.Compare operator)) }
     ensures frame { OnOk result (StaysInFrame state.old state.new) }
-    ensures locals { OnOk result ((program : TypedProgram) (bases : List Base)
-        → KeepsLocals program bases state.old state.new) }
+    ensures locals { OnOk result ((program : TypedProgram) (bases : List Base) (known : ℕ → Bool)
+        → KeepsLocals program bases known state.old state.new) }
     ensures unchanged { WaitsUnchanged state.old state.new result }
 {
     let (left, right) = (value(state, 1)?, value(state, 0)?);
@@ -245,8 +245,8 @@ pub fn convert(
         → Computes code names program state.old state.new progress.old progress.new result
         (do_work code program budgets at (graph.Convert (shape_of from.now) (shape_of to.now))) }
     ensures frame { OnOk result (StaysInFrame state.old state.new) }
-    ensures locals { OnOk result ((program : TypedProgram) (bases : List Base)
-        → KeepsLocals program bases state.old state.new) }
+    ensures locals { OnOk result ((program : TypedProgram) (bases : List Base) (known : ℕ → Bool)
+        → KeepsLocals program bases known state.old state.new) }
     ensures unchanged { WaitsUnchanged state.old state.new result }
 {
     let model = context.model();

@@ -7,6 +7,8 @@ use Rattle.cs_meaning.specs.Access.{Access}
 use Rattle.cs_meaning.specs.Machine.{routine_of}
 use Rattle.cs_cfg.specs.Graph.{Work, Number, Local as LocalPlace, Nothing, Convert, Unary, Not, Binary, Compare, Judge, Load, Store, FetchNumber, Update}
 use Rattle.cs_cfg.specs.Graph.{Drop, Clear, StoreLocal, Reach, Meet, Close, Operation, Point, Flow, Code, flow_of}
+use Rattle.cs_terms.specs.declared.symbol.Sym.{Sym}
+use Rattle.cs_terms.specs.declared.term.Lin.{Lin}
 use Rattle.cs_regions.specs.declared.base.Base.{Base}
 use Rattle.cs_regions.specs.declared.base.Base.TheVariants.{Local}
 use Rattle.cs_store.specs.declared.value.Value.{Value}
@@ -40,31 +42,37 @@ pub record IsLocalOf (bases : List Base) (frame count base : ℕ) : Type 0 where
   pub early : declaration < count
   pub named : slice_get bases base ≡ Some (Local frame declaration)
 
--- a value that is no pointer, or points to such a local
-abbrev pub PointsToLocal : List Base → ℕ → ℕ → Value → Type 0
-PointsToLocal bases frame count (value.Number term) = Unit {0}
-PointsToLocal bases frame count value.Null = Unit {0}
-PointsToLocal bases frame count (value.At base offset) = IsLocalOf bases frame count base
-PointsToLocal bases frame count (value.Start base offset) = ⊥
-PointsToLocal bases frame count value.Unset = Unit {0}
+-- a term is a constant, or over a symbol that is known
+abbrev pub IsOver : (ℕ → Bool) → Lin → Type 0
+IsOver known term = (symbol : Sym) → term.sym ≡ Some symbol → known symbol.0 ≡ true
+
+-- a value that is no pointer, or points to such a local; its term is over a symbol that is known
+abbrev pub PointsToLocal : List Base → (ℕ → Bool) → ℕ → ℕ → Value → Type 0
+PointsToLocal bases known frame count (value.Number term) = IsOver known term
+PointsToLocal bases known frame count value.Null = Unit {0}
+PointsToLocal bases known frame count (value.At base offset) = IsLocalOf bases frame count base × IsOver known offset
+PointsToLocal bases known frame count (value.Start base offset) = ⊥
+PointsToLocal bases known frame count value.Unset = Unit {0}
 
 -- the same of all values of a temporary
-abbrev pub PointToLocals : List Base → ℕ → ℕ → Temporary → Type 0
-PointToLocals bases frame count (temporary.Scalar value) = PointsToLocal bases frame count value
-PointToLocals bases frame count (temporary.Whole values) = All (PointsToLocal bases frame count) values
-PointToLocals bases frame count temporary.Nothing = Unit {0}
+abbrev pub PointToLocals : List Base → (ℕ → Bool) → ℕ → ℕ → Temporary → Type 0
+PointToLocals bases known frame count (temporary.Scalar value) = PointsToLocal bases known frame count value
+PointToLocals bases known frame count (temporary.Whole values) = All (PointsToLocal bases known frame count) values
+PointToLocals bases known frame count temporary.Nothing = Unit {0}
 
-module _ (program : TypedProgram) (bases : List Base) where
+module _ (program : TypedProgram) (bases : List Base) (known : ℕ → Bool) where
   -- a value may be in the frame
   abbrev pub IsIn : Frame → Value → Type 0
-  IsIn frame value = PointsToLocal bases frame.number (count_of_locals program frame.spot.function) value
+  IsIn frame value = PointsToLocal bases known frame.number (count_of_locals program frame.spot.function) value
 
   abbrev pub AreIn : Frame → Temporary → Type 0
-  AreIn frame temporary = PointToLocals bases frame.number (count_of_locals program frame.spot.function) temporary
+  AreIn frame temporary = PointToLocals bases known frame.number (count_of_locals program frame.spot.function) temporary
 
-  -- one frame runs, and its pointers, in temporaries and in memory, point to its locals, of which none was filled with anything
+  -- one frame runs, and its pointers, in temporaries and in memory, point to its locals, of which none was filled with anything. The
+  -- symbols that the state mentions are known
   pub record HasLocalsAlone (state : State) : Type 0 where
     pub callers : state.callers ≡ []
+    pub answers : All (IsOver known) state.answers
     pub temporaries : All (AreIn state.frame) state.frame.temporaries
     pub stored : (base offset : ℕ) (value : Value) → held state.store base offset ≡ Direct value → IsIn state.frame value
     pub filled : (base offset : ℕ) → IsUnfilled state.store base offset

@@ -1,5 +1,5 @@
 -- Steps of a state: what becomes of one as the operation in progress goes on, beside the run of the code.
-use Rattle.std.specs.Prelude.{◌≡◌, ℕ, ◌+◌, ◌≤◌, ℤ, List, [], ◌∷◌, map, take, length, Option, None, Some, Result, OnOk, IfErr}
+use Rattle.std.specs.Prelude.{◌≡◌, ℕ, ◌+◌, ◌≤◌, ℤ, Bool, List, [], ◌∷◌, map, take, length, Option, None, Some, Result, OnOk, IfErr}
 use Rattle.cs_inputs.specs.declared.path.Path.{Path}
 use Rattle.cs_types.specs.declared.data_model.DataModel.{DataModel}
 use Rattle.cs_ast.specs.declared.place.Place.{Place}
@@ -98,29 +98,29 @@ pub record StaysInFrame (before after : State) : Type 0 where
   pub spot : after.frame.spot ≡ before.frame.spot
 
 -- a state of locals alone stays one
-abbrev pub KeepsLocals : TypedProgram → List Base → State → State → Type 0
-KeepsLocals program bases before after = HasLocalsAlone program bases before → HasLocalsAlone program bases after
+abbrev pub KeepsLocals : TypedProgram → List Base → (ℕ → Bool) → State → State → Type 0
+KeepsLocals program bases known before after = HasLocalsAlone program bases known before → HasLocalsAlone program bases known after
 
 -- an operation that waits has changed nothing
 abbrev pub WaitsUnchanged : {T : Type 0} → State → State → Result T Pause → Type 0
 WaitsUnchanged before after answer = IfErr answer (λ why. why ≡ pause.Waits → after ≡ before)
 
 -- an operation of a state of locals alone does the whole of its act, and leaves a state of locals alone; or it waits, and has changed nothing
-pub record Works {T : Type 0} (code : Code) (names : Naming) (program : TypedProgram) (before after : State) (earlier later : Progress)
+pub record Works {T : Type 0} (code : Code) (names : Naming) (program : TypedProgram) (known : ℕ → Bool) (before after : State) (earlier later : Progress)
     (answer : Result T Pause) (act : CodeState → Act CodeState) : Type 0 where
   pub computes : Computes code names program before after earlier later answer act
   pub stays : OnOk answer (StaysInFrame before after)
-  pub locals : OnOk answer (HasLocalsAlone program names.bases after)
+  pub locals : OnOk answer (HasLocalsAlone program names.bases known after)
   pub unchanged : WaitsUnchanged before after answer
 
 -- the work of an operation at a place is done as the reference semantics has it, in each state of locals alone: under all names that
 -- extend these
 abbrev pub DoesWork : {T : Type 0} → DataModel → Naming → State → State → Progress → Progress → Result T Pause → Place → Work → Type 0
 DoesWork model given before after earlier later answer at work =
-    (code : Code) (names : Naming) (program : TypedProgram) (budgets : RunBudgets) → program.model ≡ model → Extends given names
-    → IsNumbered names.bases → HasLocalsAlone program names.bases before
+    (code : Code) (names : Naming) (program : TypedProgram) (budgets : RunBudgets) (known : ℕ → Bool) → program.model ≡ model
+    → Extends given names → IsNumbered names.bases → HasLocalsAlone program names.bases known before
     → IsIntegerWork (count_of_locals program before.frame.spot.function) work
-    → Works code names program before after earlier later answer (do_work code program budgets at work)
+    → Works code names program known before after earlier later answer (do_work code program budgets at work)
 
 -- the temporaries below a number alone are left
 abbrev pub IsCutTo : ℕ → State → State → Type 0
@@ -150,10 +150,10 @@ abbrev pub IsMovedOn : Code → State → State → Type 0
 IsMovedOn code before after = (last : Spot) × IsNext code before.frame.spot (Some last) × (after ≡ at_spot last before)
 
 -- the same, after which the frame goes on
-pub record WorksOn {T : Type 0} (code : Code) (names : Naming) (program : TypedProgram) (before after : State) (earlier later : Progress)
+pub record WorksOn {T : Type 0} (code : Code) (names : Naming) (program : TypedProgram) (known : ℕ → Bool) (before after : State) (earlier later : Progress)
     (answer : Result T Pause) (act : CodeState → Act CodeState) : Type 0 where
   pub middle : State
-  pub works : Works code names program before middle earlier later answer act
+  pub works : Works code names program known before middle earlier later answer act
   pub moved_on : OnOk answer (IsMovedOn code middle after)
   pub unchanged : WaitsUnchanged before after answer
 
@@ -161,21 +161,21 @@ pub record WorksOn {T : Type 0} (code : Code) (names : Naming) (program : TypedP
 abbrev pub DoesWorkAndGoesOn : {T : Type 0} → Code → DataModel → RunBudgets → Naming → State → State → Progress → Progress → Result T Pause
     → Place → Work → Type 0
 DoesWorkAndGoesOn code model budgets given before after earlier later answer at work =
-    (names : Naming) (program : TypedProgram) → program.model ≡ model → Extends given names
-    → IsNumbered names.bases → HasLocalsAlone program names.bases before
+    (names : Naming) (program : TypedProgram) (known : ℕ → Bool) → program.model ≡ model → Extends given names
+    → IsNumbered names.bases → HasLocalsAlone program names.bases known before
     → IsIntegerWork (count_of_locals program before.frame.spot.function) work
-    → WorksOn code names program before after earlier later answer (do_work code program budgets at work)
+    → WorksOn code names program known before after earlier later answer (do_work code program budgets at work)
 
 -- the end of a block leads the run on to a spot from which jumps alone lead to where the state stands then; or it waits, and nothing but the
 -- result of the entry has changed
-pub record Leaves {T : Type 0} (code : Code) (names : Naming) (program : TypedProgram) (before after : State) (earlier later : Progress)
+pub record Leaves {T : Type 0} (code : Code) (names : Naming) (program : TypedProgram) (known : ℕ → Bool) (before after : State) (earlier later : Progress)
     (answer : Result T Pause) (act : CodeState → Act CodeState) : Type 0 where
   pub done : OnOk answer ((spot : Spot) × JumpsTo code spot after.frame.spot
       × ((cells : Path → InputKind → Cell) (valuation : Valuation) → Fits valuation before.constraints
       → Leads cells (answers_left before earlier.used valuation) (answers_left before later.used valuation)
       (act (meaning code names program before valuation)) (Goes (meaning code names program (at_spot spot after) valuation))))
   pub known : OnOk answer (KeepsKnown before after)
-  pub locals : OnOk answer (HasLocalsAlone program names.bases after)
+  pub locals : OnOk answer (HasLocalsAlone program names.bases known after)
   pub unchanged : IfErr answer (λ why. why ≡ pause.Waits → after ≡ with_result after.result before)
   pub waits : IfErr answer (λ why. why ≡ pause.Waits → (cells : Path → InputKind → Cell) (valuation : Valuation)
       → Fits valuation before.constraints
@@ -223,6 +223,6 @@ module _ (code : Code) (names : Naming) (program : TypedProgram) (budgets : RunB
 -- the same, in each state of locals alone in which integer code runs: under all names that extend these. It stays such a state
 pub record StepsInLocals (code : Code) (model : DataModel) (budgets : RunBudgets) (given : Naming) (before after : State) (next : Next)
     : Type 0 where
-  pub steps : (names : Naming) (program : TypedProgram) → program.model ≡ model → Extends given names → IsNumbered names.bases
-      → HasLocalsAlone program names.bases before → HasIntegerCode code program before.frame.spot.function
-      → Steps code names program budgets before after next × HasLocalsAlone program names.bases after
+  pub steps : (names : Naming) (program : TypedProgram) (known : ℕ → Bool) → program.model ≡ model → Extends given names
+      → IsNumbered names.bases → HasLocalsAlone program names.bases known before → HasIntegerCode code program before.frame.spot.function
+      → Steps code names program budgets before after next × HasLocalsAlone program names.bases known after

@@ -1,6 +1,6 @@
 //! What the end of a block does, and what a loop head or a label does.
 ghost use Rattle.cs_objects.specs.Prepared.{IsReady};
-ghost use Rattle.std.specs.Prelude.{◌≡◌, OnOk, IfErr};
+ghost use Rattle.std.specs.Prelude.{◌≡◌, ℕ, Bool, OnOk, IfErr};
 ghost use Rattle.cs_state.specs.Naming.{Naming, naming, Extends};
 ghost use Rattle.cs_cfg.specs.Graph as graph;
 ghost use Rattle.cs_cfg.specs.GraphView as view;
@@ -31,10 +31,11 @@ pub fn end(
 ) -> Result<(), Pause>
     requires { IsReady context.now.setting.now }
     ensures extends { Extends (naming tables.old) (naming tables.new) }
-    ensures leaves { (names : Naming) (program : TypedProgram) → Extends (naming tables.new) names
-        → HasLocalsAlone program names.bases state.old → IsCutFor (view.block_end end.now) state.old
-        → Leaves (view.code context.now.code.now) names program state.old state.new progress.old
-        progress.new result (do_end (view.code context.now.code.now) (view.block_end end.now)) }
+    ensures leaves { (names : Naming) (program : TypedProgram) (known : ℕ → Bool)
+        → Extends (naming tables.new) names → HasLocalsAlone program names.bases known state.old
+        → IsCutFor (view.block_end end.now) state.old
+        → Leaves (view.code context.now.code.now) names program known state.old state.new
+        progress.old progress.new result (do_end (view.code context.now.code.now) (view.block_end end.now)) }
 {
     match end {
         BlockEnd::Jump(block) => go(context, state, *block),
