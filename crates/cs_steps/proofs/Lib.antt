@@ -1,0 +1,8 @@
+mod CutMeanings
+mod Going
+mod KeptStates
+mod Beginning
+mod Stepped
+mod Leaving
+mod Branching
+mod Ways
