@@ -7,3 +7,4 @@ pub mod Answers
 pub mod Looks
 pub mod Composing
 pub mod Carrying
+pub mod KeptLocals
