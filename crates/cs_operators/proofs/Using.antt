@@ -8,7 +8,6 @@ use Rattle.cs_regions.specs.declared.base.Base.{Base}
 use Rattle.cs_events.specs.Objects.{NullCell}
 use Rattle.cs_events.specs.Acts.{Act, Goes}
 use Rattle.cs_meaning.specs.Expressions.{use_result}
-use Rattle.cs_meaning.specs.Machine.{Scalar}
 use Rattle.cs_cfg.specs.Graph.{Point, Code}
 use Rattle.cs_cfg.specs.Working.{CodeState}
 use Rattle.cs_store.specs.declared.value.Value.{Value}
@@ -27,12 +26,12 @@ use Rattle.cs_progress.proofs.Composing.{leads_on, waits_on}
 use Rattle.cs_operators.proofs.Checks.{is_never_set}
 use Rattle.cs_operators.proofs.Computed.{stands}
 
-named_set : (base : Option Base) (offset : ℤ) → base ≢ None → is_never_set (Scalar (pointer_to base offset)) ≡ false
+named_set : (base : Option Base) (offset : ℤ) → base ≢ None → is_never_set (pointer_to base offset) ≡ false
 named_set None offset named = absurd (named refl)
 named_set (Some base) offset named = refl
 
 start_set : (there : Bool) (base : Option Base) (offset : ℤ) → base ≢ None
-    → is_never_set (Scalar (if there then pointer_to base offset else NullCell)) ≡ false
+    → is_never_set (if there then pointer_to base offset else NullCell) ≡ false
 start_set true base offset named = named_set base offset named
 start_set false base offset named = refl
 
@@ -53,7 +52,7 @@ set_else value.Unset never = absurd (never refl)
 
 -- a scalar was never set exactly where its value says so
 pub never_set : (bases : List Base) (blocks : Blocks) (v : Valuation) (given : Value) → IsNamed bases given
-    → is_never_set (Scalar (cell_of bases blocks v given)) ≡ is_unset given
+    → is_never_set (cell_of bases blocks v given) ≡ is_unset given
 never_set bases blocks v (value.Number term) named = refl
 never_set bases blocks v value.Null named = refl
 never_set bases blocks v (value.At base offset) named = named_set (slice_get bases base) (value_of v offset) named
