@@ -25,7 +25,7 @@ use Rattle.cs_state.specs.declared.temporary.Temporary.TheVariants as temporary
 
 -- nothing was filled with anything at an offset of a base region
 abbrev pub IsUnfilled : Regions → ℕ → ℕ → Type 0
-IsUnfilled store base offset = (fill : store.Fill) → held store base offset ≡ Fill fill → fill ≡ Unset
+IsUnfilled regions base offset = (fill : store.Fill) → held regions base offset ≡ Fill fill → fill ≡ Unset
 
 -- what is held there then: what was bound, else nothing that was ever set
 abbrev pub value_held : Found → Value
