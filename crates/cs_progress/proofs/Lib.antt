@@ -8,3 +8,5 @@ pub mod Looks
 pub mod Composing
 pub mod Carrying
 pub mod Extending
+pub mod KnownSymbols
+pub mod KeptLocals
