@@ -1,5 +1,5 @@
 -- The end of a block is left, by what it leads to or waits for: for the contracts of `ends`.
-use Rattle.std.proofs.Common.{◌≡◌, ℕ, Bool, List, map, Result, Ok, Err, IsErr, IsErrAnd, IfErr, OnOk, true≢false, refl, sym, ap, ◌∙◌, subst}
+use Rattle.std.proofs.Common.{◌≡◌, ℕ, ℤ, Bool, List, [], map, Result, Ok, Err, IsErr, IsErrAnd, IfErr, OnOk, true≢false, refl, sym, ap, ◌∙◌, subst}
 use Rattle.cs_inputs.specs.declared.path.Path.{Path}
 use Rattle.cs_ast.specs.TypedProgram.{TypedProgram}
 use Rattle.cs_terms.specs.Term.{Valuation}
@@ -34,12 +34,14 @@ use Rattle.cs_progress.specs.Acting.{UsesAll, Leads}
 use Rattle.cs_progress.specs.Answering.{answers_left}
 use Rattle.cs_progress.specs.Leaving.{EndsRun}
 use Rattle.cs_progress.specs.Locals.{HasLocalsAlone}
+use Rattle.cs_progress.specs.Operands.{IsDropped}
 use Rattle.cs_progress.specs.Stepping.{BeginsIn, EndsAs, KeepsKnown, GoesTo, Leaves, result_in}
 use Rattle.cs_progress.proofs.Carrying.{no_wait}
 use Rattle.cs_progress.proofs.Composing.{leads_on}
+use Rattle.cs_progress.proofs.KeptLocals.{dropped_locals}
 use Rattle.cs_progress.proofs.Looks.{leads_same}
 use Rattle.cs_steps.proofs.Going.{jumps_stay}
-use Rattle.cs_steps.proofs.KeptStates.{knows_on, knows_moved, locals_moved}
+use Rattle.cs_steps.proofs.KeptStates.{knows_on, knows_cut, knows_moved, locals_moved}
 
 module _ (code : Code) (names : Naming) (program : TypedProgram) (known : ℕ → Bool) (before after : State) (earlier later : Progress)
     {T : Type 0} (answer : Result T Pause) (act : CodeState → Act CodeState) where
@@ -115,39 +117,51 @@ module _ (code : Code) (names : Naming) (program : TypedProgram) (known : ℕ �
             waits = tt;
           }
 
--- the run ends with the frame, where no other frame waits
-pub runs_out : (code : Code) (names : Naming) (program : TypedProgram) (known : ℕ → Bool) (before after : State) (earlier later : Progress)
-    {T : Type 0} (answer : Result T Pause) (given : Temporary) (value : CodeState → Operand)
-    → ((v : Valuation) → value (meaning code names program before v) ≡ operand_of names.bases before.blocks v given)
-    → HasLocalsAlone program names.bases known before → EndsRun before after later.first answer given
-    → Leaves code names program known before after earlier later answer (λ m. leave_to m.callers (value m) m)
-runs_out code names program known before after earlier later answer given value is have ends =
-    subst (λ (r : Result _ Pause). Leaves code names program known before after earlier later r (λ m. leave_to m.callers (value m) m)) (sym ends.waits)
-    (record {
-      done = tt;
-      keeps = tt;
-      function = tt;
-      locals = tt;
-      unchanged = λ so. ends.unchanged;
-      waits = λ so cells v fits uses.
-          subst (λ (first : Next). BeginsIn code names.bases after v first (left cells v)) (sym ends.ends) (record {
-            last = Done (returned_of (value (run v)));
-            stops = stops cells v;
-            same = refl;
-            has_returned =
-                ap returned_of (is v) ∙ ends.has_returned names.bases before.blocks v
-                ∙ ap (λ (s : State). returned_of (result_in names.bases s.blocks v after.result)) (sym ends.unchanged);
-          });
-    })
-  where
-    abbrev run : Valuation → CodeState
-    run v = meaning code names program before v
+  -- the newest operand is dropped before that
+  pub drops_and_goes : (block : ℕ) (middle : State) → IsDropped 1 before middle → HasLocalsAlone program names.bases known before
+      → OnOk answer (GoesTo code block middle after) → IfErr answer (λ why. why ≡ pause.Memory)
+      → ((cells : Path → InputKind → Cell) (v : Valuation) → Fits v before.constraints
+      → Leads cells (answers_left before earlier.used v) (answers_left before later.used v) (act (run before v)) (Goes (enters code block (run middle v))))
+      → Leaves code names program known before after earlier later answer act
+  drops_and_goes block middle dropped have =
+      goes_there block middle (knows_cut _ before middle dropped) (ap (λ (s : State). s.frame.spot) dropped)
+      (dropped_locals program names.bases known 1 before middle dropped have)
 
-    abbrev left : (Path → InputKind → Cell) → Valuation → Act CodeState
-    left cells v = left_of cells (answers_left before earlier.used v) (leave_to (run v).callers (value (run v)) (run v))
+module _ (code : Code) (names : Naming) (program : TypedProgram) (before : State) (given : Temporary) (value : CodeState → Operand) where
+  -- the state of a run whose last frame ends
+  abbrev ending : Valuation → CodeState
+  ending v = meaning code names program before v
 
-    stops : (cells : Path → InputKind → Cell) (v : Valuation) → left cells v ≡ Stops (Done (returned_of (value (run v))))
-    unfolding left_of
-    stops cells v =
-        ap (λ (callers : List Frame). left_of cells (answers_left before earlier.used v)
-        (leave_to (map (frame_of code names before v) callers) (value (run v)) (run v))) have.callers
+  abbrev ends_act : CodeState → Act CodeState
+  ends_act m = leave_to m.callers (value m) m
+
+  stops : before.callers ≡ [] → (cells : Path → InputKind → Cell) (answers : List ℤ) (v : Valuation)
+      → left_of cells answers (ends_act (ending v)) ≡ Stops (Done (returned_of (value (ending v))))
+  unfolding left_of
+  stops last cells answers v =
+      ap (λ (callers : List Frame). left_of cells answers
+      (leave_to (map (frame_of code names before v) callers) (value (ending v)) (ending v))) last
+
+  -- the run ends with the frame, where no other frame waits
+  pub runs_out : (known : ℕ → Bool) (after : State) (earlier later : Progress) {T : Type 0} (answer : Result T Pause)
+      → ((v : Valuation) → value (ending v) ≡ operand_of names.bases before.blocks v given)
+      → HasLocalsAlone program names.bases known before → EndsRun before after later.first answer given
+      → Leaves code names program known before after earlier later answer ends_act
+  runs_out known after earlier later {T} answer is have ends =
+      subst (λ (r : Result T Pause). Leaves code names program known before after earlier later r ends_act) (sym ends.waits) (record {
+        done = tt;
+        keeps = tt;
+        function = tt;
+        locals = tt;
+        unchanged = λ so. ends.unchanged;
+        waits = λ so cells v fits uses.
+            subst (λ (first : Next). BeginsIn code names.bases after v first (left_of cells (answers_left before earlier.used v) (ends_act (ending v))))
+            (sym ends.ends) (record {
+              last = Done (returned_of (value (ending v)));
+              stops = stops have.callers cells (answers_left before earlier.used v) v;
+              same = refl;
+              has_returned =
+                  ap returned_of (is v) ∙ ends.has_returned names.bases before.blocks v
+                  ∙ ap (λ (s : State). returned_of (result_in names.bases s.blocks v after.result)) (sym ends.unchanged);
+            });
+      })

@@ -5,4 +5,6 @@ mod Beginning
 mod Stepped
 mod Leaving
 mod Branching
+mod Switching
 mod Ways
+mod Counting

@@ -92,7 +92,7 @@ module _ (code : Code) (names : Naming) (program : TypedProgram) (budgets : RunB
     same_sets : before.constraints ≡ kept.constraints
     same_sets = sym (ap (λ (s : State). s.constraints) is)
 
-    module _ {T : Type 0} (final : State) (earlier later : Progress) (fresh : earlier.used ≡ 0) where
+    module _ (final : State) (earlier later : Progress) (fresh : earlier.used ≡ 0) where
       moved : (middle : State) (v : Valuation) (last : Spot) → middle.frame.spot ≡ before.frame.spot → final ≡ at_spot last middle
           → to_do following (run middle v) ≡ run (at_spot (spots.after before.frame.spot) (with_answers [] final)) v
       moved middle v last same to =
@@ -100,7 +100,7 @@ module _ (code : Code) (names : Naming) (program : TypedProgram) (budgets : RunB
           ∙ ap (λ (s : Spot). run (at_spot (spots.after s) middle) v) same
           ∙ ap (λ (s : State). run (at_spot (spots.after before.frame.spot) (with_answers [] s)) v) (sym to)
 
-      is_done : (done : T) → WorksOn code names program known kept final earlier later (Ok done) works
+      is_done : {T : Type 0} (done : T) → WorksOn code names program known kept final earlier later (Ok done) works
           → IsDone code names program budgets before (with_answers [] final) × HasLocalsAlone program names.bases known (with_answers [] final)
       is_done done on =
           let middle = on.middle in
@@ -128,7 +128,7 @@ module _ (code : Code) (names : Naming) (program : TypedProgram) (budgets : RunB
                 (subst (HasLocalsAlone program names.bases known) (sym to) (locals_moved program names.bases known last middle function on.works.locals)),
           )
 
-      waits_kept : (why : Pause) → WorksOn code names program known kept final earlier later (Err why) works → why ≡ pause.Waits
+      waits_kept : {T : Type 0} (why : Pause) → WorksOn {T = T} code names program known kept final earlier later (Err why) works → why ≡ pause.Waits
           → Waits code names program budgets before kept later.first
       waits_kept why on so = record {
         known = knows_cut _ before kept is;
@@ -143,15 +143,15 @@ module _ (code : Code) (names : Naming) (program : TypedProgram) (budgets : RunB
       }
 
       -- an operation is done, or waited for
-      pub works_step : (answer : Result T Pause) → HasLocalsAlone program names.bases known kept
+      pub works_step : {T : Type 0} (answer : Result T Pause) → HasLocalsAlone program names.bases known kept
           → WorksOn code names program known kept final earlier later answer works
           → TakesStep code names program budgets known before final later answer
       works_step (Ok done) have on = record { done = is_done done on; waits = tt }
-      works_step (Err why) have on = record {
+      works_step {T} (Err why) have on = record {
         done = tt;
         waits = λ so.
             subst (λ (s : State). Waits code names program budgets before s later.first × HasLocalsAlone program names.bases known s)
-            (sym (on.unchanged so)) (waits_kept why on so, have);
+            (sym (on.unchanged so)) (waits_kept {T = T} why on so, have);
       }
 
   -- the end of a block, with the temporaries that it needs
@@ -172,11 +172,11 @@ module _ (code : Code) (names : Naming) (program : TypedProgram) (budgets : RunB
     end_kept : (v : Valuation) → acts kept v ≡ do_end code end (run kept v)
     end_kept v = end_there kept v (ap (λ (s : State). s.frame.spot) shared.1)
 
-    module _ {T : Type 0} (final : State) (earlier later : Progress) (fresh : earlier.used ≡ 0) where
-      is_left : (done : T) → Leaves code names program known kept final earlier later (Ok done) (do_end code end)
+    module _ (final : State) (earlier later : Progress) (fresh : earlier.used ≡ 0) where
+      is_left : {T : Type 0} (done : T) → Leaves code names program known kept final earlier later (Ok done) (do_end code end)
           → IsDone code names program budgets before (with_answers [] final) × HasLocalsAlone program names.bases known (with_answers [] final)
       is_left done leaves =
-          let (spot, jumps, leads) = leaves.done in
+          let (spot, way, leads) = leaves.done in
           let same_answers = ap (λ (s : State). s.answers) shared.1 in
           let same_sets = sym (ap (λ (s : State). s.constraints) shared.1) in (
             record {
@@ -184,7 +184,7 @@ module _ (code : Code) (names : Naming) (program : TypedProgram) (budgets : RunB
               function = leaves.function ∙ ap (λ (s : State). s.frame.spot.function) shared.1;
               answers = refl;
               spot = spot;
-              jumps = jumps;
+              jumps = way;
               goes = λ cells v fits uses.
                   let answers = all_left before kept earlier.used v fresh same_answers in
                   let led = leads cells v (subst (Fits v) same_sets fits) (uses_same cells _ _ _ _ answers (end_before v) uses) in
@@ -193,8 +193,8 @@ module _ (code : Code) (names : Naming) (program : TypedProgram) (budgets : RunB
             locals_answered program names.bases known final leaves.locals,
           )
 
-      waits_left : (why : Pause) → HasLocalsAlone program names.bases known kept
-          → Leaves code names program known kept final earlier later (Err why) (do_end code end) → why ≡ pause.Waits
+      waits_left : {T : Type 0} (why : Pause) → HasLocalsAlone program names.bases known kept
+          → Leaves {T = T} code names program known kept final earlier later (Err why) (do_end code end) → why ≡ pause.Waits
           → Waits code names program budgets before final later.first × HasLocalsAlone program names.bases known final
       waits_left why have leaves so =
           let unchanged : final ≡ with_result final.result kept = leaves.unchanged so in
@@ -215,8 +215,8 @@ module _ (code : Code) (names : Naming) (program : TypedProgram) (budgets : RunB
           )
 
       -- the end of a block is left, or waited for
-      pub ends_step : (answer : Result T Pause) → HasLocalsAlone program names.bases known kept
+      pub ends_step : {T : Type 0} (answer : Result T Pause) → HasLocalsAlone program names.bases known kept
           → Leaves code names program known kept final earlier later answer (do_end code end)
           → TakesStep code names program budgets known before final later answer
       ends_step (Ok done) have leaves = record { done = is_left done leaves; waits = tt }
-      ends_step (Err why) have leaves = record { done = tt; waits = waits_left why have leaves }
+      ends_step {T} (Err why) have leaves = record { done = tt; waits = waits_left {T = T} why have leaves }

@@ -21,13 +21,13 @@ module _ (otherwise : ℕ) (number : ℤ) where
   -- which doesn't depend on how cases are counted
   any_count : (cases : List SwitchCase) (one other : ℕ) → (way_of cases otherwise number one).block ≡ (way_of cases otherwise number other).block
   any_count [] one other = refl
-  any_count (first ∷ cases) one other = decided (int_eq first.value number)
+  any_count (first ∷ cases) one other = decided (any_count cases (one + 1) (other + 1)) (int_eq first.value number)
     where
-      decided : (b : Bool)
+      decided : (way_of cases otherwise number (one + 1)).block ≡ (way_of cases otherwise number (other + 1)).block → (b : Bool)
           → (if b then (record { number = one; block = first.block }) else way_of cases otherwise number (one + 1)).block
           ≡ (if b then (record { number = other; block = first.block }) else way_of cases otherwise number (other + 1)).block
-      decided true = refl
-      decided false = any_count cases (one + 1) (other + 1)
+      decided others true = refl
+      decided others false = others
 
   first_led : (first : SwitchCase) (cases : List SwitchCase) (b : Bool) → int_eq number first.value ≡ b
       → led (first ∷ cases) ≡ (if b then first.block else led cases)
@@ -42,10 +42,10 @@ module _ (otherwise : ℕ) (number : ℤ) where
       chosen false = any_count cases 1 0
 
   -- the next case has the number, or doesn't have it
-  pub next_led : (cases : List declared.SwitchCase) (index : ℕ) (one : declared.SwitchCase) (b : Bool) → index < length cases
-      → one ≡ get_or cases index one → int_eq number one.value ≡ b
-      → led (map switch_case (drop index cases)) ≡ (if b then one.block else led (map switch_case (drop (index + 1) cases)))
-  next_led cases index one b within is e =
-      at_drop_more (λ (left : List declared.SwitchCase). led (map switch_case left)) cases index one within
-      ∙ ap (λ (first : declared.SwitchCase). led (switch_case first ∷ map switch_case (drop (index + 1) cases))) (sym is)
-      ∙ first_led (switch_case one) (map switch_case (drop (index + 1) cases)) b e
+  pub next_led : (cases : List declared.SwitchCase) (index : ℕ) (other : declared.SwitchCase) (b : Bool) → index < length cases
+      → int_eq number (get_or cases index other).value ≡ b
+      → led (map switch_case (drop index cases))
+      ≡ (if b then (get_or cases index other).block else led (map switch_case (drop (index + 1) cases)))
+  next_led cases index other b within e =
+      at_drop_more (λ (left : List declared.SwitchCase). led (map switch_case left)) cases index other within
+      ∙ first_led (switch_case (get_or cases index other)) (map switch_case (drop (index + 1) cases)) b e

@@ -30,8 +30,7 @@ pub fn end(
 ) -> Result<(), Pause>
     requires { IsReady context.now.setting.now }
     ensures extends { Extends (naming tables.old) (naming tables.new) }
-    ensures leaves {
-        EndsAt (view.code context.now.code.now) (view.block_end end.now) state.old.frame.spot
+    ensures leaves { EndsAt (view.code context.now.code.now) (view.block_end end.now) state.old.frame.spot
         → IsCutFor (view.block_end end.now) state.old
         → LeavesBlock (view.code context.now.code.now) (naming tables.new) state.old state.new
         progress.old progress.new result (view.block_end end.now) }
