@@ -1,6 +1,15 @@
 //! Loads and stores (C11 6.3.2.1, 6.5.16).
+ghost use Rattle.std.specs.Prelude.{◌≡◌, true, ℕ, List, IfOk, IfErr};
+ghost use Rattle.cs_ast.specs.declared.place.Place.{Place};
+ghost use Rattle.cs_regions.specs.declared.base.Base.{Base};
 ghost use Rattle.cs_objects.specs.Prepared.{IsReady};
+ghost use Rattle.cs_progress.specs.declared.pause.Pause.TheVariants as pause;
+ghost use Rattle.cs_progress.specs.declared.progress.Progress.{Progress};
+ghost use Rattle.cs_progress.specs.Acting.{CarriesOut, IsNamed};
+ghost use Rattle.cs_progress.specs.Locals.{PointsToLocal, IsLocalOf};
 ghost use Rattle.cs_operators.specs.Asking.{KeepKinds};
+ghost use Rattle.cs_operators.specs.Pointing.{cell_in};
+ghost use Rattle.cs_steps.specs.Reaching.{reaches, cell_reached, IsByte};
 
 use cs_cells::cells::{Cell, look_up, read};
 use cs_cells::inputs::Inputs;
@@ -10,8 +19,8 @@ use cs_checker::{Checker, Subject};
 use cs_operators::Attempt;
 use cs_operators::pointers::{named, not_null, ordered};
 use cs_progress::operands::value_of;
-use cs_progress::pointers::{look, resolved};
-use cs_progress::terms::{constant, scaled, shifted};
+use cs_progress::pointers::look;
+use cs_progress::terms::{constant, known, scaled, shifted};
 use cs_progress::{Context, Pause};
 use cs_state::{Scalars, State, Tables, Temporary};
 use cs_store::Value;
@@ -35,16 +44,51 @@ pub fn locate(
     place: Value,
 ) -> Result<Reached, Pause>
     requires { IsReady context.now.setting.now }
+    ensures kinds { KeepKinds (λ b. (⟦<dyn Checker as Checker>⟧ b.vtable).kind_of b.value)
+        attempt.old.checkers.items attempt.new.checkers.items }
+    ensures act { access.now.direct ≡ true → (bases : List Base) → IsNamed bases place
+        → CarriesOut bases state.now attempt.old.progress attempt.new.progress result
+        (λ valuation. reaches access.now.place (cell_in bases state.now place valuation))
+        (cell_reached bases) }
+    ensures local { IfOk result (λ reached. access.now.direct ≡ true
+        → (bases : List Base) (frame count : ℕ) → PointsToLocal bases frame count place
+        → IsLocalOf bases frame count reached.base) }
+{
+    if access.direct {
+        return locate_variable(state, place);
+    }
+    locate_through(context, state, tables, attempt, access, place)
+}
+
+// A variable, or a member of one. No value but a place is that of one.
+fn locate_variable(state: &State, place: Value) -> Result<Reached, Pause>
+    ensures act { (bases : List Base) → IsNamed bases place → (at : Place) (progress : Progress)
+        → CarriesOut bases state.now progress progress result
+        (λ valuation. reaches at (cell_in bases state.now place valuation))
+        (cell_reached bases) }
+    ensures local { IfOk result (λ reached. (bases : List Base) (frame count : ℕ)
+        → PointsToLocal bases frame count place → IsLocalOf bases frame count reached.base) }
+{
+    let Value::At(base, offset) = place else {
+        return Err(Pause::Memory);
+    };
+    let offset = byte(known(state, offset)?)?;
+    Ok(Reached { base, offset })
+}
+
+// An object that a pointer points to.
+fn locate_through(
+    context: &Context,
+    state: &State,
+    tables: &Tables,
+    attempt: &mut Attempt,
+    access: &Access,
+    place: Value,
+) -> Result<Reached, Pause>
+    requires { IsReady context.now.setting.now }
     ensures { KeepKinds (λ b. (⟦<dyn Checker as Checker>⟧ b.vtable).kind_of b.value)
         attempt.old.checkers.items attempt.new.checkers.items }
 {
-    if access.direct {
-        let (base, offset) = named(state, attempt, access.place, resolved(state, place)?)?;
-        return Ok(Reached {
-            base,
-            offset: byte(offset)?,
-        });
-    }
     let pointer = look(state, &mut attempt.progress, access.place, place)?;
     not_null(state, attempt, access.place, pointer)?;
     let (base, offset) = named(state, attempt, access.place, pointer)?;
@@ -81,7 +125,10 @@ fn reach(
 }
 
 // An offset that isn't below 0, and is a constant.
-fn byte(offset: Lin) -> Result<u64, Pause> {
+fn byte(offset: Lin) -> Result<u64, Pause>
+    ensures value { IfOk result (IsByte offset) }
+    ensures memory { IfErr result (λ why. why ≡ pause.Memory) }
+{
     if offset.sym.is_some() {
         return Err(Pause::Memory);
     }
