@@ -25,7 +25,8 @@ use Rattle.cs_explored.specs.declared.explored.End.{End}
 use Rattle.cs_explored.specs.declared.explored.Explored.{Explored}
 use Rattle.cs_explored.specs.declared.explored.Row.{Row}
 use Rattle.cs_explored.specs.declared.watch.Rule.{Rule}
-use Rattle.cs_engine.specs.EntryRuns.{end_of, events_of, setting_with, HasLeft, EndsAfter, EndsWith}
+use Rattle.cs_progress.specs.Stepping.{end_of}
+use Rattle.cs_engine.specs.EntryRuns.{events_of, setting_with, HasLeft, EndsAfter, EndsWith}
 use Rattle.cs_engine.specs.OwnNumbers.{own_valuation}
 use Rattle.cs_engine.specs.Phases.{IsPhaseAlong}
 

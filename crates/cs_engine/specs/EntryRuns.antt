@@ -5,8 +5,6 @@ use Rattle.cs_ast.specs.TypedProgram.{TypedProgram}
 use Rattle.cs_events.specs.declared.event.Event.{Event}
 use Rattle.cs_events.specs.declared.guess.Guess.{Guess}
 use Rattle.cs_events.specs.declared.outcome.Outcome.{Outcome}
-use Rattle.cs_events.specs.declared.outcome.Outcome.TheVariants.{Done}
-use Rattle.cs_events.specs.declared.outcome.Returned.TheVariants as returned
 use Rattle.cs_events.specs.declared.outcome.RunBudgets.{RunBudgets}
 use Rattle.cs_events.specs.Acts.{Act}
 use Rattle.cs_events.specs.PendingEvents.{Pending}
@@ -25,11 +23,6 @@ events_of steps = map (λ (one : Step). one.event) steps
 -- what a run with these inputs and guesses goes by
 abbrev pub setting_with : TypedProgram → RunBudgets → (Path → ℤ) → List Guess → Setting
 setting_with program budgets inputs guesses = record { model = program.model; inputs = inputs; guesses = guesses; budgets = budgets }
-
--- an end's outcome says nothing of what the entry has returned
-abbrev pub end_of : Outcome → Outcome
-end_of (Done value) = Done returned.Nothing
-end_of other = other
 
 module _ {M : Type 0} (step : M → Act M) (setting : Setting) where
   -- where this stands first, a run passes these steps, and directly after the last it has so much left to do, with this log

@@ -25,22 +25,12 @@ use Rattle.cs_state.specs.Meaning.{StandsFor, setting_of}
 use Rattle.cs_explored.specs.declared.explored.End.{End}
 use Rattle.cs_explored.specs.declared.explored.Row.{Row}
 use Rattle.cs_engine.specs.Chains.{IsChain}
-use Rattle.cs_engine.specs.EntryRuns.{end_of, events_of, HasLeft, EndsWith}
+use Rattle.cs_progress.specs.Stepping.{end_of, result_in, HasReturned}
+use Rattle.cs_engine.specs.EntryRuns.{events_of, HasLeft, EndsWith}
 
 -- some valuation fits
 abbrev pub IsPossible : State → Type 0
 IsPossible state = (valuation : Valuation) × Fits valuation state.constraints
-
--- what the entry has returned by a state, nothing where the state has no result
-abbrev pub result_in : List Base → Blocks → Valuation → Option Value → Operand
-result_in bases blocks valuation None = Nothing
-result_in bases blocks valuation (Some value) = Scalar (cell_of bases blocks valuation value)
-
--- if the run is done, it has returned this
-abbrev pub HasReturned : Outcome → Operand → Type 0
-HasReturned (Done returned) result = returned ≡ returned_of result
-HasReturned (Fault kind at) result = Unit {0}
-HasReturned (Over budget at) result = Unit {0}
 
 module _ (code : Code) (program : TypedProgram) (entry : ℕ) (budgets : RunBudgets) (names : Naming) where
   -- the state stands for the run of a valuation where so much is left to do

@@ -1,5 +1,6 @@
 pub mod Parameters
 pub mod Chains
+pub mod Coming
 pub mod Phases
 pub mod EntryRuns
 pub mod OwnNumbers
