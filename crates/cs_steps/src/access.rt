@@ -1,5 +1,5 @@
 //! Loads and stores (C11 6.3.2.1, 6.5.16).
-ghost use Rattle.std.specs.Prelude.{◌≡◌, true, ℕ, List, IfOk, IfErr};
+ghost use Rattle.std.specs.Prelude.{◌≡◌, true, ℕ, Bool, List, IfOk, IfErr};
 ghost use Rattle.cs_ast.specs.declared.place.Place.{Place};
 ghost use Rattle.cs_regions.specs.declared.base.Base.{Base};
 ghost use Rattle.cs_objects.specs.Prepared.{IsReady};
@@ -51,7 +51,8 @@ pub fn locate(
         (λ valuation. reaches access.now.place (cell_in bases state.now place valuation))
         (cell_reached bases) }
     ensures local { IfOk result (λ reached. access.now.direct ≡ true
-        → (bases : List Base) (frame count : ℕ) → PointsToLocal bases frame count place
+        → (bases : List Base) (known : ℕ → Bool) (frame count : ℕ)
+        → PointsToLocal bases known frame count place
         → IsLocalOf bases frame count reached.base) }
 {
     if access.direct {
@@ -66,8 +67,10 @@ fn locate_variable(state: &State, place: Value) -> Result<Reached, Pause>
         → CarriesOut bases state.now progress progress result
         (λ valuation. reaches at (cell_in bases state.now place valuation))
         (cell_reached bases) }
-    ensures local { IfOk result (λ reached. (bases : List Base) (frame count : ℕ)
-        → PointsToLocal bases frame count place → IsLocalOf bases frame count reached.base) }
+    ensures local { IfOk result (λ reached.
+        (bases : List Base) (known : ℕ → Bool) (frame count : ℕ)
+        → PointsToLocal bases known frame count place
+        → IsLocalOf bases frame count reached.base) }
 {
     let Value::At(base, offset) = place else {
         return Err(Pause::Memory);
