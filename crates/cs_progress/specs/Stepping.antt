@@ -225,4 +225,7 @@ pub record StepsInLocals (code : Code) (model : DataModel) (budgets : RunBudgets
     : Type 0 where
   pub steps : (names : Naming) (program : TypedProgram) (known : ℕ → Bool) → program.model ≡ model → Extends given names
       → IsNumbered names.bases → HasLocalsAlone program names.bases known before → HasIntegerCode code program before.frame.spot.function
+      → (valuation : Valuation) × Fits valuation before.constraints
+      → ((cells : Path → InputKind → Cell) (valuation : Valuation) → Fits valuation before.constraints
+      → UsesAnswers code names program budgets cells before valuation)
       → Steps code names program budgets before after next × HasLocalsAlone program names.bases known after

@@ -32,7 +32,9 @@ impl Progress {
     }
 
     /// What stands first, where the operation waits.
-    pub fn into_first(self) -> Next {
+    pub fn into_first(self) -> Next
+        ensures { result ≡ self.first }
+    {
         self.first
     }
 
@@ -55,7 +57,11 @@ impl Progress {
     }
 
     /// The run ends.
-    pub fn finish(&mut self, outcome: Outcome) -> Pause {
+    pub fn finish(&mut self, outcome: Outcome) -> Pause
+        ensures waits { result ≡ pause.Waits }
+        ensures first { self.new.first ≡ next.Ends outcome }
+        ensures used { self.new.used ≡ self.old.used }
+    {
         self.wait(Next::Ends(outcome))
     }
 
