@@ -1,0 +1,2 @@
+pub mod Reaching
+mod Loading

@@ -1,16 +1,21 @@
 //! Loads and stores (C11 6.3.2.1, 6.5.16).
 ghost use Rattle.std.specs.Prelude.{◌≡◌, true, ℕ, Bool, List, IfOk, IfErr};
-ghost use Rattle.cs_ast.specs.declared.place.Place.{Place};
+ghost use Rattle.cs_ast.specs.TypedProgram.{TypedProgram};
+ghost use Rattle.cs_cfg.specs.GraphView as view;
 ghost use Rattle.cs_regions.specs.declared.base.Base.{Base};
+ghost use Rattle.cs_regions.specs.Numbering.{IsNumbered};
 ghost use Rattle.cs_objects.specs.Prepared.{IsReady};
+ghost use Rattle.cs_state.specs.Naming.{Naming, naming, Extends};
 ghost use Rattle.cs_progress.specs.declared.pause.Pause.TheVariants as pause;
 ghost use Rattle.cs_progress.specs.declared.progress.Progress.{Progress};
 ghost use Rattle.cs_progress.specs.Acting.{CarriesOut, IsNamed};
-ghost use Rattle.cs_progress.specs.Locals.{PointsToLocal, IsLocalOf};
-ghost use Rattle.cs_operators.specs.Asking.{KeepKinds};
+ghost use Rattle.cs_progress.specs.Locals.{PointsToLocal, IsLocalOf, count_of_locals, IsIn, HasLocalsAlone, IsOfInteger};
+ghost use Rattle.cs_operators.specs.Asking.{KeepKinds, HasEveryKind};
 ghost use Rattle.cs_operators.specs.Pointing.{cell_in};
 ghost use Rattle.cs_steps.specs.Reaching.{reaches, cell_reached, IsByte};
+ghost use Rattle.cs_steps.specs.Loading.{Loads, load_part, scalar_part};
 
+use cs_ast::Place;
 use cs_cells::cells::{Cell, look_up, read};
 use cs_cells::inputs::Inputs;
 use cs_cells::objects::object;
@@ -148,16 +153,53 @@ pub fn load(
     place: Value,
 ) -> Result<Temporary, Pause>
     requires { IsReady context.now.setting.now }
-    ensures { KeepKinds (λ b. (⟦<dyn Checker as Checker>⟧ b.vtable).kind_of b.value)
+    ensures kinds { KeepKinds (λ b. (⟦<dyn Checker as Checker>⟧ b.vtable).kind_of b.value)
         attempt.old.checkers.items attempt.new.checkers.items }
+    ensures extends { Extends (naming tables.old) (naming tables.new) }
+    ensures integer { HasEveryKind (λ b. (⟦<dyn Checker as Checker>⟧ b.vtable).kind_of b.value)
+        attempt.old.checkers.items
+        → (program : TypedProgram) (names : Naming) (known : ℕ → Bool)
+        → Extends (naming tables.new) names → IsNumbered names.bases
+        → HasLocalsAlone program names.bases known state.old
+        → IsOfInteger (view.access access.now)
+        → IsIn program names.bases known state.old.frame place
+        → Loads program names known state.old state.new attempt.old.progress attempt.new.progress
+        result (load_part program names state.old (view.access access.now) place) }
 {
     let reached = locate(context, state, tables, attempt, access, place)?;
     if let CType::Struct(_) = &access.ty {
-        return Ok(Temporary::Whole(read_all(context, state, tables, &access.ty, reached)?));
+        let scalars = read_all(context, state, tables, &access.ty, reached)?;
+        return Ok(Temporary::Whole(scalars));
     }
+    load_scalar(context, state, tables, attempt, access.place, reached)
+}
+
+// The scalar that was reached, which was set.
+fn load_scalar(
+    context: &Context,
+    state: &mut State,
+    tables: &mut Tables,
+    attempt: &mut Attempt,
+    at: Place,
+    reached: Reached,
+) -> Result<Temporary, Pause>
+    requires { IsReady context.now.setting.now }
+    ensures kinds { KeepKinds (λ b. (⟦<dyn Checker as Checker>⟧ b.vtable).kind_of b.value)
+        attempt.old.checkers.items attempt.new.checkers.items }
+    ensures extends { Extends (naming tables.old) (naming tables.new) }
+    ensures local { HasEveryKind (λ b. (⟦<dyn Checker as Checker>⟧ b.vtable).kind_of b.value)
+        attempt.old.checkers.items
+        → (program : TypedProgram) (names : Naming) (known : ℕ → Bool)
+        → Extends (naming tables.new) names → IsNumbered names.bases
+        → HasLocalsAlone program names.bases known state.old
+        → IsLocalOf names.bases state.old.frame.number
+        (count_of_locals program state.old.frame.spot.function) reached.base
+        → Loads program names known state.old state.new attempt.old.progress attempt.new.progress
+        result (scalar_part program names state.old at reached) }
+{
     let value = read(context, state, tables, reached.base, reached.offset)?;
     let unset = matches!(value, Value::Unset);
-    attempt.check(state, access.place, Subject::Cell { unset })?;
+    attempt.check(state, at, Subject::Cell { unset })?;
     Ok(Temporary::Scalar(value))
 }
 
@@ -170,6 +212,7 @@ fn read_all(
     reached: Reached,
 ) -> Result<Scalars, Pause>
     requires { IsReady context.now.setting.now }
+    ensures { Extends (naming tables.old) (naming tables.new) }
 {
     let offsets = context.offsets(ty)?;
     let mut values = Vec::new(context.alloc);

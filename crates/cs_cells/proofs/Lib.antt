@@ -1,0 +1,2 @@
+pub mod GrowingNames
+pub mod LocalMemory
