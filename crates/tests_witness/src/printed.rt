@@ -1,7 +1,7 @@
 //! Findings as text: as `analyze` prints them, without their steps.
 
 use cs_events::{Guess, Outcome};
-use cs_findings::{Finding, Ground, Others, Run, Verdict};
+use cs_findings::{Finding, Ground, Others, Run};
 use cs_inputs::print;
 use cs_names::Name;
 use cs_report_parts::{append, append_place};
@@ -14,7 +14,7 @@ pub fn append_witnessed(
     files: &[Name],
     witnessed: &Witnessed,
 ) -> Result<(), AllocError> {
-    append(text, verdict_name(witnessed.result.verdict))?;
+    append(text, witnessed.result.verdict.name())?;
     append(text, format_args!(" dropped {}\n", witnessed.dropped))?;
     for finding in &witnessed.result.reports {
         append_finding(text, files, finding)?;
@@ -23,14 +23,6 @@ pub fn append_witnessed(
         append_finding(text, files, finding)?;
     }
     Ok(())
-}
-
-fn verdict_name(verdict: Verdict) -> &'static str {
-    match verdict {
-        Verdict::Complete => "complete",
-        Verdict::Bounded => "bounded",
-        Verdict::Cut => "cut",
-    }
 }
 
 /// Appends a finding with its inputs and the grounds of its guesses.
