@@ -20,7 +20,6 @@ use Rattle.cs_events.specs.Operations.{is_true}
 use Rattle.cs_events.specs.Objects.{Cell, NumberCell, NullCell, PointerCell, UnsetCell}
 use Rattle.cs_events.specs.Acts.{Act, Stops}
 use Rattle.cs_meaning.specs.Access as access
-use Rattle.cs_meaning.specs.Machine.{Operand, Scalar, Whole, Nothing}
 use Rattle.cs_meaning.specs.Operators as operators
 use Rattle.cs_cfg.specs.Working.{CodeState}
 use Rattle.cs_operators.specs.Asking.{IsCheckOf}
@@ -41,15 +40,12 @@ abbrev pub is_there : Option (ℤ × ℤ) → Bool
 is_there None = false
 is_there (Some offsets) = true
 
--- whether an operand is a scalar that was never set, and what its use checks
-abbrev pub is_never_set : Operand → Bool
-is_never_set (Scalar UnsetCell) = true
-is_never_set other = false
-
-abbrev pub used : Place → Operand → Act CodeState → Act CodeState
-used at (Scalar cell) act = access.set_then at cell act
-used at (Whole cells) act = act
-used at Nothing act = act
+-- whether a cell was never set
+abbrev pub is_never_set : Cell → Bool
+is_never_set UnsetCell = true
+is_never_set (NumberCell n) = false
+is_never_set NullCell = false
+is_never_set (PointerCell object offset) = false
 
 module _ (at : Place) (v : Valuation) where
   -- a check of a single kind
@@ -68,96 +64,33 @@ module _ (at : Place) (v : Valuation) where
   -- each subject has a single kind of faults
   only_null : (null : Bool) (other : Kind) → is_faulty_for other (Through null) v ≡ true → (other ≡ kind.Null) × (null ≡ true)
   only_null null kind.Null holds = (refl, holds)
-  only_null null kind.Divide holds = absurd (true≢false (sym holds))
-  only_null null kind.Unset holds = absurd (true≢false (sym holds))
-  only_null null kind.Bounds holds = absurd (true≢false (sym holds))
-  only_null null kind.DoubleFree holds = absurd (true≢false (sym holds))
-  only_null null kind.Freed holds = absurd (true≢false (sym holds))
-  only_null null kind.BadFree holds = absurd (true≢false (sym holds))
-  only_null null kind.DeadLocal holds = absurd (true≢false (sym holds))
-  only_null null kind.Shift holds = absurd (true≢false (sym holds))
-  only_null null kind.Unrelated holds = absurd (true≢false (sym holds))
-  only_null null kind.ConstWrite holds = absurd (true≢false (sym holds))
+  only_null null other holds = absurd (true≢false (sym holds))
 
   only_move : (null : Bool) (amount : Lin) (other : Kind) → is_faulty_for other (Move null amount) v ≡ true
       → (other ≡ kind.Null) × ((null && not (int_eq (value_of v amount) (pos 0))) ≡ true)
   only_move null amount kind.Null holds = (refl, holds)
-  only_move null amount kind.Divide holds = absurd (true≢false (sym holds))
-  only_move null amount kind.Unset holds = absurd (true≢false (sym holds))
-  only_move null amount kind.Bounds holds = absurd (true≢false (sym holds))
-  only_move null amount kind.DoubleFree holds = absurd (true≢false (sym holds))
-  only_move null amount kind.Freed holds = absurd (true≢false (sym holds))
-  only_move null amount kind.BadFree holds = absurd (true≢false (sym holds))
-  only_move null amount kind.DeadLocal holds = absurd (true≢false (sym holds))
-  only_move null amount kind.Shift holds = absurd (true≢false (sym holds))
-  only_move null amount kind.Unrelated holds = absurd (true≢false (sym holds))
-  only_move null amount kind.ConstWrite holds = absurd (true≢false (sym holds))
+  only_move null amount other holds = absurd (true≢false (sym holds))
 
   only_divide : (term : Lin) (other : Kind) → is_faulty_for other (Divisor term) v ≡ true → (other ≡ kind.Divide) × (int_eq (value_of v term) (pos 0) ≡ true)
-  only_divide term kind.Null holds = absurd (true≢false (sym holds))
   only_divide term kind.Divide holds = (refl, holds)
-  only_divide term kind.Unset holds = absurd (true≢false (sym holds))
-  only_divide term kind.Bounds holds = absurd (true≢false (sym holds))
-  only_divide term kind.DoubleFree holds = absurd (true≢false (sym holds))
-  only_divide term kind.Freed holds = absurd (true≢false (sym holds))
-  only_divide term kind.BadFree holds = absurd (true≢false (sym holds))
-  only_divide term kind.DeadLocal holds = absurd (true≢false (sym holds))
-  only_divide term kind.Shift holds = absurd (true≢false (sym holds))
-  only_divide term kind.Unrelated holds = absurd (true≢false (sym holds))
-  only_divide term kind.ConstWrite holds = absurd (true≢false (sym holds))
+  only_divide term other holds = absurd (true≢false (sym holds))
 
   only_unset : (unset : Bool) (other : Kind) → is_faulty_for other (OfCell unset) v ≡ true → (other ≡ kind.Unset) × (unset ≡ true)
-  only_unset unset kind.Null holds = absurd (true≢false (sym holds))
-  only_unset unset kind.Divide holds = absurd (true≢false (sym holds))
   only_unset unset kind.Unset holds = (refl, holds)
-  only_unset unset kind.Bounds holds = absurd (true≢false (sym holds))
-  only_unset unset kind.DoubleFree holds = absurd (true≢false (sym holds))
-  only_unset unset kind.Freed holds = absurd (true≢false (sym holds))
-  only_unset unset kind.BadFree holds = absurd (true≢false (sym holds))
-  only_unset unset kind.DeadLocal holds = absurd (true≢false (sym holds))
-  only_unset unset kind.Shift holds = absurd (true≢false (sym holds))
-  only_unset unset kind.Unrelated holds = absurd (true≢false (sym holds))
-  only_unset unset kind.ConstWrite holds = absurd (true≢false (sym holds))
+  only_unset unset other holds = absurd (true≢false (sym holds))
 
   only_bounds : (term : Lin2) (other : Kind) → is_faulty_for other (Rest term) v ≡ true → (other ≡ kind.Bounds) × (int_lt (value_of_sum v term) (pos 0) ≡ true)
-  only_bounds term kind.Null holds = absurd (true≢false (sym holds))
-  only_bounds term kind.Divide holds = absurd (true≢false (sym holds))
-  only_bounds term kind.Unset holds = absurd (true≢false (sym holds))
   only_bounds term kind.Bounds holds = (refl, holds)
-  only_bounds term kind.DoubleFree holds = absurd (true≢false (sym holds))
-  only_bounds term kind.Freed holds = absurd (true≢false (sym holds))
-  only_bounds term kind.BadFree holds = absurd (true≢false (sym holds))
-  only_bounds term kind.DeadLocal holds = absurd (true≢false (sym holds))
-  only_bounds term kind.Shift holds = absurd (true≢false (sym holds))
-  only_bounds term kind.Unrelated holds = absurd (true≢false (sym holds))
-  only_bounds term kind.ConstWrite holds = absurd (true≢false (sym holds))
+  only_bounds term other holds = absurd (true≢false (sym holds))
 
   only_shift : (count : Lin) (width : ℕ) (other : Kind) → is_faulty_for other (Shift count width) v ≡ true
       → (other ≡ kind.Shift) × ((int_lt (value_of v count) (pos 0) || int_le (pos width) (value_of v count)) ≡ true)
-  only_shift count width kind.Null holds = absurd (true≢false (sym holds))
-  only_shift count width kind.Divide holds = absurd (true≢false (sym holds))
-  only_shift count width kind.Unset holds = absurd (true≢false (sym holds))
-  only_shift count width kind.Bounds holds = absurd (true≢false (sym holds))
-  only_shift count width kind.DoubleFree holds = absurd (true≢false (sym holds))
-  only_shift count width kind.Freed holds = absurd (true≢false (sym holds))
-  only_shift count width kind.BadFree holds = absurd (true≢false (sym holds))
-  only_shift count width kind.DeadLocal holds = absurd (true≢false (sym holds))
   only_shift count width kind.Shift holds = (refl, holds)
-  only_shift count width kind.Unrelated holds = absurd (true≢false (sym holds))
-  only_shift count width kind.ConstWrite holds = absurd (true≢false (sym holds))
+  only_shift count width other holds = absurd (true≢false (sym holds))
 
   only_unrelated : (same : Bool) (other : Kind) → is_faulty_for other (Pair same) v ≡ true → (other ≡ kind.Unrelated) × (not same ≡ true)
-  only_unrelated same kind.Null holds = absurd (true≢false (sym holds))
-  only_unrelated same kind.Divide holds = absurd (true≢false (sym holds))
-  only_unrelated same kind.Unset holds = absurd (true≢false (sym holds))
-  only_unrelated same kind.Bounds holds = absurd (true≢false (sym holds))
-  only_unrelated same kind.DoubleFree holds = absurd (true≢false (sym holds))
-  only_unrelated same kind.Freed holds = absurd (true≢false (sym holds))
-  only_unrelated same kind.BadFree holds = absurd (true≢false (sym holds))
-  only_unrelated same kind.DeadLocal holds = absurd (true≢false (sym holds))
-  only_unrelated same kind.Shift holds = absurd (true≢false (sym holds))
   only_unrelated same kind.Unrelated holds = (refl, holds)
-  only_unrelated same kind.ConstWrite holds = absurd (true≢false (sym holds))
+  only_unrelated same other holds = absurd (true≢false (sym holds))
 
   -- `*p` and `p->m`
   if_null : (cell : Cell) (act : Act CodeState) → is_null cell ≡ true → access.not_null at cell act ≡ Stops (Fault kind.Null at)
@@ -229,27 +162,23 @@ module _ (at : Place) (v : Valuation) where
       of_kind (OfCell true) kind.Unset true (λ act. Stops (Fault kind.Unset at)) (only_unset true)
       (λ never none act. absurd (true≢false never)) (λ is act. refl) refl
 
-  -- the use of a call's result
-  if_set : (operand : Operand) (act : Act CodeState) → is_never_set operand ≡ false → used at operand act ≡ act
-  if_set (Scalar (NumberCell n)) act set = refl
-  if_set (Scalar NullCell) act set = refl
-  if_set (Scalar (PointerCell object offset)) act set = refl
-  if_set (Scalar UnsetCell) act set = absurd (true≢false set)
-  if_set (Whole cells) act set = refl
-  if_set Nothing act set = refl
+  -- a value that has to be set
+  if_set : (cell : Cell) (act : Act CodeState) → is_never_set cell ≡ false → access.set_then at cell act ≡ act
+  if_set (NumberCell n) act set = refl
+  if_set NullCell act set = refl
+  if_set (PointerCell object offset) act set = refl
+  if_set UnsetCell act set = absurd (true≢false set)
 
-  if_unset : (operand : Operand) (act : Act CodeState) → is_never_set operand ≡ true → used at operand act ≡ Stops (Fault kind.Unset at)
-  if_unset (Scalar (NumberCell n)) act unset = absurd (true≢false (sym unset))
-  if_unset (Scalar NullCell) act unset = absurd (true≢false (sym unset))
-  if_unset (Scalar (PointerCell object offset)) act unset = absurd (true≢false (sym unset))
-  if_unset (Scalar UnsetCell) act unset = refl
-  if_unset (Whole cells) act unset = absurd (true≢false (sym unset))
-  if_unset Nothing act unset = absurd (true≢false (sym unset))
+  if_unset : (cell : Cell) (act : Act CodeState) → is_never_set cell ≡ true → access.set_then at cell act ≡ Stops (Fault kind.Unset at)
+  if_unset (NumberCell n) act unset = absurd (true≢false (sym unset))
+  if_unset NullCell act unset = absurd (true≢false (sym unset))
+  if_unset (PointerCell object offset) act unset = absurd (true≢false (sym unset))
+  if_unset UnsetCell act unset = refl
 
-  pub used_check : (unset : Bool) (operand : Operand) → is_never_set operand ≡ unset → IsCheckOf (OfCell unset) at v (used at operand)
-  used_check unset operand same =
-      of_kind (OfCell unset) kind.Unset unset (used at operand) (only_unset unset)
-      (λ set none act. if_set operand act (same ∙ set)) (λ is act. if_unset operand act (same ∙ is)) refl
+  pub set_check : (unset : Bool) (cell : Cell) → is_never_set cell ≡ unset → IsCheckOf (OfCell unset) at v (access.set_then at cell)
+  set_check unset cell same =
+      of_kind (OfCell unset) kind.Unset unset (access.set_then at cell) (only_unset unset)
+      (λ set none act. if_set cell act (same ∙ set)) (λ is act. if_unset cell act (same ∙ is)) refl
 
   -- an order test
   below : (holds : Bool) → int_lt (value_of_sum v (rest_of holds)) (pos 0) ≡ not holds

@@ -8,51 +8,64 @@ use Rattle.cs_regions.specs.declared.base.Base.{Base}
 use Rattle.cs_events.specs.Objects.{NullCell}
 use Rattle.cs_events.specs.Acts.{Act, Goes}
 use Rattle.cs_meaning.specs.Expressions.{use_result}
-use Rattle.cs_meaning.specs.Machine.{Operand, Scalar, Whole, Nothing}
 use Rattle.cs_cfg.specs.Graph.{Point, Code}
 use Rattle.cs_cfg.specs.Working.{CodeState}
+use Rattle.cs_store.specs.declared.value.Value.{Value}
 use Rattle.cs_store.specs.declared.value.Value.TheVariants as value
 use Rattle.cs_state.specs.declared.state.State.{State}
 use Rattle.cs_state.specs.declared.temporary.Temporary.{Temporary}
 use Rattle.cs_state.specs.declared.temporary.Temporary.TheVariants as temporary
-use Rattle.cs_state.specs.Cells.{Blocks, block_of, is_there, pointer_to, operand_of}
+use Rattle.cs_state.specs.Cells.{Blocks, block_of, is_there, pointer_to, cell_of, operand_of}
 use Rattle.cs_state.specs.Naming.{Naming}
 use Rattle.cs_progress.specs.declared.pause.Pause.{Pause}
 use Rattle.cs_progress.specs.declared.progress.Progress.{Progress}
-use Rattle.cs_progress.specs.Acting.{Passes}
-use Rattle.cs_progress.specs.Computing.{IsNamedTemporary, Computes}
+use Rattle.cs_progress.specs.Acting.{Passes, IsNamed}
+use Rattle.cs_progress.specs.Computing.{Computes}
 use Rattle.cs_progress.proofs.Looks.{leads_same}
 use Rattle.cs_progress.proofs.Composing.{leads_on, waits_on}
-use Rattle.cs_operators.specs.Pointing.{is_unset}
-use Rattle.cs_operators.proofs.Checks.{is_never_set, used}
+use Rattle.cs_operators.proofs.Checks.{is_never_set}
 use Rattle.cs_operators.proofs.Computed.{stands}
 
-named_set : (base : Option Base) (offset : ℤ) → base ≢ None → is_never_set (Scalar (pointer_to base offset)) ≡ false
+named_set : (base : Option Base) (offset : ℤ) → base ≢ None → is_never_set (pointer_to base offset) ≡ false
 named_set None offset named = absurd (named refl)
 named_set (Some base) offset named = refl
 
 start_set : (there : Bool) (base : Option Base) (offset : ℤ) → base ≢ None
-    → is_never_set (Scalar (if there then pointer_to base offset else NullCell)) ≡ false
+    → is_never_set (if there then pointer_to base offset else NullCell) ≡ false
 start_set true base offset named = named_set base offset named
 start_set false base offset named = refl
 
--- an operand was never set exactly where its temporary says so
-pub never_set : (bases : List Base) (blocks : Blocks) (v : Valuation) (operand : Temporary) → IsNamedTemporary bases operand
-    → is_never_set (operand_of bases blocks v operand) ≡ is_unset operand
-never_set bases blocks v (temporary.Scalar (value.Number term)) named = refl
-never_set bases blocks v (temporary.Scalar value.Null) named = refl
-never_set bases blocks v (temporary.Scalar (value.At base offset)) named = named_set (slice_get bases base) (value_of v offset) named
-never_set bases blocks v (temporary.Scalar (value.Start base offset)) named =
-    start_set (is_there v (block_of blocks base)) (slice_get bases base) (pos offset) named
-never_set bases blocks v (temporary.Scalar value.Unset) named = refl
-never_set bases blocks v (temporary.Whole values) named = refl
-never_set bases blocks v temporary.Nothing named = refl
+-- whether a value was never set
+abbrev pub is_unset : Value → Bool
+is_unset value.Unset = true
+is_unset (value.Number term) = false
+is_unset value.Null = false
+is_unset (value.At base offset) = false
+is_unset (value.Start base offset) = false
 
--- the use of an operand, and then its state goes on
-pub use_is : (at : Place) (operand : Operand) (m : CodeState) → use_result at operand m ≡ used at operand (Goes m)
-use_is at (Scalar cell) m = refl
-use_is at (Whole cells) m = refl
-use_is at Nothing m = refl
+pub set_else : (given : Value) → (given ≡ value.Unset → ⊥) → is_unset given ≡ false
+set_else (value.Number term) never = refl
+set_else value.Null never = refl
+set_else (value.At base offset) never = refl
+set_else (value.Start base offset) never = refl
+set_else value.Unset never = absurd (never refl)
+
+-- a scalar was never set exactly where its value says so
+pub never_set : (bases : List Base) (blocks : Blocks) (v : Valuation) (given : Value) → IsNamed bases given
+    → is_never_set (cell_of bases blocks v given) ≡ is_unset given
+never_set bases blocks v (value.Number term) named = refl
+never_set bases blocks v value.Null named = refl
+never_set bases blocks v (value.At base offset) named = named_set (slice_get bases base) (value_of v offset) named
+never_set bases blocks v (value.Start base offset) named =
+    start_set (is_there v (block_of blocks base)) (slice_get bases base) (pos offset) named
+never_set bases blocks v value.Unset named = refl
+
+-- an operand that is no scalar isn't checked
+pub other_use : (bases : List Base) (blocks : Blocks) (v : Valuation) (at : Place) (operand : Temporary) (m : CodeState)
+    → ((given : Value) → operand ≡ temporary.Scalar given → ⊥) → use_result at (operand_of bases blocks v operand) m ≡ Goes m
+other_use bases blocks v at (temporary.Scalar given) m never = absurd (never given refl)
+other_use bases blocks v at (temporary.Whole values) m never = refl
+other_use bases blocks v at temporary.Nothing m never = refl
 
 -- an operation that checks alone leaves its state as it is
 pub checks_alone : (code : Code) (names : Naming) (program : TypedProgram) (state : State) {T : Type 0} (earlier later : Progress)

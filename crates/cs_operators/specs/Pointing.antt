@@ -20,7 +20,7 @@ use Rattle.cs_cfg.specs.Working.{CodeState}
 use Rattle.cs_eval.specs.declared.question.Tested.{Tested}
 use Rattle.cs_eval.specs.declared.question.Tested.TheVariants.{Not}
 use Rattle.cs_eval.specs.Questions.{label_of}
-use Rattle.cs_store.specs.declared.value.Value.TheVariants.{Number, Unset}
+use Rattle.cs_store.specs.declared.value.Value.TheVariants.{Number}
 use Rattle.cs_state.specs.declared.state.State.{State}
 use Rattle.cs_state.specs.declared.temporary.Temporary.{Temporary}
 use Rattle.cs_state.specs.declared.temporary.Temporary.TheVariants.{Scalar}
@@ -72,8 +72,3 @@ related at one other onward = operators.in_relation at (operators.related one ot
 abbrev pub is_number : Temporary → Bool
 is_number (Scalar (Number term)) = true
 is_number other = false
-
--- whether an operand is a scalar that was never set
-abbrev pub is_unset : Temporary → Bool
-is_unset (Scalar Unset) = true
-is_unset other = false

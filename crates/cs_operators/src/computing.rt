@@ -14,7 +14,7 @@ ghost use Rattle.cs_state.specs.Naming.{Naming};
 ghost use Rattle.cs_progress.specs.Computing.{HaveNames, Computes};
 ghost use Rattle.cs_progress.specs.Stepping.{StaysInFrame, KeepsLocals, WaitsUnchanged};
 ghost use Rattle.cs_operators.specs.Asking.{KeepKinds, HasEveryKind};
-ghost use Rattle.cs_operators.specs.Pointing.{is_number, is_unset};
+ghost use Rattle.cs_operators.specs.Pointing.{is_number};
 
 use crate::attempt::Attempt;
 use crate::operators::{
@@ -275,24 +275,11 @@ pub fn use_result(state: &State, attempt: &mut Attempt, at: Place) -> Result<(),
         → Computes code names program state.now state.now attempt.old.progress
         attempt.new.progress result (do_work code program budgets at graph.Use) }
 {
-    let used = operand(state, 0)?;
-    attempt.check(
-        state,
-        at,
-        Subject::Cell {
-            unset: is_unset(used),
-        },
-    )
-}
-
-// Whether an operand is a scalar that was never set.
-fn is_unset(operand: &Temporary) -> bool
-    ensures { result ≡ is_unset operand.now }
-{
-    match operand {
-        Temporary::Scalar(value) => matches!(value, Value::Unset),
-        Temporary::Whole(_) | Temporary::Nothing => false,
-    }
+    let Temporary::Scalar(value) = operand(state, 0)? else {
+        return Ok(());
+    };
+    let unset = matches!(value, Value::Unset);
+    attempt.check(state, at, Subject::Cell { unset })
 }
 
 // Whether an operand is a number.

@@ -12,6 +12,7 @@ ghost use Rattle.cs_meaning.specs.Operators as operators;
 ghost use Rattle.cs_objects.specs.Prepared.{IsReady};
 ghost use Rattle.cs_progress.specs.declared.pause.Pause.TheVariants as pause;
 ghost use Rattle.cs_progress.specs.Acting.{CarriesOut, IsNamed};
+ghost use Rattle.cs_progress.specs.Locals.{IsOverKnown};
 ghost use Rattle.cs_progress.specs.Seeing.{IsSeen, IsSeenNamed};
 ghost use Rattle.cs_operators.specs.Asking.{KeepKinds, HasEveryKind};
 ghost use Rattle.cs_operators.specs.Pointing.{Sees, cell_in, both_values, test, moved_within, equality, related};
@@ -82,6 +83,7 @@ pub fn operate(
         → CarriesOut bases state.now attempt.old.progress attempt.new.progress result
         (λ valuation. operators.operate model at operator ty (value_of valuation operands.0)
         (value_of valuation operands.1)) (λ made valuation. value_of valuation made) }
+    ensures over { IfOk result (IsOverKnown state.now) }
 {
     let (left, right) = operands;
     match operator {
@@ -115,6 +117,8 @@ pub fn convert_number(
         → CarriesOut bases state.now progress.old progress.new result
         (λ valuation. operators.convert_number model at (shape_of types.entry.0.now) types.entry.1
         (value_of valuation number)) (λ made valuation. value_of valuation made) }
+    ensures over { IfOk result (λ made. IsOverKnown state.now number
+        → IsOverKnown state.now made) }
 {
     let (from, to) = types;
     if takes_all(model, from, to) {
@@ -233,6 +237,7 @@ pub fn compare(
         → CarriesOut bases state.now attempt.old.progress attempt.new.progress result
         (λ valuation. operators.compare at operator (cell_in bases state.now left valuation)
         (cell_in bases state.now right valuation)) (λ made valuation. value_of valuation made) }
+    ensures over { IfOk result (IsOverKnown state.now) }
 {
     if is_pointer(left) || is_pointer(right) {
         return compare_pointers(state, attempt, at, operator, left, right);
@@ -258,6 +263,7 @@ fn compare_pointers(
         (λ valuation. operators.compare_pointers at operator
         (cell_in bases state.now left valuation) (cell_in bases state.now right valuation))
         (λ made valuation. value_of valuation made) }
+    ensures over { IfOk result (IsOverKnown state.now) }
 {
     let left = look(state, &mut attempt.progress, at, left)?;
     let right = look(state, &mut attempt.progress, at, right)?;
@@ -287,6 +293,7 @@ fn equality(
         → CarriesOut bases state.now progress.old progress.new result
         (λ valuation. equality at operator (one valuation) (other valuation))
         (λ made valuation. value_of valuation made) }
+    ensures over { IfOk result (IsOverKnown state.now) }
 {
     if let Some((one, other)) = in_one_object(left, right) {
         return progress.ask(state, at, Question::Compare(operator, one, other));

@@ -7,3 +7,5 @@ pub mod Answers
 pub mod Looks
 pub mod Composing
 pub mod Carrying
+pub mod KnownSymbols
+pub mod KeptLocals

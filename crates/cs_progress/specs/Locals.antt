@@ -77,6 +77,23 @@ module _ (program : TypedProgram) (bases : List Base) (known : ℕ → Bool) whe
     pub stored : (base offset : ℕ) (value : Value) → held state.store base offset ≡ Direct value → IsIn state.frame value
     pub filled : (base offset : ℕ) → IsUnfilled state.store base offset
 
+-- in each state of locals alone, the symbol of a term is known
+abbrev pub IsOverKnown : State → Lin → Type 0
+IsOverKnown state term =
+    (program : TypedProgram) (bases : List Base) (known : ℕ → Bool) → HasLocalsAlone program bases known state → IsOver known term
+
+-- in each such state, a value may be in the frame
+abbrev pub MayBeIn : State → Value → Type 0
+MayBeIn state value =
+    (program : TypedProgram) (bases : List Base) (known : ℕ → Bool) → HasLocalsAlone program bases known state
+    → IsIn program bases known state.frame value
+
+-- and all values of a temporary
+abbrev pub MayAllBeIn : State → Temporary → Type 0
+MayAllBeIn state temporary =
+    (program : TypedProgram) (bases : List Base) (known : ℕ → Bool) → HasLocalsAlone program bases known state
+    → AreIn program bases known state.frame temporary
+
 -- an integer variable is accessed
 pub record IsOfInteger (access : Access) : Type 0 where
   pub direct : access.direct ≡ true

@@ -1,10 +1,11 @@
 //! The operands of an operation: the newest temporaries of the frame that runs.
-ghost use Rattle.std.specs.Prelude.{◌≡◌, ◌<◌, length, List, IfOk, IfErr, OnOk};
+ghost use Rattle.std.specs.Prelude.{◌≡◌, ◌<◌, ℕ, Bool, length, List, IfOk, IfErr, OnOk};
 ghost use Rattle.cs_regions.specs.declared.base.Base.{Base};
 ghost use Rattle.cs_state.specs.declared.temporary.Temporary.TheVariants.{Scalar};
 ghost use Rattle.cs_progress.specs.declared.pause.Pause.TheVariants as pause;
 ghost use Rattle.cs_progress.specs.Acting.{IsNamed};
 ghost use Rattle.cs_progress.specs.Computing.{IsNamedTemporary, HaveNames};
+ghost use Rattle.cs_progress.specs.Locals.{PointsToLocal, PointToLocals, IsOverKnown, MayBeIn, MayAllBeIn};
 ghost use Rattle.cs_progress.specs.Operands.{IsOperandAt, IsScalarOf, IsCellAt, IsNumberOf, IsNumberAt, MeansDropped, MeansReplaced, IsDropped, IsReplaced};
 
 use crate::pause::Pause;
@@ -19,6 +20,7 @@ pub fn operand(state: &State, age: usize) -> Result<&Temporary, AllocError>
     ensures operand { IfOk result (λ operand. IsOperandAt state.now age operand.now) }
     ensures named { IfOk result (λ operand. (bases : List Base) → HaveNames bases state.now
         → IsNamedTemporary bases operand.now) }
+    ensures within { IfOk result (λ operand. MayAllBeIn state.now operand.now) }
     ensures there { OnOk result (age < length state.now.frame.temporaries) }
 {
     let list = state.frame.temporaries.as_slice();
@@ -33,6 +35,9 @@ pub fn value_of(temporary: &Temporary) -> Value
     ensures scalar { IsScalarOf temporary.now result }
     ensures named { (bases : List Base) → IsNamedTemporary bases temporary.now
         → IsNamed bases result }
+    ensures within { (bases : List Base) (known : ℕ → Bool) (frame count : ℕ)
+        → PointToLocals bases known frame count temporary.now
+        → PointsToLocal bases known frame count result }
 {
     match temporary {
         Temporary::Scalar(value) => *value,
@@ -45,6 +50,7 @@ pub fn value(state: &State, age: usize) -> Result<Value, Pause>
     ensures value { IfOk result (IsCellAt state.now age) }
     ensures named { IfOk result (λ value. (bases : List Base) → HaveNames bases state.now
         → IsNamed bases value) }
+    ensures within { IfOk result (MayBeIn state.now) }
     ensures memory { IfErr result (λ why. why ≡ pause.Memory) }
 {
     let temporary = operand(state, age)?;
@@ -54,6 +60,7 @@ pub fn value(state: &State, age: usize) -> Result<Value, Pause>
 /// The number that an operand is, by its age; any other counts as 0.
 pub fn number(state: &State, age: usize) -> Result<Lin, Pause>
     ensures value { IfOk result (IsNumberAt state.now age) }
+    ensures over { IfOk result (IsOverKnown state.now) }
     ensures memory { IfErr result (λ why. why ≡ pause.Memory) }
 {
     let value = value(state, age)?;
@@ -63,6 +70,7 @@ pub fn number(state: &State, age: usize) -> Result<Lin, Pause>
 /// The number that a value is; any other counts as 0.
 pub fn number_in(state: &State, value: Value) -> Result<Lin, Pause>
     ensures value { IfOk result (IsNumberOf state.now value) }
+    ensures over { IfOk result (λ term. MayBeIn state.now value → IsOverKnown state.now term) }
     ensures memory { IfErr result (λ why. why ≡ pause.Memory) }
 {
     match value {

@@ -1,8 +1,9 @@
 //! How far an operation that is run again has come.
-ghost use Rattle.std.specs.Prelude.{◌≡◌, true, IfOk, IfErr, MatchOption};
+ghost use Rattle.std.specs.Prelude.{◌≡◌, true, IfOk, IfErr, IfSome, MatchOption};
 ghost use Rattle.cs_progress.specs.declared.next.Next.TheVariants as next;
 ghost use Rattle.cs_progress.specs.declared.pause.Pause.TheVariants as pause;
 ghost use Rattle.cs_progress.specs.Answering.{IsNextAnswer, HasNextValue, HasNextAnswer, HasNoAnswer, IsAnsweredLater};
+ghost use Rattle.cs_progress.specs.Locals.{IsOverKnown};
 
 use crate::next::Next;
 use crate::pause::Pause;
@@ -68,6 +69,7 @@ impl Progress {
     /// The number that leads on at an event, which shows the answer to a question.
     pub fn ask(&mut self, state: &State, at: Place, question: Question) -> Result<Lin, Pause>
         ensures answered { IfOk result (HasNextValue state.now self.old.used self.new.used) }
+        ensures over { IfOk result (IsOverKnown state.now) }
         ensures none { IfErr result (λ why. why ≡ pause.Waits
             → HasNoAnswer state.now self.old.used) }
         ensures first { IfErr result (λ why. why ≡ pause.Waits
@@ -108,8 +110,9 @@ impl Progress {
 
     // The next answer, where there is one.
     fn answer(&mut self, state: &State) -> Option<Lin>
-        ensures { MatchOption result (HasNoAnswer state.now self.old.used)
+        ensures next { MatchOption result (HasNoAnswer state.now self.old.used)
             (IsNextAnswer state.now self.old.used self.new.used) }
+        ensures over { IfSome result (IsOverKnown state.now) }
     {
         let answer = *state.answers.as_slice().get(self.used)?;
         self.used += 1;

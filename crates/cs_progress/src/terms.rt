@@ -1,7 +1,7 @@
 //! Terms of a state, with what is known of their values.
 ghost use Rattle.std.specs.Prelude.{◌≡◌, ◌≢◌, ◌+ℤ◌, ◌*ℤ◌, true, ℤ, pos, None, IsTrue, IfOk, IfErr, IfSome};
 ghost use Rattle.cs_ranges.specs.RangeSet.{contains};
-ghost use Rattle.cs_terms.specs.Term.{Valuation, value_of};
+ghost use Rattle.cs_terms.specs.Term.{Valuation, value_of, HasNoOtherSymbol};
 ghost use Rattle.cs_checker.specs.Answers as terms;
 ghost use Rattle.cs_eval.specs.Guesses.{symbol_term};
 ghost use Rattle.cs_progress.specs.declared.pause.Pause.TheVariants as pause;
@@ -46,6 +46,7 @@ pub fn own(sym: Sym) -> Lin
 /// want of memory. A term with one value is a constant.
 pub fn known(state: &State, term: Lin) -> Result<Lin, Pause>
     ensures value { IfOk result (HaveOneValue state.now.constraints term) }
+    ensures symbol { IfOk result (λ other. HasNoOtherSymbol other.sym term.sym) }
     ensures memory { IfErr result (λ why. why ≡ pause.Memory) }
 {
     let Some(sym) = term.sym else {

@@ -9,6 +9,7 @@ use Rattle.cs_cfg.specs.Working.{CodeState}
 use Rattle.cs_state.specs.declared.temporary.Temporary.TheVariants as temporary
 use Rattle.cs_store.specs.declared.value.Value.TheVariants as value
 use Rattle.cs_operators.proofs.Computed.{number_left, replaced, waited, part_leads, part_waits}
+use Rattle.cs_progress.proofs.KeptLocals.{replaced_stays, replaced_keeps, never_waits}
 use Rattle.cs_operators.proofs.computing.compare_operands.Goals as goal
 
 pub returns-in_err-result-clause-act : goal.returns-in_err-result-clause-act
@@ -41,3 +42,12 @@ returns-clause-act g c = λ every code names program budgets numbered have.
     (c.in_ok-right.ensures.value code names program v i) (rest todo v))
     _ _ _ (c.in_ok-result.ensures.act every names.bases numbered (c.in_ok-left.ensures.named names.bases have)
     (c.in_ok-right.ensures.named names.bases have)).through)
+
+pub returns-clause-frame : goal.returns-clause-frame
+returns-clause-frame g c = replaced_stays c.replace_with.result 2 _ _ _ c.replace_with.ensures.left
+
+pub returns-clause-locals : goal.returns-clause-locals
+returns-clause-locals g c = replaced_keeps c.replace_with.result 2 _ _ _ c.in_ok-result.ensures.over c.replace_with.ensures.left
+
+pub returns-clause-unchanged : goal.returns-clause-unchanged
+returns-clause-unchanged g c = never_waits _ _ c.replace_with.result c.replace_with.ensures.memory
