@@ -1,5 +1,6 @@
 //! Loads and stores (C11 6.3.2.1, 6.5.16).
-ghost use Rattle.std.specs.Prelude.{◌≡◌, true, ℕ, Bool, List, IfOk, IfErr};
+ghost use Rattle.std.specs.Prelude.{◌≡◌, true, ℕ, Bool, List, OnOk, IfOk, IfErr};
+ghost use Rattle.cs_types.specs.Shape.{shape_of};
 ghost use Rattle.cs_ast.specs.TypedProgram.{TypedProgram};
 ghost use Rattle.cs_cfg.specs.GraphView as view;
 ghost use Rattle.cs_regions.specs.declared.base.Base.{Base};
@@ -9,11 +10,12 @@ ghost use Rattle.cs_state.specs.Naming.{Naming, naming, Extends};
 ghost use Rattle.cs_progress.specs.declared.pause.Pause.TheVariants as pause;
 ghost use Rattle.cs_progress.specs.declared.progress.Progress.{Progress};
 ghost use Rattle.cs_progress.specs.Acting.{CarriesOut, IsNamed};
-ghost use Rattle.cs_progress.specs.Locals.{PointsToLocal, IsLocalOf, count_of_locals, IsIn, HasLocalsAlone, IsOfInteger};
+ghost use Rattle.cs_progress.specs.Locals.{PointsToLocal, IsLocalOf, count_of_locals, IsIn, AreIn, HasLocalsAlone, IsOfInteger};
 ghost use Rattle.cs_operators.specs.Asking.{KeepKinds, HasEveryKind};
 ghost use Rattle.cs_operators.specs.Pointing.{cell_in};
 ghost use Rattle.cs_steps.specs.Reaching.{reaches, cell_reached, IsByte};
 ghost use Rattle.cs_steps.specs.Loading.{Loads, load_part, scalar_part};
+ghost use Rattle.cs_steps.specs.Storing.{reaches_for_store, store_part, IsWritten, Stores};
 
 use cs_ast::Place;
 use cs_cells::cells::{Cell, look_up, read};
@@ -23,7 +25,6 @@ use cs_cfg::Access;
 use cs_checker::{Checker, Subject};
 use cs_operators::Attempt;
 use cs_operators::pointers::{named, not_null, ordered};
-use cs_progress::operands::value_of;
 use cs_progress::pointers::look;
 use cs_progress::terms::{constant, known, scaled, shifted};
 use cs_progress::{Context, Pause};
@@ -242,8 +243,19 @@ pub fn locate_for_store(
     place: Value,
 ) -> Result<Reached, Pause>
     requires { IsReady context.now.setting.now }
-    ensures { KeepKinds (λ b. (⟦<dyn Checker as Checker>⟧ b.vtable).kind_of b.value)
+    ensures kinds { KeepKinds (λ b. (⟦<dyn Checker as Checker>⟧ b.vtable).kind_of b.value)
         attempt.old.checkers.items attempt.new.checkers.items }
+    ensures act { HasEveryKind (λ b. (⟦<dyn Checker as Checker>⟧ b.vtable).kind_of b.value)
+        attempt.old.checkers.items → access.now.direct ≡ true
+        → (program : TypedProgram) (names : Naming) (known : ℕ → Bool) (frame count : ℕ)
+        → Extends (naming tables.now) names → PointsToLocal names.bases known frame count place
+        → CarriesOut names.bases state.now attempt.old.progress attempt.new.progress result
+        (λ valuation. reaches_for_store program access.now.place
+        (cell_in names.bases state.now place valuation)) (cell_reached names.bases) }
+    ensures local { IfOk result (λ reached. access.now.direct ≡ true
+        → (bases : List Base) (known : ℕ → Bool) (frame count : ℕ)
+        → PointsToLocal bases known frame count place
+        → IsLocalOf bases frame count reached.base) }
 {
     let reached = locate(context, state, tables, attempt, access, place)?;
     let constant = object(context, state, tables, reached.base)?.constant;
@@ -260,11 +272,16 @@ pub fn write(
     operand: Temporary,
 ) -> Result<(), Pause>
     requires { IsReady context.now.setting.now }
+    ensures written { OnOk result ((program : TypedProgram) (names : Naming) (known : ℕ → Bool)
+        → IsNumbered names.bases → HasLocalsAlone program names.bases known state.old
+        → AreIn program names.bases known state.old.frame operand
+        → IsWritten program names known state.old state.new (shape_of ty.now) reached operand) }
+    ensures memory { IfErr result (λ why. why ≡ pause.Memory) }
 {
     match &operand {
         Temporary::Nothing => Ok(()),
-        Temporary::Scalar(_) => {
-            state.bind(reached.base, reached.offset, value_of(&operand))?;
+        Temporary::Scalar(value) => {
+            state.bind(reached.base, reached.offset, *value)?;
             Ok(())
         }
         Temporary::Whole(scalars) => write_all(context, state, ty, reached, scalars),
@@ -280,6 +297,7 @@ fn write_all(
     scalars: &Scalars,
 ) -> Result<(), Pause>
     requires { IsReady context.now.setting.now }
+    ensures { IfErr result (λ why. why ≡ pause.Memory) }
 {
     let offsets = context.offsets(ty)?;
     let mut leaves = Vec::new(context.alloc);
@@ -291,7 +309,7 @@ fn write_all(
     Ok(())
 }
 
-/// A store at a place (C11 6.5.16.1), after which a value is left in place of some operands.
+/// A store of an operand at a place (C11 6.5.16.1).
 pub fn store(
     context: &Context,
     state: &mut State,
@@ -302,8 +320,18 @@ pub fn store(
     operand: Temporary,
 ) -> Result<(), Pause>
     requires { IsReady context.now.setting.now }
-    ensures { KeepKinds (λ b. (⟦<dyn Checker as Checker>⟧ b.vtable).kind_of b.value)
+    ensures kinds { KeepKinds (λ b. (⟦<dyn Checker as Checker>⟧ b.vtable).kind_of b.value)
         attempt.old.checkers.items attempt.new.checkers.items }
+    ensures integer { HasEveryKind (λ b. (⟦<dyn Checker as Checker>⟧ b.vtable).kind_of b.value)
+        attempt.old.checkers.items
+        → (program : TypedProgram) (names : Naming) (known : ℕ → Bool)
+        → Extends (naming tables.now) names → IsNumbered names.bases
+        → HasLocalsAlone program names.bases known state.old
+        → IsOfInteger (view.access access.now)
+        → IsIn program names.bases known state.old.frame place
+        → AreIn program names.bases known state.old.frame operand → (at : Place)
+        → Stores program names known state.old state.new attempt.old.progress attempt.new.progress
+        result (store_part program names state.old at (view.access access.now) place operand) }
 {
     let reached = locate_for_store(context, state, tables, attempt, access, place)?;
     write(context, state, &access.ty, reached, operand)
