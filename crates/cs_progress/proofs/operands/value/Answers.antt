@@ -8,3 +8,7 @@ returns-clause-value c = λ code names program v.
 
 pub returns-clause-named : goal.returns-clause-named
 returns-clause-named c = λ bases have. c.value_of.ensures.named bases (c.in_ok-temporary.ensures.named bases have)
+
+pub returns-clause-within : goal.returns-clause-within
+returns-clause-within c = λ program bases known have.
+    c.value_of.ensures.within bases known c.args.state.now.frame.number _ (c.in_ok-temporary.ensures.within program bases known have)
