@@ -42,9 +42,9 @@ use Rattle.cs_progress.proofs.Composing.{leads_on, waits_on}
 use Rattle.cs_progress.proofs.Carrying.{handed, carries_on, LeadsTo}
 use Rattle.cs_progress.proofs.KeptLocals.{named_local}
 use Rattle.cs_operators.specs.Asking.{ChecksFor}
-use Rattle.cs_operators.specs.Pointing.{cell_in, is_unset}
-use Rattle.cs_operators.proofs.Checks.{used_check}
-use Rattle.cs_operators.proofs.Using.{never_set}
+use Rattle.cs_operators.specs.Pointing.{cell_in}
+use Rattle.cs_operators.proofs.Checks.{set_check}
+use Rattle.cs_operators.proofs.Using.{is_unset, never_set}
 use Rattle.cs_cells.specs.InMemory.{memory_in}
 use Rattle.cs_cells.proofs.LocalMemory.{local_holds}
 use Rattle.cs_steps.specs.declared.access.Reached.{Reached}
@@ -157,10 +157,10 @@ module _ (program : TypedProgram) (names : Naming) (known : ℕ → Bool) (befor
     abbrev pub set_part : Valuation → Act CodeState → Act CodeState
     set_part v act = set_then at (cell_in names.bases before given v) act
 
-    pub set_checked : (unset : Bool) → unset ≡ is_unset (temporary.Scalar given) → ChecksFor before (OfCell unset) at set_part
+    pub set_checked : (unset : Bool) → unset ≡ is_unset given → ChecksFor before (OfCell unset) at set_part
     set_checked unset same v fits =
-        used_check at v unset (Scalar (cell_in names.bases before given v))
-        (never_set names.bases before.blocks v (temporary.Scalar given) (named_local names.bases known before.frame.number _ given inside) ∙ sym same)
+        set_check at v unset (cell_in names.bases before given v)
+        (never_set names.bases before.blocks v given (named_local names.bases known before.frame.number _ given inside) ∙ sym same)
       where
         inside : IsIn program names.bases known before.frame given
         inside = subst (IsIn program names.bases known before.frame) (sym is) (held_is_inside reached.base reached.offset)
