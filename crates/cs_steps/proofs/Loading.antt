@@ -52,7 +52,7 @@ use Rattle.cs_steps.specs.Reaching.{reaches, cell_reached}
 use Rattle.cs_steps.specs.Loading.{Part, Loads, load_part, scalar_part, loaded_in}
 
 -- a touch shows nothing
-touched : (cells : Path → InputKind → Cell) (answers : List ℤ) (touch : ℕ → Touch) (local : Option ℕ) (act : Act CodeState)
+pub touched : (cells : Path → InputKind → Cell) (answers : List ℤ) (touch : ℕ → Touch) (local : Option ℕ) (act : Act CodeState)
     → Leads cells answers answers (touches_then touch local act) act
 unfolding left_of UsesAll
 touched cells answers touch None act uses = (refl, uses)
