@@ -2,12 +2,12 @@
 use Rattle.cs_state.specs.Naming.{Naming, Extends}
 
 -- what has added nothing
-pub same_names : (names : Naming) → Extends names names
-same_names names = record { syms = λ place name at. at; bases = λ place name at. at; types = λ place name at. at }
+pub extends_same : (names : Naming) → Extends names names
+extends_same names = record { syms = λ place name at. at; bases = λ place name at. at; types = λ place name at. at }
 
 -- one after the other
-pub extends_further : (one two three : Naming) → Extends one two → Extends two three → Extends one three
-extends_further one two three first second = record {
+pub extends_on : (one two three : Naming) → Extends one two → Extends two three → Extends one three
+extends_on one two three first second = record {
   syms = λ place name at. second.syms place name (first.syms place name at);
   bases = λ place name at. second.bases place name (first.bases place name at);
   types = λ place name at. second.types place name (first.types place name at);
