@@ -33,7 +33,8 @@ stays temporaries before after is = subst (StaysInFrame before) (sym is) (record
 })
 
 -- a pointer to a local of the frame has a name
-named_local : (bases : List Base) (known : ℕ → Bool) (frame count : ℕ) (given : Value) → PointsToLocal bases known frame count given → IsNamed bases given
+pub named_local : (bases : List Base) (known : ℕ → Bool) (frame count : ℕ) (given : Value) → PointsToLocal bases known frame count given
+    → IsNamed bases given
 named_local bases known frame count (value.Number term) points = tt
 named_local bases known frame count value.Null points = tt
 named_local bases known frame count (value.At base offset) points =
@@ -44,8 +45,7 @@ named_local bases known frame count value.Unset points = tt
 named_locals : (bases : List Base) (known : ℕ → Bool) (frame count : ℕ) (given : Temporary) → PointToLocals bases known frame count given
     → IsNamedTemporary bases given
 named_locals bases known frame count (temporary.Scalar one) points = named_local bases known frame count one points
-named_locals bases known frame count (temporary.Whole values) points =
-    All-weaker (PointsToLocal bases known frame count) (IsNamed bases) (named_local bases known frame count) values points
+named_locals bases known frame count (temporary.Whole values) points = absurd points
 named_locals bases known frame count temporary.Nothing points = tt
 
 module _ (program : TypedProgram) (bases : List Base) (known : ℕ → Bool) where

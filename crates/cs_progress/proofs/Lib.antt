@@ -9,3 +9,4 @@ pub mod Composing
 pub mod Carrying
 pub mod KnownSymbols
 pub mod KeptLocals
+pub mod NumberedObjects

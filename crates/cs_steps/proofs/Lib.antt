@@ -1,0 +1,4 @@
+pub mod Reaching
+mod Loading
+mod Storing
+mod Working
