@@ -2,3 +2,13 @@ pub mod Reaching
 mod Loading
 mod Storing
 mod Working
+mod CutMeanings
+mod Going
+mod KeptStates
+mod Beginning
+mod Stepped
+mod Leaving
+mod Branching
+mod Switching
+mod Ways
+mod Counting
