@@ -6,7 +6,6 @@ ghost use Rattle.cs_store.specs.Held.{held};
 ghost use Rattle.cs_state.specs.Naming.{Naming, naming, Extends};
 ghost use Rattle.cs_progress.specs.declared.pause.Pause.TheVariants as pause;
 ghost use Rattle.cs_progress.specs.Locals.{IsLocalOf, IsUnfilled, value_held};
-ghost use Rattle.cs_cells.specs.declared.cells.Cell.TheVariants.{Known};
 
 use crate::objects::{Known, object};
 use cs_events::numbers_of;
@@ -88,7 +87,7 @@ pub fn look_up(
     ensures local { IfOk result (λ cell. (names : Naming) (frame count : ℕ)
         → Extends (naming tables.old) names → IsLocalOf names.bases frame count base
         → IsUnfilled state.old.store base offset
-        → (cell ≡ Known (value_held (held state.old.store base offset))) × (state.new ≡ state.old)) }
+        → (cell ≡ Cell.Known (value_held (held state.old.store base offset))) × (state.new ≡ state.old)) }
     ensures memory { IfErr result (λ why. why ≡ pause.Memory) }
     ensures extends { Extends (naming tables.old) (naming tables.new) }
 {
@@ -115,19 +114,42 @@ fn found(
     offset: u64,
 ) -> Result<Contents, AllocError>
     requires { IsReady context.now.setting.now }
+    ensures { IfOk result (λ contents. (names : Naming) (frame count : ℕ)
+        → Extends (naming tables.now) names → IsLocalOf names.bases frame count base
+        → IsUnfilled state.now.store base offset
+        → contents ≡ Contents.Here (value_held (held state.now.store base offset))) }
 {
     match state.store.load(base, offset) {
         Found::Direct(value) => Ok(Contents::Here(value)),
-        Found::Fill(Fill::Zero) => {
+        Found::Fill(fill) => unbound(context, state, tables, base, offset, fill),
+    }
+}
+
+// What an object that was filled holds where nothing was bound since.
+fn unbound(
+    context: &Context,
+    state: &State,
+    tables: &Tables,
+    base: u64,
+    offset: u64,
+    fill: Fill,
+) -> Result<Contents, AllocError>
+    requires { IsReady context.now.setting.now }
+    ensures { IfOk result (λ contents. (names : Naming) (frame count : ℕ)
+        → Extends (naming tables.now) names → IsLocalOf names.bases frame count base
+        → fill ≡ Fill.Unset → contents ≡ Contents.Here Value.Unset) }
+{
+    match fill {
+        Fill::Zero => {
             let known = object(context, state, tables, base)?;
             let scalar = known.scalar(context, offset)?;
             Ok(Contents::Here(zero(scalar)))
         }
-        Found::Fill(Fill::Wrote(call, argument)) => {
+        Fill::Wrote(call, argument) => {
             let root = Root::Wrote(call, argument);
             Ok(Contents::Input(cell_path(root_path(context.alloc, root), offset)?))
         }
-        Found::Fill(Fill::Unset | Fill::Input) => unwritten(context, state, tables, base, offset),
+        Fill::Unset | Fill::Input => unwritten(context, state, tables, base, offset),
     }
 }
 
@@ -140,6 +162,9 @@ fn unwritten(
     offset: u64,
 ) -> Result<Contents, AllocError>
     requires { IsReady context.now.setting.now }
+    ensures { IfOk result (λ contents. (names : Naming) (frame count : ℕ)
+        → Extends (naming tables.now) names → IsLocalOf names.bases frame count base
+        → contents ≡ Contents.Here Value.Unset) }
 {
     match tables.bases.base(base).ok_or(AllocError)? {
         Base::Entry(path) => Ok(Contents::Input(cell_path(path.copy()?, offset)?)),
@@ -193,7 +218,9 @@ fn filled(
 }
 
 // The value of a cell of a static object.
-fn static_value(tables: &mut Tables, cell: FirstCell) -> Result<Value, AllocError> {
+fn static_value(tables: &mut Tables, cell: FirstCell) -> Result<Value, AllocError>
+    ensures { Extends (naming tables.old) (naming tables.new) }
+{
     match cell {
         FirstCell::Number(number) => Ok(Value::Number(constant(number))),
         FirstCell::Null => Ok(Value::Null),
@@ -279,6 +306,8 @@ pub fn received(
     kind: Kind,
 ) -> Result<Value, Pause>
     requires { IsReady context.now.setting.now }
+    ensures memory { IfErr result (λ why. why ≡ pause.Memory) }
+    ensures extends { Extends (naming tables.old) (naming tables.new) }
 {
     let Some(input) = input_at(context, state, tables, path, kind)? else {
         return Ok(Value::Unset);
@@ -296,6 +325,8 @@ fn input_at(
     kind: Kind,
 ) -> Result<Option<Input>, Pause>
     requires { IsReady context.now.setting.now }
+    ensures memory { IfErr result (λ why. why ≡ pause.Memory) }
+    ensures extends { Extends (naming tables.old) (naming tables.new) }
 {
     match kind {
         Kind::Nothing => Ok(None),
@@ -361,6 +392,7 @@ fn start_block(
     sym: Sym,
 ) -> Result<Block, AllocError>
     requires { IsReady context.now.setting.now }
+    ensures { Extends (naming tables.old) (naming tables.new) }
 {
     if size > 1 << 20 {
         return Err(AllocError);

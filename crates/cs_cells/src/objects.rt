@@ -1,5 +1,8 @@
 //! What is known of the object that a base region is.
+ghost use Rattle.std.specs.Prelude.{◌≡◌, false, ℕ, IfOk};
 ghost use Rattle.cs_objects.specs.Prepared.{IsReady};
+ghost use Rattle.cs_state.specs.Naming.{Naming, naming, Extends};
+ghost use Rattle.cs_progress.specs.Locals.{IsLocalOf};
 
 use cs_ast::typed::program::Local;
 use cs_model::{Freeable, Standing};
@@ -36,6 +39,9 @@ pub fn object<'t>(
     base: u64,
 ) -> Result<Known<'t>, AllocError>
     requires { IsReady context.now.setting.now }
+    ensures { IfOk result (λ known. (names : Naming) (frame count : ℕ)
+        → Extends (naming tables.now) names → IsLocalOf names.bases frame count base
+        → known.constant ≡ false) }
 {
     match tables.bases.base(base).ok_or(AllocError)? {
         Base::Entry(_) => in_block(state, tables, base),
@@ -118,6 +124,7 @@ fn local<'t>(
     declaration: u32,
 ) -> Result<Known<'t>, AllocError>
     requires { IsReady context.now.setting.now }
+    ensures { IfOk result (λ known. known.constant ≡ false) }
 {
     let Some(ty) = local_type(context, state, frame, declaration) else {
         return Ok(Known {

@@ -1,5 +1,5 @@
-mod Checking
-mod Checks
+pub mod Checking
+pub mod Checks
 mod Asked
 mod Comparing
 mod Looking
@@ -10,6 +10,6 @@ mod SeenPointers
 mod Numerals
 mod Sums
 mod Tests
-mod Computed
+pub mod Computed
 mod Converting
-mod Using
+pub mod Using

@@ -8,30 +8,7 @@ use Rattle.cs_events.specs.Objects.{same_object}
 use Rattle.cs_meaning.specs.Operators.{in_one_object}
 use Rattle.cs_state.specs.Cells.{object_of, pointer_to}
 use Rattle.cs_state.specs.Objects.{number_of}
-use Rattle.cs_state.proofs.Numbers.{number_here, number_of_object}
-
--- a base region alone has one number
-one_alone : (base : Base) → IsNumbered (base ∷ [])
-one_alone base it zero zero first second = refl
-one_alone base it (suc j) k first second = absurd (true≢false (ap is_some (sym first)))
-one_alone base it zero (suc k) first second = absurd (true≢false (ap is_some (sym second)))
-
--- an object is itself
-pub same_itself : (base : Base) → same_object (object_of base) (object_of base) ≡ true
-same_itself base = by (same_object (object_of base) (object_of base)) (number_here (base ∷ []) 0 base (one_alone base) refl)
-  where
-    by : (same : Bool) → cond {A = Option ℕ} same (Some 0) None ≡ Some 0 → same ≡ true
-    by true e = refl
-    by false e = absurd (true≢false (sym (ap is_some e)))
-
--- base regions of one object have one number
-same_region : (bases : List Base) (m n : ℕ) (one other : Base) → IsNumbered bases → slice_get bases m ≡ Some one → slice_get bases n ≡ Some other
-    → same_object (object_of one) (object_of other) ≡ true → m ≡ n
-same_region bases m n one other once at_m at_n same =
-    let found : number_of (other ∷ []) (object_of one) ≡ Some 0 = ap (λ (t : Bool). cond {A = Option ℕ} t (Some 0) None) same in
-    let (base, there, is) = number_of_object (other ∷ []) (object_of one) 0 found in
-    let object : object_of other ≡ object_of one = ap object_of (same_Some other base there) ∙ is in
-    same_Some m n (sym (number_here bases m one once at_m) ∙ ap (number_of bases) (sym object) ∙ number_here bases n other once at_n)
+use Rattle.cs_progress.proofs.NumberedObjects.{same_itself, same_region}
 
 -- pointers into one base region
 pub one_region : (found : Option Base) (x y : ℤ) → found ≢ None → in_one_object (pointer_to found x) (pointer_to found y) ≡ Some (x, y)

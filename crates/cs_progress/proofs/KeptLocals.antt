@@ -1,9 +1,9 @@
 -- States of locals alone stay such where their temporaries alone change, and their pointers have names: for the contracts of operations.
-use Rattle.std.proofs.Common.{◌≡◌, ℕ, Bool, List, [], ◌∷◌, ◌++◌, take, length, All, Result, IfErr, OnOk, refl, sym, ◌∙◌, subst}
-use Rattle.std.proofs.lemmas.List.Elements.{All-nil, All-take, All-push, All-weaker}
+use Rattle.std.proofs.Common.{◌≡◌, ℕ, Bool, List, [], ◌∷◌, ◌++◌, length, All, Result, IfErr, OnOk, refl, sym, ◌∙◌, subst}
+use Rattle.std.proofs.lemmas.List.Elements.{All-take, All-push, All-weaker}
 use Rattle.std.proofs.lemmas.Option.{none-some}
 use Rattle.std.proofs.lemmas.Result.{IfErr-weaker, on_ok_weaker}
-use Rattle.std.specs.Prelude.{◌-◌, Some, slice_get}
+use Rattle.std.specs.Prelude.{◌-◌}
 use Rattle.cs_ast.specs.TypedProgram.{TypedProgram}
 use Rattle.cs_regions.specs.declared.base.Base.{Base}
 use Rattle.cs_regions.specs.declared.base.Base.TheVariants.{Local}
@@ -33,7 +33,8 @@ stays temporaries before after is = subst (StaysInFrame before) (sym is) (record
 })
 
 -- a pointer to a local of the frame has a name
-named_local : (bases : List Base) (known : ℕ → Bool) (frame count : ℕ) (given : Value) → PointsToLocal bases known frame count given → IsNamed bases given
+pub named_local : (bases : List Base) (known : ℕ → Bool) (frame count : ℕ) (given : Value) → PointsToLocal bases known frame count given
+    → IsNamed bases given
 named_local bases known frame count (value.Number term) points = tt
 named_local bases known frame count value.Null points = tt
 named_local bases known frame count (value.At base offset) points =
@@ -44,8 +45,7 @@ named_local bases known frame count value.Unset points = tt
 named_locals : (bases : List Base) (known : ℕ → Bool) (frame count : ℕ) (given : Temporary) → PointToLocals bases known frame count given
     → IsNamedTemporary bases given
 named_locals bases known frame count (temporary.Scalar one) points = named_local bases known frame count one points
-named_locals bases known frame count (temporary.Whole values) points =
-    All-weaker (PointsToLocal bases known frame count) (IsNamed bases) (named_local bases known frame count) values points
+named_locals bases known frame count (temporary.Whole values) points = absurd points
 named_locals bases known frame count temporary.Nothing points = tt
 
 module _ (program : TypedProgram) (bases : List Base) (known : ℕ → Bool) where

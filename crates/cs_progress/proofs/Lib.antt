@@ -10,3 +10,4 @@ pub mod Carrying
 pub mod Extending
 pub mod KnownSymbols
 pub mod KeptLocals
+pub mod NumberedObjects

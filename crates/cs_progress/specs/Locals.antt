@@ -1,7 +1,7 @@
 -- States and code of functions that work with integers alone: their pointers are the places of locals of the frame that runs.
-use Rattle.std.specs.Prelude.{◌≡◌, ◌<◌, ℕ, Bool, true, List, [], Option, None, Some, All, length, slice_get}
+use Rattle.std.specs.Prelude.{◌≡◌, ◌<◌, ℕ, Bool, true, List, [], Some, All, length, slice_get}
 use Rattle.cs_types.specs.declared.int_type.IntType.{IntType}
-use Rattle.cs_types.specs.Shape.{Shape, integer}
+use Rattle.cs_types.specs.Shape.{integer}
 use Rattle.cs_ast.specs.TypedProgram.{TypedProgram}
 use Rattle.cs_meaning.specs.Access.{Access}
 use Rattle.cs_meaning.specs.Machine.{routine_of}
@@ -54,10 +54,10 @@ PointsToLocal bases known frame count (value.At base offset) = IsLocalOf bases f
 PointsToLocal bases known frame count (value.Start base offset) = ⊥
 PointsToLocal bases known frame count value.Unset = Unit {0}
 
--- the same of all values of a temporary
+-- a temporary that is such a value, or nothing: it is no struct
 abbrev pub PointToLocals : List Base → (ℕ → Bool) → ℕ → ℕ → Temporary → Type 0
 PointToLocals bases known frame count (temporary.Scalar value) = PointsToLocal bases known frame count value
-PointToLocals bases known frame count (temporary.Whole values) = All (PointsToLocal bases known frame count) values
+PointToLocals bases known frame count (temporary.Whole values) = ⊥
 PointToLocals bases known frame count temporary.Nothing = Unit {0}
 
 module _ (program : TypedProgram) (bases : List Base) (known : ℕ → Bool) where

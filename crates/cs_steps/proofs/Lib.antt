@@ -1,3 +1,7 @@
+pub mod Reaching
+mod Loading
+mod Storing
+mod Working
 mod CutMeanings
 mod Going
 mod KeptStates

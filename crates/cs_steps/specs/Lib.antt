@@ -1,1 +1,4 @@
+pub mod Reaching
+pub mod Loading
+pub mod Storing
 pub mod AtSpots

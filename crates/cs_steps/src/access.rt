@@ -1,7 +1,23 @@
 //! Loads and stores (C11 6.3.2.1, 6.5.16).
+ghost use Rattle.std.specs.Prelude.{◌≡◌, true, ℕ, Bool, List, OnOk, IfOk, IfErr};
+ghost use Rattle.cs_types.specs.Shape.{shape_of};
+ghost use Rattle.cs_ast.specs.TypedProgram.{TypedProgram};
+ghost use Rattle.cs_cfg.specs.GraphView as view;
+ghost use Rattle.cs_regions.specs.declared.base.Base.{Base};
+ghost use Rattle.cs_regions.specs.Numbering.{IsNumbered};
 ghost use Rattle.cs_objects.specs.Prepared.{IsReady};
-ghost use Rattle.cs_operators.specs.Asking.{KeepKinds};
+ghost use Rattle.cs_state.specs.Naming.{Naming, naming, Extends};
+ghost use Rattle.cs_progress.specs.declared.pause.Pause.TheVariants as pause;
+ghost use Rattle.cs_progress.specs.declared.progress.Progress.{Progress};
+ghost use Rattle.cs_progress.specs.Acting.{CarriesOut, IsNamed};
+ghost use Rattle.cs_progress.specs.Locals.{PointsToLocal, IsLocalOf, count_of_locals, IsIn, AreIn, HasLocalsAlone, IsOfInteger};
+ghost use Rattle.cs_operators.specs.Asking.{KeepKinds, HasEveryKind};
+ghost use Rattle.cs_operators.specs.Pointing.{cell_in};
+ghost use Rattle.cs_steps.specs.Reaching.{reaches, cell_reached, IsByte};
+ghost use Rattle.cs_steps.specs.Loading.{Loads, load_part, scalar_part};
+ghost use Rattle.cs_steps.specs.Storing.{reaches_for_store, store_part, IsWritten, Stores};
 
+use cs_ast::Place;
 use cs_cells::cells::{Cell, look_up, read};
 use cs_cells::inputs::Inputs;
 use cs_cells::objects::object;
@@ -9,9 +25,8 @@ use cs_cfg::Access;
 use cs_checker::{Checker, Subject};
 use cs_operators::Attempt;
 use cs_operators::pointers::{named, not_null, ordered};
-use cs_progress::operands::value_of;
-use cs_progress::pointers::{look, resolved};
-use cs_progress::terms::{constant, scaled, shifted};
+use cs_progress::pointers::look;
+use cs_progress::terms::{constant, known, scaled, shifted};
 use cs_progress::{Context, Pause};
 use cs_state::{Scalars, State, Tables, Temporary};
 use cs_store::Value;
@@ -35,16 +50,54 @@ pub fn locate(
     place: Value,
 ) -> Result<Reached, Pause>
     requires { IsReady context.now.setting.now }
+    ensures kinds { KeepKinds (λ b. (⟦<dyn Checker as Checker>⟧ b.vtable).kind_of b.value)
+        attempt.old.checkers.items attempt.new.checkers.items }
+    ensures act { access.now.direct ≡ true → (bases : List Base) → IsNamed bases place
+        → CarriesOut bases state.now attempt.old.progress attempt.new.progress result
+        (λ valuation. reaches access.now.place (cell_in bases state.now place valuation))
+        (cell_reached bases) }
+    ensures local { IfOk result (λ reached. access.now.direct ≡ true
+        → (bases : List Base) (known : ℕ → Bool) (frame count : ℕ)
+        → PointsToLocal bases known frame count place
+        → IsLocalOf bases frame count reached.base) }
+{
+    if access.direct {
+        return locate_variable(state, place);
+    }
+    locate_through(context, state, tables, attempt, access, place)
+}
+
+// A variable, or a member of one. No value but a place is that of one.
+fn locate_variable(state: &State, place: Value) -> Result<Reached, Pause>
+    ensures act { (bases : List Base) → IsNamed bases place → (at : Place) (progress : Progress)
+        → CarriesOut bases state.now progress progress result
+        (λ valuation. reaches at (cell_in bases state.now place valuation))
+        (cell_reached bases) }
+    ensures local { IfOk result (λ reached.
+        (bases : List Base) (known : ℕ → Bool) (frame count : ℕ)
+        → PointsToLocal bases known frame count place
+        → IsLocalOf bases frame count reached.base) }
+{
+    let Value::At(base, offset) = place else {
+        return Err(Pause::Memory);
+    };
+    let offset = byte(known(state, offset)?)?;
+    Ok(Reached { base, offset })
+}
+
+// An object that a pointer points to.
+fn locate_through(
+    context: &Context,
+    state: &State,
+    tables: &Tables,
+    attempt: &mut Attempt,
+    access: &Access,
+    place: Value,
+) -> Result<Reached, Pause>
+    requires { IsReady context.now.setting.now }
     ensures { KeepKinds (λ b. (⟦<dyn Checker as Checker>⟧ b.vtable).kind_of b.value)
         attempt.old.checkers.items attempt.new.checkers.items }
 {
-    if access.direct {
-        let (base, offset) = named(state, attempt, access.place, resolved(state, place)?)?;
-        return Ok(Reached {
-            base,
-            offset: byte(offset)?,
-        });
-    }
     let pointer = look(state, &mut attempt.progress, access.place, place)?;
     not_null(state, attempt, access.place, pointer)?;
     let (base, offset) = named(state, attempt, access.place, pointer)?;
@@ -81,7 +134,10 @@ fn reach(
 }
 
 // An offset that isn't below 0, and is a constant.
-fn byte(offset: Lin) -> Result<u64, Pause> {
+fn byte(offset: Lin) -> Result<u64, Pause>
+    ensures value { IfOk result (IsByte offset) }
+    ensures memory { IfErr result (λ why. why ≡ pause.Memory) }
+{
     if offset.sym.is_some() {
         return Err(Pause::Memory);
     }
@@ -98,16 +154,53 @@ pub fn load(
     place: Value,
 ) -> Result<Temporary, Pause>
     requires { IsReady context.now.setting.now }
-    ensures { KeepKinds (λ b. (⟦<dyn Checker as Checker>⟧ b.vtable).kind_of b.value)
+    ensures kinds { KeepKinds (λ b. (⟦<dyn Checker as Checker>⟧ b.vtable).kind_of b.value)
         attempt.old.checkers.items attempt.new.checkers.items }
+    ensures extends { Extends (naming tables.old) (naming tables.new) }
+    ensures integer { HasEveryKind (λ b. (⟦<dyn Checker as Checker>⟧ b.vtable).kind_of b.value)
+        attempt.old.checkers.items
+        → (program : TypedProgram) (names : Naming) (known : ℕ → Bool)
+        → Extends (naming tables.new) names → IsNumbered names.bases
+        → HasLocalsAlone program names.bases known state.old
+        → IsOfInteger (view.access access.now)
+        → IsIn program names.bases known state.old.frame place
+        → Loads program names known state.old state.new attempt.old.progress attempt.new.progress
+        result (load_part program names state.old (view.access access.now) place) }
 {
     let reached = locate(context, state, tables, attempt, access, place)?;
     if let CType::Struct(_) = &access.ty {
-        return Ok(Temporary::Whole(read_all(context, state, tables, &access.ty, reached)?));
+        let scalars = read_all(context, state, tables, &access.ty, reached)?;
+        return Ok(Temporary::Whole(scalars));
     }
+    load_scalar(context, state, tables, attempt, access.place, reached)
+}
+
+// The scalar that was reached, which was set.
+fn load_scalar(
+    context: &Context,
+    state: &mut State,
+    tables: &mut Tables,
+    attempt: &mut Attempt,
+    at: Place,
+    reached: Reached,
+) -> Result<Temporary, Pause>
+    requires { IsReady context.now.setting.now }
+    ensures kinds { KeepKinds (λ b. (⟦<dyn Checker as Checker>⟧ b.vtable).kind_of b.value)
+        attempt.old.checkers.items attempt.new.checkers.items }
+    ensures extends { Extends (naming tables.old) (naming tables.new) }
+    ensures local { HasEveryKind (λ b. (⟦<dyn Checker as Checker>⟧ b.vtable).kind_of b.value)
+        attempt.old.checkers.items
+        → (program : TypedProgram) (names : Naming) (known : ℕ → Bool)
+        → Extends (naming tables.new) names → IsNumbered names.bases
+        → HasLocalsAlone program names.bases known state.old
+        → IsLocalOf names.bases state.old.frame.number
+        (count_of_locals program state.old.frame.spot.function) reached.base
+        → Loads program names known state.old state.new attempt.old.progress attempt.new.progress
+        result (scalar_part program names state.old at reached) }
+{
     let value = read(context, state, tables, reached.base, reached.offset)?;
     let unset = matches!(value, Value::Unset);
-    attempt.check(state, access.place, Subject::Cell { unset })?;
+    attempt.check(state, at, Subject::Cell { unset })?;
     Ok(Temporary::Scalar(value))
 }
 
@@ -120,6 +213,7 @@ fn read_all(
     reached: Reached,
 ) -> Result<Scalars, Pause>
     requires { IsReady context.now.setting.now }
+    ensures { Extends (naming tables.old) (naming tables.new) }
 {
     let offsets = context.offsets(ty)?;
     let mut values = Vec::new(context.alloc);
@@ -149,8 +243,19 @@ pub fn locate_for_store(
     place: Value,
 ) -> Result<Reached, Pause>
     requires { IsReady context.now.setting.now }
-    ensures { KeepKinds (λ b. (⟦<dyn Checker as Checker>⟧ b.vtable).kind_of b.value)
+    ensures kinds { KeepKinds (λ b. (⟦<dyn Checker as Checker>⟧ b.vtable).kind_of b.value)
         attempt.old.checkers.items attempt.new.checkers.items }
+    ensures act { HasEveryKind (λ b. (⟦<dyn Checker as Checker>⟧ b.vtable).kind_of b.value)
+        attempt.old.checkers.items → access.now.direct ≡ true
+        → (program : TypedProgram) (names : Naming) (known : ℕ → Bool) (frame count : ℕ)
+        → Extends (naming tables.now) names → PointsToLocal names.bases known frame count place
+        → CarriesOut names.bases state.now attempt.old.progress attempt.new.progress result
+        (λ valuation. reaches_for_store program access.now.place
+        (cell_in names.bases state.now place valuation)) (cell_reached names.bases) }
+    ensures local { IfOk result (λ reached. access.now.direct ≡ true
+        → (bases : List Base) (known : ℕ → Bool) (frame count : ℕ)
+        → PointsToLocal bases known frame count place
+        → IsLocalOf bases frame count reached.base) }
 {
     let reached = locate(context, state, tables, attempt, access, place)?;
     let constant = object(context, state, tables, reached.base)?.constant;
@@ -167,11 +272,16 @@ pub fn write(
     operand: Temporary,
 ) -> Result<(), Pause>
     requires { IsReady context.now.setting.now }
+    ensures written { OnOk result ((program : TypedProgram) (names : Naming) (known : ℕ → Bool)
+        → IsNumbered names.bases → HasLocalsAlone program names.bases known state.old
+        → AreIn program names.bases known state.old.frame operand
+        → IsWritten program names known state.old state.new (shape_of ty.now) reached operand) }
+    ensures memory { IfErr result (λ why. why ≡ pause.Memory) }
 {
     match &operand {
         Temporary::Nothing => Ok(()),
-        Temporary::Scalar(_) => {
-            state.bind(reached.base, reached.offset, value_of(&operand))?;
+        Temporary::Scalar(value) => {
+            state.bind(reached.base, reached.offset, *value)?;
             Ok(())
         }
         Temporary::Whole(scalars) => write_all(context, state, ty, reached, scalars),
@@ -187,6 +297,7 @@ fn write_all(
     scalars: &Scalars,
 ) -> Result<(), Pause>
     requires { IsReady context.now.setting.now }
+    ensures { IfErr result (λ why. why ≡ pause.Memory) }
 {
     let offsets = context.offsets(ty)?;
     let mut leaves = Vec::new(context.alloc);
@@ -198,7 +309,7 @@ fn write_all(
     Ok(())
 }
 
-/// A store at a place (C11 6.5.16.1), after which a value is left in place of some operands.
+/// A store of an operand at a place (C11 6.5.16.1).
 pub fn store(
     context: &Context,
     state: &mut State,
@@ -209,8 +320,18 @@ pub fn store(
     operand: Temporary,
 ) -> Result<(), Pause>
     requires { IsReady context.now.setting.now }
-    ensures { KeepKinds (λ b. (⟦<dyn Checker as Checker>⟧ b.vtable).kind_of b.value)
+    ensures kinds { KeepKinds (λ b. (⟦<dyn Checker as Checker>⟧ b.vtable).kind_of b.value)
         attempt.old.checkers.items attempt.new.checkers.items }
+    ensures integer { HasEveryKind (λ b. (⟦<dyn Checker as Checker>⟧ b.vtable).kind_of b.value)
+        attempt.old.checkers.items
+        → (program : TypedProgram) (names : Naming) (known : ℕ → Bool)
+        → Extends (naming tables.now) names → IsNumbered names.bases
+        → HasLocalsAlone program names.bases known state.old
+        → IsOfInteger (view.access access.now)
+        → IsIn program names.bases known state.old.frame place
+        → AreIn program names.bases known state.old.frame operand → (at : Place)
+        → Stores program names known state.old state.new attempt.old.progress attempt.new.progress
+        result (store_part program names state.old at (view.access access.now) place operand) }
 {
     let reached = locate_for_store(context, state, tables, attempt, access, place)?;
     write(context, state, &access.ty, reached, operand)

@@ -1,0 +1,5 @@
+pub mod GrowingNames
+pub mod LocalMemory
+pub mod Unfilled
+pub mod Bindings
+pub mod WrittenLocals

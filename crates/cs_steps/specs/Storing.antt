@@ -1,0 +1,55 @@
+-- Stores to integer variables, in states of locals alone.
+use Rattle.std.specs.Prelude.{◌≡◌, ℕ, pos, Bool, Some, slice_get, Result, OnOk}
+use Rattle.cs_types.specs.Shape.{Shape}
+use Rattle.cs_ast.specs.declared.place.Place.{Place}
+use Rattle.cs_ast.specs.TypedProgram.{TypedProgram}
+use Rattle.cs_terms.specs.Term.{Valuation}
+use Rattle.cs_events.specs.Objects.{Cell, PointerCell}
+use Rattle.cs_events.specs.Acts.{Act}
+use Rattle.cs_meaning.specs.Access.{Access, direct, writable, write_operand, store_object}
+use Rattle.cs_meaning.specs.Memory.{Memory, changed}
+use Rattle.cs_cfg.specs.Working.{CodeState}
+use Rattle.cs_regions.specs.declared.base.Base.{Base}
+use Rattle.cs_store.specs.declared.value.Value.{Value}
+use Rattle.cs_state.specs.declared.state.State.{State}
+use Rattle.cs_state.specs.declared.temporary.Temporary.{Temporary}
+use Rattle.cs_state.specs.Cells.{object_of, operand_of}
+use Rattle.cs_state.specs.Naming.{Naming}
+use Rattle.cs_state.specs.Writes.{with_memory}
+use Rattle.cs_progress.specs.declared.pause.Pause.{Pause}
+use Rattle.cs_progress.specs.declared.progress.Progress.{Progress}
+use Rattle.cs_progress.specs.Acting.{CarriesOut}
+use Rattle.cs_progress.specs.Locals.{HasLocalsAlone}
+use Rattle.cs_progress.specs.Stepping.{WaitsUnchanged}
+use Rattle.cs_operators.specs.Pointing.{cell_in}
+use Rattle.cs_cells.specs.InMemory.{memory_in}
+use Rattle.cs_steps.specs.declared.access.Reached.{Reached}
+
+-- a variable is reached, or a member of one, which may be stored to: a part of an act, which gives the pointer to it
+abbrev pub reaches_for_store : TypedProgram → Place → Cell → (Cell → Act CodeState) → Act CodeState
+reaches_for_store program at cell onward = direct at cell (λ object n. writable program at object (onward (PointerCell object (pos n))))
+
+-- a store of a temporary at a place, to the object whose place has this value: a part of an act, which gives memory
+abbrev pub store_part : TypedProgram → Naming → State → Place → Access → Value → Temporary → Valuation → (Memory → Act CodeState) → Act CodeState
+store_part program names state at access place stored valuation onward =
+    store_object program (memory_in program names state valuation) state.frame.number at access (cell_in names.bases state place valuation)
+    (operand_of names.bases state.blocks valuation stored) onward
+
+module _ (program : TypedProgram) (names : Naming) (known : ℕ → Bool) (before after : State) where
+  -- a temporary was written where memory was reached: memory has it, and nothing else has changed
+  pub record IsWritten (ty : Shape) (reached : Reached) (stored : Temporary) : Type 0 where
+    pub memory : (region : Base) → slice_get names.bases reached.base ≡ Some region → (valuation : Valuation)
+        → memory_in program names after valuation
+        ≡ changed (write_operand program ty reached.offset (operand_of names.bases before.blocks valuation stored)) (object_of region)
+        (memory_in program names before valuation)
+    pub rest : after ≡ with_memory after.store after.read before
+    pub locals : HasLocalsAlone program names.bases known after
+
+  -- a part of an act that stores is carried out: it gives the memory that the state has then, and nothing else has changed; nothing has
+  -- where it waits
+  pub record Stores {T : Type 0} (earlier later : Progress) (answer : Result T Pause) (part : Valuation → (Memory → Act CodeState) → Act CodeState)
+      : Type 0 where
+    pub act : CarriesOut names.bases before earlier later answer part (λ done valuation. memory_in program names after valuation)
+    pub rest : OnOk answer (after ≡ with_memory after.store after.read before)
+    pub locals : OnOk answer (HasLocalsAlone program names.bases known after)
+    pub unchanged : WaitsUnchanged before after answer
