@@ -1,3 +1,4 @@
 pub mod Reaching
 pub mod Loading
+pub mod Fetching
 pub mod Storing

@@ -1,10 +1,20 @@
 //! Updates of objects in place (C11 6.5.2.4, 6.5.16.2).
-ghost use Rattle.cs_objects.specs.Prepared.{IsReady};
-ghost use Rattle.cs_operators.specs.Asking.{KeepKinds, HasEveryKind};
-ghost use Rattle.cs_state.specs.Naming.{naming, Extends};
+ghost use Rattle.std.specs.Prelude.{◌≡◌, ℕ, Bool, List, OnOk, IfErr};
+ghost use Rattle.cs_types.specs.Shape.{shape_of};
+ghost use Rattle.cs_ast.specs.TypedProgram.{TypedProgram};
 ghost use Rattle.cs_cfg.specs.Graph as graph;
+ghost use Rattle.cs_cfg.specs.Graph.{Code};
 ghost use Rattle.cs_cfg.specs.GraphView as view;
-ghost use Rattle.cs_progress.specs.Stepping.{DoesWork};
+ghost use Rattle.cs_objects.specs.Prepared.{IsReady};
+ghost use Rattle.cs_regions.specs.declared.base.Base.{Base};
+ghost use Rattle.cs_state.specs.declared.temporary.Temporary.TheVariants.{Scalar};
+ghost use Rattle.cs_state.specs.Cells.{operand_of};
+ghost use Rattle.cs_state.specs.Naming.{Naming, naming, Extends};
+ghost use Rattle.cs_progress.specs.declared.pause.Pause.TheVariants as pause;
+ghost use Rattle.cs_progress.specs.Locals.{MayAllBeIn};
+ghost use Rattle.cs_progress.specs.Stepping.{DoesWork, StaysInFrame, KeepsLocals, WaitsUnchanged};
+ghost use Rattle.cs_operators.specs.Asking.{KeepKinds, HasEveryKind};
+ghost use Rattle.cs_steps.specs.Fetching.{ArePushed, MeanPushed, converts_beside, Fetches};
 
 use crate::access::{load, store};
 use cs_ast::Place;
@@ -14,10 +24,10 @@ use cs_checker::Checker;
 use cs_operators::Attempt;
 use cs_operators::operators::{convert_number, directed, operate, sum};
 use cs_progress::operands::{number, number_in, replace, value, value_of};
-use cs_progress::{Context, Pause};
+use cs_progress::{Context, Pause, Progress};
 use cs_state::{State, Tables, Temporary};
 use cs_store::Value;
-use cs_types::{CType, IntType};
+use cs_types::{CType, DataModel, IntType};
 use cs_values::constants::integer_of;
 
 /// The load of an update of a number, which is converted to the type of the operator.
@@ -39,14 +49,51 @@ pub fn fetch_number(
         attempt.old.progress attempt.new.progress result how.0 (graph.FetchNumber (view.access access.now) how.1) }
 {
     let (at, ty) = how;
-    let model = context.model();
     let place = value(state, 0)?;
     let loaded = load(context, state, tables, attempt, access, place)?;
-    let before = number_in(state, value_of(&loaded))?;
     let types = (&access.ty, ty);
-    let after = convert_number(model, state, &mut attempt.progress, at, types, before)?;
-    state.push(loaded)?;
-    state.push(Temporary::Scalar(Value::Number(after)))?;
+    push_converted(
+        context.model(),
+        state,
+        &mut attempt.progress,
+        at,
+        types,
+        loaded,
+    )
+}
+
+// What was loaded is one more operand, and its number in another type the newest.
+fn push_converted(
+    model: DataModel,
+    state: &mut State,
+    progress: &mut Progress,
+    at: Place,
+    types: (&CType, IntType),
+    loaded: Temporary,
+) -> Result<(), Pause>
+    ensures act { (code : Code) (names : Naming) (program : TypedProgram)
+        → Fetches code names program state.old state.new progress.old progress.new result
+        (λ valuation. converts_beside model at (shape_of types.entry.0.now) types.entry.1
+        (operand_of names.bases state.old.blocks valuation loaded)) }
+    ensures frame { OnOk result (StaysInFrame state.old state.new) }
+    ensures locals { OnOk result (MayAllBeIn state.old loaded
+        → (program : TypedProgram) (bases : List Base) (known : ℕ → Bool)
+        → KeepsLocals program bases known state.old state.new) }
+    ensures unchanged { WaitsUnchanged state.old state.new result }
+{
+    let before = number_in(state, value_of(&loaded))?;
+    let after = convert_number(model, state, progress, at, types, before)?;
+    push_both(state, loaded, Value::Number(after))
+}
+
+// Two more operands.
+fn push_both(state: &mut State, first: Temporary, second: Value) -> Result<(), Pause>
+    ensures pushed { OnOk result (ArePushed first (Scalar second) state.old state.new) }
+    ensures means { OnOk result (MeanPushed first (Scalar second) state.old state.new) }
+    ensures memory { IfErr result (λ why. why ≡ pause.Memory) }
+{
+    state.push(first)?;
+    state.push(Temporary::Scalar(second))?;
     Ok(())
 }
 
