@@ -2,3 +2,4 @@ pub mod Reaching
 mod Loading
 mod Storing
 mod Working
+mod Fetching
