@@ -78,18 +78,22 @@ module _ (before after : State) (rest : after ≡ with_memory after.store after.
 
       module _ (base offset : ℕ) (value : Value) (here : held after.store base offset ≡ Direct value)
           (elsewhere : (b o : ℕ) → (b ≢ base) ⊎ (o ≢ offset) → held after.store b o ≡ held before.store b o) where
+        here_is : (b o : ℕ) → (b ≡ base) × (o ≡ offset) → Direct value ≡ held after.store b o
+        here_is b o same =
+            let base_is = sym same.0 in
+            let offset_is = sym same.1 in
+            sym here ∙ (λ i. held after.store (base_is i) (offset_is i))
+
         -- a value was bound that may be in the frame
         pub locals_bound : IsIn program names.bases known before.frame value → HasLocalsAlone program names.bases known after
         locals_bound inside =
             locals_written
             (λ b o given is. elim (place_tells b base o offset) [
-              | inl same ↦
-                  subst (IsIn program names.bases known before.frame)
-                  (same_direct value given (sym here ∙ (λ i. held after.store (same.0 (~ i)) (same.1 (~ i))) ∙ is)) inside
+              | inl same ↦ subst (IsIn program names.bases known before.frame) (same_direct value given (here_is b o same ∙ is)) inside
               | inr other ↦ alone.stored b o given (sym (elsewhere b o other) ∙ is)
             ])
             (λ b o fill is. elim (place_tells b base o offset) [
-              | inl same ↦ absurd (direct_no_fill value fill (sym here ∙ (λ i. held after.store (same.0 (~ i)) (same.1 (~ i))) ∙ is))
+              | inl same ↦ absurd (direct_no_fill value fill (here_is b o same ∙ is))
               | inr other ↦ alone.filled b o fill (sym (elsewhere b o other) ∙ is)
             ])
 

@@ -1,5 +1,5 @@
 -- The use of a call's result: for the contract of `use_result`.
-use Rattle.std.proofs.Common.{◌≡◌, ◌≢◌, ℤ, pos, Bool, true, false, List, Option, None, Some, Result, Ok, Err, slice_get, if◌then◌else◌, refl, sym, ap, ◌∙◌}
+use Rattle.std.proofs.Common.{◌≡◌, ◌≢◌, ℤ, pos, Bool, true, false, List, Option, None, Some, Result, Ok, Err, slice_get, if◌then◌else◌, refl}
 use Rattle.cs_ast.specs.declared.place.Place.{Place}
 use Rattle.cs_ast.specs.TypedProgram.{TypedProgram}
 use Rattle.cs_terms.specs.Term.{Valuation, value_of}
@@ -88,3 +88,11 @@ checks_alone code names program state {T} earlier later answer act part same pas
           let goes = Goes (stands code names program state todo v) in
           waits_on cells _ _ _ (part v goes) names.bases _ v _ (leads_same cells _ _ _ (same todo v fits)) (passes.waits waits goes cells v fits);
     }
+
+-- so does one that does nothing
+pub checks_nothing : (code : Code) (names : Naming) (program : TypedProgram) (state : State) (progress : Progress) (act : CodeState → Act CodeState)
+    → ((todo : Point) (v : Valuation) → act (stands code names program state todo v) ≡ Goes (stands code names program state todo v))
+    → Computes {T = Unit {0}} code names program state state progress progress (Ok tt) act
+checks_nothing code names program state progress act same =
+    checks_alone code names program state progress progress (Ok tt) act (λ v act. act) (λ todo v fits. same todo v)
+    (record { through = λ cells v fits act. leads_same cells _ act act refl; waits = tt })

@@ -26,7 +26,8 @@ pub struct Attempt {
 impl Attempt {
     /// An operation that begins.
     pub fn new(alloc: Global, checkers: Vec<Box<dyn Checker>>) -> Attempt
-        ensures { result.checkers.items ≡ checkers.items }
+        ensures checkers { result.checkers.items ≡ checkers.items }
+        ensures used { result.progress.used ≡ 0 }
     {
         Attempt {
             alloc,

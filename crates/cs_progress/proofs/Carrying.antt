@@ -1,6 +1,6 @@
 -- An operation carries out the whole of a part of its act, where its beginning leads to what it has carried out: for the contracts of
 -- operations.
-use Rattle.std.proofs.Common.{◌≡◌, ℕ, ℤ, List, Result, Ok, Err, IsErr, IsErrAnd, IfOk, IfErr, true≢false, sym, ap, ◌∙◌, subst}
+use Rattle.std.proofs.Common.{◌≡◌, ℕ, List, Result, Ok, Err, IsErr, IsErrAnd, true≢false, sym, ◌∙◌, subst}
 use Rattle.cs_inputs.specs.declared.path.Path.{Path}
 use Rattle.cs_terms.specs.Term.{Valuation}
 use Rattle.cs_constraints.specs.Constraints.{Fits}
@@ -10,11 +10,10 @@ use Rattle.cs_events.specs.Acts.{Act}
 use Rattle.cs_cfg.specs.Working.{CodeState}
 use Rattle.cs_regions.specs.declared.base.Base.{Base}
 use Rattle.cs_state.specs.declared.state.State.{State}
-use Rattle.cs_progress.specs.declared.next.Next.{Next}
 use Rattle.cs_progress.specs.declared.pause.Pause.{Pause}
 use Rattle.cs_progress.specs.declared.pause.Pause.TheVariants as pause
 use Rattle.cs_progress.specs.declared.progress.Progress.{Progress}
-use Rattle.cs_progress.specs.Acting.{Leads, GetsThrough, Gives, WaitsFor, CarriesOut, Passes}
+use Rattle.cs_progress.specs.Acting.{Leads, WaitsFor, CarriesOut, Passes}
 use Rattle.cs_progress.specs.Answering.{answers_left}
 use Rattle.cs_progress.proofs.Composing.{leads_on, waits_on}
 

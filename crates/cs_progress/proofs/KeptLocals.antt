@@ -1,9 +1,9 @@
 -- States of locals alone stay such where their temporaries alone change, and their pointers have names: for the contracts of operations.
-use Rattle.std.proofs.Common.{◌≡◌, ℕ, Bool, List, [], ◌∷◌, ◌++◌, take, length, All, Result, IfErr, OnOk, refl, sym, ◌∙◌, subst}
-use Rattle.std.proofs.lemmas.List.Elements.{All-nil, All-take, All-push, All-weaker}
+use Rattle.std.proofs.Common.{◌≡◌, ℕ, Bool, List, [], ◌∷◌, ◌++◌, length, All, Result, IfErr, OnOk, refl, sym, ◌∙◌, subst}
+use Rattle.std.proofs.lemmas.List.Elements.{All-take, All-push, All-weaker}
 use Rattle.std.proofs.lemmas.Option.{none-some}
 use Rattle.std.proofs.lemmas.Result.{IfErr-weaker, on_ok_weaker}
-use Rattle.std.specs.Prelude.{◌-◌, Some, slice_get}
+use Rattle.std.specs.Prelude.{◌-◌}
 use Rattle.cs_ast.specs.TypedProgram.{TypedProgram}
 use Rattle.cs_regions.specs.declared.base.Base.{Base}
 use Rattle.cs_regions.specs.declared.base.Base.TheVariants.{Local}

@@ -1,5 +1,5 @@
 -- Terms over symbols that are known: for the contracts of `number_in`, `answer` and `ask`.
-use Rattle.std.proofs.Common.{◌≡◌, ℕ, ℤ, Bool, None, Result, IfOk, sym, ap, ◌∙◌}
+use Rattle.std.proofs.Common.{◌≡◌, ℕ, ℤ, Bool, Result, IfOk, sym, ap, ◌∙◌}
 use Rattle.std.proofs.lemmas.Option.{none-some}
 use Rattle.std.proofs.lemmas.Result.{IfOk-weaker}
 use Rattle.cs_terms.specs.declared.term.Lin.{Lin}

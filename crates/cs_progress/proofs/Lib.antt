@@ -7,6 +7,7 @@ pub mod Answers
 pub mod Looks
 pub mod Composing
 pub mod Carrying
+pub mod Extending
 pub mod KnownSymbols
 pub mod KeptLocals
 pub mod NumberedObjects

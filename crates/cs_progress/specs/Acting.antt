@@ -10,7 +10,8 @@ use Rattle.cs_terms.specs.declared.term.Lin.{Lin}
 use Rattle.cs_constraints.specs.Constraints.{Fits}
 use Rattle.cs_events.specs.declared.event.Label.TheVariants as label
 use Rattle.cs_events.specs.declared.input.InputKind.{InputKind}
-use Rattle.cs_events.specs.declared.outcome.Outcome.TheVariants.{Fault}
+use Rattle.cs_events.specs.declared.outcome.Outcome.{Outcome}
+use Rattle.cs_events.specs.declared.outcome.Outcome.TheVariants.{Done, Fault, Over}
 use Rattle.cs_events.specs.Operations.{is_true}
 use Rattle.cs_events.specs.Objects.{Cell}
 use Rattle.cs_events.specs.Acts.{Act, Goes, Stops, Reads, Asks, Allocates, Reaches, Touches}
@@ -73,8 +74,14 @@ pub record BeginsWithCheck (state : State) (valuation : Valuation) (at : Place) 
   pub faults : All (λ part. Fits valuation part.state.constraints → act ≡ Stops (Fault part.kind at)) checked.faults.items
   pub parts : ComesOf state checked
 
+-- a run ends before its entry returns
+abbrev pub IsCutShort : Outcome → Type 0
+IsCutShort (Done returned) = ⊥
+IsCutShort (Fault kind at) = Unit {0}
+IsCutShort (Over budget at) = Unit {0}
+
 -- what is left of an act in a state begins with what was named: with a question, or with the offset of an access; it is a fault under each
--- valuation that fits one of the faulty parts; or the end of the run. An operator doesn't wait for anything else
+-- valuation that fits one of the faulty parts; or the end of a run that is cut short. An operator doesn't wait for anything else
 abbrev pub BeginsWith : List Base → State → Valuation → Next → Act CodeState → Type 0
 BeginsWith bases state valuation next.Done act = ⊥
 BeginsWith bases state valuation (next.Asks at question) act =
@@ -84,7 +91,7 @@ BeginsWith bases state valuation (next.Reaches at base offset) act =
     (region : Base) × (onward : Act CodeState) × (slice_get bases base ≡ Some region)
     × (act ≡ Reaches at (object_of region) (value_of valuation offset) onward)
 BeginsWith bases state valuation (next.Checks at checked) act = BeginsWithCheck state valuation at checked.value act
-BeginsWith bases state valuation (next.Ends outcome) act = act ≡ Stops outcome
+BeginsWith bases state valuation (next.Ends outcome) act = IsCutShort outcome × (act ≡ Stops outcome)
 
 -- this stands first in what is left of an act, if that uses all answers
 abbrev pub StandsFirst : List Base → State → ℕ → Next → (Path → InputKind → Cell) → Valuation → Act CodeState → Type 0

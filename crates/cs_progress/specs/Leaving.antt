@@ -1,5 +1,5 @@
 -- What is left of a frame that has ended.
-use Rattle.std.specs.Prelude.{◌≡◌, ◌<◌, ℕ, List, Some, length, slice_get}
+use Rattle.std.specs.Prelude.{◌≡◌, ◌<◌, ℕ, List, Some, length, slice_get, Result, Err}
 use Rattle.cs_ast.specs.declared.typed.program.Function.{Function}
 use Rattle.cs_regions.specs.declared.base.Base.{Base}
 use Rattle.cs_regions.specs.declared.base.Base.TheVariants.{Local}
@@ -7,8 +7,21 @@ use Rattle.cs_regions.specs.Numbering.{IsNumbered}
 use Rattle.cs_store.specs.declared.value.Fill.TheVariants.{Unset}
 use Rattle.cs_store.specs.declared.value.Found.TheVariants.{Fill}
 use Rattle.cs_store.specs.Held.{Regions, held}
+use Rattle.cs_terms.specs.Term.{Valuation}
+use Rattle.cs_events.specs.declared.outcome.Outcome.TheVariants.{Done}
+use Rattle.cs_events.specs.declared.outcome.Returned.TheVariants as returned
+use Rattle.cs_meaning.specs.Calls.{returned_of}
 use Rattle.cs_state.specs.declared.frame.Frame.{Frame}
+use Rattle.cs_state.specs.declared.state.State.{State}
+use Rattle.cs_state.specs.declared.temporary.Temporary.{Temporary}
+use Rattle.cs_state.specs.Cells.{Blocks, operand_of}
+use Rattle.cs_state.specs.Writes.{with_result}
 use Rattle.cs_progress.specs.declared.context.Context.{Context}
+use Rattle.cs_progress.specs.declared.next.Next.{Next}
+use Rattle.cs_progress.specs.declared.next.Next.TheVariants as next
+use Rattle.cs_progress.specs.declared.pause.Pause.{Pause}
+use Rattle.cs_progress.specs.declared.pause.Pause.TheVariants as pause
+use Rattle.cs_progress.specs.Stepping.{result_in}
 
 -- the functions of the program that is explored
 abbrev pub functions_of : Context → List Function
@@ -30,3 +43,11 @@ AreUnset functions bases frame store =
     (function : Function) → slice_get functions frame.spot.function ≡ Some function
     → (declaration base offset : ℕ) → declaration < length function.locals.items → IsLocalOf bases frame.number declaration base
     → held store base offset ≡ Fill Unset
+
+-- the run ends, which is waited for: the state has what the frame has given as the entry's result, and nothing else has changed
+pub record EndsRun {T : Type 0} (before after : State) (first : Next) (answer : Result T Pause) (given : Temporary) : Type 0 where
+  pub waits : answer ≡ Err pause.Waits
+  pub ends : first ≡ next.Ends (Done returned.Nothing)
+  pub unchanged : after ≡ with_result after.result before
+  pub has_returned : (bases : List Base) (blocks : Blocks) (valuation : Valuation)
+      → returned_of (operand_of bases blocks valuation given) ≡ returned_of (result_in bases blocks valuation after.result)

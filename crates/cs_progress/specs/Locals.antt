@@ -1,7 +1,7 @@
 -- States and code of functions that work with integers alone: their pointers are the places of locals of the frame that runs.
-use Rattle.std.specs.Prelude.{◌≡◌, ◌<◌, ℕ, Bool, true, List, [], Option, None, Some, All, length, slice_get}
+use Rattle.std.specs.Prelude.{◌≡◌, ◌<◌, ℕ, Bool, true, List, [], Some, All, length, slice_get}
 use Rattle.cs_types.specs.declared.int_type.IntType.{IntType}
-use Rattle.cs_types.specs.Shape.{Shape, integer}
+use Rattle.cs_types.specs.Shape.{integer}
 use Rattle.cs_ast.specs.TypedProgram.{TypedProgram}
 use Rattle.cs_meaning.specs.Access.{Access}
 use Rattle.cs_meaning.specs.Machine.{routine_of}

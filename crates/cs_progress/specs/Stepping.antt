@@ -1,5 +1,5 @@
 -- Steps of a state: what becomes of one as the operation in progress goes on, beside the run of the code.
-use Rattle.std.specs.Prelude.{◌≡◌, ℕ, ◌+◌, ◌≤◌, ℤ, Bool, List, [], ◌∷◌, map, take, length, Option, None, Some, Result, OnOk, IfErr}
+use Rattle.std.specs.Prelude.{◌≡◌, ℕ, ◌+◌, ◌≤◌, ℤ, Bool, List, [], map, take, length, Option, None, Some, Result, OnOk, IfErr}
 use Rattle.cs_inputs.specs.declared.path.Path.{Path}
 use Rattle.cs_types.specs.declared.data_model.DataModel.{DataModel}
 use Rattle.cs_ast.specs.declared.place.Place.{Place}
@@ -175,6 +175,7 @@ pub record Leaves {T : Type 0} (code : Code) (names : Naming) (program : TypedPr
       → Leads cells (answers_left before earlier.used valuation) (answers_left before later.used valuation)
       (act (meaning code names program before valuation)) (Goes (meaning code names program (at_spot spot after) valuation))))
   pub keeps : OnOk answer (KeepsKnown before after)
+  pub function : OnOk answer (after.frame.spot.function ≡ before.frame.spot.function)
   pub locals : OnOk answer (HasLocalsAlone program names.bases known after)
   pub unchanged : IfErr answer (λ why. why ≡ pause.Waits → after ≡ with_result after.result before)
   pub waits : IfErr answer (λ why. why ≡ pause.Waits → (cells : Path → InputKind → Cell) (valuation : Valuation)

@@ -1,8 +1,13 @@
 //! The end of a frame.
-ghost use Rattle.std.specs.Prelude.{◌≡◌, ◌+◌, Some, length, slice_get, IfOk, OnOk};
+ghost use Rattle.std.specs.Prelude.{◌≡◌, ◌+◌, List, [], Some, length, slice_get, IfOk, OnOk};
 ghost use Rattle.cs_ast.specs.declared.typed.program.Function.{Function};
-ghost use Rattle.cs_state.specs.Naming.{naming};
-ghost use Rattle.cs_progress.specs.Leaving.{functions_of, AreLocals, AreUnset};
+ghost use Rattle.cs_regions.specs.declared.base.Base as regions;
+ghost use Rattle.cs_terms.specs.Term.{Valuation};
+ghost use Rattle.cs_meaning.specs.Calls.{returned_of};
+ghost use Rattle.cs_state.specs.Cells.{Blocks, operand_of};
+ghost use Rattle.cs_state.specs.Naming.{naming, Extends};
+ghost use Rattle.cs_progress.specs.Leaving.{functions_of, AreLocals, AreUnset, EndsRun};
+ghost use Rattle.cs_progress.specs.Stepping.{result_in};
 
 use crate::context::Context;
 use crate::operands::value_of;
@@ -11,6 +16,7 @@ use crate::progress::Progress;
 use cs_events::{Outcome, Returned};
 use cs_regions::Base;
 use cs_state::{State, Tables, Temporary};
+use cs_store::Value;
 use std::alloc::AllocError;
 
 /// The frame that runs ends, and gives a value to the one that called it; the run is done where none did.
@@ -21,15 +27,14 @@ pub fn leave(
     progress: &mut Progress,
     given: Temporary,
 ) -> Result<(), Pause>
-    ensures { OnOk result (AreUnset (functions_of context.now)
+    ensures unset { OnOk result (AreUnset (functions_of context.now)
         (naming tables.new).bases state.old.frame state.new.store) }
+    ensures extends { Extends (naming tables.old) (naming tables.new) }
+    ensures last { state.old.callers ≡ []
+        → EndsRun state.old state.new progress.new.first result given }
 {
     if state.callers.depth() == 0 {
-        let returned = match &given {
-            Temporary::Nothing => None,
-            Temporary::Scalar(_) | Temporary::Whole(_) => Some(value_of(&given)),
-        };
-        state.set_result(returned);
+        state.set_result(returned(&given));
         return Err(progress.finish(Outcome::Done(Returned::Nothing)));
     }
     let bases = local_bases(context, state, tables)?;
@@ -41,16 +46,29 @@ pub fn leave(
     Ok(())
 }
 
+// What the entry has returned, where this is what its frame gives.
+fn returned(given: &Temporary) -> Option<Value>
+    ensures { (bases : List regions.Base) (blocks : Blocks) (valuation : Valuation)
+        → returned_of (operand_of bases blocks valuation given.now)
+        ≡ returned_of (result_in bases blocks valuation result) }
+{
+    match given {
+        Temporary::Nothing => None,
+        Temporary::Scalar(_) | Temporary::Whole(_) => Some(value_of(given)),
+    }
+}
+
 // The base regions of the locals of the frame that runs.
 fn local_bases(
     context: &Context,
     state: &State,
     tables: &mut Tables,
 ) -> Result<Vec<u64>, AllocError>
-    ensures { IfOk result (λ bases. (function : Function)
+    ensures locals { IfOk result (λ bases. (function : Function)
         → slice_get (functions_of context.now) state.now.frame.spot.function ≡ Some function
         → AreLocals (naming tables.new).bases state.now.frame.number
         (length function.locals.items) bases.items) }
+    ensures extends { Extends (naming tables.old) (naming tables.new) }
 {
     let locals = context
         .locals_of(state.frame.spot.function)
@@ -70,8 +88,9 @@ fn add_local(
     declaration: usize,
 ) -> Result<(), AllocError>
     requires { AreLocals (naming tables.old).bases frame declaration bases.old.items }
-    ensures { OnOk result
+    ensures locals { OnOk result
         (AreLocals (naming tables.new).bases frame (declaration + 1) bases.new.items) }
+    ensures extends { Extends (naming tables.old) (naming tables.new) }
 {
     let Ok(decl) = u32::try_from(declaration) else {
         return Err(AllocError);

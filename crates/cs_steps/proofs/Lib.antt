@@ -3,3 +3,13 @@ mod Loading
 mod Storing
 mod Working
 mod Fetching
+mod CutMeanings
+mod Going
+mod KeptStates
+mod Beginning
+mod Stepped
+mod Leaving
+mod Branching
+mod Switching
+mod Ways
+mod Counting

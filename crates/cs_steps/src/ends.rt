@@ -1,15 +1,14 @@
 //! What the end of a block does, and what a loop head or a label does.
 ghost use Rattle.cs_objects.specs.Prepared.{IsReady};
-ghost use Rattle.std.specs.Prelude.{◌≡◌, ℕ, Bool, OnOk, IfErr};
+ghost use Rattle.std.specs.Prelude.{◌≡◌, ℕ, map, OnOk, IfOk, IfErr};
 ghost use Rattle.cs_state.specs.Naming.{Naming, naming, Extends};
 ghost use Rattle.cs_cfg.specs.Graph as graph;
 ghost use Rattle.cs_cfg.specs.GraphView as view;
-ghost use Rattle.cs_ast.specs.TypedProgram.{TypedProgram};
-ghost use Rattle.cs_cfg.specs.CodeSteps.{do_end};
 ghost use Rattle.cs_progress.specs.declared.pause.Pause.TheVariants as pause;
-ghost use Rattle.cs_progress.specs.Locals.{HasLocalsAlone};
-ghost use Rattle.cs_progress.specs.Stepping.{DoesWorkAndGoesOn, Leaves, GoesTo, IsMovedOn, IsCutFor};
+ghost use Rattle.cs_progress.specs.Stepping.{DoesWorkAndGoesOn, GoesTo, IsMovedOn, IsCutFor};
+ghost use Rattle.cs_steps.specs.AtSpots.{EndsAt, LeadsTo, LeavesBlock};
 
+use cs_ast::Place;
 use cs_cfg::{BlockEnd, CountedPoint, Spot, SwitchCase};
 use cs_eval::Tested;
 use cs_events::{Budget, Outcome};
@@ -31,25 +30,18 @@ pub fn end(
 ) -> Result<(), Pause>
     requires { IsReady context.now.setting.now }
     ensures extends { Extends (naming tables.old) (naming tables.new) }
-    ensures leaves { (names : Naming) (program : TypedProgram) (known : ℕ → Bool)
-        → Extends (naming tables.new) names → HasLocalsAlone program names.bases known state.old
+    ensures leaves { EndsAt (view.code context.now.code.now) (view.block_end end.now) state.old.frame.spot
         → IsCutFor (view.block_end end.now) state.old
-        → Leaves (view.code context.now.code.now) names program known state.old state.new
-        progress.old progress.new result (do_end (view.code context.now.code.now) (view.block_end end.now)) }
+        → LeavesBlock (view.code context.now.code.now) (naming tables.new) state.old state.new
+        progress.old progress.new result (view.block_end end.now) }
 {
     match end {
         BlockEnd::Jump(block) => go(context, state, *block),
         BlockEnd::Branch(at, _, one, other) => {
-            let holds = test(state, progress, *at, value(state, 0)?, Tested::Branch)?;
-            drop_newest(state, 1)?;
-            go(context, state, if holds { *one } else { *other })
+            branch(context, state, progress, *at, *one, *other)
         }
         BlockEnd::Switch(at, _, cases, otherwise) => {
-            let term = number(state, 0)?;
-            progress.select(state, *at, term)?;
-            let block = way(state, term, cases, *otherwise)?;
-            drop_newest(state, 1)?;
-            go(context, state, block)
+            switch(context, state, progress, *at, cases, *otherwise)
         }
         BlockEnd::Return(_) => {
             let given = operand(state, 0)?.clone()?;
@@ -62,8 +54,53 @@ pub fn end(
     }
 }
 
+// The frame goes on with one block or the other, as a test says.
+fn branch(
+    context: &Context,
+    state: &mut State,
+    progress: &mut Progress,
+    at: Place,
+    one: u32,
+    other: u32,
+) -> Result<(), Pause>
+    ensures { (temporary : ℕ) (given : Naming) → IsCutFor (graph.Branch at temporary one other) state.old
+        → LeavesBlock (view.code context.now.code.now) given state.old state.new progress.old
+        progress.new result (graph.Branch at temporary one other) }
+{
+    let holds = test(state, progress, at, value(state, 0)?, Tested::Branch)?;
+    drop_newest(state, 1)?;
+    go(context, state, if holds { one } else { other })
+}
+
+// The frame goes on with the block of the first case that has the number, else with another one.
+fn switch(
+    context: &Context,
+    state: &mut State,
+    progress: &mut Progress,
+    at: Place,
+    cases: &[SwitchCase],
+    otherwise: u32,
+) -> Result<(), Pause>
+    ensures { (temporary : ℕ) (given : Naming)
+        → EndsAt (view.code context.now.code.now) (graph.Switch at temporary
+        (map view.switch_case cases.now) otherwise) state.old.frame.spot
+        → IsCutFor (graph.Switch at temporary (map view.switch_case cases.now) otherwise) state.old
+        → LeavesBlock (view.code context.now.code.now) given state.old state.new progress.old
+        progress.new result (graph.Switch at temporary (map view.switch_case cases.now) otherwise) }
+{
+    let term = number(state, 0)?;
+    progress.select(state, at, term)?;
+    let block = way(state, term, cases, otherwise)?;
+    drop_newest(state, 1)?;
+    go(context, state, block)
+}
+
 // The block to which a number leads, whose case is known.
-fn way(state: &State, term: Lin, cases: &[SwitchCase], otherwise: u32) -> Result<u32, Pause> {
+fn way(state: &State, term: Lin, cases: &[SwitchCase], otherwise: u32) -> Result<u32, Pause>
+    ensures leads { IfOk result
+        (LeadsTo state.now term (map view.switch_case cases.now) otherwise) }
+    ensures memory { IfErr result (λ why. why ≡ pause.Memory) }
+{
     for case in cases {
         match has_value(state, term, case.value)? {
             Some(true) => return Ok(case.block),
@@ -76,7 +113,6 @@ fn way(state: &State, term: Lin, cases: &[SwitchCase], otherwise: u32) -> Result
 
 // The frame goes on with a block of its function.
 fn go(context: &Context, state: &mut State, block: u32) -> Result<(), Pause>
-    requires { IsReady context.now.setting.now }
     ensures goes { OnOk result (GoesTo (view.code context.now.code.now) block state.old state.new) }
     ensures memory { IfErr result (λ why. why ≡ pause.Memory) }
 {

@@ -2,20 +2,20 @@
 ghost use Rattle.cs_objects.specs.Prepared.{IsReady};
 ghost use Rattle.cs_operators.specs.Asking.{KeepKinds, HasEveryKind};
 ghost use Rattle.std.specs.Prelude.{◌≡◌, ◌+◌, OnOk, IfOk, IfErr};
-ghost use Rattle.cs_state.specs.Naming.{naming, Extends};
+ghost use Rattle.cs_state.specs.Naming.{Naming, naming, Extends};
 ghost use Rattle.cs_cfg.specs.GraphView as view;
 ghost use Rattle.cs_cfg.specs.Working.{takes};
 ghost use Rattle.cs_progress.specs.declared.pause.Pause.TheVariants as pause;
 ghost use Rattle.cs_progress.specs.Stepping.{StepsInLocals, IsCutTo, IsCutForEnd};
+ghost use Rattle.cs_steps.specs.AtSpots.{StandsAt, EndsAt, StepsAtSpot};
 
 use crate::ends::{end, reach_counted_point};
 use crate::work::work;
-use cs_cfg::{BlockEnd, Instruction, Operation};
+use cs_cfg::{BlockEnd, CountedPoint, Instruction, Operation};
 use cs_checker::Checker;
 use cs_operators::Attempt;
-use cs_progress::{Context, Next, Pause, leave};
-use cs_state::{State, Tables, Temporary};
-use cs_store::Value;
+use cs_progress::{Context, Next, Pause, Progress};
+use cs_state::{State, Tables};
 use std::alloc::AllocError;
 use std::mem;
 
@@ -65,26 +65,87 @@ fn step(
     attempt: &mut Attempt,
 ) -> Result<(), Pause>
     requires { IsReady context.now.setting.now }
-    ensures { KeepKinds (λ b. (⟦<dyn Checker as Checker>⟧ b.vtable).kind_of b.value)
+    ensures kinds { KeepKinds (λ b. (⟦<dyn Checker as Checker>⟧ b.vtable).kind_of b.value)
         attempt.old.checkers.items attempt.new.checkers.items }
+    ensures extends { Extends (naming tables.old) (naming tables.new) }
+    ensures steps { HasEveryKind (λ b. (⟦<dyn Checker as Checker>⟧ b.vtable).kind_of b.value)
+        attempt.old.checkers.items
+        → StepsAtSpot (view.code context.now.code.now) context.now.setting.now.program.now.model
+        context.now.setting.now.budgets (naming tables.new) state.old state.new
+        attempt.old.progress attempt.new.progress result }
 {
     match context.code.instruction_at(state.frame.spot) {
-        Instruction::CountedPoint(point) => {
-            reach_counted_point(context, state, &mut attempt.progress, *point)
-        }
-        Instruction::Operation(operation) => {
-            keep(state, operation)?;
-            work(context, state, tables, attempt, operation)
-        }
+        Instruction::CountedPoint(point) => count(context, state, &mut attempt.progress, *point),
+        Instruction::Operation(operation) => operate(context, state, tables, attempt, operation),
         Instruction::End(block_end) => {
-            keep_for_end(state, block_end)?;
-            end(context, state, tables, &mut attempt.progress, block_end)
+            end_block(context, state, tables, &mut attempt.progress, block_end)
         }
         Instruction::Nowhere => {
-            let given = Temporary::Scalar(Value::Unset);
-            leave(context, state, tables, &mut attempt.progress, given)
+            let block_end = BlockEnd::Finish;
+            end_block(context, state, tables, &mut attempt.progress, &block_end)
         }
     }
+}
+
+// A loop head or a label stands at the spot. It needs no temporaries.
+fn count(
+    context: &Context,
+    state: &mut State,
+    progress: &mut Progress,
+    point: CountedPoint,
+) -> Result<(), Pause>
+    requires { IsReady context.now.setting.now }
+    ensures steps { (given : Naming)
+        → StandsAt (view.code context.now.code.now) (view.reaching point) state.old.frame.spot
+        → StepsAtSpot (view.code context.now.code.now) context.now.setting.now.program.now.model
+        context.now.setting.now.budgets given state.old state.new progress.old progress.new result }
+{
+    state.cut(0);
+    reach_counted_point(context, state, progress, point)
+}
+
+// An operation stands at the spot.
+fn operate(
+    context: &Context,
+    state: &mut State,
+    tables: &mut Tables,
+    attempt: &mut Attempt,
+    operation: &Operation,
+) -> Result<(), Pause>
+    requires { IsReady context.now.setting.now }
+    ensures kinds { KeepKinds (λ b. (⟦<dyn Checker as Checker>⟧ b.vtable).kind_of b.value)
+        attempt.old.checkers.items attempt.new.checkers.items }
+    ensures extends { Extends (naming tables.old) (naming tables.new) }
+    ensures steps { HasEveryKind (λ b. (⟦<dyn Checker as Checker>⟧ b.vtable).kind_of b.value)
+        attempt.old.checkers.items
+        → StandsAt (view.code context.now.code.now) (view.operation operation.now)
+        state.old.frame.spot
+        → StepsAtSpot (view.code context.now.code.now) context.now.setting.now.program.now.model
+        context.now.setting.now.budgets (naming tables.new) state.old state.new
+        attempt.old.progress attempt.new.progress result }
+{
+    keep(state, operation)?;
+    work(context, state, tables, attempt, operation)
+}
+
+// The end of a block stands at the spot.
+fn end_block(
+    context: &Context,
+    state: &mut State,
+    tables: &mut Tables,
+    progress: &mut Progress,
+    block_end: &BlockEnd,
+) -> Result<(), Pause>
+    requires { IsReady context.now.setting.now }
+    ensures extends { Extends (naming tables.old) (naming tables.new) }
+    ensures steps { EndsAt (view.code context.now.code.now) (view.block_end block_end.now)
+        state.old.frame.spot
+        → StepsAtSpot (view.code context.now.code.now) context.now.setting.now.program.now.model
+        context.now.setting.now.budgets (naming tables.new) state.old state.new progress.old
+        progress.new result }
+{
+    keep_for_end(state, block_end)?;
+    end(context, state, tables, progress, block_end)
 }
 
 // Drops the temporaries that an operation doesn't need.

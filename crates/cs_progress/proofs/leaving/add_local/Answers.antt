@@ -4,8 +4,8 @@ use Rattle.cs_state.specs.Naming.{naming}
 use Rattle.cs_progress.proofs.Lists.{item_of_more, more_items}
 use Rattle.cs_progress.proofs.leaving.add_local.Goals as goal
 
-pub returns : goal.returns
-returns c =
+pub returns-clause-locals : goal.returns-clause-locals
+returns-clause-locals c =
     let before = c.args.bases.now.items in
     let frame = c.args.frame in
     let base = c.in_ok-base.base in

@@ -9,11 +9,11 @@ use Rattle.cs_store.specs.Held.{held}
 use Rattle.cs_progress.proofs.Lists.{item_is_there}
 use Rattle.cs_progress.proofs.leaving.leave.Goals as goal
 
-pub returns : goal.returns
-returns c = λ function there declaration base offset within is.
+pub returns-clause-unset : goal.returns-clause-unset
+returns-clause-unset c = λ function there declaration base offset within is.
     let frame = c.args.state.now.frame.number in
     let numbers = c.in_ok-bases.bases.items in
-    let locals = c.in_ok-bases.ensures function there in
+    let locals = c.in_ok-bases.ensures.locals function there in
     let early : declaration < length numbers = subst (λ (n : ℕ). declaration < n) (sym locals.as_many) within in
     let place : slice_get numbers declaration ≡ Some (get_or numbers declaration 0) = slice_get-get_or numbers declaration 0 early in
     let own = locals.each declaration (get_or numbers declaration 0) place in
