@@ -12,3 +12,4 @@ mod Branching
 mod Switching
 mod Ways
 mod Counting
+mod Dispatching
