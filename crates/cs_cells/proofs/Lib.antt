@@ -1,4 +1,3 @@
-pub mod GrowingNames
 pub mod LocalMemory
 pub mod Unfilled
 pub mod Bindings

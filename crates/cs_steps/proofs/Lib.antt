@@ -2,6 +2,7 @@ pub mod Reaching
 mod Loading
 mod Storing
 mod Working
+mod Fetching
 mod CutMeanings
 mod Going
 mod KeptStates

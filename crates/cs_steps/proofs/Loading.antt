@@ -36,7 +36,7 @@ use Rattle.cs_progress.specs.declared.pause.Pause.TheVariants as pause
 use Rattle.cs_progress.specs.declared.progress.Progress.{Progress}
 use Rattle.cs_progress.specs.Acting.{UsesAll, Leads, Gives, GetsThrough, CarriesOut, Passes, WaitsFor}
 use Rattle.cs_progress.specs.Answering.{answers_left}
-use Rattle.cs_progress.specs.Locals.{IsLocalOf, IsIn, HasLocalsAlone, IsOfInteger, count_of_locals, value_held}
+use Rattle.cs_progress.specs.Locals.{IsLocalOf, IsIn, MayBeIn, HasLocalsAlone, IsOfInteger, count_of_locals, value_held}
 use Rattle.cs_progress.proofs.Looks.{leads_same}
 use Rattle.cs_progress.proofs.Composing.{leads_on, waits_on}
 use Rattle.cs_progress.proofs.Carrying.{handed, carries_on, LeadsTo}
@@ -63,13 +63,13 @@ held_inside : (it : Held) (P : Value → Type 0) → ((bound : Value) → it ≡
 held_inside (found.Direct bound) P stored unset = stored bound refl
 held_inside (found.Fill fill) P stored unset = unset
 
+pub held_may_be_in : (state : State) (base offset : ℕ) → MayBeIn state (value_held (held state.store base offset))
+held_may_be_in state base offset program bases known have =
+    held_inside (held state.store base offset) (IsIn program bases known state.frame) (have.stored base offset) tt
+
 module _ (program : TypedProgram) (names : Naming) (known : ℕ → Bool) (before : State) (alone : HasLocalsAlone program names.bases known before) where
   abbrev memory : Valuation → Memory
   memory v = memory_in program names before v
-
-  pub held_is_inside : (base offset : ℕ) → IsIn program names.bases known before.frame (value_held (held before.store base offset))
-  held_is_inside base offset =
-      held_inside (held before.store base offset) (IsIn program names.bases known before.frame) (alone.stored base offset) tt
 
   -- the scalar that was reached is what is held there, and it was set
   pub scalar_is : IsNumbered names.bases → (at : Place) (reached : Reached)
@@ -163,7 +163,8 @@ module _ (program : TypedProgram) (names : Naming) (known : ℕ → Bool) (befor
         (never_set names.bases before.blocks v given (named_local names.bases known before.frame.number _ given inside) ∙ sym same)
       where
         inside : IsIn program names.bases known before.frame given
-        inside = subst (IsIn program names.bases known before.frame) (sym is) (held_is_inside reached.base reached.offset)
+        inside = subst (IsIn program names.bases known before.frame) (sym is)
+            (held_may_be_in before reached.base reached.offset program names.bases known alone)
 
     pub scalar_through : (earlier later : ℕ) → GetsThrough before earlier later set_part
         → Gives before earlier later (scalar_part program names before at reached) (loaded_in program names before (temporary.Scalar given))
@@ -186,10 +187,10 @@ module _ (program : TypedProgram) (names : Naming) (known : ℕ → Bool) (befor
     pub load_handed : (part : Part) (why : Pause) → IsErr answer × IsErrAnd answer (λ e. e ≡ why)
         → (why ≡ pause.Waits → (after ≡ before)
         × ((onward : Memory × Operand → Act CodeState) → WaitsFor names.bases before earlier.used later.first (λ v. part v onward)))
-        → Loads program names known before after earlier later answer part
+        → Loads program names before after earlier later answer part
     load_handed part why is waits = by_case answer is
       where
-        by_case : (r : Result Temporary Pause) → IsErr r × IsErrAnd r (λ e. e ≡ why) → Loads program names known before after earlier later r part
+        by_case : (r : Result Temporary Pause) → IsErr r × IsErrAnd r (λ e. e ≡ why) → Loads program names before after earlier later r part
         by_case (Ok made) is = absurd (true≢false (sym is.0))
         by_case (Err e) is = record {
           act = record { through = tt; waits = λ so. (waits (sym is.1 ∙ so)).1 };

@@ -1,4 +1,6 @@
 pub mod Reaching
 pub mod Loading
+pub mod Fetching
 pub mod Storing
 pub mod AtSpots
+pub mod Updating

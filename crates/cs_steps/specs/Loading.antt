@@ -1,5 +1,5 @@
 -- Loads from integer variables, in states of locals alone.
-use Rattle.std.specs.Prelude.{◌≡◌, ℕ, Bool, Result, OnOk, IfOk}
+use Rattle.std.specs.Prelude.{◌≡◌, Result, OnOk, IfOk}
 use Rattle.cs_ast.specs.declared.place.Place.{Place}
 use Rattle.cs_ast.specs.TypedProgram.{TypedProgram}
 use Rattle.cs_terms.specs.Term.{Valuation}
@@ -16,7 +16,7 @@ use Rattle.cs_state.specs.Naming.{Naming}
 use Rattle.cs_progress.specs.declared.pause.Pause.{Pause}
 use Rattle.cs_progress.specs.declared.progress.Progress.{Progress}
 use Rattle.cs_progress.specs.Acting.{CarriesOut}
-use Rattle.cs_progress.specs.Locals.{AreIn}
+use Rattle.cs_progress.specs.Locals.{MayAllBeIn}
 use Rattle.cs_progress.specs.Stepping.{WaitsUnchanged}
 use Rattle.cs_operators.specs.Pointing.{cell_in}
 use Rattle.cs_cells.specs.InMemory.{memory_in}
@@ -45,9 +45,9 @@ module _ (program : TypedProgram) (names : Naming) (state : State) where
   loaded_in loaded valuation = (memory_in program names state valuation, operand_of names.bases state.blocks valuation loaded)
 
 -- a part of an act that loads is carried out: it gives what may be in the frame, and nothing has changed then or where it waits
-pub record Loads (program : TypedProgram) (names : Naming) (known : ℕ → Bool) (before after : State) (earlier later : Progress)
-    (answer : Result Temporary Pause) (part : Part) : Type 0 where
+pub record Loads (program : TypedProgram) (names : Naming) (before after : State) (earlier later : Progress) (answer : Result Temporary Pause)
+    (part : Part) : Type 0 where
   pub act : CarriesOut names.bases before earlier later answer part (loaded_in program names before)
-  pub inside : IfOk answer (AreIn program names.bases known before.frame)
+  pub inside : IfOk answer (MayAllBeIn before)
   pub same : OnOk answer (after ≡ before)
   pub unchanged : WaitsUnchanged before after answer

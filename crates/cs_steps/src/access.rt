@@ -164,7 +164,7 @@ pub fn load(
         → HasLocalsAlone program names.bases known state.old
         → IsOfInteger (view.access access.now)
         → IsIn program names.bases known state.old.frame place
-        → Loads program names known state.old state.new attempt.old.progress attempt.new.progress
+        → Loads program names state.old state.new attempt.old.progress attempt.new.progress
         result (load_part program names state.old (view.access access.now) place) }
 {
     let reached = locate(context, state, tables, attempt, access, place)?;
@@ -195,7 +195,7 @@ fn load_scalar(
         → HasLocalsAlone program names.bases known state.old
         → IsLocalOf names.bases state.old.frame.number
         (count_of_locals program state.old.frame.spot.function) reached.base
-        → Loads program names known state.old state.new attempt.old.progress attempt.new.progress
+        → Loads program names state.old state.new attempt.old.progress attempt.new.progress
         result (scalar_part program names state.old at reached) }
 {
     let value = read(context, state, tables, reached.base, reached.offset)?;

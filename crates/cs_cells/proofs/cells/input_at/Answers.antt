@@ -1,7 +1,7 @@
 use Rattle.std.proofs.Common.{sym, subst}
 use Rattle.cs_state.specs.declared.tables.Tables.{Tables}
 use Rattle.cs_state.specs.Naming.{naming, Extends}
-use Rattle.cs_cells.proofs.GrowingNames.{extends_on}
+use Rattle.cs_progress.proofs.Extending.{extends_on}
 use Rattle.cs_cells.proofs.cells.input_at.Goals as goal
 use Rattle.cs_cells.proofs.cells.input_at.Goals.{then-is_none+in_ok-block-in-Pointer+in_ok-set_block-in-Pointer, else-is_none}
 
