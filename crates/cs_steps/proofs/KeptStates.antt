@@ -13,6 +13,7 @@ use Rattle.cs_state.specs.Writes.{at_spot, with_answers, with_result, with_tempo
 use Rattle.cs_store.specs.declared.value.Value.{Value}
 use Rattle.cs_progress.specs.Locals.{PointToLocals, AreIn, IsOver, HasLocalsAlone, count_of_locals, PointsToLocal}
 use Rattle.cs_progress.specs.Stepping.{KeepsKnown, IsCutTo, IsCutForEnd}
+use Rattle.cs_progress.proofs.KeptLocals.{locals_kept}
 
 pub knows_on : (one two three : State) → KeepsKnown one two → KeepsKnown two three → KeepsKnown one three
 knows_on one two three first second = record {
@@ -76,13 +77,9 @@ module _ (program : TypedProgram) (bases : List Base) (known : ℕ → Bool) whe
   -- temporaries that were dropped
   pub locals_cut : (number : ℕ) (before after : State) → IsCutTo number before after → HasLocalsAlone program bases known before
       → HasLocalsAlone program bases known after
-  locals_cut number before after is have = subst (HasLocalsAlone program bases known) (sym is) (record {
-    callers = have.callers;
-    answers = have.answers;
-    temporaries = All-take (AreIn program bases known before.frame) number before.frame.temporaries have.temporaries;
-    stored = have.stored;
-    filled = have.filled;
-  })
+  locals_cut number before after is have =
+      locals_kept program bases known (take number before.frame.temporaries) before after is
+      (All-take (AreIn program bases known before.frame) number before.frame.temporaries have.temporaries) have
 
   pub locals_cut_for : (end : BlockEnd) (before after : State) → IsCutForEnd end before after → HasLocalsAlone program bases known before
       → HasLocalsAlone program bases known after
