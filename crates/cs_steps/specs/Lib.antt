@@ -3,3 +3,4 @@ pub mod Loading
 pub mod Fetching
 pub mod Storing
 pub mod AtSpots
+pub mod Updating

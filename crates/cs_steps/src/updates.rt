@@ -1,7 +1,9 @@
 //! Updates of objects in place (C11 6.5.2.4, 6.5.16.2).
-ghost use Rattle.std.specs.Prelude.{◌≡◌, ℕ, Bool, List, OnOk, IfErr};
+ghost use Rattle.std.specs.Prelude.{◌≡◌, ℕ, Bool, List, OnOk, IfOk, IfErr};
 ghost use Rattle.cs_types.specs.Shape.{shape_of};
 ghost use Rattle.cs_ast.specs.TypedProgram.{TypedProgram};
+ghost use Rattle.cs_terms.specs.Term as term;
+ghost use Rattle.cs_meaning.specs.Types as types;
 ghost use Rattle.cs_cfg.specs.Graph as graph;
 ghost use Rattle.cs_cfg.specs.Graph.{Code};
 ghost use Rattle.cs_cfg.specs.GraphView as view;
@@ -9,12 +11,15 @@ ghost use Rattle.cs_objects.specs.Prepared.{IsReady};
 ghost use Rattle.cs_regions.specs.declared.base.Base.{Base};
 ghost use Rattle.cs_state.specs.declared.temporary.Temporary.TheVariants.{Scalar};
 ghost use Rattle.cs_state.specs.Cells.{operand_of};
+ghost use Rattle.cs_state.specs.Meaning.{meaning};
 ghost use Rattle.cs_state.specs.Naming.{Naming, naming, Extends};
 ghost use Rattle.cs_progress.specs.declared.pause.Pause.TheVariants as pause;
-ghost use Rattle.cs_progress.specs.Locals.{MayAllBeIn};
+ghost use Rattle.cs_progress.specs.Acting.{CarriesOut};
+ghost use Rattle.cs_progress.specs.Locals.{IsOverKnown, MayBeIn, MayAllBeIn};
 ghost use Rattle.cs_progress.specs.Stepping.{DoesWork, StaysInFrame, KeepsLocals, WaitsUnchanged};
 ghost use Rattle.cs_operators.specs.Asking.{KeepKinds, HasEveryKind};
 ghost use Rattle.cs_steps.specs.Fetching.{ArePushed, MeanPushed, converts_beside, Fetches};
+ghost use Rattle.cs_steps.specs.Updating.{update_part, IsGiven};
 
 use crate::access::{load, store};
 use cs_ast::Place;
@@ -23,12 +28,14 @@ use cs_cfg::Access;
 use cs_checker::Checker;
 use cs_operators::Attempt;
 use cs_operators::operators::{convert_number, directed, operate, sum};
-use cs_progress::operands::{number, number_in, replace, value, value_of};
+use cs_progress::operands::{number, number_in, operand, replace, value, value_of};
 use cs_progress::{Context, Pause, Progress};
 use cs_state::{State, Tables, Temporary};
 use cs_store::Value;
+use cs_terms::Lin;
 use cs_types::{CType, DataModel, IntType};
 use cs_values::constants::integer_of;
+use std::alloc::AllocError;
 
 /// The load of an update of a number, which is converted to the type of the operator.
 pub fn fetch_number(
@@ -117,14 +124,9 @@ pub fn update(
         attempt.old.progress attempt.new.progress result at (graph.Update how.0 (view.access access.now) how.1 how.2) }
 {
     let (operator, ty, gives) = how;
-    let model = context.model();
-    let operands = (number(state, 1)?, number(state, 0)?);
-    let result = operate(model, state, attempt, at, operator, ty, operands)?;
-    let from = CType::Int(ty);
-    let types = (&from, integer_of(&access.ty));
-    let stored = convert_number(model, state, &mut attempt.progress, at, types, result)?;
+    let stored = updated(context, state, attempt, at, (operator, ty), &access.ty)?;
     let stored = Value::Number(stored);
-    let left = given(gives, value(state, 2)?, stored);
+    let left = given(state, gives, 2, stored)?;
     let place = value(state, 3)?;
     store(
         context,
@@ -135,7 +137,36 @@ pub fn update(
         place,
         Temporary::Scalar(stored),
     )?;
-    replace(state, 4, Temporary::Scalar(left))
+    replace(state, 4, left)
+}
+
+// The number that an update stores in an object of a type: that of the operator, which is converted.
+fn updated(
+    context: &Context,
+    state: &State,
+    attempt: &mut Attempt,
+    at: Place,
+    how: (BinOp, IntType),
+    object: &CType,
+) -> Result<Lin, Pause>
+    requires { IsReady context.now.setting.now }
+    ensures kinds { KeepKinds (λ b. (⟦<dyn Checker as Checker>⟧ b.vtable).kind_of b.value)
+        attempt.old.checkers.items attempt.new.checkers.items }
+    ensures act { HasEveryKind (λ b. (⟦<dyn Checker as Checker>⟧ b.vtable).kind_of b.value)
+        attempt.old.checkers.items → (code : Code) (names : Naming) (program : TypedProgram)
+        → CarriesOut names.bases state.now attempt.old.progress attempt.new.progress result
+        (update_part context.now.setting.now.program.now.model at how.0 how.1
+        (types.integer_of (shape_of object.now)) (meaning code names program state.now))
+        (λ made valuation. term.value_of valuation made) }
+    ensures over { IfOk result (IsOverKnown state.now) }
+{
+    let (operator, ty) = how;
+    let model = context.model();
+    let operands = (number(state, 1)?, number(state, 0)?);
+    let result = operate(model, state, attempt, at, operator, ty, operands)?;
+    let from = CType::Int(ty);
+    let types = (&from, integer_of(object));
+    convert_number(model, state, &mut attempt.progress, at, types, result)
 }
 
 /// A pointer that has moved is stored: the operands are the place, the value before, and the amount of elements of so many bytes.
@@ -156,6 +187,7 @@ pub fn move_pointer(
     let amount = directed(direction, number(state, 0)?)?;
     let before = value(state, 1)?;
     let moved = sum(context, state, attempt, at, before, amount, bytes)?;
+    let left = given(state, gives, 1, moved)?;
     let place = value(state, 2)?;
     store(
         context,
@@ -166,13 +198,16 @@ pub fn move_pointer(
         place,
         Temporary::Scalar(moved),
     )?;
-    replace(state, 3, Temporary::Scalar(given(gives, before, moved)))
+    replace(state, 3, left)
 }
 
-// The value that an update gives.
-fn given(gives: Gives, before: Value, after: Value) -> Value {
+// What an update gives: the operand of this age, which is the value before, or the value after it.
+fn given(state: &State, gives: Gives, age: usize, after: Value) -> Result<Temporary, AllocError>
+    ensures operand { IfOk result (IsGiven state.now gives age (Scalar after)) }
+    ensures inside { IfOk result (λ left. MayBeIn state.now after → MayAllBeIn state.now left) }
+{
     match gives {
-        Gives::Old => before,
-        Gives::New => after,
+        Gives::Old => operand(state, age)?.clone(),
+        Gives::New => Ok(Temporary::Scalar(after)),
     }
 }
