@@ -114,7 +114,7 @@ module _ (code : Code) (names : Naming) (program : TypedProgram) (known : ℕ �
       → Works {T = Unit {0}} code names program known before before earlier later (Ok tt) act
   works_met have leads = works_done code names program known before before earlier later (Ok tt) act (record {
     stays = record {
-      known = record { model = refl; constraints = refl; counters = refl; asked = refl; phase = refl };
+      known = record { model = refl; constraints = refl; counters = refl; asked = refl; phase = refl; blocks = refl };
       answers = refl;
       callers = refl;
       number = refl;

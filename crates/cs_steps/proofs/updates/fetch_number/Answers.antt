@@ -39,10 +39,13 @@ returns-in_err-loaded-clause-work g c = λ every code names program budgets know
     λ todo v given. converts_beside program.model c.args.how.0 access.ty c.args.how.1 given.1 (with_memory given.0 (stands code names program state todo v)) in
     works_handed code names program known state _ _ _ c.from_residual-in_err-loaded.result act c.in_err-loaded.field-0.0
     c.from_residual-in_err-loaded.ensures
-    (λ waits. (loads.unchanged waits, λ todo.
-    part_waits code names program state todo act (load_part program names state access place) (rest todo)
-    (λ v fits. ap (λ cell. load_object program (memory_in program names state v) state.frame.number access cell (λ memory operand. rest todo v (memory, operand)))
-    (c.in_ok-place.ensures.value code names program v)) _ _ (loads.act.waits waits)))
+    (λ waits. (
+      loads.unchanged waits,
+      λ todo.
+          part_waits code names program state todo act (load_part program names state access place) (rest todo)
+          (λ v fits. ap (λ cell. load_object program (memory_in program names state v) state.frame.number access cell (λ memory operand. rest todo v (memory, operand)))
+          (c.in_ok-place.ensures.value code names program v)) _ _ (loads.act.waits waits),
+    ))
 
 pub returns-clause-work : goal.returns-clause-work
 returns-clause-work g c = λ every code names program budgets known model extends once alone integer.
