@@ -109,7 +109,7 @@ module _ (code : Code) (names : Naming) (program : TypedProgram) (known : â„• â†
 
     stays_there : StaysInFrame before middle
     stays_there = subst (StaysInFrame before) (sym made) (record {
-      known = record { model = refl; constraints = refl; counters = refl; asked = refl; phase = refl };
+      known = record { model = refl; constraints = refl; counters = refl; asked = refl; phase = refl; blocks = refl };
       answers = refl;
       callers = refl;
       number = refl;

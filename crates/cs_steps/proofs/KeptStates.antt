@@ -22,23 +22,31 @@ knows_on one two three first second = record {
   counters = second.counters ∙ first.counters;
   asked = second.asked ∙ first.asked;
   phase = second.phase ∙ first.phase;
+  blocks = second.blocks ∙ first.blocks;
 }
 
 pub knows_cut : (temporaries : List Temporary) (before after : State) → after ≡ with_temporaries temporaries before → KeepsKnown before after
 knows_cut temporaries before after is =
-    subst (KeepsKnown before) (sym is) (record { model = refl; constraints = refl; counters = refl; asked = refl; phase = refl })
+    subst (KeepsKnown before) (sym is) (record { model = refl; constraints = refl; counters = refl; asked = refl; phase = refl; blocks = refl })
 
 pub knows_moved : (spot : Spot) (before after : State) → after ≡ at_spot spot before → KeepsKnown before after
 knows_moved spot before after is =
-    subst (KeepsKnown before) (sym is) (record { model = refl; constraints = refl; counters = refl; asked = refl; phase = refl })
+    subst (KeepsKnown before) (sym is) (record { model = refl; constraints = refl; counters = refl; asked = refl; phase = refl; blocks = refl })
 
 pub knows_returned : (result : Option Value) (before after : State) → after ≡ with_result result before → KeepsKnown before after
 knows_returned result before after is =
-    subst (KeepsKnown before) (sym is) (record { model = refl; constraints = refl; counters = refl; asked = refl; phase = refl })
+    subst (KeepsKnown before) (sym is) (record { model = refl; constraints = refl; counters = refl; asked = refl; phase = refl; blocks = refl })
 
 pub knows_answered : (before state : State) → KeepsKnown before state → KeepsKnown before (with_answers [] state)
 knows_answered before state knows =
-    record { model = knows.model; constraints = knows.constraints; counters = knows.counters; asked = knows.asked; phase = knows.phase }
+    record {
+      model = knows.model;
+      constraints = knows.constraints;
+      counters = knows.counters;
+      asked = knows.asked;
+      phase = knows.phase;
+      blocks = knows.blocks;
+    }
 
 module _ (program : TypedProgram) (bases : List Base) (known : ℕ → Bool) where
   -- a frame that goes on in its function

@@ -3,6 +3,7 @@ mod Loading
 mod Storing
 mod Working
 mod Fetching
+mod LoadedWork
 mod CutMeanings
 mod Going
 mod KeptStates
@@ -13,3 +14,4 @@ mod Branching
 mod Switching
 mod Ways
 mod Counting
+mod Dispatching
