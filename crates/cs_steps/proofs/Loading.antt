@@ -226,7 +226,7 @@ module _ (program : TypedProgram) (names : Naming) (known : ℕ → Bool) (befor
 
         -- a fault stands first
         pub check_waits : (answer : Result Temporary Pause) (why : Pause) → IsErr answer × IsErrAnd answer (λ e. e ≡ why)
-            → Passes names.bases middle earlier later (Err {T = T} why) set_part
+            → Passes {T = T} names.bases middle earlier later (Err why) set_part
             → Loads program names before middle earlier later answer (scalar_part program names before at reached)
         check_waits answer why is passes =
             load_handed middle earlier later answer (scalar_part program names before at reached) why is
