@@ -6,7 +6,6 @@ use Rattle.cs_inputs.specs.declared.path.Path.{Path}
 use Rattle.cs_ast.specs.declared.place.Place.{Place}
 use Rattle.cs_ast.specs.TypedProgram.{TypedProgram}
 use Rattle.cs_terms.specs.Term.{Valuation}
-use Rattle.cs_constraints.specs.Constraints.{Fits}
 use Rattle.cs_checker.specs.declared.subject.Subject.TheVariants.{Cell as OfCell}
 use Rattle.cs_events.specs.declared.input.InputKind.{InputKind}
 use Rattle.cs_events.specs.Objects.{Object, Cell}
@@ -18,7 +17,6 @@ use Rattle.cs_meaning.specs.Machine.{Operand, Scalar}
 use Rattle.cs_meaning.specs.Memory.{Memory, Holds}
 use Rattle.cs_cfg.specs.Working.{CodeState}
 use Rattle.cs_regions.specs.declared.base.Base.{Base}
-use Rattle.cs_regions.specs.declared.base.Base.TheVariants.{Local}
 use Rattle.cs_regions.specs.Numbering.{IsNumbered}
 use Rattle.cs_store.specs.declared.value.Value.{Value}
 use Rattle.cs_store.specs.declared.value.Value.TheVariants as value
@@ -34,8 +32,7 @@ use Rattle.cs_progress.specs.declared.next.Next.{Next}
 use Rattle.cs_progress.specs.declared.pause.Pause.{Pause}
 use Rattle.cs_progress.specs.declared.pause.Pause.TheVariants as pause
 use Rattle.cs_progress.specs.declared.progress.Progress.{Progress}
-use Rattle.cs_progress.specs.Acting.{UsesAll, Leads, Gives, GetsThrough, CarriesOut, Passes, WaitsFor}
-use Rattle.cs_progress.specs.Answering.{answers_left}
+use Rattle.cs_progress.specs.Acting.{UsesAll, Leads, Gives, GetsThrough, Passes, WaitsFor}
 use Rattle.cs_progress.specs.Locals.{IsLocalOf, IsIn, MayBeIn, HasLocalsAlone, IsOfInteger, count_of_locals, value_held}
 use Rattle.cs_progress.proofs.Looks.{leads_same}
 use Rattle.cs_progress.proofs.Composing.{leads_on, waits_on}

@@ -1,5 +1,5 @@
-use Rattle.std.proofs.Common.{◌≡◌, refl, sym, ap, ◌∙◌}
-use Rattle.cs_types.specs.Shape.{shape_of, struct, integer}
+use Rattle.std.proofs.Common.{refl}
+use Rattle.cs_types.specs.Shape.{integer}
 use Rattle.cs_cfg.specs.GraphView as view
 use Rattle.cs_progress.proofs.KeptLocals.{named_local}
 use Rattle.cs_operators.proofs.Checking.{every_kept}
