@@ -1,4 +1,4 @@
-use Rattle.std.proofs.Common.{◌≡◌, refl, sym, ap, subst}
+use Rattle.std.proofs.Common.{ap}
 use Rattle.cs_terms.specs.Term.{Valuation}
 use Rattle.cs_events.specs.Acts.{Act, Goes}
 use Rattle.cs_meaning.specs.Access.{load_object}
@@ -18,8 +18,8 @@ use Rattle.cs_steps.proofs.work.load_in_place.Goals as goal
 
 pub returns-in_err-place-clause-work : goal.returns-in_err-place-clause-work
 returns-in_err-place-clause-work g c = λ every at code names program budgets known model extends once alone integer.
-    works_handed code names program known c.args.state.now _ _ _ c.from_residual-in_err-place.result
-    (do_work code program budgets at (graph.Load (view.access c.args.access.now))) c.in_err-place.field-0.0 c.from_residual-in_err-place.ensures
+    works_handed code names program known c.args.state.now _ _ _ c.from_residual.result
+    (do_work code program budgets at (graph.Load (view.access c.args.access.now))) c.in_err-place.field-0.0 c.from_residual.ensures
     (λ waits. no_wait _ c.in_err-place.ensures.memory waits)
 
 pub returns-in_err-loaded-clause-work : goal.returns-in_err-loaded-clause-work
