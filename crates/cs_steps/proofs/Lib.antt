@@ -13,3 +13,5 @@ mod Branching
 mod Switching
 mod Ways
 mod Counting
+mod Assigning
+mod Updating
