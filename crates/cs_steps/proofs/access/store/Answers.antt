@@ -11,8 +11,8 @@ returns-in_err-reached-clause-integer g c = λ every program names known extends
     let state = c.args.state.now in
     let access = view.access c.args.access.now in
     let reaches = c.in_err-reached.ensures.act every integer.direct program names known _ _ extends inside in
-    store_handed program names known state _ _ _ c.from_residual-in_err-reached.result
-    (store_part program names state at access c.args.place c.args.operand) c.in_err-reached.field-0.0 c.from_residual-in_err-reached.ensures
+    store_handed program names known state _ _ _ c.from_residual.result
+    (store_part program names state at access c.args.place c.args.operand) c.in_err-reached.field-0.0 c.from_residual.ensures
     (λ waits. (refl, store_waits program names known state at access integer c.args.place c.args.operand _ _ (reaches.waits waits)))
 
 pub returns-clause-integer : goal.returns-clause-integer
