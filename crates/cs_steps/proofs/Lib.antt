@@ -3,6 +3,7 @@ mod Loading
 mod Storing
 mod Working
 mod Fetching
+mod LoadedWork
 mod CutMeanings
 mod Going
 mod KeptStates
