@@ -56,11 +56,11 @@ use Rattle.cs_steps.proofs.Loading.{touched}
 pub not_constant : (state : State) (at : Place) (constant : Bool) → constant ≡ false → ChecksFor state (Written constant) at (λ v act. act)
 not_constant state at constant is v fits =
     subst (λ (b : Bool). ChecksFor state (Written b) at (λ w act. act)) (sym is)
-    (λ w f. record { faulty = λ k holds act. no_fault k holds; good = λ none act. refl }) v fits
+    (λ w f. record { faulty = λ k holds act. no_fault w k holds; good = λ none act. refl }) v fits
   where
-    no_fault : {A : Type 0} (k : Kind) → is_faulty_for k (Written false) v ≡ true → A
-    no_fault kind.ConstWrite holds = absurd (true≢false (sym holds))
-    no_fault other holds = absurd (true≢false (sym holds))
+    no_fault : {A : Type 0} (w : Valuation) (k : Kind) → is_faulty_for k (Written false) w ≡ true → A
+    no_fault w kind.ConstWrite holds = absurd (true≢false (sym holds))
+    no_fault w other holds = absurd (true≢false (sym holds))
 
 module _ (program : TypedProgram) (bases : List Base) (state : State) (at : Place) (cell : Valuation → Cell) where
   -- what comes once a variable was reached
@@ -108,16 +108,9 @@ unchanged_memory : (object : Object) (memory : Memory) → memory ≡ changed (�
 unchanged_memory object memory = fun_ext (λ other. at (same_object object other) (memory other))
   where
     at : (same : Bool) (found : Option Block) → found ≡ (if same then option_map (λ block. block) found else found)
-    at same None = by same
-      where
-        by : (b : Bool) → None {A = Block} ≡ (if b then None else None)
-        by true = refl
-        by false = refl
-    at same (Some block) = by same
-      where
-        by : (b : Bool) → Some block ≡ (if b then Some block else Some block)
-        by true = refl
-        by false = refl
+    at true None = refl
+    at true (Some block) = refl
+    at false found = refl
 
 module _ (program : TypedProgram) (names : Naming) (known : ℕ → Bool) (before : State) where
   -- nothing was written
