@@ -16,3 +16,4 @@ mod Ways
 mod Counting
 mod Assigning
 mod Updating
+mod PushedPlaces

@@ -15,8 +15,8 @@ returns-in_err-stored-clause-work g c = λ every code names program budgets know
     let state = c.args.state.now in
     let access = view.access c.args.access.now in
     let act = update_act code names program budgets state _ model c.args.at c.args.how.0 access c.args.how.1 c.args.how.2 in
-    works_handed code names program known state _ _ _ c.from_residual-in_err-stored.result act c.in_err-stored.field-0.0
-    c.from_residual-in_err-stored.ensures
+    works_handed code names program known state _ _ _ c.from_residual.result act c.in_err-stored.field-0.0
+    c.from_residual.ensures
     (λ waits. (refl, update_waits code names program budgets state _ model c.args.at c.args.how.0 access c.args.how.1 c.args.how.2 _ _
     ((c.in_err-stored.ensures.act every code names program).waits waits)))
 

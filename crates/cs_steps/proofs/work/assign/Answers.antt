@@ -13,8 +13,8 @@ use Rattle.cs_steps.proofs.work.assign.Goals as goal
 
 pub returns-in_err-place-clause-work : goal.returns-in_err-place-clause-work
 returns-in_err-place-clause-work g c = λ every at code names program budgets known model extends once alone integer.
-    works_handed code names program known c.args.state.now _ _ _ c.from_residual-in_err-place.result
-    (do_work code program budgets at (graph.Store (view.access c.args.access.now))) c.in_err-place.field-0.0 c.from_residual-in_err-place.ensures
+    works_handed code names program known c.args.state.now _ _ _ c.from_residual.result
+    (do_work code program budgets at (graph.Store (view.access c.args.access.now))) c.in_err-place.field-0.0 c.from_residual.ensures
     (λ waits. no_wait _ c.in_err-place.ensures.memory waits)
 
 pub returns-in_err-store-clause-work : goal.returns-in_err-store-clause-work
@@ -23,7 +23,7 @@ returns-in_err-store-clause-work g c = λ every at code names program budgets kn
     let access = view.access c.args.access.now in
     let place = c.in_ok-place.place in
     let stored = c.in_ok-stored.stored in
-    let is : stored ≡ c.in_ok-operand.field-0.now = c.in_ok-stored.ensures in
+    let is : stored ≡ c.in_ok-operand.field-0.now = c.in_ok-stored.ensures.cases in
     let at_0 : IsOperandAt state 0 stored = subst (IsOperandAt state 0) (sym is) c.in_ok-operand.ensures.operand in
     let within : MayAllBeIn state stored = subst (MayAllBeIn state) (sym is) c.in_ok-operand.ensures.within in
     let act = do_work code program budgets at (graph.Store access) in
@@ -41,8 +41,8 @@ returns-clause-work g c = λ every at code names program budgets known model ext
     let access = view.access c.args.access.now in
     let place = c.in_ok-place.place in
     let stored = c.in_ok-stored.stored in
-    let is : stored ≡ c.in_ok-operand.field-0.now = c.in_ok-stored.ensures in
-    let left : c.in_ok-left.left ≡ stored = c.in_ok-left.ensures in
+    let is : stored ≡ c.in_ok-operand.field-0.now = c.in_ok-stored.ensures.cases in
+    let left : c.in_ok-left.left ≡ stored = c.in_ok-left.ensures.cases in
     let at_0 : IsOperandAt state 0 stored = subst (IsOperandAt state 0) (sym is) c.in_ok-operand.ensures.operand in
     let within : MayAllBeIn state stored = subst (MayAllBeIn state) (sym is) c.in_ok-operand.ensures.within in
     let act = do_work code program budgets at (graph.Store access) in
