@@ -17,23 +17,19 @@ use Rattle.cs_meaning.specs.Machine.{Operand, cell_of, push, push_cell, to_do}
 use Rattle.cs_meaning.specs.Operators.{convert_number}
 use Rattle.cs_cfg.specs.Graph.{Point, Code}
 use Rattle.cs_cfg.specs.Working.{CodeState}
-use Rattle.cs_store.specs.declared.value.Value.{Value}
 use Rattle.cs_store.specs.declared.value.Value.TheVariants as value
 use Rattle.cs_state.specs.declared.state.State.{State}
 use Rattle.cs_state.specs.declared.temporary.Temporary.{Temporary}
 use Rattle.cs_state.specs.declared.temporary.Temporary.TheVariants.{Scalar}
 use Rattle.cs_state.specs.Cells.{operand_of}
-use Rattle.cs_state.specs.Meaning.{meaning}
 use Rattle.cs_state.specs.Naming.{Naming}
 use Rattle.cs_regions.specs.declared.base.Base.{Base}
 use Rattle.cs_progress.specs.declared.pause.Pause.{Pause}
 use Rattle.cs_progress.specs.declared.pause.Pause.TheVariants as pause
 use Rattle.cs_progress.specs.declared.progress.Progress.{Progress}
 use Rattle.cs_progress.specs.Acting.{Gives, WaitsFor}
-use Rattle.cs_progress.specs.Answering.{answers_left}
-use Rattle.cs_progress.specs.Locals.{IsOverKnown, MayAllBeIn, HasLocalsAlone, AreIn}
-use Rattle.cs_progress.specs.Operands.{IsScalarOf, IsNumberOf}
-use Rattle.cs_progress.specs.Stepping.{StaysInFrame, KeepsLocals, WaitsUnchanged}
+use Rattle.cs_progress.specs.Locals.{MayAllBeIn, AreIn}
+use Rattle.cs_progress.specs.Stepping.{StaysInFrame, KeepsLocals}
 use Rattle.cs_progress.proofs.Looks.{leads_same}
 use Rattle.cs_progress.proofs.Composing.{leads_on, waits_on}
 use Rattle.cs_progress.proofs.Carrying.{no_wait}

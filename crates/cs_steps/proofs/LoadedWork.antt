@@ -1,28 +1,35 @@
 -- The whole of an operation that loads: for the contracts of `load_in_place` and `fetch_number`.
-use Rattle.std.proofs.Common.{◌≡◌, ℕ, Bool, Result, Ok, Err, OnOk, IfErr, refl, sym, ap, ◌∙◌, subst}
+use Rattle.std.proofs.Common.{◌≡◌, ℕ, Bool, Result, Ok, Err, OnOk, IfErr, refl, sym, subst}
+use Rattle.cs_types.specs.declared.data_model.DataModel.{DataModel}
+use Rattle.cs_types.specs.declared.int_type.IntType.{IntType}
+use Rattle.cs_types.specs.Shape.{Shape}
+use Rattle.cs_ast.specs.declared.place.Place.{Place}
 use Rattle.cs_ast.specs.TypedProgram.{TypedProgram}
 use Rattle.cs_terms.specs.Term.{Valuation}
 use Rattle.cs_events.specs.Acts.{Act, Goes}
-use Rattle.cs_meaning.specs.Machine.{to_do, push, pop_many, with_memory}
+use Rattle.cs_meaning.specs.Machine.{push, pop_many, with_memory}
 use Rattle.cs_cfg.specs.Graph.{Point, Code}
 use Rattle.cs_cfg.specs.Working.{CodeState}
 use Rattle.cs_state.specs.declared.state.State.{State}
 use Rattle.cs_state.specs.declared.temporary.Temporary.{Temporary}
 use Rattle.cs_state.specs.Cells.{operand_of}
-use Rattle.cs_state.specs.Meaning.{meaning}
 use Rattle.cs_state.specs.Naming.{Naming}
 use Rattle.cs_state.specs.Writes as writes
 use Rattle.cs_progress.specs.declared.pause.Pause.{Pause}
 use Rattle.cs_progress.specs.declared.pause.Pause.TheVariants as pause
 use Rattle.cs_progress.specs.declared.progress.Progress.{Progress}
-use Rattle.cs_progress.specs.Locals.{AreIn, MayAllBeIn, HasLocalsAlone}
+use Rattle.cs_progress.specs.Locals.{AreIn, HasLocalsAlone}
 use Rattle.cs_progress.specs.Operands.{IsReplaced, MeansReplaced}
 use Rattle.cs_progress.specs.Stepping.{StaysInFrame, KeepsLocals, WaitsUnchanged, Works}
 use Rattle.cs_progress.proofs.Composing.{leads_on, waits_on}
 use Rattle.cs_operators.proofs.Computed.{stands, AllLead}
 use Rattle.cs_cells.specs.InMemory.{memory_in}
-use Rattle.cs_steps.specs.Fetching.{Fetches}
+use Rattle.cs_steps.specs.Fetching.{converts_beside, Fetches}
 use Rattle.cs_steps.proofs.Working.{works_replaced}
+
+-- the number of what was loaded is converted, in a state
+abbrev pub converts_loaded : Naming → DataModel → Place → Shape → IntType → Temporary → State → Valuation → CodeState → Act CodeState
+converts_loaded names model at from to loaded state v = converts_beside model at from to (operand_of names.bases state.blocks v loaded)
 
 module _ (code : Code) (names : Naming) (program : TypedProgram) (known : ℕ → Bool) (before : State)
     (alone : HasLocalsAlone program names.bases known before) (middle : State) (same : middle ≡ before) (after : State) (earlier later : Progress)

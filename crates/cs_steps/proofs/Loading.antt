@@ -6,7 +6,6 @@ use Rattle.cs_inputs.specs.declared.path.Path.{Path}
 use Rattle.cs_ast.specs.declared.place.Place.{Place}
 use Rattle.cs_ast.specs.TypedProgram.{TypedProgram}
 use Rattle.cs_terms.specs.Term.{Valuation}
-use Rattle.cs_constraints.specs.Constraints.{Fits}
 use Rattle.cs_checker.specs.declared.subject.Subject.TheVariants.{Cell as OfCell}
 use Rattle.cs_events.specs.declared.input.InputKind.{InputKind}
 use Rattle.cs_events.specs.Objects.{Object, Cell}
@@ -18,7 +17,6 @@ use Rattle.cs_meaning.specs.Machine.{Operand, Scalar}
 use Rattle.cs_meaning.specs.Memory.{Memory, Holds}
 use Rattle.cs_cfg.specs.Working.{CodeState}
 use Rattle.cs_regions.specs.declared.base.Base.{Base}
-use Rattle.cs_regions.specs.declared.base.Base.TheVariants.{Local}
 use Rattle.cs_regions.specs.Numbering.{IsNumbered}
 use Rattle.cs_store.specs.declared.value.Value.{Value}
 use Rattle.cs_store.specs.declared.value.Value.TheVariants as value
@@ -34,8 +32,7 @@ use Rattle.cs_progress.specs.declared.next.Next.{Next}
 use Rattle.cs_progress.specs.declared.pause.Pause.{Pause}
 use Rattle.cs_progress.specs.declared.pause.Pause.TheVariants as pause
 use Rattle.cs_progress.specs.declared.progress.Progress.{Progress}
-use Rattle.cs_progress.specs.Acting.{UsesAll, Leads, Gives, GetsThrough, CarriesOut, Passes, WaitsFor}
-use Rattle.cs_progress.specs.Answering.{answers_left}
+use Rattle.cs_progress.specs.Acting.{UsesAll, Leads, Gives, GetsThrough, Passes, WaitsFor}
 use Rattle.cs_progress.specs.Locals.{IsLocalOf, IsIn, MayBeIn, HasLocalsAlone, IsOfInteger, count_of_locals, value_held}
 use Rattle.cs_progress.proofs.Looks.{leads_same}
 use Rattle.cs_progress.proofs.Composing.{leads_on, waits_on}
@@ -226,7 +223,7 @@ module _ (program : TypedProgram) (names : Naming) (known : ℕ → Bool) (befor
 
         -- a fault stands first
         pub check_waits : (answer : Result Temporary Pause) (why : Pause) → IsErr answer × IsErrAnd answer (λ e. e ≡ why)
-            → Passes names.bases middle earlier later (Err {T = T} why) set_part
+            → Passes {T = T} names.bases middle earlier later (Err why) set_part
             → Loads program names before middle earlier later answer (scalar_part program names before at reached)
         check_waits answer why is passes =
             load_handed middle earlier later answer (scalar_part program names before at reached) why is

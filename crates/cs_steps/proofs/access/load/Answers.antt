@@ -1,5 +1,5 @@
-use Rattle.std.proofs.Common.{◌≡◌, refl, sym, ap, ◌∙◌}
-use Rattle.cs_types.specs.Shape.{shape_of, struct, integer}
+use Rattle.std.proofs.Common.{refl}
+use Rattle.cs_types.specs.Shape.{integer}
 use Rattle.cs_cfg.specs.GraphView as view
 use Rattle.cs_progress.proofs.KeptLocals.{named_local}
 use Rattle.cs_operators.proofs.Checking.{every_kept}
@@ -12,8 +12,8 @@ returns-in_err-reached-clause-integer g c = λ every program names known extends
     let state = c.args.state.now in
     let access = view.access c.args.access.now in
     let reaches = c.in_err-reached.ensures.act integer.direct names.bases (named_local names.bases known _ _ c.args.place inside) in
-    load_handed program names known state alone _ _ _ c.from_residual-in_err-reached.result (load_part program names state access c.args.place)
-    c.in_err-reached.field-0.0 c.from_residual-in_err-reached.ensures
+    load_handed program names known state alone _ _ _ c.from_residual.result (load_part program names state access c.args.place)
+    c.in_err-reached.field-0.0 c.from_residual.ensures
     (λ waits. (refl, load_waits program names known state alone access c.args.place integer _ _ (reaches.waits waits)))
 
 pub returns-clause-integer : goal.returns-clause-integer

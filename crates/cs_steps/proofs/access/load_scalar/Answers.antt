@@ -1,9 +1,7 @@
 use Rattle.std.proofs.Common.{◌≡◌, ap, sym, ◌∙◌}
 use Rattle.cs_progress.proofs.Extending.{extends_on}
-use Rattle.cs_progress.proofs.Carrying.{no_wait}
 use Rattle.cs_operators.proofs.Using.{is_unset, set_else}
-use Rattle.cs_steps.specs.Loading.{scalar_part}
-use Rattle.cs_steps.proofs.Loading.{set_part, middle_checked, check_waits, scalar_done, load_handed}
+use Rattle.cs_steps.proofs.Loading.{set_part, middle_checked, check_waits, scalar_done}
 use Rattle.cs_steps.proofs.access.load_scalar.Goals as goal
 use Rattle.cs_steps.proofs.access.load_scalar.Goals.{in-Unset, in_default}
 

@@ -9,7 +9,6 @@ use Rattle.cs_cfg.specs.Graph as graph
 use Rattle.cs_cfg.specs.Graph.{Point}
 use Rattle.cs_cfg.specs.GraphView as view
 use Rattle.cs_cfg.specs.Working.{CodeState, do_work}
-use Rattle.cs_state.specs.Cells.{operand_of}
 use Rattle.cs_state.specs.declared.state.State.{State}
 use Rattle.cs_progress.specs.Locals.{MayAllBeIn}
 use Rattle.cs_progress.proofs.Carrying.{no_wait}
@@ -17,15 +16,15 @@ use Rattle.cs_operators.proofs.Computed.{stands, part_leads, part_waits}
 use Rattle.cs_cells.specs.InMemory.{memory_in}
 use Rattle.cs_steps.specs.Fetching.{converts_beside}
 use Rattle.cs_steps.specs.Loading.{load_part}
-use Rattle.cs_steps.proofs.LoadedWork.{fetch_works}
+use Rattle.cs_steps.proofs.LoadedWork.{converts_loaded, fetch_works}
 use Rattle.cs_steps.proofs.Working.{works_handed}
 use Rattle.cs_steps.proofs.updates.fetch_number.Goals as goal
 
 pub returns-in_err-place-clause-work : goal.returns-in_err-place-clause-work
 returns-in_err-place-clause-work g c = λ every code names program budgets known model extends once alone integer.
-    works_handed code names program known c.args.state.now _ _ _ c.from_residual-in_err-place.result
+    works_handed code names program known c.args.state.now _ _ _ c.from_residual.result
     (do_work code program budgets c.args.how.0 (graph.FetchNumber (view.access c.args.access.now) c.args.how.1)) c.in_err-place.field-0.0
-    c.from_residual-in_err-place.ensures (λ waits. no_wait _ c.in_err-place.ensures.memory waits)
+    c.from_residual.ensures (λ waits. no_wait _ c.in_err-place.ensures.memory waits)
 
 pub returns-in_err-loaded-clause-work : goal.returns-in_err-loaded-clause-work
 returns-in_err-loaded-clause-work g c = λ every code names program budgets known model extends once alone integer.
@@ -39,10 +38,13 @@ returns-in_err-loaded-clause-work g c = λ every code names program budgets know
     λ todo v given. converts_beside program.model c.args.how.0 access.ty c.args.how.1 given.1 (with_memory given.0 (stands code names program state todo v)) in
     works_handed code names program known state _ _ _ c.from_residual-in_err-loaded.result act c.in_err-loaded.field-0.0
     c.from_residual-in_err-loaded.ensures
-    (λ waits. (loads.unchanged waits, λ todo.
-    part_waits code names program state todo act (load_part program names state access place) (rest todo)
-    (λ v fits. ap (λ cell. load_object program (memory_in program names state v) state.frame.number access cell (λ memory operand. rest todo v (memory, operand)))
-    (c.in_ok-place.ensures.value code names program v)) _ _ (loads.act.waits waits)))
+    (λ waits. (
+      loads.unchanged waits,
+      λ todo.
+          part_waits code names program state todo act (load_part program names state access place) (rest todo)
+          (λ v fits. ap (λ cell. load_object program (memory_in program names state v) state.frame.number access cell (λ memory operand. rest todo v (memory, operand)))
+          (c.in_ok-place.ensures.value code names program v)) _ _ (loads.act.waits waits),
+    ))
 
 pub returns-clause-work : goal.returns-clause-work
 returns-clause-work g c = λ every code names program budgets known model extends once alone integer.
@@ -57,7 +59,7 @@ returns-clause-work g c = λ every code names program budgets known model extend
     let rest : Point → Valuation → Memory × Operand → Act CodeState =
     λ todo v given. converts_beside c.model.result c.args.how.0 access.ty c.args.how.1 given.1 (with_memory given.0 (stands code names program state todo v)) in
     fetch_works code names program known state alone c.load.new.state loads.same c.push_converted.new.state _ _ c.push_converted.result act _
-    (λ (s : State) v. converts_beside c.model.result c.args.how.0 access.ty c.args.how.1 (operand_of names.bases s.blocks v loaded))
+    (converts_loaded names c.model.result c.args.how.0 access.ty c.args.how.1 loaded)
     (c.push_converted.ensures.act code names program) c.push_converted.ensures.frame
     (on_ok_weaker c.push_converted.result (λ keeps. keeps (subst (λ (s : State). MayAllBeIn s loaded) (sym loads.same) loads.inside) program names.bases known)
     c.push_converted.ensures.locals) c.push_converted.ensures.unchanged

@@ -1,16 +1,9 @@
-use Rattle.std.proofs.Common.{◌≡◌, sym, ap, ◌∙◌}
+use Rattle.std.proofs.Common.{ap, ◌∙◌}
 use Rattle.cs_types.specs.Shape.{shape_of}
-use Rattle.cs_terms.specs.Term.{Valuation, value_of}
-use Rattle.cs_constraints.specs.Constraints.{Fits}
 use Rattle.cs_meaning.specs.Initials as cells
-use Rattle.cs_meaning.specs.Machine as machine
 use Rattle.cs_store.specs.declared.value.Value.TheVariants.{Number}
 use Rattle.cs_state.specs.declared.temporary.Temporary.TheVariants.{Scalar}
-use Rattle.cs_state.specs.Cells.{operand_of}
-use Rattle.cs_progress.proofs.Carrying.{no_wait}
-use Rattle.cs_progress.proofs.KeptLocals.{never_waits}
-use Rattle.cs_steps.specs.Fetching.{converts_beside}
-use Rattle.cs_steps.proofs.Fetching.{fetch_handed, conversion_waits, fetched, both_stay, both_keep}
+use Rattle.cs_steps.proofs.Fetching.{conversion_waits, fetched, both_keep}
 use Rattle.cs_steps.proofs.updates.push_converted.Goals as goal
 
 pub returns-in_err-after-clause-act : goal.returns-in_err-after-clause-act

@@ -1,4 +1,4 @@
-use Rattle.std.proofs.Common.{◌≡◌, refl, sym, ap, subst}
+use Rattle.std.proofs.Common.{ap}
 use Rattle.cs_terms.specs.Term.{Valuation}
 use Rattle.cs_events.specs.Acts.{Act, Goes}
 use Rattle.cs_meaning.specs.Access.{load_object}
@@ -18,8 +18,8 @@ use Rattle.cs_steps.proofs.work.load_in_place.Goals as goal
 
 pub returns-in_err-place-clause-work : goal.returns-in_err-place-clause-work
 returns-in_err-place-clause-work g c = λ every at code names program budgets known model extends once alone integer.
-    works_handed code names program known c.args.state.now _ _ _ c.from_residual-in_err-place.result
-    (do_work code program budgets at (graph.Load (view.access c.args.access.now))) c.in_err-place.field-0.0 c.from_residual-in_err-place.ensures
+    works_handed code names program known c.args.state.now _ _ _ c.from_residual.result
+    (do_work code program budgets at (graph.Load (view.access c.args.access.now))) c.in_err-place.field-0.0 c.from_residual.ensures
     (λ waits. no_wait _ c.in_err-place.ensures.memory waits)
 
 pub returns-in_err-loaded-clause-work : goal.returns-in_err-loaded-clause-work
@@ -34,10 +34,13 @@ returns-in_err-loaded-clause-work g c = λ every at code names program budgets k
     λ todo v given. Goes (push given.1 (with_memory given.0 (pop (stands code names program state todo v)))) in
     works_handed code names program known state _ _ _ c.from_residual-in_err-loaded.result act c.in_err-loaded.field-0.0
     c.from_residual-in_err-loaded.ensures
-    (λ waits. (loads.unchanged waits, λ todo.
-    part_waits code names program state todo act (load_part program names state access place) (rest todo)
-    (λ v fits. ap (λ cell. load_object program (memory_in program names state v) state.frame.number access cell (λ memory operand. rest todo v (memory, operand)))
-    (c.in_ok-place.ensures.value code names program v)) _ _ (loads.act.waits waits)))
+    (λ waits. (
+      loads.unchanged waits,
+      λ todo.
+          part_waits code names program state todo act (load_part program names state access place) (rest todo)
+          (λ v fits. ap (λ cell. load_object program (memory_in program names state v) state.frame.number access cell (λ memory operand. rest todo v (memory, operand)))
+          (c.in_ok-place.ensures.value code names program v)) _ _ (loads.act.waits waits),
+    ))
 
 pub returns-clause-work : goal.returns-clause-work
 returns-clause-work g c = λ every at code names program budgets known model extends once alone integer.
