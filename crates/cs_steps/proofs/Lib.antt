@@ -15,3 +15,6 @@ mod Switching
 mod Ways
 mod Counting
 mod Dispatching
+mod Assigning
+mod Updating
+mod PushedPlaces

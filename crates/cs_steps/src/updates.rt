@@ -209,7 +209,7 @@ fn given(state: &State, gives: Gives, age: usize, after: Value) -> Result<Tempor
     ensures inside { IfOk result (λ left. MayBeIn state.now after → MayAllBeIn state.now left) }
 {
     match gives {
-        Gives::Old => operand(state, age)?.clone(),
+        Gives::Old => Ok(operand(state, age)?.clone()?),
         Gives::New => Ok(Temporary::Scalar(after)),
     }
 }
