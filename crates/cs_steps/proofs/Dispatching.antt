@@ -45,11 +45,11 @@ unfolding left_of UsesAll
 leads_touched cells answers touch act uses = (refl, uses)
 
 -- the number of a base region, at its first byte, is one more operand
-pub place_pushed : {T : Type 0} {bases : List Base} (before after : State) (answer : Result T Pause) (base : Base) (number : ℕ) (offset : Lin)
+pub place_pushed : {T : Type 0} (bases : List Base) (before after : State) (answer : Result T Pause) (base : Base) (number : ℕ) (offset : Lin)
     → offset ≡ constant (pos 0) → slice_get bases number ≡ Some base → OnOk answer (IsPushed (Scalar (At number offset)) before after)
     → OnOk answer (MeansPushed (Scalar (At number offset)) before after) → OnOk answer (IsPlacePushed bases base before after)
-place_pushed before after (Err why) base number offset first named is means = tt
-place_pushed before after (Ok done) base number offset first named is means = record {
+place_pushed bases before after (Err why) base number offset first named is means = tt
+place_pushed bases before after (Ok done) base number offset first named is means = record {
   number = number;
   named = named;
   pushed = subst (λ (o : Lin). IsPushed (Scalar (At number o)) before after) first is;

@@ -56,7 +56,14 @@ pub fn work(
 {
     if let Work::Call(function, count) = &operation.work {
         let called = (*function, *count);
-        return call(context, state, tables, &mut attempt.progress, operation.place, called);
+        return call(
+            context,
+            state,
+            tables,
+            &mut attempt.progress,
+            operation.place,
+            called,
+        );
     }
     do_work(context, state, tables, attempt, operation)?;
     go_on(context, state)

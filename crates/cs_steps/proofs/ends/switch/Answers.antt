@@ -19,12 +19,14 @@ returns-in_err-select c = λ temporary given stands few names program known exte
     let act = do_end code (graph.Switch c.args.at temporary cases c.args.otherwise) in
     waits_there code names program known state state c.args.progress.now c.select.new.self c.from_residual-in_err-select.result act
     c.in_err-select.field-0.0 c.from_residual-in_err-select.ensures
-    (λ waits.
-    (refl, λ cells v fits uses.
-    subst (λ (first : Next). BeginsIn code names.bases state v first
-    (left_of cells (answers_left state c.args.progress.now.used v) (act (meaning code names program state v)))) (sym c.in_err-select.ensures.first)
-    (case_shows code names program state c.args.at temporary cases c.args.otherwise few c.in_ok-term.term c.in_ok-term.ensures.value stands
-    cells (answers_left state c.args.progress.now.used v) v fits (c.in_err-select.ensures.none v))))
+    (λ waits. (
+      refl,
+      λ cells v fits uses.
+          subst (λ (first : Next). BeginsIn code names.bases state v first
+          (left_of cells (answers_left state c.args.progress.now.used v) (act (meaning code names program state v)))) (sym c.in_err-select.ensures.first)
+          (case_shows code names program state c.args.at temporary cases c.args.otherwise few c.in_ok-term.term c.in_ok-term.ensures.value stands
+          cells (answers_left state c.args.progress.now.used v) v fits (c.in_err-select.ensures.none v)),
+    ))
 
 pub returns : goal.returns
 returns c = λ temporary given stands few names program known extends have.
