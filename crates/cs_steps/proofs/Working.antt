@@ -17,7 +17,7 @@ use Rattle.cs_progress.specs.declared.pause.Pause.TheVariants as pause
 use Rattle.cs_progress.specs.declared.progress.Progress.{Progress}
 use Rattle.cs_progress.specs.Acting.{WaitsFor}
 use Rattle.cs_progress.specs.Locals.{AreIn, HasLocalsAlone}
-use Rattle.cs_progress.specs.Operands.{IsDropped, IsReplaced, MeansDropped, MeansReplaced, without_newest}
+use Rattle.cs_progress.specs.Operands.{IsDropped, IsReplaced, MeansDropped, MeansReplaced}
 use Rattle.cs_progress.specs.Stepping.{StaysInFrame, Works}
 use Rattle.cs_progress.proofs.Looks.{leads_same}
 use Rattle.cs_progress.proofs.Composing.{leads_on}

@@ -23,3 +23,6 @@ returns-in-Allocate-clause-work g c = λ every code names program budgets known 
 
 pub returns-in-Free-clause-work : goal.returns-in-Free-clause-work
 returns-in-Free-clause-work g c = λ every code names program budgets known model extends numbered have integer. absurd (rw c.in-Free.is at integer)
+
+pub returns-in_default-clause-work : goal.returns-in_default-clause-work
+returns-in_default-clause-work g c = λ every. c.set_local.ensures.work c.args.operation.now.place c.args.attempt.now.progress

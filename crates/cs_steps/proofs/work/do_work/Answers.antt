@@ -1,14 +1,24 @@
+use Rattle.std.proofs.Common.{◌≡◌, ℤ, to_z, of_z, subst, rules}
+use Rattle.std.specs.Int.{w128}
 use Rattle.cs_events.specs.Touches.{Meets}
 use Rattle.cs_events.specs.Acts.{Goes}
 use Rattle.cs_cfg.specs.Graph as graph
 use Rattle.cs_cfg.specs.Working.{do_work}
 use Rattle.cs_state.specs.Naming.{naming}
+use Rattle.cs_progress.specs.Stepping.{DoesWork}
 use Rattle.cs_operators.proofs.Computed.{stands}
 use Rattle.cs_steps.proofs.Dispatching.{works_met, leads_touched}
 use Rattle.cs_steps.proofs.work.do_work.Goals as goal
 
 pub returns-in-Number-clause-work : goal.returns-in-Number-clause-work
-returns-in-Number-clause-work g c = λ every. rw c.in-Number.is (c.push_number.ensures c.args.context.now.setting.now.program.now.model (naming c.args.tables.now) c.args.operation.now.place c.args.attempt.now.progress)
+returns-in-Number-clause-work g c = λ every.
+    let model = c.args.context.now.setting.now.program.now.model in
+    let at = c.args.operation.now.place in
+    let progress = c.args.attempt.now.progress in
+    let given = naming c.args.tables.now in
+    let whole : to_z w128 (of_z w128 c.in-Number.number) ≡ c.in-Number.number = search rules in
+    rw c.in-Number.is (subst (λ (n : ℤ). DoesWork model given c.args.state.now c.push_number.new.state progress progress c.push_number.result at (graph.Number n))
+    whole (c.push_number.ensures model given at progress))
 
 pub returns-in-Null-clause-work : goal.returns-in-Null-clause-work
 returns-in-Null-clause-work g c = λ every code names program budgets known model extends numbered have integer. absurd (rw c.in-Null.is at integer)

@@ -1,4 +1,6 @@
-use Rattle.std.proofs.Common.{ap, sym}
+use Rattle.std.proofs.Common.{◌≡◌, to_z, of_z, ap, sym, ◌∙◌, rules}
+use Rattle.std.specs.Int.{w128}
+use Rattle.cs_checker.specs.Answers.{constant}
 use Rattle.cs_terms.specs.declared.term.Lin.{Lin}
 use Rattle.cs_terms.specs.Term.{value_of}
 use Rattle.cs_events.specs.Objects.{NumberCell}
@@ -17,9 +19,11 @@ use Rattle.cs_steps.proofs.work.push_number.Goals as goal
 pub returns : goal.returns
 returns c = λ model given at progress code names program budgets known is extends numbered have integer.
     let state = c.args.state.now in
+    let whole : to_z w128 (of_z w128 c.args.number) ≡ c.args.number = search rules in
+    let same : c.constant.result ≡ constant c.args.number = c.constant.ensures ∙ ap constant whole in
     works_pushed code names program known state progress progress (do_work code program budgets at (graph.Number c.args.number))
     c.push.new.state c.push.result have (Scalar (Number c.constant.result))
-    (constant_known state c.constant.result c.args.number c.constant.ensures program names.bases known have)
+    (constant_known state c.constant.result c.args.number same program names.bases known have)
     c.push.ensures.pushed c.push.ensures.means c.push.ensures.memory
     (λ todo cells v fits. leads_same cells _ _ _
-    (ap (λ (t : Lin). Goes (push_cell (NumberCell (value_of v t)) (stands code names program state todo v))) (sym c.constant.ensures)))
+    (ap (λ (t : Lin). Goes (push_cell (NumberCell (value_of v t)) (stands code names program state todo v))) (sym same)))
