@@ -101,6 +101,7 @@ module _ (code : Code) (names : Naming) (program : TypedProgram) (before : State
       where
         act : CodeState → Act CodeState
         act = do_work code program budgets at (StoreLocal declaration offset ty scalar)
+
         same : (v : Valuation) → changed (write_operand program ty offset (operand_at (meaning code names program before v) 0))
             (LocalObject before.frame.number declaration) (memory_in program names before v) ≡ memory_in program names middle v
         same v =
@@ -118,6 +119,7 @@ module _ (code : Code) (names : Naming) (program : TypedProgram) (before : State
       where
         act : CodeState → Act CodeState
         act = do_work code program budgets at (Clear declaration scalar)
+
         it : IsDone code names program known before middle progress progress answer act
         it = record {
           stays = written_stays before middle rest;
@@ -135,6 +137,7 @@ module _ (code : Code) (names : Naming) (program : TypedProgram) (before : State
               (touched cells _ touch (if_local scalar declaration) next))
               (leads_same cells _ next _ (ap (λ n. Goes (to_do todo n)) (sym (written_means before middle rest program names code v))));
         }
+
         done : (r : Result T Pause) → OnOk r (IsDone code names program known before middle progress progress answer act)
         done (Ok x) = it
         done (Err why) = tt

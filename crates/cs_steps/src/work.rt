@@ -7,7 +7,7 @@ ghost use Rattle.cs_types.specs.Shape.{shape_of};
 ghost use Rattle.cs_state.specs.Naming.{naming, Extends};
 ghost use Rattle.cs_cfg.specs.Graph as graph;
 ghost use Rattle.cs_cfg.specs.GraphView as view;
-ghost use Rattle.cs_regions.specs.declared.base.Base.TheVariants as base;
+ghost use Rattle.cs_regions.specs.declared.base.Base.TheVariants as regions;
 ghost use Rattle.cs_state.specs.MeaningOfWrites.{MeansPushed};
 ghost use Rattle.cs_state.specs.declared.temporary.Temporary.TheVariants.{Scalar};
 ghost use Rattle.cs_progress.specs.declared.pause.Pause.TheVariants as pause;
@@ -274,7 +274,7 @@ fn name(state: &mut State, tables: &mut Tables, base: Base) -> Result<(), Pause>
 
 // A local of the frame that runs.
 fn local(state: &State, decl: u32) -> Base
-    ensures { result ≡ base.Local state.now.frame.number decl }
+    ensures { result ≡ regions.Local state.now.frame.number decl }
 {
     Base::Local {
         frame: state.frame.number,

@@ -17,8 +17,11 @@ returns-in_err-stored-clause-work g c = λ every code names program budgets know
     let act = update_act code names program budgets state _ model c.args.at c.args.how.0 access c.args.how.1 c.args.how.2 in
     works_handed code names program known state _ _ _ c.from_residual.result act c.in_err-stored.field-0.0
     c.from_residual.ensures
-    (λ waits. (refl, update_waits code names program budgets state _ model c.args.at c.args.how.0 access c.args.how.1 c.args.how.2 _ _
-    ((c.in_err-stored.ensures.act every code names program).waits waits)))
+    (λ waits. (
+      refl,
+      update_waits code names program budgets state _ model c.args.at c.args.how.0 access c.args.how.1 c.args.how.2 _ _
+          ((c.in_err-stored.ensures.act every code names program).waits waits),
+    ))
 
 pub returns-in_err-store-clause-work : goal.returns-in_err-store-clause-work
 returns-in_err-store-clause-work g c = λ every code names program budgets known model extends once alone integer.
@@ -33,11 +36,13 @@ returns-in_err-store-clause-work g c = λ every code names program budgets known
     (c.in_ok-place.ensures.within program names.bases known alone) (over program names.bases known alone) at in
     works_handed code names program known state _ _ _ c.from_residual-in_err-store.result act c.in_err-store.field-0.0
     c.from_residual-in_err-store.ensures
-    (λ waits. (stores.unchanged waits,
-    store_stands code names program state act (store_part program names state at access c.in_ok-place.place stored) 4 c.in_ok-left.left _ _
-    (update_leads code names program budgets state _ model at c.args.how.0 access c.args.how.1 c.args.how.2 term c.in_ok-left.left c.in_ok-place.place
-    c.in_ok-place.ensures.value c.in_ok-left.ensures.operand _ _ (c.in_ok-stored.ensures.act every code names program).through)
-    _ (stores.act.waits waits)))
+    (λ waits. (
+      stores.unchanged waits,
+      store_stands code names program state act (store_part program names state at access c.in_ok-place.place stored) 4 c.in_ok-left.left _ _
+          (update_leads code names program budgets state _ model at c.args.how.0 access c.args.how.1 c.args.how.2 term c.in_ok-left.left c.in_ok-place.place
+          c.in_ok-place.ensures.value c.in_ok-left.ensures.operand _ _ (c.in_ok-stored.ensures.act every code names program).through)
+          _ (stores.act.waits waits),
+    ))
 
 pub returns-clause-work : goal.returns-clause-work
 returns-clause-work g c = λ every code names program budgets known model extends once alone integer.

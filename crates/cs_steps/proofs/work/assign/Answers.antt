@@ -31,9 +31,11 @@ returns-in_err-store-clause-work g c = λ every at code names program budgets kn
     (c.in_ok-place.ensures.within program names.bases known alone) (within program names.bases known alone) at in
     works_handed code names program known state _ _ _ c.from_residual-in_err-store.result act c.in_err-store.field-0.0
     c.from_residual-in_err-store.ensures
-    (λ waits. (stores.unchanged waits,
-    store_stands code names program state act (store_part program names state at access place stored) 2 stored _ _
-    (assign_leads code names program state budgets at access place stored c.in_ok-place.ensures.value at_0 _) _ (stores.act.waits waits)))
+    (λ waits. (
+      stores.unchanged waits,
+      store_stands code names program state act (store_part program names state at access place stored) 2 stored _ _
+          (assign_leads code names program state budgets at access place stored c.in_ok-place.ensures.value at_0 _) _ (stores.act.waits waits),
+    ))
 
 pub returns-clause-work : goal.returns-clause-work
 returns-clause-work g c = λ every at code names program budgets known model extends once alone integer.
