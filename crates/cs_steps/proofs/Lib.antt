@@ -17,3 +17,4 @@ mod Counting
 mod Assigning
 mod Updating
 mod PushedPlaces
+mod Dispatching

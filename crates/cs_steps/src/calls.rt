@@ -1,5 +1,6 @@
 //! Calls of functions (C11 6.5.2.2), with a body and without one.
 ghost use Rattle.cs_objects.specs.Prepared.{IsReady};
+ghost use Rattle.cs_state.specs.Naming.{naming, Extends};
 
 use crate::ends::go_on;
 use cs_ast::Place;
@@ -30,6 +31,7 @@ pub fn call(
     called: (u32, u32),
 ) -> Result<(), Pause>
     requires { IsReady context.now.setting.now }
+    ensures { Extends (naming tables.old) (naming tables.new) }
 {
     let (function, count) = called;
     match context.code.flow_at(function) {
@@ -71,6 +73,7 @@ fn enter(
     called: (u32, u32),
 ) -> Result<(), Pause>
     requires { IsReady context.now.setting.now }
+    ensures { Extends (naming tables.old) (naming tables.new) }
 {
     let (function, count) = called;
     let arguments = newest(context, state, count)?;
@@ -113,7 +116,9 @@ fn receive(
     frame: u64,
     declaration: usize,
     argument: Value,
-) -> Result<(), AllocError> {
+) -> Result<(), AllocError>
+    ensures { Extends (naming tables.old) (naming tables.new) }
+{
     if matches!(argument, Value::Unset) {
         return Ok(());
     }
@@ -146,6 +151,7 @@ fn outside(
     called: (u32, u32),
 ) -> Result<(), Pause>
     requires { IsReady context.now.setting.now }
+    ensures { Extends (naming tables.old) (naming tables.new) }
 {
     let (number, count) = called;
     progress.ask(state, at, Question::Callee(number))?;
@@ -198,6 +204,7 @@ fn result(
     call: u64,
 ) -> Result<Temporary, Pause>
     requires { IsReady context.now.setting.now }
+    ensures { Extends (naming tables.old) (naming tables.new) }
 {
     if matches!(function.result, cs_types::CType::Void) {
         return Ok(Temporary::Nothing);

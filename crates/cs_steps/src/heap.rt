@@ -1,5 +1,6 @@
 //! Allocations and releases (C11 7.22.3).
 ghost use Rattle.cs_objects.specs.Prepared.{IsReady};
+ghost use Rattle.cs_state.specs.Naming.{naming, Extends};
 ghost use Rattle.cs_operators.specs.Asking.{KeepKinds};
 
 use cs_ast::Place;
@@ -34,8 +35,9 @@ pub fn allocate(
     element: &CType,
 ) -> Result<(), Pause>
     requires { IsReady context.now.setting.now }
-    ensures { KeepKinds (λ b. (⟦<dyn Checker as Checker>⟧ b.vtable).kind_of b.value)
+    ensures kinds { KeepKinds (λ b. (⟦<dyn Checker as Checker>⟧ b.vtable).kind_of b.value)
         attempt.old.checkers.items attempt.new.checkers.items }
+    ensures extends { Extends (naming tables.old) (naming tables.new) }
 {
     match allocator {
         Allocator::Malloc => {
@@ -62,8 +64,9 @@ fn zeros(
     element: &CType,
 ) -> Result<Value, Pause>
     requires { IsReady context.now.setting.now }
-    ensures { KeepKinds (λ b. (⟦<dyn Checker as Checker>⟧ b.vtable).kind_of b.value)
+    ensures kinds { KeepKinds (λ b. (⟦<dyn Checker as Checker>⟧ b.vtable).kind_of b.value)
         attempt.old.checkers.items attempt.new.checkers.items }
+    ensures extends { Extends (naming tables.old) (naming tables.new) }
 {
     let model = context.model();
     let count = number(state, 1)?;
@@ -92,6 +95,7 @@ fn allocated(
     made: (Lin, Fill),
 ) -> Result<Value, Pause>
     requires { IsReady context.now.setting.now }
+    ensures { Extends (naming tables.old) (naming tables.new) }
 {
     let (bytes, fill) = made;
     let allocation = state
@@ -123,7 +127,9 @@ fn heap_block(
     element: &CType,
     bytes: Lin,
     sym: Sym,
-) -> Result<Block, Pause> {
+) -> Result<Block, Pause>
+    ensures { Extends (naming tables.old) (naming tables.new) }
+{
     Ok(Block {
         extent: bytes,
         standing: Standing::Live,

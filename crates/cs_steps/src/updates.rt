@@ -181,8 +181,9 @@ pub fn move_pointer(
     how: (u64, Direction, Gives),
 ) -> Result<(), Pause>
     requires { IsReady context.now.setting.now }
-    ensures { KeepKinds (λ b. (⟦<dyn Checker as Checker>⟧ b.vtable).kind_of b.value)
+    ensures kinds { KeepKinds (λ b. (⟦<dyn Checker as Checker>⟧ b.vtable).kind_of b.value)
         attempt.old.checkers.items attempt.new.checkers.items }
+    ensures extends { Extends (naming tables.old) (naming tables.new) }
 {
     let (bytes, direction, gives) = how;
     let amount = directed(direction, number(state, 0)?)?;

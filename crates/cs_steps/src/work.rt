@@ -4,10 +4,9 @@ ghost use Rattle.cs_operators.specs.Asking.{KeepKinds, HasEveryKind};
 ghost use Rattle.std.specs.Prelude.{◌≡◌, Bool, OnOk, IfErr};
 ghost use Rattle.cs_types.specs.declared.data_model.DataModel.{DataModel};
 ghost use Rattle.cs_types.specs.Shape.{shape_of};
-ghost use Rattle.cs_state.specs.Naming.{naming, Extends};
+ghost use Rattle.cs_state.specs.Naming.{Naming, naming, Extends};
 ghost use Rattle.cs_cfg.specs.Graph as graph;
 ghost use Rattle.cs_cfg.specs.GraphView as view;
-ghost use Rattle.cs_regions.specs.declared.base.Base.TheVariants as regions;
 ghost use Rattle.cs_state.specs.MeaningOfWrites.{MeansPushed};
 ghost use Rattle.cs_state.specs.declared.temporary.Temporary.TheVariants.{Scalar};
 ghost use Rattle.cs_progress.specs.declared.pause.Pause.TheVariants as pause;
@@ -55,28 +54,54 @@ pub fn work(
         context.now.setting.now.budgets (naming tables.new) state.old state.new attempt.old.progress
         attempt.new.progress result operation.now.place (view.work operation.now.work) }
 {
-    let at = operation.place;
     if let Work::Call(function, count) = &operation.work {
         let called = (*function, *count);
-        return call(context, state, tables, &mut attempt.progress, at, called);
+        return call(
+            context,
+            state,
+            tables,
+            &mut attempt.progress,
+            operation.place,
+            called,
+        );
     }
-    match &operation.work {
-        Work::Number(number) => push(state, Value::Number(constant(*number)))?,
-        Work::Null => push(state, Value::Null)?,
-        Work::Text(literal) => name(state, tables, Base::Literal(*literal))?,
-        Work::Global(global) => name(state, tables, Base::Global(*global))?,
-        Work::Local(decl) => name(state, tables, local(state, *decl))?,
-        Work::Nothing => state.push(Temporary::Nothing)?,
-        Work::Drop => drop_newest(state, 1)?,
-        Work::Meet(_) => {}
-        Work::Close(true) => state.push(Temporary::Nothing)?,
-        Work::Close(false) => push(state, Value::Unset)?,
-        Work::Clear(decl, _) => clear(state, tables, *decl)?,
-        Work::Zero(decl) => zero(state, tables, *decl)?,
-        Work::Use => use_result(state, attempt, at)?,
-        _ => compute(context, state, tables, attempt, operation)?,
-    }
+    do_work(context, state, tables, attempt, operation)?;
     go_on(context, state)
+}
+
+// The same of any operation but a call, before the frame goes on.
+fn do_work(
+    context: &Context,
+    state: &mut State,
+    tables: &mut Tables,
+    attempt: &mut Attempt,
+    operation: &Operation,
+) -> Result<(), Pause>
+    requires { IsReady context.now.setting.now }
+    ensures kinds { KeepKinds (λ b. (⟦<dyn Checker as Checker>⟧ b.vtable).kind_of b.value)
+        attempt.old.checkers.items attempt.new.checkers.items }
+    ensures extends { Extends (naming tables.old) (naming tables.new) }
+    ensures work { HasEveryKind (λ b. (⟦<dyn Checker as Checker>⟧ b.vtable).kind_of b.value)
+        attempt.old.checkers.items
+        → DoesWork context.now.setting.now.program.now.model (naming tables.new) state.old
+        state.new attempt.old.progress attempt.new.progress result operation.now.place
+        (view.work operation.now.work) }
+{
+    match &operation.work {
+        Work::Number(number) => push_number(state, *number),
+        Work::Null => push(state, Value::Null),
+        Work::Text(literal) => name(state, tables, Base::Literal(*literal)),
+        Work::Global(global) => name(state, tables, Base::Global(*global)),
+        Work::Local(decl) => name_local(state, tables, *decl),
+        Work::Nothing => push_nothing(state),
+        Work::Drop => drop_operand(state),
+        Work::Meet(_) => Ok(()),
+        Work::Close(nothing) => close(state, *nothing),
+        Work::Clear(decl, _) => clear(state, tables, *decl),
+        Work::Zero(decl) => zero(state, tables, *decl),
+        Work::Use => use_result(state, attempt, operation.place),
+        _ => compute(context, state, tables, attempt, operation),
+    }
 }
 
 // The same of an operation that computes, or accesses memory.
@@ -88,8 +113,14 @@ fn compute(
     operation: &Operation,
 ) -> Result<(), Pause>
     requires { IsReady context.now.setting.now }
-    ensures { KeepKinds (λ b. (⟦<dyn Checker as Checker>⟧ b.vtable).kind_of b.value)
+    ensures kinds { KeepKinds (λ b. (⟦<dyn Checker as Checker>⟧ b.vtable).kind_of b.value)
         attempt.old.checkers.items attempt.new.checkers.items }
+    ensures extends { Extends (naming tables.old) (naming tables.new) }
+    ensures work { HasEveryKind (λ b. (⟦<dyn Checker as Checker>⟧ b.vtable).kind_of b.value)
+        attempt.old.checkers.items
+        → DoesWork context.now.setting.now.program.now.model (naming tables.new) state.old
+        state.new attempt.old.progress attempt.new.progress result operation.now.place
+        (view.work operation.now.work) }
 {
     let at = operation.place;
     match &operation.work {
@@ -118,8 +149,14 @@ fn access(
     operation: &Operation,
 ) -> Result<(), Pause>
     requires { IsReady context.now.setting.now }
-    ensures { KeepKinds (λ b. (⟦<dyn Checker as Checker>⟧ b.vtable).kind_of b.value)
+    ensures kinds { KeepKinds (λ b. (⟦<dyn Checker as Checker>⟧ b.vtable).kind_of b.value)
         attempt.old.checkers.items attempt.new.checkers.items }
+    ensures extends { Extends (naming tables.old) (naming tables.new) }
+    ensures work { HasEveryKind (λ b. (⟦<dyn Checker as Checker>⟧ b.vtable).kind_of b.value)
+        attempt.old.checkers.items
+        → DoesWork context.now.setting.now.program.now.model (naming tables.new) state.old
+        state.new attempt.old.progress attempt.new.progress result operation.now.place
+        (view.work operation.now.work) }
 {
     let at = operation.place;
     match &operation.work {
@@ -153,6 +190,10 @@ fn set_local(
     work: &Work,
 ) -> Result<(), Pause>
     requires { IsReady context.now.setting.now }
+    ensures extends { Extends (naming tables.old) (naming tables.new) }
+    ensures work { (at : Place) (progress : Progress)
+        → DoesWork context.now.setting.now.program.now.model (naming tables.new) state.old
+        state.new progress progress result at (view.work work.now) }
 {
     match work {
         Work::StoreLocal(decl, offset, ty, _) => {
@@ -198,8 +239,9 @@ fn fetch(
     access: &Access,
 ) -> Result<(), Pause>
     requires { IsReady context.now.setting.now }
-    ensures { KeepKinds (λ b. (⟦<dyn Checker as Checker>⟧ b.vtable).kind_of b.value)
+    ensures kinds { KeepKinds (λ b. (⟦<dyn Checker as Checker>⟧ b.vtable).kind_of b.value)
         attempt.old.checkers.items attempt.new.checkers.items }
+    ensures extends { Extends (naming tables.old) (naming tables.new) }
 {
     let place = value(state, 0)?;
     let loaded = load(context, state, tables, attempt, access, place)?;
@@ -252,13 +294,60 @@ fn initialize(
     drop_newest(state, 1)
 }
 
-// One more operand.
+// A number is one more operand.
+fn push_number(state: &mut State, number: i128) -> Result<(), Pause>
+    ensures { (model : DataModel) (given : Naming) (at : Place) (progress : Progress)
+        → DoesWork model given state.old state.new progress progress result at
+        (graph.Number number) }
+{
+    push(state, Value::Number(constant(number)))
+}
+
+// One more operand is no value.
+fn push_nothing(state: &mut State) -> Result<(), Pause>
+    ensures { (model : DataModel) (given : Naming) (at : Place) (progress : Progress)
+        → DoesWork model given state.old state.new progress progress result at graph.Nothing }
+{
+    push_operand(state, Temporary::Nothing)
+}
+
+// The newest operand is dropped.
+fn drop_operand(state: &mut State) -> Result<(), Pause>
+    ensures { (model : DataModel) (given : Naming) (at : Place) (progress : Progress)
+        → DoesWork model given state.old state.new progress progress result at graph.Drop }
+{
+    drop_newest(state, 1)
+}
+
+// The end of a function's body gives nothing, or a value that was never set (C11 6.9.1, paragraph 12).
+fn close(state: &mut State, nothing: bool) -> Result<(), Pause>
+    ensures { (model : DataModel) (given : Naming) (at : Place) (progress : Progress)
+        → DoesWork model given state.old state.new progress progress result at
+        (graph.Close nothing) }
+{
+    if nothing {
+        push_operand(state, Temporary::Nothing)
+    } else {
+        push(state, Value::Unset)
+    }
+}
+
+// One more operand that is a scalar.
 fn push(state: &mut State, value: Value) -> Result<(), Pause>
     ensures pushed { OnOk result (IsPushed (Scalar value) state.old state.new) }
     ensures means { OnOk result (MeansPushed (Scalar value) state.old state.new) }
     ensures memory { IfErr result (λ why. why ≡ pause.Memory) }
 {
-    state.push(Temporary::Scalar(value))?;
+    push_operand(state, Temporary::Scalar(value))
+}
+
+// One more operand.
+fn push_operand(state: &mut State, operand: Temporary) -> Result<(), Pause>
+    ensures pushed { OnOk result (IsPushed operand state.old state.new) }
+    ensures means { OnOk result (MeansPushed operand state.old state.new) }
+    ensures memory { IfErr result (λ why. why ≡ pause.Memory) }
+{
+    state.push(operand)?;
     Ok(())
 }
 
@@ -272,9 +361,20 @@ fn name(state: &mut State, tables: &mut Tables, base: Base) -> Result<(), Pause>
     push(state, Value::At(base, constant(0)))
 }
 
+// The place of a local of the frame that runs.
+fn name_local(state: &mut State, tables: &mut Tables, decl: u32) -> Result<(), Pause>
+    ensures extends { Extends (naming tables.old) (naming tables.new) }
+    ensures work { (model : DataModel) (at : Place) (progress : Progress)
+        → DoesWork model (naming tables.new) state.old state.new progress progress result at
+        (graph.Local decl) }
+{
+    let base = local(state, decl);
+    name(state, tables, base)
+}
+
 // A local of the frame that runs.
 fn local(state: &State, decl: u32) -> Base
-    ensures { result ≡ regions.Local state.now.frame.number decl }
+    ensures { result ≡ Base.Local state.now.frame.number decl }
 {
     Base::Local {
         frame: state.frame.number,
@@ -295,7 +395,9 @@ fn clear(state: &mut State, tables: &mut Tables, decl: u32) -> Result<(), Pause>
 }
 
 // A local becomes zero.
-fn zero(state: &mut State, tables: &mut Tables, decl: u32) -> Result<(), Pause> {
+fn zero(state: &mut State, tables: &mut Tables, decl: u32) -> Result<(), Pause>
+    ensures { Extends (naming tables.old) (naming tables.new) }
+{
     let base = tables.base(local(state, decl))?;
     state.fill(base, Fill::Zero)?;
     Ok(())

@@ -1,4 +1,4 @@
-use Rattle.std.proofs.Common.{◌≡◌, ℕ, ◌+◌, ◌<◌, List, Option, Some, None, sym, ap, ◌∙◌, subst, arith}
+use Rattle.std.proofs.Common.{◌≡◌, ℕ, ◌+◌, List, Some, None, sym, ap, ◌∙◌, subst, arith}
 use Rattle.std.specs.Prelude.{slice_get}
 use Rattle.std.proofs.lemmas.Option.{slice_get-get_or, slice_get_past}
 use Rattle.cs_cfg.specs.GraphView as view
@@ -48,9 +48,10 @@ returns c = record {
       let there : slice_get state.frame.visits point.number ≡ Some count =
       subst (λ (visits : List ℕ). slice_get visits point.number ≡ Some count) c.as_slice.ensures
       (slice_get-get_or c.as_slice.result.now point.number count found.0 ∙ ap (λ (n : ℕ). Some n) (sym (found.1 count))) in
-      let more : c.in_ok-count.count ≡ count + 1 = ? in
-      let written = rw more at c.in_ok-count_visit.ensures in
+      let more : c.in_ok-count.count ≡ count + 1 = grind (arith, c.checked_add.ensures, c.ok_or.ensures, c.in_ok-count.ensures) in
+      let made = rw more at c.in_ok-count_visit.ensures.ok in
+      let means = rw more at c.in_ok-count_visit.ensures.means in
       point_reached code names program known budgets point.place point.kind point.number state c.count_visit.new.self count there
-      c.if-count-context.false written.ok written.means c.args.progress.now c.go_on.new.state c.go_on.result have
+      c.if-count-context.false made means c.args.progress.now c.go_on.new.state c.go_on.result have
       c.go_on.ensures.moved_on c.go_on.ensures.memory;
 }
