@@ -14,7 +14,7 @@ mod Branching
 mod Switching
 mod Ways
 mod Counting
-mod Dispatching
 mod Assigning
 mod Updating
 mod PushedPlaces
+mod Dispatching

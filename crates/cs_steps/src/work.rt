@@ -7,7 +7,6 @@ ghost use Rattle.cs_types.specs.Shape.{shape_of};
 ghost use Rattle.cs_state.specs.Naming.{Naming, naming, Extends};
 ghost use Rattle.cs_cfg.specs.Graph as graph;
 ghost use Rattle.cs_cfg.specs.GraphView as view;
-ghost use Rattle.cs_regions.specs.declared.base.Base.TheVariants as base;
 ghost use Rattle.cs_state.specs.MeaningOfWrites.{MeansPushed};
 ghost use Rattle.cs_state.specs.declared.temporary.Temporary.TheVariants.{Scalar};
 ghost use Rattle.cs_progress.specs.declared.pause.Pause.TheVariants as pause;
@@ -375,7 +374,7 @@ fn name_local(state: &mut State, tables: &mut Tables, decl: u32) -> Result<(), P
 
 // A local of the frame that runs.
 fn local(state: &State, decl: u32) -> Base
-    ensures { result ≡ base.Local state.now.frame.number decl }
+    ensures { result ≡ Base.Local state.now.frame.number decl }
 {
     Base::Local {
         frame: state.frame.number,
