@@ -49,7 +49,7 @@ module _ (before after : State) (rest : after ≡ with_memory after.store after.
   -- a write to memory leaves the frame where it is
   pub written_stays : StaysInFrame before after
   written_stays = subst (StaysInFrame before) (sym rest) (record {
-    known = record { model = refl; constraints = refl; counters = refl; asked = refl; phase = refl };
+    known = record { model = refl; constraints = refl; counters = refl; asked = refl; phase = refl; blocks = refl };
     answers = refl;
     callers = refl;
     number = refl;

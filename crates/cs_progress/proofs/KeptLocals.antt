@@ -25,7 +25,7 @@ use Rattle.cs_progress.proofs.Carrying.{no_wait}
 -- other temporaries, and nothing else has changed
 pub stays : (temporaries : List Temporary) (before after : State) → after ≡ with_temporaries temporaries before → StaysInFrame before after
 stays temporaries before after is = subst (StaysInFrame before) (sym is) (record {
-  known = record { model = refl; constraints = refl; counters = refl; asked = refl; phase = refl };
+  known = record { model = refl; constraints = refl; counters = refl; asked = refl; phase = refl; blocks = refl };
   answers = refl;
   callers = refl;
   number = refl;

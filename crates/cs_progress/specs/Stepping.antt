@@ -88,6 +88,7 @@ pub record KeepsKnown (before after : State) : Type 0 where
   pub counters : after.counters ≡ before.counters
   pub asked : after.asked ≡ before.asked
   pub phase : after.phase ≡ before.phase
+  pub blocks : after.blocks ≡ before.blocks
 
 -- the same, and the frame that runs stands where it stood, with the same callers
 pub record StaysInFrame (before after : State) : Type 0 where

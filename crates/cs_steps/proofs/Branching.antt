@@ -1,5 +1,5 @@
 -- A branch is a test that touches its control point before it shows: for the contract of `branch`.
-use Rattle.std.proofs.Common.{◌≡◌, ℕ, ◌+◌, ◌≤◌, ℤ, Bool, true, false, if◌then◌else◌, length, subst, List, [], ◌∷◌, Option, Some, None, All, refl, sym, ap, ◌∙◌}
+use Rattle.std.proofs.Common.{◌≡◌, ℕ, ◌+◌, ◌≤◌, ℤ, Bool, true, false, if◌then◌else◌, length, subst, List, [], ◌∷◌, Option, Some, None, sym, ap, ◌∙◌}
 use Rattle.std.proofs.lemmas.List.Elements.{All-weaker}
 use Rattle.cs_inputs.specs.declared.path.Path.{Path}
 use Rattle.cs_ast.specs.declared.place.Place.{Place}
@@ -13,7 +13,7 @@ use Rattle.cs_events.specs.declared.operation.Operation.TheVariants.{Show}
 use Rattle.cs_events.specs.declared.event.Label.TheVariants.{Look}
 use Rattle.cs_events.specs.declared.outcome.Outcome.TheVariants.{Fault}
 use Rattle.cs_events.specs.Objects.{Cell, NumberCell, NullCell, PointerCell, UnsetCell}
-use Rattle.cs_events.specs.Acts.{Act, Goes, Stops, Reads, Asks, Allocates, Reaches, Touches}
+use Rattle.cs_events.specs.Acts.{Act, Goes, Stops, Asks}
 use Rattle.cs_event_runs.specs.Left.{left_of}
 use Rattle.cs_meaning.specs.Machine.{pop, cell_at}
 use Rattle.cs_meaning.specs.Operators.{branch}

@@ -7,7 +7,6 @@ use Rattle.cs_inputs.specs.declared.path.Path.{Path}
 use Rattle.cs_ast.specs.declared.place.Place.{Place}
 use Rattle.cs_ast.specs.TypedProgram.{TypedProgram}
 use Rattle.cs_terms.specs.Term.{Valuation}
-use Rattle.cs_constraints.specs.Constraints.{Fits}
 use Rattle.cs_events.specs.declared.input.InputKind.{InputKind}
 use Rattle.cs_events.specs.declared.outcome.Budget.TheVariants.{Visits}
 use Rattle.cs_events.specs.declared.outcome.Outcome.TheVariants.{Over}
@@ -17,7 +16,7 @@ use Rattle.cs_events.specs.Objects.{Cell}
 use Rattle.cs_events.specs.Touches.{Meets}
 use Rattle.cs_events.specs.Acts.{Act, Goes, Stops, Touches}
 use Rattle.cs_event_runs.specs.Left.{left_of}
-use Rattle.cs_meaning.specs.CountedPoints.{with_visits, within_visits, reached_again}
+use Rattle.cs_meaning.specs.CountedPoints.{with_visits, reached_again}
 use Rattle.cs_meaning.specs.Machine.{to_do}
 use Rattle.cs_cfg.specs.Graph.{Reach, Point, Code}
 use Rattle.cs_cfg.specs.Working.{CodeState, do_work}
@@ -34,7 +33,7 @@ use Rattle.cs_progress.specs.declared.progress.Progress.{Progress}
 use Rattle.cs_progress.specs.Acting.{UsesAll, Leads, BeginsWith}
 use Rattle.cs_progress.specs.Answering.{answers_left}
 use Rattle.cs_progress.specs.Locals.{HasLocalsAlone}
-use Rattle.cs_progress.specs.Stepping.{StaysInFrame, IsMovedOn, Works, WorksOn}
+use Rattle.cs_progress.specs.Stepping.{StaysInFrame, IsMovedOn, WorksOn}
 use Rattle.cs_progress.proofs.Carrying.{no_wait}
 
 module _ (code : Code) (names : Naming) (program : TypedProgram) (known : ℕ → Bool) (budgets : RunBudgets) (at : Place) (kind : PointKind)
@@ -110,7 +109,7 @@ module _ (code : Code) (names : Naming) (program : TypedProgram) (known : ℕ �
 
     stays_there : StaysInFrame before middle
     stays_there = subst (StaysInFrame before) (sym made) (record {
-      known = record { model = refl; constraints = refl; counters = refl; asked = refl; phase = refl };
+      known = record { model = refl; constraints = refl; counters = refl; asked = refl; phase = refl; blocks = refl };
       answers = refl;
       callers = refl;
       number = refl;

@@ -1,6 +1,7 @@
 -- What was loaded for an update, and its number in the type of the operator: for the contracts of `push_converted` and `fetch_number`.
 use Rattle.std.proofs.Common.{◌≡◌, ℕ, ℤ, Bool, List, [], ◌∷◌, ◌++◌, Result, Ok, Err, IsErr, IsErrAnd, OnOk, IfErr, true≢false, sym, ap, ◌∙◌}
 use Rattle.std.proofs.lemmas.List.Elements.{All-push}
+use Rattle.std.proofs.lemmas.Result.{on_ok_weaker}
 use Rattle.cs_types.specs.declared.data_model.DataModel.{DataModel}
 use Rattle.cs_types.specs.declared.int_type.IntType.{IntType}
 use Rattle.cs_types.specs.Shape.{Shape}
@@ -16,23 +17,19 @@ use Rattle.cs_meaning.specs.Machine.{Operand, cell_of, push, push_cell, to_do}
 use Rattle.cs_meaning.specs.Operators.{convert_number}
 use Rattle.cs_cfg.specs.Graph.{Point, Code}
 use Rattle.cs_cfg.specs.Working.{CodeState}
-use Rattle.cs_store.specs.declared.value.Value.{Value}
 use Rattle.cs_store.specs.declared.value.Value.TheVariants as value
 use Rattle.cs_state.specs.declared.state.State.{State}
 use Rattle.cs_state.specs.declared.temporary.Temporary.{Temporary}
 use Rattle.cs_state.specs.declared.temporary.Temporary.TheVariants.{Scalar}
 use Rattle.cs_state.specs.Cells.{operand_of}
-use Rattle.cs_state.specs.Meaning.{meaning}
 use Rattle.cs_state.specs.Naming.{Naming}
 use Rattle.cs_regions.specs.declared.base.Base.{Base}
 use Rattle.cs_progress.specs.declared.pause.Pause.{Pause}
 use Rattle.cs_progress.specs.declared.pause.Pause.TheVariants as pause
 use Rattle.cs_progress.specs.declared.progress.Progress.{Progress}
 use Rattle.cs_progress.specs.Acting.{Gives, WaitsFor}
-use Rattle.cs_progress.specs.Answering.{answers_left}
-use Rattle.cs_progress.specs.Locals.{IsOverKnown, MayAllBeIn, HasLocalsAlone, AreIn}
-use Rattle.cs_progress.specs.Operands.{IsScalarOf, IsNumberOf}
-use Rattle.cs_progress.specs.Stepping.{StaysInFrame, KeepsLocals, WaitsUnchanged}
+use Rattle.cs_progress.specs.Locals.{MayAllBeIn, AreIn}
+use Rattle.cs_progress.specs.Stepping.{StaysInFrame, KeepsLocals}
 use Rattle.cs_progress.proofs.Looks.{leads_same}
 use Rattle.cs_progress.proofs.Composing.{leads_on, waits_on}
 use Rattle.cs_progress.proofs.Carrying.{no_wait}
@@ -42,25 +39,29 @@ use Rattle.cs_steps.specs.Fetching.{ArePushed, MeanPushed, converts_beside, Fetc
 
 module _ (before after : State) {T : Type 0} (answer : Result T Pause) (first second : Temporary) (pushed : OnOk answer (ArePushed first second before after)) where
   pub both_stay : OnOk answer (StaysInFrame before after)
-  both_stay = by_case answer pushed
-    where
-      by_case : (r : Result T Pause) → OnOk r (ArePushed first second before after) → OnOk r (StaysInFrame before after)
-      by_case (Ok made) is = stays _ before after is
-      by_case (Err why) is = tt
+  both_stay = on_ok_weaker answer (stays (before.frame.temporaries ++ first ∷ [] ++ second ∷ []) before after) pushed
 
   -- what may be in the frame was pushed
   pub both_keep : (MayAllBeIn before first → MayAllBeIn before second)
       → OnOk answer (MayAllBeIn before first → (program : TypedProgram) (bases : List Base) (known : ℕ → Bool) → KeepsLocals program bases known before after)
-  both_keep inside = by_case answer pushed
-    where
-      by_case : (r : Result T Pause) → OnOk r (ArePushed first second before after)
-          → OnOk r (MayAllBeIn before first → (program : TypedProgram) (bases : List Base) (known : ℕ → Bool) → KeepsLocals program bases known before after)
-      by_case (Err why) is = tt
-      by_case (Ok made) is = λ given program bases known have.
-          let here = AreIn program bases known before.frame in
-          locals_kept program bases known (before.frame.temporaries ++ first ∷ [] ++ second ∷ []) before after is
-          (All-push here (before.frame.temporaries ++ first ∷ []) second
-          (All-push here before.frame.temporaries first have.temporaries (given program bases known have)) (inside given program bases known have)) have
+  both_keep inside =
+      on_ok_weaker answer
+      (λ is given program bases known have.
+      let here = AreIn program bases known before.frame in
+      locals_kept program bases known (before.frame.temporaries ++ first ∷ [] ++ second ∷ []) before after is
+      (All-push here (before.frame.temporaries ++ first ∷ []) second
+      (All-push here before.frame.temporaries first have.temporaries (given program bases known have)) (inside given program bases known have)) have) pushed
+
+-- what is handed on as an error is waited for
+pub fetch_handed : {T : Type 0} (code : Code) (names : Naming) (program : TypedProgram) (before after : State) (earlier later : Progress)
+    (answer : Result T Pause) (rest : Valuation → CodeState → Act CodeState) (why : Pause) → IsErr answer × IsErrAnd answer (λ e. e ≡ why)
+    → (why ≡ pause.Waits → (todo : Point) → WaitsFor names.bases before earlier.used later.first (λ v. rest v (stands code names program before todo v)))
+    → Fetches code names program before after earlier later answer rest
+fetch_handed {T} code names program before after earlier later answer rest why is waits = by_case answer is
+  where
+    by_case : (r : Result T Pause) → IsErr r × IsErrAnd r (λ e. e ≡ why) → Fetches code names program before after earlier later r rest
+    by_case (Ok made) is = absurd (true≢false (sym is.0))
+    by_case (Err e) is = record { done = tt; waits = λ so. waits (sym is.1 ∙ so) }
 
 module _ (code : Code) (names : Naming) (program : TypedProgram) (before : State) (model : DataModel) (at : Place) (from : Shape) (to : IntType)
     (loaded : Temporary) (term : Lin)
@@ -100,17 +101,11 @@ module _ (code : Code) (names : Naming) (program : TypedProgram) (before : State
         }
         by_case (Err why) means memory = record { done = tt; waits = λ waits. no_wait why memory waits }
 
-    -- what is handed on as an error is waited for
-    pub fetch_handed : (why : Pause) → IsErr answer × IsErrAnd answer (λ e. e ≡ why)
+    -- the conversion is waited for
+    pub conversion_waits : (why : Pause) → IsErr answer × IsErrAnd answer (λ e. e ≡ why)
         → (why ≡ pause.Waits → (onward : ℤ → Act CodeState) → WaitsFor names.bases before earlier.used later.first (λ v. part v onward)) → IsFetch
-    fetch_handed why is waits = by_case answer is
-      where
-        by_case : (r : Result T Pause) → IsErr r × IsErrAnd r (λ e. e ≡ why)
-            → Fetches code names program before after earlier later r (λ v. converts_beside model at from to (operand v))
-        by_case (Ok made) is = absurd (true≢false (sym is.0))
-        by_case (Err e) is = record {
-          done = tt;
-          waits = λ so todo cells v fits.
-              waits_on cells _ _ (converts_beside model at from to (operand v) (stands code names program before todo v)) (part v (beside todo v))
-              names.bases before v later.first (leads_same cells _ _ _ (begins todo v fits)) (waits (sym is.1 ∙ so) (beside todo v) cells v fits);
-        }
+    conversion_waits why is waits =
+        fetch_handed code names program before after earlier later answer (λ v. converts_beside model at from to (operand v)) why is
+        (λ so todo cells v fits.
+        waits_on cells _ _ (converts_beside model at from to (operand v) (stands code names program before todo v)) (part v (beside todo v))
+        names.bases before v later.first (leads_same cells _ _ _ (begins todo v fits)) (waits so (beside todo v) cells v fits))

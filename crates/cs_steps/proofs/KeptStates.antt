@@ -13,6 +13,7 @@ use Rattle.cs_state.specs.Writes.{at_spot, with_answers, with_result, with_tempo
 use Rattle.cs_store.specs.declared.value.Value.{Value}
 use Rattle.cs_progress.specs.Locals.{PointToLocals, AreIn, IsOver, HasLocalsAlone, count_of_locals, PointsToLocal}
 use Rattle.cs_progress.specs.Stepping.{KeepsKnown, IsCutTo, IsCutForEnd}
+use Rattle.cs_progress.proofs.KeptLocals.{locals_kept}
 
 pub knows_on : (one two three : State) → KeepsKnown one two → KeepsKnown two three → KeepsKnown one three
 knows_on one two three first second = record {
@@ -21,23 +22,31 @@ knows_on one two three first second = record {
   counters = second.counters ∙ first.counters;
   asked = second.asked ∙ first.asked;
   phase = second.phase ∙ first.phase;
+  blocks = second.blocks ∙ first.blocks;
 }
 
 pub knows_cut : (temporaries : List Temporary) (before after : State) → after ≡ with_temporaries temporaries before → KeepsKnown before after
 knows_cut temporaries before after is =
-    subst (KeepsKnown before) (sym is) (record { model = refl; constraints = refl; counters = refl; asked = refl; phase = refl })
+    subst (KeepsKnown before) (sym is) (record { model = refl; constraints = refl; counters = refl; asked = refl; phase = refl; blocks = refl })
 
 pub knows_moved : (spot : Spot) (before after : State) → after ≡ at_spot spot before → KeepsKnown before after
 knows_moved spot before after is =
-    subst (KeepsKnown before) (sym is) (record { model = refl; constraints = refl; counters = refl; asked = refl; phase = refl })
+    subst (KeepsKnown before) (sym is) (record { model = refl; constraints = refl; counters = refl; asked = refl; phase = refl; blocks = refl })
 
 pub knows_returned : (result : Option Value) (before after : State) → after ≡ with_result result before → KeepsKnown before after
 knows_returned result before after is =
-    subst (KeepsKnown before) (sym is) (record { model = refl; constraints = refl; counters = refl; asked = refl; phase = refl })
+    subst (KeepsKnown before) (sym is) (record { model = refl; constraints = refl; counters = refl; asked = refl; phase = refl; blocks = refl })
 
 pub knows_answered : (before state : State) → KeepsKnown before state → KeepsKnown before (with_answers [] state)
 knows_answered before state knows =
-    record { model = knows.model; constraints = knows.constraints; counters = knows.counters; asked = knows.asked; phase = knows.phase }
+    record {
+      model = knows.model;
+      constraints = knows.constraints;
+      counters = knows.counters;
+      asked = knows.asked;
+      phase = knows.phase;
+      blocks = knows.blocks;
+    }
 
 module _ (program : TypedProgram) (bases : List Base) (known : ℕ → Bool) where
   -- a frame that goes on in its function
@@ -76,13 +85,9 @@ module _ (program : TypedProgram) (bases : List Base) (known : ℕ → Bool) whe
   -- temporaries that were dropped
   pub locals_cut : (number : ℕ) (before after : State) → IsCutTo number before after → HasLocalsAlone program bases known before
       → HasLocalsAlone program bases known after
-  locals_cut number before after is have = subst (HasLocalsAlone program bases known) (sym is) (record {
-    callers = have.callers;
-    answers = have.answers;
-    temporaries = All-take (AreIn program bases known before.frame) number before.frame.temporaries have.temporaries;
-    stored = have.stored;
-    filled = have.filled;
-  })
+  locals_cut number before after is have =
+      locals_kept program bases known (take number before.frame.temporaries) before after is
+      (All-take (AreIn program bases known before.frame) number before.frame.temporaries have.temporaries) have
 
   pub locals_cut_for : (end : BlockEnd) (before after : State) → IsCutForEnd end before after → HasLocalsAlone program bases known before
       → HasLocalsAlone program bases known after

@@ -6,7 +6,6 @@ use Rattle.cs_terms.specs.Term.{Valuation}
 use Rattle.cs_constraints.specs.Constraints.{Fits}
 use Rattle.cs_events.specs.declared.input.InputKind.{InputKind}
 use Rattle.cs_events.specs.declared.outcome.Outcome.TheVariants.{Done}
-use Rattle.cs_events.specs.declared.outcome.Returned.TheVariants as returned
 use Rattle.cs_events.specs.Objects.{Cell}
 use Rattle.cs_events.specs.Acts.{Act, Goes, Stops}
 use Rattle.cs_event_runs.specs.Left.{left_of}
@@ -26,7 +25,6 @@ use Rattle.cs_state.specs.Meaning.{frame_of, meaning}
 use Rattle.cs_state.specs.Naming.{Naming}
 use Rattle.cs_state.specs.Writes.{at_spot, with_result}
 use Rattle.cs_progress.specs.declared.next.Next.{Next}
-use Rattle.cs_progress.specs.declared.next.Next.TheVariants as next
 use Rattle.cs_progress.specs.declared.pause.Pause.{Pause}
 use Rattle.cs_progress.specs.declared.pause.Pause.TheVariants as pause
 use Rattle.cs_progress.specs.declared.progress.Progress.{Progress}
@@ -35,7 +33,7 @@ use Rattle.cs_progress.specs.Answering.{answers_left}
 use Rattle.cs_progress.specs.Leaving.{EndsRun}
 use Rattle.cs_progress.specs.Locals.{HasLocalsAlone}
 use Rattle.cs_progress.specs.Operands.{IsDropped}
-use Rattle.cs_progress.specs.Stepping.{BeginsIn, EndsAs, KeepsKnown, GoesTo, Leaves, result_in}
+use Rattle.cs_progress.specs.Stepping.{BeginsIn, KeepsKnown, GoesTo, Leaves, result_in}
 use Rattle.cs_progress.proofs.Carrying.{no_wait}
 use Rattle.cs_progress.proofs.Composing.{leads_on}
 use Rattle.cs_progress.proofs.KeptLocals.{dropped_locals}

@@ -3,6 +3,7 @@ mod Loading
 mod Storing
 mod Working
 mod Fetching
+mod LoadedWork
 mod CutMeanings
 mod Going
 mod KeptStates
@@ -13,4 +14,7 @@ mod Branching
 mod Switching
 mod Ways
 mod Counting
+mod Assigning
+mod Updating
+mod PushedPlaces
 mod Dispatching

@@ -6,7 +6,6 @@ use Rattle.cs_inputs.specs.declared.path.Path.{Path}
 use Rattle.cs_ast.specs.declared.place.Place.{Place}
 use Rattle.cs_ast.specs.TypedProgram.{TypedProgram}
 use Rattle.cs_terms.specs.Term.{Valuation}
-use Rattle.cs_constraints.specs.Constraints.{Fits}
 use Rattle.cs_checker.specs.declared.subject.Subject.TheVariants.{Cell as OfCell}
 use Rattle.cs_events.specs.declared.input.InputKind.{InputKind}
 use Rattle.cs_events.specs.Objects.{Object, Cell}
@@ -18,7 +17,6 @@ use Rattle.cs_meaning.specs.Machine.{Operand, Scalar}
 use Rattle.cs_meaning.specs.Memory.{Memory, Holds}
 use Rattle.cs_cfg.specs.Working.{CodeState}
 use Rattle.cs_regions.specs.declared.base.Base.{Base}
-use Rattle.cs_regions.specs.declared.base.Base.TheVariants.{Local}
 use Rattle.cs_regions.specs.Numbering.{IsNumbered}
 use Rattle.cs_store.specs.declared.value.Value.{Value}
 use Rattle.cs_store.specs.declared.value.Value.TheVariants as value
@@ -34,8 +32,7 @@ use Rattle.cs_progress.specs.declared.next.Next.{Next}
 use Rattle.cs_progress.specs.declared.pause.Pause.{Pause}
 use Rattle.cs_progress.specs.declared.pause.Pause.TheVariants as pause
 use Rattle.cs_progress.specs.declared.progress.Progress.{Progress}
-use Rattle.cs_progress.specs.Acting.{UsesAll, Leads, Gives, GetsThrough, CarriesOut, Passes, WaitsFor}
-use Rattle.cs_progress.specs.Answering.{answers_left}
+use Rattle.cs_progress.specs.Acting.{UsesAll, Leads, Gives, GetsThrough, Passes, WaitsFor}
 use Rattle.cs_progress.specs.Locals.{IsLocalOf, IsIn, MayBeIn, HasLocalsAlone, IsOfInteger, count_of_locals, value_held}
 use Rattle.cs_progress.proofs.Looks.{leads_same}
 use Rattle.cs_progress.proofs.Composing.{leads_on, waits_on}
@@ -150,6 +147,38 @@ module _ (program : TypedProgram) (names : Naming) (known : ℕ → Bool) (befor
         waits_on cells _ _ (load_part program names before access place v onward) (reaches access.at (cell_in names.bases before place v) after)
         names.bases before v first (leads_same cells _ _ _ (load_is access v onward place integer.direct)) (waits after cells v fits)
 
+    -- what a variable that is reached holds is loaded
+    pub load_done : (reached : Reached) (earlier middle later : Progress)
+        → Gives before earlier.used middle.used (λ v. reaches access.at (cell_in names.bases before place v)) (cell_reached names.bases reached)
+        → (after : State) (answer : Result Temporary Pause)
+        → Loads program names before after middle later answer (scalar_part program names before access.at reached)
+        → Loads program names before after earlier later answer (load_part program names before access place)
+    load_done reached earlier middle later located after answer loads = record {
+      act = carries_on before names.bases earlier later answer middle (load_part program names before access place)
+          (scalar_part program names before access.at reached) (loaded_in program names before)
+          (load_leads reached earlier.used middle.used located) loads.act;
+      inside = loads.inside;
+      same = loads.same;
+      unchanged = loads.unchanged;
+    }
+
+  module _ (after : State) (earlier later : Progress) (answer : Result Temporary Pause) where
+    -- what is handed on as an error is waited for, and has changed nothing
+    pub load_handed : (part : Part) (why : Pause) → IsErr answer × IsErrAnd answer (λ e. e ≡ why)
+        → (why ≡ pause.Waits → (after ≡ before)
+        × ((onward : Memory × Operand → Act CodeState) → WaitsFor names.bases before earlier.used later.first (λ v. part v onward)))
+        → Loads program names before after earlier later answer part
+    load_handed part why is waits = by_case answer is
+      where
+        by_case : (r : Result Temporary Pause) → IsErr r × IsErrAnd r (λ e. e ≡ why) → Loads program names before after earlier later r part
+        by_case (Ok made) is = absurd (true≢false (sym is.0))
+        by_case (Err e) is = record {
+          act = record { through = tt; waits = λ so. (waits (sym is.1 ∙ so)).1 };
+          inside = tt;
+          same = tt;
+          unchanged = λ so. (waits (sym is.1 ∙ so)).0;
+        }
+
   module _ (once : IsNumbered names.bases) (at : Place) (reached : Reached)
       (local : IsLocalOf names.bases before.frame.number (count_of_locals program before.frame.spot.function) reached.base)
       (given : Value) (is : given ≡ value_held (held before.store reached.base reached.offset)) where
@@ -182,19 +211,30 @@ module _ (program : TypedProgram) (names : Naming) (known : ℕ → Bool) (befor
         waits_on cells _ _ (scalar_part program names before at reached v onward) (set_part v next) names.bases before v first
         (leads_same cells _ _ _ (scalar_is once at reached local given is v onward)) (waits next cells v fits)
 
-  module _ (after : State) (earlier later : Progress) (answer : Result Temporary Pause) where
-    -- what is handed on as an error is waited for, and has changed nothing
-    pub load_handed : (part : Part) (why : Pause) → IsErr answer × IsErrAnd answer (λ e. e ≡ why)
-        → (why ≡ pause.Waits → (after ≡ before)
-        × ((onward : Memory × Operand → Act CodeState) → WaitsFor names.bases before earlier.used later.first (λ v. part v onward)))
-        → Loads program names before after earlier later answer part
-    load_handed part why is waits = by_case answer is
-      where
-        by_case : (r : Result Temporary Pause) → IsErr r × IsErrAnd r (λ e. e ≡ why) → Loads program names before after earlier later r part
-        by_case (Ok made) is = absurd (true≢false (sym is.0))
-        by_case (Err e) is = record {
-          act = record { through = tt; waits = λ so. (waits (sym is.1 ∙ so)).1 };
-          inside = tt;
-          same = tt;
-          unchanged = λ so. (waits (sym is.1 ∙ so)).0;
+    -- the read has changed nothing before the check
+    module _ (middle : State) (same : middle ≡ before) where
+      pub middle_checked : (unset : Bool) → unset ≡ is_unset given → ChecksFor middle (OfCell unset) at set_part
+      middle_checked unset unset_is = subst (λ (s : State). ChecksFor s (OfCell unset) at set_part) (sym same) (set_checked unset unset_is)
+
+      module _ {T : Type 0} (earlier later : Progress) where
+        kept : (checked : Result T Pause) → Passes names.bases middle earlier later checked set_part
+            → Passes names.bases before earlier later checked set_part
+        kept checked passes = subst (λ (s : State). Passes names.bases s earlier later checked set_part) same passes
+
+        -- a fault stands first
+        pub check_waits : (answer : Result Temporary Pause) (why : Pause) → IsErr answer × IsErrAnd answer (λ e. e ≡ why)
+            → Passes {T = T} names.bases middle earlier later (Err why) set_part
+            → Loads program names before middle earlier later answer (scalar_part program names before at reached)
+        check_waits answer why is passes =
+            load_handed middle earlier later answer (scalar_part program names before at reached) why is
+            (λ waits. (same, scalar_waits earlier.used later.first ((kept (Err why) passes).waits waits)))
+
+        -- the scalar was set
+        pub scalar_done : (done : T) → Passes names.bases middle earlier later (Ok done) set_part
+            → Loads program names before middle earlier later (Ok (temporary.Scalar given)) (scalar_part program names before at reached)
+        scalar_done done passes = record {
+          act = record { through = scalar_through earlier.used later.used (kept (Ok done) passes).through; waits = tt };
+          inside = subst (MayBeIn before) (sym is) (held_may_be_in before reached.base reached.offset);
+          same = same;
+          unchanged = tt;
         }

@@ -3,7 +3,7 @@ use Rattle.std.proofs.Common.{◌≡◌, ℕ, ◌+◌, ℤ, Bool, List, [], map,
 use Rattle.cs_inputs.specs.declared.path.Path.{Path}
 use Rattle.cs_ast.specs.TypedProgram.{TypedProgram}
 use Rattle.cs_terms.specs.Term.{Valuation, value_of}
-use Rattle.cs_constraints.specs.Constraints.{Fits, Sets}
+use Rattle.cs_constraints.specs.Constraints.{Fits}
 use Rattle.cs_events.specs.declared.input.InputKind.{InputKind}
 use Rattle.cs_events.specs.declared.outcome.RunBudgets.{RunBudgets}
 use Rattle.cs_events.specs.Objects.{Cell}
@@ -25,11 +25,11 @@ use Rattle.cs_state.specs.Writes.{at_spot, with_answers, with_result, with_tempo
 use Rattle.cs_progress.specs.declared.pause.Pause.{Pause}
 use Rattle.cs_progress.specs.declared.pause.Pause.TheVariants as pause
 use Rattle.cs_progress.specs.declared.progress.Progress.{Progress}
-use Rattle.cs_progress.specs.Acting.{UsesAll, Leads}
+use Rattle.cs_progress.specs.Acting.{UsesAll}
 use Rattle.cs_progress.specs.Answering.{answers_left}
 use Rattle.cs_progress.specs.Locals.{HasLocalsAlone}
-use Rattle.cs_progress.specs.Stepping.{KeepsKnown, StaysInFrame, IsCutTo, IsCutForEnd, IsMovedOn, WorksOn, Leaves, BeginsIn}
-use Rattle.cs_progress.specs.Stepping.{next_act, next_left, UsesAnswers, IsDone, Waits}
+use Rattle.cs_progress.specs.Stepping.{IsCutTo, IsCutForEnd, WorksOn, Leaves, BeginsIn}
+use Rattle.cs_progress.specs.Stepping.{next_act, IsDone, Waits}
 use Rattle.cs_steps.specs.AtSpots.{StandsAt, EndsAt, TakesStep}
 use Rattle.cs_steps.proofs.Beginning.{begins_in}
 use Rattle.cs_steps.proofs.CutMeanings.{cut_once, cut_means, cut_shared, end_cut}

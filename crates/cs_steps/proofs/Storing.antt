@@ -1,5 +1,5 @@
 -- Stores to integer variables, in states of locals alone: for the contracts of `locate_for_store`, `write` and `store`.
-use Rattle.std.proofs.Common.{◌≡◌, ℕ, ℤ, pos, Bool, false, true≢false, List, Option, None, Some, slice_get, if◌then◌else◌}
+use Rattle.std.proofs.Common.{◌≡◌, ◌≢◌, ◌⊎◌, ℕ, ℤ, pos, Bool, true, false, true≢false, List, Option, None, Some, slice_get, if◌then◌else◌}
 use Rattle.std.proofs.Common.{Result, Ok, Err, IsErr, IsErrAnd, OnOk, IfErr, refl, sym, ap, ◌∙◌, subst}
 use Rattle.std.specs.Prelude.{option_map}
 use mathlib.Core.Path.{fun_ext}
@@ -22,7 +22,10 @@ use Rattle.cs_meaning.specs.Memory.{Block, Memory, changed}
 use Rattle.cs_cfg.specs.Working.{CodeState}
 use Rattle.cs_regions.specs.declared.base.Base.{Base}
 use Rattle.cs_regions.specs.declared.base.Base.TheVariants.{Local}
+use Rattle.cs_regions.specs.Numbering.{IsNumbered}
 use Rattle.cs_store.specs.declared.value.Value.{Value}
+use Rattle.cs_store.specs.declared.value.Found.TheVariants.{Direct}
+use Rattle.cs_store.specs.Held.{held}
 use Rattle.cs_state.specs.declared.state.State.{State}
 use Rattle.cs_state.specs.declared.temporary.Temporary.{Temporary}
 use Rattle.cs_state.specs.declared.temporary.Temporary.TheVariants as temporary
@@ -34,13 +37,16 @@ use Rattle.cs_progress.specs.declared.pause.Pause.{Pause}
 use Rattle.cs_progress.specs.declared.pause.Pause.TheVariants as pause
 use Rattle.cs_progress.specs.declared.progress.Progress.{Progress}
 use Rattle.cs_progress.specs.Acting.{Leads, Gives, GetsThrough, CarriesOut, WaitsFor}
-use Rattle.cs_progress.specs.Locals.{HasLocalsAlone, IsLocalOf, IsOfInteger}
+use Rattle.cs_progress.specs.Answering.{answers_left}
+use Rattle.cs_progress.specs.Locals.{AreIn, HasLocalsAlone, IsLocalOf, IsOfInteger}
 use Rattle.cs_progress.proofs.Looks.{leads_same}
 use Rattle.cs_progress.proofs.Composing.{leads_on, waits_on}
 use Rattle.cs_progress.proofs.Carrying.{no_wait}
 use Rattle.cs_operators.specs.Asking.{ChecksFor}
 use Rattle.cs_operators.specs.Pointing.{cell_in}
+use Rattle.cs_checker.specs.Faults.{is_faulty_for}
 use Rattle.cs_cells.specs.InMemory.{memory_in}
+use Rattle.cs_cells.proofs.WrittenLocals.{locals_bound, memory_bound}
 use Rattle.cs_steps.specs.declared.access.Reached.{Reached}
 use Rattle.cs_steps.specs.Reaching.{reaches, cell_reached}
 use Rattle.cs_steps.specs.Storing.{reaches_for_store, store_part, IsWritten, Stores}
@@ -50,11 +56,11 @@ use Rattle.cs_steps.proofs.Loading.{touched}
 pub not_constant : (state : State) (at : Place) (constant : Bool) → constant ≡ false → ChecksFor state (Written constant) at (λ v act. act)
 not_constant state at constant is v fits =
     subst (λ (b : Bool). ChecksFor state (Written b) at (λ w act. act)) (sym is)
-    (λ w f. record { faulty = λ k holds act. no_fault k holds; good = λ none act. refl }) v fits
+    (λ w f. record { faulty = λ k holds act. no_fault w k holds; good = λ none act. refl }) v fits
   where
-    no_fault : {A : Type 0} (k : Kind) → is_faulty_for k (Written false) v ≡ true → A
-    no_fault kind.ConstWrite holds = absurd (true≢false (sym holds))
-    no_fault other holds = absurd (true≢false (sym holds))
+    no_fault : {A : Type 0} (w : Valuation) (k : Kind) → is_faulty_for k (Written false) w ≡ true → A
+    no_fault w kind.ConstWrite holds = absurd (true≢false (sym holds))
+    no_fault w other holds = absurd (true≢false (sym holds))
 
 module _ (program : TypedProgram) (bases : List Base) (state : State) (at : Place) (cell : Valuation → Cell) where
   -- what comes once a variable was reached
@@ -102,16 +108,9 @@ unchanged_memory : (object : Object) (memory : Memory) → memory ≡ changed (�
 unchanged_memory object memory = fun_ext (λ other. at (same_object object other) (memory other))
   where
     at : (same : Bool) (found : Option Block) → found ≡ (if same then option_map (λ block. block) found else found)
-    at same None = by same
-      where
-        by : (b : Bool) → None {A = Block} ≡ (if b then None else None)
-        by true = refl
-        by false = refl
-    at same (Some block) = by same
-      where
-        by : (b : Bool) → Some block ≡ (if b then Some block else Some block)
-        by true = refl
-        by false = refl
+    at true None = refl
+    at true (Some block) = refl
+    at false found = refl
 
 module _ (program : TypedProgram) (names : Naming) (known : ℕ → Bool) (before : State) where
   -- nothing was written
@@ -126,6 +125,26 @@ module _ (program : TypedProgram) (names : Naming) (known : ℕ → Bool) (befor
         rest = refl;
         locals = alone;
       })
+
+  -- a scalar was written
+  pub scalar_written : (after : State) (ty : Shape) (reached : Reached) (stored : Temporary) (given : Value) → stored ≡ temporary.Scalar given
+      → after ≡ with_memory after.store after.read before → held after.store reached.base reached.offset ≡ Direct given
+      → ((b o : ℕ) → (b ≢ reached.base) ⊎ (o ≢ reached.offset) → held after.store b o ≡ held before.store b o) → IsNumbered names.bases
+      → HasLocalsAlone program names.bases known before → AreIn program names.bases known before.frame stored
+      → IsWritten program names known before after ty reached stored
+  scalar_written after ty reached stored given is rest here elsewhere once alone inside =
+      subst (λ (t : Temporary). AreIn program names.bases known before.frame t → IsWritten program names known before after ty reached t) (sym is)
+      (λ within. record {
+        memory = λ region named v.
+            memory_bound before after rest program names known alone reached.base reached.offset given here elsewhere region once named v;
+        rest = rest;
+        locals = locals_bound before after rest program names known alone reached.base reached.offset given here elsewhere within;
+      }) inside
+
+  -- no struct is
+  pub no_struct : {A : Type 0} (stored : Temporary) (given : List Value) → stored ≡ temporary.Whole given
+      → AreIn program names.bases known before.frame stored → A
+  no_struct stored given is inside = absurd (subst (AreIn program names.bases known before.frame) is inside)
 
   module _ (at : Place) (access : Access) (integer : IsOfInteger access) (place : Value) (stored : Temporary) where
     abbrev part : Valuation → (Memory → Act CodeState) → Act CodeState

@@ -6,7 +6,7 @@ use Rattle.std.proofs.lemmas.List.{at_drop_more}
 use Rattle.cs_cfg.specs.declared.code.SwitchCase as declared
 use Rattle.cs_cfg.specs.Graph.{SwitchCase}
 use Rattle.cs_cfg.specs.GraphView.{switch_case}
-use Rattle.cs_cfg.specs.CodeSteps.{Way, way_of}
+use Rattle.cs_cfg.specs.CodeSteps.{way_of}
 
 int_eq_swapped : (one other : ℤ) → int_eq one other ≡ int_eq other one
 int_eq_swapped one other =

@@ -35,6 +35,7 @@ stays_on one two three first second = record {
     counters = second.known.counters ∙ first.known.counters;
     asked = second.known.asked ∙ first.known.asked;
     phase = second.known.phase ∙ first.known.phase;
+    blocks = second.known.blocks ∙ first.known.blocks;
   };
   answers = second.answers ∙ first.answers;
   callers = second.callers ∙ first.callers;

@@ -6,13 +6,11 @@ use Rattle.cs_terms.specs.declared.term.Lin.{Lin}
 use Rattle.cs_terms.specs.Term.{Valuation, value_of}
 use Rattle.cs_constraints.specs.Constraints.{Fits}
 use Rattle.cs_events.specs.declared.outcome.RunBudgets.{RunBudgets}
-use Rattle.cs_events.specs.Acts.{Act}
 use Rattle.cs_regions.specs.Numbering.{IsNumbered}
 use Rattle.cs_cfg.specs.declared.code.Spot.{Spot}
 use Rattle.cs_cfg.specs.Graph.{Operation, SwitchCase, BlockEnd, Code, before}
 use Rattle.cs_cfg.specs.Spots as spots
 use Rattle.cs_cfg.specs.Spots.{point_of}
-use Rattle.cs_cfg.specs.Working.{CodeState}
 use Rattle.cs_cfg.specs.CodeSteps.{way_of, do_end}
 use Rattle.cs_state.specs.declared.state.State.{State}
 use Rattle.cs_state.specs.Naming.{Naming, Extends}

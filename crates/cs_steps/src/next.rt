@@ -75,8 +75,10 @@ fn step(
         attempt.old.progress attempt.new.progress result }
 {
     match context.code.instruction_at(state.frame.spot) {
-        Instruction::CountedPoint(point) => count(context, state, &mut attempt.progress, *point),
-        Instruction::Operation(operation) => operate(context, state, tables, attempt, operation),
+        Instruction::CountedPoint(point) => reach(context, state, &mut attempt.progress, *point),
+        Instruction::Operation(operation) => {
+            do_operation(context, state, tables, attempt, operation)
+        }
         Instruction::End(block_end) => {
             end_block(context, state, tables, &mut attempt.progress, block_end)
         }
@@ -88,7 +90,7 @@ fn step(
 }
 
 // A loop head or a label stands at the spot. It needs no temporaries.
-fn count(
+fn reach(
     context: &Context,
     state: &mut State,
     progress: &mut Progress,
@@ -105,7 +107,7 @@ fn count(
 }
 
 // An operation stands at the spot.
-fn operate(
+fn do_operation(
     context: &Context,
     state: &mut State,
     tables: &mut Tables,

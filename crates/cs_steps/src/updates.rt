@@ -53,7 +53,8 @@ pub fn fetch_number(
     ensures work { HasEveryKind (λ b. (⟦<dyn Checker as Checker>⟧ b.vtable).kind_of b.value)
         attempt.old.checkers.items
         → DoesWork context.now.setting.now.program.now.model (naming tables.new) state.old state.new
-        attempt.old.progress attempt.new.progress result how.0 (graph.FetchNumber (view.access access.now) how.1) }
+        attempt.old.progress attempt.new.progress result how.0
+        (graph.FetchNumber (view.access access.now) how.1) }
 {
     let (at, ty) = how;
     let place = value(state, 0)?;
@@ -208,7 +209,7 @@ fn given(state: &State, gives: Gives, age: usize, after: Value) -> Result<Tempor
     ensures inside { IfOk result (λ left. MayBeIn state.now after → MayAllBeIn state.now left) }
 {
     match gives {
-        Gives::Old => operand(state, age)?.clone(),
+        Gives::Old => Ok(operand(state, age)?.clone()?),
         Gives::New => Ok(Temporary::Scalar(after)),
     }
 }

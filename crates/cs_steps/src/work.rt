@@ -221,8 +221,9 @@ fn load_in_place(
     ensures extends { Extends (naming tables.old) (naming tables.new) }
     ensures work { HasEveryKind (λ b. (⟦<dyn Checker as Checker>⟧ b.vtable).kind_of b.value)
         attempt.old.checkers.items
-        → (at : Place) → DoesWork context.now.setting.now.program.now.model (naming tables.new) state.old state.new
-        attempt.old.progress attempt.new.progress result at (graph.Load (view.access access.now)) }
+        → (at : Place) → DoesWork context.now.setting.now.program.now.model (naming tables.new)
+        state.old state.new attempt.old.progress attempt.new.progress result at
+        (graph.Load (view.access access.now)) }
 {
     let place = value(state, 0)?;
     let loaded = load(context, state, tables, attempt, access, place)?;

@@ -1,7 +1,7 @@
 use Rattle.cs_cfg.specs.GraphView as view
 use Rattle.cs_steps.proofs.KeptStates.{locals_cut}
 use Rattle.cs_steps.proofs.Stepped.{works_step}
-use Rattle.cs_steps.proofs.next.count.Goals as goal
+use Rattle.cs_steps.proofs.next.reach.Goals as goal
 
 pub returns : goal.returns
 returns c = record {

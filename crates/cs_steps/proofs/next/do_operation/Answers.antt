@@ -7,7 +7,7 @@ use Rattle.cs_progress.specs.Locals.{IsIntegerWork, count_of_locals}
 use Rattle.cs_steps.proofs.Going.{integer_at}
 use Rattle.cs_steps.proofs.KeptStates.{locals_cut}
 use Rattle.cs_steps.proofs.Stepped.{works_step}
-use Rattle.cs_steps.proofs.next.operate.Goals as goal
+use Rattle.cs_steps.proofs.next.do_operation.Goals as goal
 
 pub returns-clause-steps : goal.returns-clause-steps
 returns-clause-steps g c = λ every stands names program known model extends numbered have integer fresh.
