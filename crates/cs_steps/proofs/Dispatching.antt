@@ -1,9 +1,8 @@
 -- Operations that do their work: by what they push, by the clauses of operators, and before the frame goes on. For the contracts of `work`.
-use Rattle.std.proofs.Common.{◌≡◌, ◌<◌, ℕ, ℤ, pos, Bool, List, [], ◌∷◌, ◌++◌, Result, Ok, Err, IsErr, IsErrAnd, OnOk, IfErr, Some, slice_get, true≢false, refl, sym, ap, ◌∙◌, subst}
+use Rattle.std.proofs.Common.{◌≡◌, ◌<◌, ℕ, ℤ, pos, Bool, List, [], ◌∷◌, ◌++◌, Result, Ok, Err, IsErr, IsErrAnd, OnOk, IfErr, true≢false, refl, sym, ap, ◌∙◌}
 use Rattle.std.proofs.lemmas.Result.{on_ok_weaker}
 use Rattle.cs_inputs.specs.declared.path.Path.{Path}
 use Rattle.cs_ast.specs.TypedProgram.{TypedProgram}
-use Rattle.cs_terms.specs.declared.term.Lin.{Lin}
 use Rattle.cs_checker.specs.Answers.{constant}
 use Rattle.cs_events.specs.declared.input.InputKind.{InputKind}
 use Rattle.cs_events.specs.Objects.{Cell, LocalObject, PointerCell}
@@ -43,18 +42,6 @@ pub leads_touched : (cells : Path → InputKind → Cell) (answers : List ℤ) (
     → Leads cells answers answers (Touches touch act) act
 unfolding left_of UsesAll
 leads_touched cells answers touch act uses = (refl, uses)
-
--- the number of a base region, at its first byte, is one more operand
-pub place_pushed : {T : Type 0} (bases : List Base) (before after : State) (answer : Result T Pause) (base : Base) (number : ℕ) (offset : Lin)
-    → offset ≡ constant (pos 0) → slice_get bases number ≡ Some base → OnOk answer (IsPushed (Scalar (At number offset)) before after)
-    → OnOk answer (MeansPushed (Scalar (At number offset)) before after) → OnOk answer (IsPlacePushed bases base before after)
-place_pushed bases before after (Err why) base number offset first named is means = tt
-place_pushed bases before after (Ok done) base number offset first named is means = record {
-  number = number;
-  named = named;
-  pushed = subst (λ (o : Lin). IsPushed (Scalar (At number o)) before after) first is;
-  means = subst (λ (o : Lin). MeansPushed (Scalar (At number o)) before after) first means;
-}
 
 module _ (code : Code) (names : Naming) (program : TypedProgram) (known : ℕ → Bool) (before : State) (earlier later : Progress)
     (act : CodeState → Act CodeState) where
