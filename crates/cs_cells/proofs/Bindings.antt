@@ -52,6 +52,7 @@ module _ (cell : Value → Cell) where
         | inl same ↦ absurd (direct_no_fill value fill (sym here ∙ ap (held_in after) (sym same.1) ∙ is))
         | inr other ↦ never o fill (sym (elsewhere o other.1) ∙ is)
       ]
+
       by_offset : (at : ℕ) → (((at == offset) ≡ true) × (at ≡ offset)) ⊎ (((at == offset) ≡ false) × (at ≢ offset))
           → option_map cell (bound_value (held_in after at))
           ≡ (if at == offset then Some (cell value) else option_map cell (bound_value (held_in before at)))
@@ -105,6 +106,7 @@ module _ (program : TypedProgram) (names : Naming) (owners : List Owner) (blocks
               let one : found ≡ region = same_Some found region (sym there ∙ ap (slice_get names.bases) same ∙ named) in
               let itself : object_of region ≡ object = ap object_of (sym one) ∙ object_is in
               true≢false (sym (same_itself region) ∙ ap (same_object (object_of region)) itself ∙ differs)
+
       at : (object : Object) (same : Bool) → same_object (object_of region) object ≡ same
           → memory after object ≡ (if same_object (object_of region) object then option_map change (memory before object) else memory before object)
       at object true same =

@@ -1,5 +1,6 @@
 -- What the memory of a state's meaning holds in the locals of the frame that runs.
-use Rattle.std.proofs.Common.{◌≡◌, ℕ, ◌<◌, nat_eq, List, ◌∷◌, map, length, Option, Some, None, option_map, slice_get, if◌then◌else◌, refl, sym, ap, ◌∙◌, inl, inr, arith}
+use Rattle.std.proofs.Common.{◌≡◌, ℕ, ◌<◌, List, ◌∷◌, map, length, Option, Some, None, option_map, slice_get, if◌then◌else◌}
+use Rattle.std.proofs.Common.{refl, sym, ap, ◌∙◌, inl, inr, arith}
 use Rattle.std.proofs.lemmas.Option.{slice_get_cases}
 use Rattle.std.proofs.lemmas.Bool.{eq-eqb}
 use Rattle.std.specs.Option.{option_and_then, option_map_or}
@@ -10,7 +11,6 @@ use Rattle.cs_events.specs.Objects.{Object, LocalObject, Cell, UnsetCell}
 use Rattle.cs_meaning.specs.Calls.{local_block}
 use Rattle.cs_meaning.specs.Machine.{routine_of}
 use Rattle.cs_meaning.specs.Memory.{Block, Memory, UnsetFill, Holds, found_in, filled, written_or, scalar_at}
-use Rattle.cs_regions.specs.declared.base.Base.{Base}
 use Rattle.cs_regions.specs.declared.base.Base.TheVariants.{Local}
 use Rattle.cs_regions.specs.Numbering.{IsNumbered}
 use Rattle.cs_store.specs.declared.value.Value.{Value}
@@ -19,9 +19,9 @@ use Rattle.cs_store.specs.declared.value.Fill.TheVariants as fill
 use Rattle.cs_store.specs.declared.value.Fill as store
 use Rattle.cs_store.specs.declared.value.Found.TheVariants as found
 use Rattle.cs_store.specs.Contents.{Contents, held_in}
-use Rattle.cs_store.specs.Held.{Regions, contents_of, held}
+use Rattle.cs_store.specs.Held.{contents_of, held}
 use Rattle.cs_state.specs.declared.state.State.{State}
-use Rattle.cs_state.specs.Cells.{Blocks, cell_of}
+use Rattle.cs_state.specs.Cells.{cell_of}
 use Rattle.cs_state.specs.Naming.{Naming}
 use Rattle.cs_state.specs.Objects.{Owner, owner, owner_numbered, local_of, contents_in, written_over, fill_over}
 use Rattle.cs_state.proofs.Numbers.{number_here}
