@@ -37,7 +37,8 @@ use Rattle.cs_progress.proofs.KeptLocals.{stays, locals_kept}
 use Rattle.cs_operators.proofs.Computed.{stands}
 use Rattle.cs_steps.specs.Fetching.{ArePushed, MeanPushed, converts_beside, Fetches}
 
-module _ (before after : State) {T : Type 0} (answer : Result T Pause) (first second : Temporary) (pushed : OnOk answer (ArePushed first second before after)) where
+module _ (before after : State) {T : Type 0} (answer : Result T Pause) (first second : Temporary)
+    (pushed : OnOk answer (ArePushed first second before after)) where
   pub both_stay : OnOk answer (StaysInFrame before after)
   both_stay = on_ok_weaker answer (stays (before.frame.temporaries ++ first ∷ [] ++ second ∷ []) before after) pushed
 

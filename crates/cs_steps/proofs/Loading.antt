@@ -1,5 +1,6 @@
 -- Loads from integer variables, in states of locals alone: for the contracts of `load` and `load_scalar`.
-use Rattle.std.proofs.Common.{◌≡◌, ℕ, ℤ, pos, Bool, List, Option, None, Some, slice_get, if◌then◌else◌, true, Result, Ok, Err, IsErr, IsErrAnd, true≢false, refl, sym, ap, ◌∙◌, subst}
+use Rattle.std.proofs.Common.{◌≡◌, ℕ, ℤ, pos, Bool, List, Option, None, Some, slice_get, if◌then◌else◌, true, Result, Ok, Err, IsErr, IsErrAnd, true≢false}
+use Rattle.std.proofs.Common.{refl, sym, ap, ◌∙◌, subst}
 use Rattle.cs_types.specs.declared.int_type.IntType.{IntType}
 use Rattle.cs_types.specs.Shape.{integer}
 use Rattle.cs_inputs.specs.declared.path.Path.{Path}

@@ -42,7 +42,8 @@ returns-in_err-loaded-clause-work g c = λ every code names program budgets know
       loads.unchanged waits,
       λ todo.
           part_waits code names program state todo act (load_part program names state access place) (rest todo)
-          (λ v fits. ap (λ cell. load_object program (memory_in program names state v) state.frame.number access cell (λ memory operand. rest todo v (memory, operand)))
+          (λ v fits. ap (λ cell. load_object program (memory_in program names state v) state.frame.number access cell
+          (λ memory operand. rest todo v (memory, operand)))
           (c.in_ok-place.ensures.value code names program v)) _ _ (loads.act.waits waits),
     ))
 
@@ -66,5 +67,6 @@ returns-clause-work g c = λ every code names program budgets known model extend
     (λ todo.
     part_leads code names program state todo act (load_part program names state access place) (rest todo)
     (λ v fits i. load_object program (memory_in program names state v) state.frame.number access (c.in_ok-place.ensures.value code names program v i)
-    (λ memory operand. converts_beside (same_model i) c.args.how.0 access.ty c.args.how.1 operand (with_memory memory (stands code names program state todo v))))
+    (λ memory operand. converts_beside (same_model i) c.args.how.0 access.ty c.args.how.1 operand
+    (with_memory memory (stands code names program state todo v))))
     _ _ _ loads.act.through)

@@ -38,7 +38,8 @@ returns-in_err-loaded-clause-work g c = λ every at code names program budgets k
       loads.unchanged waits,
       λ todo.
           part_waits code names program state todo act (load_part program names state access place) (rest todo)
-          (λ v fits. ap (λ cell. load_object program (memory_in program names state v) state.frame.number access cell (λ memory operand. rest todo v (memory, operand)))
+          (λ v fits. ap (λ cell. load_object program (memory_in program names state v) state.frame.number access cell
+          (λ memory operand. rest todo v (memory, operand)))
           (c.in_ok-place.ensures.value code names program v)) _ _ (loads.act.waits waits),
     ))
 
@@ -56,5 +57,6 @@ returns-clause-work g c = λ every at code names program budgets known model ext
     c.in_ok-loaded.loaded (loads.inside program names.bases known alone) c.replace.ensures.left c.replace.ensures.means c.replace.ensures.memory
     (λ todo.
     part_leads code names program state todo act (load_part program names state access place) (rest todo)
-    (λ v fits. ap (λ cell. load_object program (memory_in program names state v) state.frame.number access cell (λ memory operand. rest todo v (memory, operand)))
+    (λ v fits. ap (λ cell. load_object program (memory_in program names state v) state.frame.number access cell
+    (λ memory operand. rest todo v (memory, operand)))
     (c.in_ok-place.ensures.value code names program v)) _ _ _ loads.act.through)
