@@ -1,6 +1,5 @@
 pub mod Parameters
 pub mod Chains
-pub mod Coming
 pub mod Phases
 pub mod EntryRuns
 pub mod OwnNumbers
