@@ -17,7 +17,7 @@ use Rattle.cs_state.specs.Valuations.{cell_read}
 use Rattle.cs_explored.specs.declared.explored.Row.{Row}
 use Rattle.cs_engine.specs.Asking.{IsMoved}
 use Rattle.cs_engine.specs.Chains.{first}
-use Rattle.cs_engine.specs.EntryRuns.{step_of, start_of, begins}
+use Rattle.cs_successors.specs.EntryRuns.{step_of, start_of, begins}
 use Rattle.cs_engine.specs.Exact.{IsExactRow, IsPossible, Stands}
 
 -- each number may be a symbol's own

@@ -34,8 +34,8 @@ use Rattle.cs_state.specs.declared.state.State.{State}
 use Rattle.cs_state.specs.Naming.{Naming}
 use Rattle.cs_state.specs.Starting.{IsStart, HoldsValue, Ranges}
 use Rattle.cs_state.proofs.Inhabited.{zero_held}
-use Rattle.cs_engine.specs.EntryRuns.{setting_with}
-use Rattle.cs_engine.specs.OwnNumbers.{input_number, kind_in, number_of, own_valuation, received_by}
+use Rattle.cs_successors.specs.EntryRuns.{setting_with}
+use Rattle.cs_coverage.specs.OwnNumbers.{input_number, kind_in, number_of, own_valuation, received_by}
 use Rattle.cs_engine.specs.OwnRuns.{FitsAfter}
 
 -- what an entry's parameters may be

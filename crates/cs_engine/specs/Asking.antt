@@ -28,9 +28,9 @@ use Rattle.cs_eval.specs.declared.question.Question.{Question}
 use Rattle.cs_eval.specs.Questions.{operation_of}
 use Rattle.cs_explored.specs.declared.explored.Row.{Row}
 use Rattle.cs_engine.specs.Chains.{IsChain}
-use Rattle.cs_engine.specs.EntryRuns.{events_of, setting_with, HasLeft, PassesTo}
+use Rattle.cs_successors.specs.EntryRuns.{events_of, setting_with, HasLeft, PassesTo}
 use Rattle.cs_engine.specs.Inexact.{IsQuestionOf, HasFact, TellsResult, AreRanges, IsInexact}
-use Rattle.cs_engine.specs.OwnNumbers.{own_valuation, ListsOwn}
+use Rattle.cs_coverage.specs.OwnNumbers.{own_valuation, ListsOwn}
 
 -- where there is no symbol, 0 stands for both ends
 abbrev pub HasNoEnds : Option Sym → Interval → Type 0

@@ -25,7 +25,7 @@ use Rattle.cs_explored.specs.declared.explored.End.{End}
 use Rattle.cs_explored.specs.declared.explored.Row.{Row}
 use Rattle.cs_explored.specs.declared.watch.Rule.{Rule}
 use Rattle.cs_engine.specs.Chains.{IsChain}
-use Rattle.cs_engine.specs.EntryRuns.{events_of, setting_with, EndsAfter, PassesTo}
+use Rattle.cs_successors.specs.EntryRuns.{events_of, setting_with, EndsAfter, PassesTo}
 use Rattle.cs_engine.specs.Graphs.{IsExactGraph}
 
 -- another row comes from the one with a number

@@ -26,7 +26,7 @@ use Rattle.cs_explored.specs.declared.explored.End.{End}
 use Rattle.cs_explored.specs.declared.explored.Row.{Row}
 use Rattle.cs_engine.specs.Chains.{IsChain}
 use Rattle.cs_progress.specs.Stepping.{end_of, result_in, HasReturned}
-use Rattle.cs_engine.specs.EntryRuns.{events_of, HasLeft, EndsWith}
+use Rattle.cs_successors.specs.EntryRuns.{events_of, HasLeft, EndsWith}
 
 -- some valuation fits
 abbrev pub IsPossible : State → Type 0

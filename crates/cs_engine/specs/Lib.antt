@@ -1,9 +1,5 @@
 pub mod Parameters
 pub mod Chains
-pub mod Phases
-pub mod EntryRuns
-pub mod OwnNumbers
-pub mod Covering
 pub mod Exact
 pub mod Inexact
 pub mod Asking

@@ -18,8 +18,8 @@ use Rattle.cs_explored.specs.declared.explored.End.{End}
 use Rattle.cs_explored.specs.declared.explored.Row.{Row}
 use Rattle.cs_engine.specs.Chains.{IsChain}
 use Rattle.cs_progress.specs.Stepping.{end_of}
-use Rattle.cs_engine.specs.EntryRuns.{events_of, setting_with, HasLeft, EndsAfter}
-use Rattle.cs_engine.specs.OwnNumbers.{own_valuation, ListsOwn}
+use Rattle.cs_successors.specs.EntryRuns.{events_of, setting_with, HasLeft, EndsAfter}
+use Rattle.cs_coverage.specs.OwnNumbers.{own_valuation, ListsOwn}
 
 -- all events of a run
 abbrev pub IsAny : ℕ → Type 0

@@ -25,8 +25,8 @@ use Rattle.cs_state.specs.Naming.{Naming}
 use Rattle.cs_explored.specs.declared.explored.Row.{Row}
 use Rattle.cs_explored.specs.declared.watch.Rule.{Rule}
 use Rattle.cs_engine.specs.Chains.{IsGuessedAlong}
-use Rattle.cs_engine.specs.EntryRuns.{events_of, HasLeft}
-use Rattle.cs_engine.specs.Phases.{IsPhaseAlong}
+use Rattle.cs_successors.specs.EntryRuns.{events_of, HasLeft}
+use Rattle.cs_coverage.specs.Phases.{IsPhaseAlong}
 
 -- the state's guesses stand in order of their events, one for each
 abbrev pub IsInEventOrder : State → Type 0

@@ -3,22 +3,11 @@ ghost use Rattle.std.specs.Prelude.{◌≡◌, ◌≤◌, map, length, IfOk, OnO
 ghost use Rattle.cs_objects.specs.Prepared.{IsReady};
 ghost use Rattle.cs_explored.specs.Found.{IsSound, Grows, AreLinked, AreOfRows};
 
-use crate::children::Children;
 use crate::entry::start;
 use cs_checker::Checker;
-use cs_explored::{Explored, Findings, Rule};
-use cs_progress::Context;
-use cs_results::Budgets;
+use cs_children::{Children, Exploration};
+use cs_explored::{Explored, Findings};
 use std::alloc::AllocError;
-
-/// What an exploration goes by.
-#[derive(Drop)]
-pub struct Exploration<'a> {
-    pub context: &'a Context<'a>,
-    pub budgets: Budgets,
-    /// The rules of the protocol that is watched.
-    pub rules: &'a [Rule],
-}
 
 /// Explores the runs of an entry.
 pub fn explore(

@@ -1,8 +1,8 @@
 //! The exploration of an entry: all states that its runs come to, how they end, and where the exploration was cut.
 #![tactic(auto)]
 
-mod children;
 mod engine;
 mod entry;
 
-pub use engine::{Exploration, explore};
+pub use cs_children::Exploration;
+pub use engine::explore;

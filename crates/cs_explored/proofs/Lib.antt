@@ -1,2 +1,3 @@
 mod FirstRules
 pub mod Growing
+mod Placed

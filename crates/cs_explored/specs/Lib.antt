@@ -1,3 +1,4 @@
 pub mod Found
 pub mod Watching
 pub mod Answering
+pub mod Placing

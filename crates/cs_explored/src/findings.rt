@@ -1,7 +1,9 @@
 //! What an exploration has found so far.
-ghost use Rattle.std.specs.Prelude.{◌≡◌, ◌≤◌, ◌<◌, length, IfOk, OnOk};
+ghost use Rattle.std.specs.Prelude.{◌≡◌, ◌≤◌, ◌<◌, [], length, IfOk, OnOk};
+ghost use Rattle.cs_graph.specs.Adding.{empty};
 ghost use Rattle.cs_keys.specs.Live.{live_part};
 ghost use Rattle.cs_keys.specs.Words.{words_of};
+ghost use Rattle.cs_explored.specs.Placing.{child_row, first_row, KeepsEnds, AddsEnds, AddsCuts, PlacesChildren};
 ghost use Rattle.cs_explored.specs.Found.{ComesFromBefore, IsSound, Grows, AreLinked, AreOfRows, IsPlaced};
 
 use crate::child::Child;
@@ -32,6 +34,9 @@ impl Findings {
         ensures sound { IsSound result }
         ensures nodes { result.nodes ≡ nodes }
         ensures rows { length result.graph.rows ≡ 0 }
+        ensures graph { result.graph ≡ empty nodes }
+        ensures no_ends { result.ends.items ≡ [] }
+        ensures no_cuts { result.cuts.items ≡ [] }
     {
         Findings {
             graph: Graph::new(alloc, nodes),
@@ -45,7 +50,10 @@ impl Findings {
     /// The row in which the entry begins; false where the graph is full.
     pub fn add_first(&mut self, alloc: Global, state: Box<State>) -> Result<bool, AllocError>
         requires none { length self.old.graph.rows ≡ 0 }
-        ensures { OnOk result (Grows self.old self.new) }
+        ensures grows { OnOk result (Grows self.old self.new) }
+        ensures placed { IfOk result (λ room.
+            IsPlaced (words_of (live_part state.value)) (first_row state) room self.old self.new) }
+        ensures rest { OnOk result (KeepsEnds self.old self.new) }
     {
         self.add(
             alloc,
@@ -64,6 +72,7 @@ impl Findings {
         ensures placed { IfOk result (λ room.
             IsPlaced (words_of (live_part row.state.value)) row room self.old self.new) }
         ensures grows { OnOk result (Grows self.old self.new) }
+        ensures rest { OnOk result (KeepsEnds self.old self.new) }
     {
         let row = listed(row)?;
         let key = key(alloc, &*row.state)?;
@@ -81,7 +90,10 @@ impl Findings {
     /// Adds what comes of a row; false where the graph is full.
     pub fn add_all(&mut self, alloc: Global, row: u32, made: Vec<Child>) -> Result<bool, AllocError>
         requires { row < length self.old.graph.rows }
-        ensures { OnOk result (Grows self.old self.new) }
+        ensures grows { OnOk result (Grows self.old self.new) }
+        ensures all { IfOk result (λ room.
+            PlacesChildren row made.items room self.old self.new) }
+        ensures rest { OnOk result (KeepsEnds self.old self.new) }
     {
         for child in made {
             if !self.add(alloc, row_of(row, child))? {
@@ -94,7 +106,8 @@ impl Findings {
     /// Runs that come from a row end so.
     pub fn add_ends(&mut self, row: u32, ends: Vec<(Outcome, Box<State>)>) -> Result<(), AllocError>
         requires { row < length self.old.graph.rows }
-        ensures { OnOk result (Grows self.old self.new) }
+        ensures grows { OnOk result (Grows self.old self.new) }
+        ensures adds { OnOk result (AddsEnds row ends.items self.old self.new) }
     {
         for (outcome, state) in ends {
             self.ends.push(End {
@@ -108,7 +121,8 @@ impl Findings {
 
     /// The exploration was cut there too.
     pub fn add_cuts(&mut self, cuts: &[Cut]) -> Result<(), AllocError>
-        ensures { OnOk result (Grows self.old self.new) }
+        ensures grows { OnOk result (Grows self.old self.new) }
+        ensures adds { OnOk result (AddsCuts cuts.now self.old self.new) }
     {
         for cut in cuts {
             self.cuts.push(*cut)?;
@@ -122,6 +136,10 @@ impl Findings {
         ensures few { length result.rows.items ≤ self.nodes }
         ensures linked { AreLinked result.rows.items }
         ensures ends { AreOfRows result.rows.items result.ends.items }
+        ensures rows { result.rows.items ≡ self.graph.rows }
+        ensures all_ends { result.ends.items ≡ self.ends.items }
+        ensures cuts { result.cuts.items ≡ self.cuts.items }
+        ensures tables { result.tables ≡ self.tables }
     {
         let Findings {
             graph,
@@ -150,7 +168,7 @@ fn listed(row: Row) -> Result<Row, AllocError>
 
 // The row of a child.
 fn row_of(parent: u32, child: Child) -> Row
-    ensures { result.parent ≡ parent }
+    ensures { result ≡ child_row parent child }
 {
     let Child {
         event,

@@ -1,4 +1,4 @@
 mod Reading
-mod Lines
+pub mod Lines
 mod Divided
 mod Sharing

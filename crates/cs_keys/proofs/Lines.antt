@@ -25,7 +25,7 @@ by_origin slope at value x fits =
     sym (int_wrap_fits w128 (affine slope at value x) fits) ∙ ap (λ z. int_wrap w128 z) (as_sum slope at value x)
     ∙ sym (int_wrap-add_left w128 (value -ℤ slope *ℤ at) (slope *ℤ x))
 
-same_line : (slope steepness at place value number x : ℤ) → slope ≡ steepness
+pub same_line : (slope steepness at place value number x : ℤ) → slope ≡ steepness
     → int_wrap w128 (value -ℤ slope *ℤ at) ≡ int_wrap w128 (number -ℤ steepness *ℤ place)
     → FitsSigned w128 (affine slope at value x) → FitsSigned w128 (affine steepness place number x)
     → affine slope at value x ≡ affine steepness place number x

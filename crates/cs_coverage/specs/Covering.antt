@@ -26,9 +26,9 @@ use Rattle.cs_explored.specs.declared.explored.Explored.{Explored}
 use Rattle.cs_explored.specs.declared.explored.Row.{Row}
 use Rattle.cs_explored.specs.declared.watch.Rule.{Rule}
 use Rattle.cs_progress.specs.Stepping.{end_of}
-use Rattle.cs_engine.specs.EntryRuns.{events_of, setting_with, HasLeft, EndsAfter, EndsWith}
-use Rattle.cs_engine.specs.OwnNumbers.{own_valuation}
-use Rattle.cs_engine.specs.Phases.{IsPhaseAlong}
+use Rattle.cs_successors.specs.EntryRuns.{events_of, setting_with, HasLeft, EndsAfter, EndsWith}
+use Rattle.cs_coverage.specs.OwnNumbers.{own_valuation}
+use Rattle.cs_coverage.specs.Phases.{IsPhaseAlong}
 
 -- the live part of a state depends on what numbers a symbol may have
 pub record IsLive (state : State) (sym : ℕ) : Type 0 where

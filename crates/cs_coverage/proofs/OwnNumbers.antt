@@ -7,7 +7,7 @@ use Rattle.cs_events.specs.declared.input.InputKind.TheVariants.{Integer, Pointe
 use Rattle.cs_events.specs.InputCells.{input_cell, lies_in}
 use Rattle.cs_events.specs.Objects.{NumberCell, NullCell, PointerCell, StartBlock}
 use Rattle.cs_events.specs.Operations.{numbers_of, is_true, truth_number}
-use Rattle.cs_engine.specs.OwnNumbers.{input_number}
+use Rattle.cs_coverage.specs.OwnNumbers.{input_number}
 
 number_held : (range : ℤ × ℤ) (number : ℤ) (b : Bool) → lies_in range number ≡ b
     → (if lies_in range (if b then number else pos 0) then (if b then number else pos 0) else pos 0) ≡ (if b then number else pos 0)

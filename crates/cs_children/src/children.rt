@@ -1,8 +1,14 @@
 //! What comes of a state: the states directly after its next events, and its ends.
-ghost use Rattle.std.specs.Prelude.{◌≡◌, map};
+ghost use Rattle.std.specs.Prelude.{◌≡◌, ◌≤◌, true, false, [], ◌∷◌, map, OnOk, IfOk, MatchOption};
 ghost use Rattle.cs_objects.specs.Prepared.{IsReady};
+ghost use Rattle.cs_constraints.specs.Constraints.{IsDeclared};
+ghost use Rattle.cs_state.specs.Naming.{naming, Extends};
+ghost use Rattle.cs_operators.specs.Asking.{HasEveryKind};
+ghost use Rattle.cs_children.specs.Adding.{Adds, AddsChildren, AddsPieces, AddsFaulty, KeepApart, HaveOthers, GoesOn};
+ghost use Rattle.cs_children.specs.Adding.{IsNextEvent, IsPassed, AreOfQuestion, AreOfSwitch};
+ghost use Rattle.cs_children.specs.Finding.{AreNone, FindsAll, code_of, model_of};
 
-use crate::engine::Exploration;
+use crate::exploration::Exploration;
 use cs_access::{Checked, FaultyPart, Reached, ReachedOffset, Rest, is_known, reach};
 use cs_ast::Place;
 use cs_cfg::{BlockEnd, Instruction};
@@ -27,7 +33,9 @@ pub struct Children {
 
 impl Children {
     /// Nothing.
-    pub fn new(alloc: Global) -> Children {
+    pub fn new(alloc: Global) -> Children
+        ensures { AreNone result }
+    {
         Children {
             made: Vec::new(alloc),
             ends: Vec::new(alloc),
@@ -46,6 +54,9 @@ impl Children {
         requires { IsReady exploration.now.context.now.setting.now }
         ensures kinds { map (λ b. kind_of b) checkers.new.items
             ≡ map (λ b. kind_of b) checkers.old.items }
+        ensures extends { Extends (naming tables.old) (naming tables.new) }
+        ensures all { HasEveryKind (λ b. kind_of b) checkers.old.items → AreNone self.old
+            → OnOk result (FindsAll exploration.now (naming tables.new) state.value self.new) }
     {
         let mut state = state;
         for _ in 0..u64::MAX {
@@ -68,10 +79,28 @@ impl Children {
         Err(AllocError)
     }
 
-    // The runs of a state end.
-    fn end(&mut self, outcome: Outcome, state: Box<State>) -> Result<(), AllocError> {
+    // The runs of a state end. No other end has this outcome: a check whose faults are a part of a state comes right before an event.
+    fn end(&mut self, outcome: Outcome, state: Box<State>) -> Result<(), AllocError>
+        ensures adds { OnOk result (Adds self.old self.new [] ((outcome, state) ∷ [])) }
+        ensures apart { OnOk result (KeepApart self.old self.new) }
+    {
+        if self.has_end(outcome) {
+            return Err(AllocError);
+        }
         self.ends.push((outcome, state))?;
         Ok(())
+    }
+
+    // Whether there is an end with this outcome.
+    fn has_end(&self, outcome: Outcome) -> bool
+        ensures { result ≡ false → HaveOthers outcome self.now.ends.items }
+    {
+        for (found, _) in &self.ends {
+            if is_same(*found, outcome) {
+                return true;
+            }
+        }
+        false
     }
 
     // What checkers have found: the faulty parts of a state end, and the rest goes on; false where there is none.
@@ -82,7 +111,13 @@ impl Children {
         state: &mut State,
         at: Place,
         checked: Box<Checked>,
-    ) -> Result<bool, AllocError> {
+    ) -> Result<bool, AllocError>
+        ensures adds { IfOk result (λ goes. AddsFaulty at checked.value.faults.items
+            self.old self.new) }
+        ensures rest { IfOk result (λ goes. GoesOn checked.value.rest goes
+            state.old state.new) }
+        ensures apart { IfOk result (λ goes. KeepApart self.old self.new) }
+    {
         let Checked { faults, rest } = Box::into_inner(checked);
         self.end_faulty(alloc, at, faults)?;
         match rest {
@@ -101,11 +136,14 @@ impl Children {
         alloc: Global,
         at: Place,
         faults: Vec<FaultyPart>,
-    ) -> Result<(), AllocError> {
+    ) -> Result<(), AllocError>
+        ensures adds { OnOk result (AddsFaulty at faults.items self.old self.new) }
+        ensures apart { OnOk result (KeepApart self.old self.new) }
+    {
         for fault in faults {
             let FaultyPart { kind, state } = fault;
             let state = Box::new(alloc, state)?;
-            self.ends.push((Outcome::Fault(kind, at), state))?;
+            self.end(Outcome::Fault(kind, at), state)?;
         }
         Ok(())
     }
@@ -119,13 +157,22 @@ impl Children {
         tables: &mut Tables,
         at: Place,
         question: &Question,
-    ) -> Result<(), AllocError> {
+    ) -> Result<(), AllocError>
+        ensures extends { Extends (naming tables.old) (naming tables.new) }
+        ensures adds { OnOk result (AddsPieces exploration.now.budgets.events
+            exploration.now.rules.now state at (AreOfQuestion (model_of exploration.now)
+            (naming tables.new) state.value question.now) self.old self.new) }
+        ensures apart { OnOk result (KeepApart self.old self.new) }
+    {
         let Some(number) = event_after(exploration, &*state) else {
             return self.end(over(at), state);
         };
         let alloc = exploration.context.alloc;
         let model = exploration.context.setting.program.model;
         let guess = tables.sym(SymName::Guess(number))?;
+        if state.constraints.range_of(guess).is_some() {
+            return Err(AllocError);
+        }
         let pieces = answers(alloc, model, &state.constraints, question, guess)?;
         self.add_all(exploration, state, at, pieces, guess)
     }
@@ -138,7 +185,12 @@ impl Children {
         state: Box<State>,
         at: Place,
         term: Lin,
-    ) -> Result<(), AllocError> {
+    ) -> Result<(), AllocError>
+        ensures adds { OnOk result (AddsPieces exploration.now.budgets.events
+            exploration.now.rules.now state at (AreOfSwitch (code_of exploration.now)
+            state.value term) self.old self.new) }
+        ensures apart { OnOk result (KeepApart self.old self.new) }
+    {
         if event_after(exploration, &*state).is_none() {
             return self.end(over(at), state);
         }
@@ -159,7 +211,10 @@ impl Children {
         place: Place,
         pieces: Vec<Piece>,
         guess: Sym,
-    ) -> Result<(), AllocError> {
+    ) -> Result<(), AllocError>
+        ensures { OnOk result (AddsChildren exploration.now.rules.now before.value place guess
+            pieces.items self.old self.new) }
+    {
         let alloc = exploration.context.alloc;
         let mut pieces = pieces;
         let Some(last) = pieces.pop() else {
@@ -172,7 +227,7 @@ impl Children {
         self.add(exploration, before, place, last, guess)
     }
 
-    // The state after one piece.
+    // The state after one piece. An answer is over a declared symbol; another one would be want of memory.
     fn add(
         &mut self,
         exploration: &Exploration,
@@ -180,7 +235,10 @@ impl Children {
         place: Place,
         piece: Piece,
         guess: Sym,
-    ) -> Result<(), AllocError> {
+    ) -> Result<(), AllocError>
+        ensures { OnOk result (AddsChildren exploration.now.rules.now state.value place guess
+            (piece ∷ []) self.old self.new) }
+    {
         let Piece {
             label,
             constraints,
@@ -190,7 +248,11 @@ impl Children {
         let mut state = state;
         state.constraints = constraints;
         let event = Event { place, label };
-        pass(exploration, &mut *state, &event, leads_on(label, answer))?;
+        let answer = leads_on(label, answer);
+        if !is_declared(&*state, answer) {
+            return Err(AllocError);
+        }
+        pass(exploration, &mut *state, &event, answer)?;
         if let Some(guessed) = guessed {
             let number = state.counters.events;
             state.guess(asked(number, guess, guessed))?;
@@ -204,7 +266,10 @@ impl Children {
         event: Event,
         guess: Option<Sym>,
         state: Box<State>,
-    ) -> Result<(), AllocError> {
+    ) -> Result<(), AllocError>
+        ensures { OnOk result (Adds self.old self.new
+            (record { event = event; guess = guess; state = state } ∷ []) []) }
+    {
         self.made.push(Child {
             event,
             guess,
@@ -265,13 +330,26 @@ impl Children {
     }
 }
 
+// Whether two outcomes are one.
+fn is_same(one: Outcome, other: Outcome) -> bool
+    ensures { one ≡ other → result ≡ true }
+{
+    one == other
+}
+
 // The budget of events is used up.
-fn over(at: Place) -> Outcome {
+fn over(at: Place) -> Outcome
+    ensures { result ≡ Outcome.Over Budget.Events at }
+{
     Outcome::Over(Budget::Events, at)
 }
 
 // The number of the next event, unless the budget of events is used up.
-fn event_after(exploration: &Exploration, state: &State) -> Option<u64> {
+fn event_after(exploration: &Exploration, state: &State) -> Option<u64>
+    ensures { MatchOption result
+        (exploration.now.budgets.events ≤ state.now.counters.events)
+        (IsNextEvent exploration.now.budgets.events state.now.counters.events) }
+{
     if state.counters.events >= exploration.budgets.events {
         return None;
     }
@@ -284,7 +362,10 @@ fn pass(
     state: &mut State,
     event: &Event,
     answer: Lin,
-) -> Result<(), AllocError> {
+) -> Result<(), AllocError>
+    ensures { OnOk result
+        (IsPassed exploration.now.rules.now event.now answer state.old state.new) }
+{
     state.answer(answer)?;
     let phase = phase_after(exploration.rules, state.phase, event);
     state.set_phase(phase);
@@ -310,8 +391,20 @@ fn pass_offset(
     Ok(event)
 }
 
+// Whether the symbol of a term, where it has one, is declared.
+fn is_declared(state: &State, term: Lin) -> bool
+    ensures { result ≡ true → IsDeclared state.now.constraints term.sym }
+{
+    match term.sym {
+        Some(sym) => state.constraints.range_of(sym).is_some(),
+        None => true,
+    }
+}
+
 // What a guess was asked for.
-fn asked(event: u64, guess: Sym, guessed: Guessed) -> Asked {
+fn asked(event: u64, guess: Sym, guessed: Guessed) -> Asked
+    ensures { result.event ≡ event }
+{
     Asked {
         event,
         guess,

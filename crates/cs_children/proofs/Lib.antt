@@ -1,0 +1,14 @@
+mod StandingFirst
+mod IntegerActs
+mod OneMoreAnswer
+mod Agreeing
+mod Reaching
+mod SilentSteps
+mod DeclaredSymbols
+mod FaultyParts
+mod UsedGuesses
+mod PassedPieces
+mod GuessedAsked
+mod PiecesCome
+mod Apart
+mod Found

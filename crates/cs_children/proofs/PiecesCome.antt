@@ -1,0 +1,405 @@
+-- What comes of a state in which something shows first: for the contract of `find`.
+use Rattle.std.proofs.Common.{◌≡◌, ◌≢◌, ℕ, zero, suc, ◌+◌, ◌<◌, ◌≤◌, ℤ, Bool, true, false, List, [], ◌∷◌, ◌++◌, Option, None, Some, All, map, inl, inr, refl, sym, ap, ◌∙◌, subst, arith}
+use Rattle.std.specs.Prelude.{slice_get, option_map, is_some, Contains, ◌⊎◌}
+use Rattle.std.specs.Global.{Box}
+use Rattle.std.proofs.lemmas.List.{map-append}
+use Rattle.std.specs.List.{AllZip}
+use Rattle.std.specs.FinMap as finite
+use Rattle.std.proofs.lemmas.List.Elements.{All-nil, All-cons, All-push}
+use Rattle.cs_inputs.specs.declared.path.Path.{Path}
+use Rattle.cs_ast.specs.declared.place.Place.{Place}
+use Rattle.cs_ast.specs.TypedProgram.{TypedProgram}
+use Rattle.cs_terms.specs.declared.symbol.Sym.{Sym}
+use Rattle.cs_terms.specs.declared.symbol.SymName.TheVariants.{Guess as GuessAt}
+use Rattle.cs_terms.specs.declared.term.Lin.{Lin}
+use Rattle.cs_terms.specs.Term.{Valuation, value_of}
+use Rattle.cs_constraints.specs.Constraints.{Sets, set_of, Fits}
+use Rattle.cs_events.specs.declared.event.Event.{Event}
+use Rattle.cs_events.specs.declared.event.Label.{Label}
+use Rattle.cs_events.specs.declared.input.InputKind.{InputKind}
+use Rattle.cs_events.specs.declared.outcome.Outcome.TheVariants.{Over}
+use Rattle.cs_events.specs.declared.outcome.Budget.TheVariants.{Events}
+use Rattle.cs_events.specs.declared.outcome.RunBudgets.{RunBudgets}
+use Rattle.cs_events.specs.Objects.{Cell, UnsetCell}
+use Rattle.cs_events.specs.Operations.{guess_range, own_result, result_with, shows}
+use Rattle.cs_events.specs.Acts.{Act, Asks}
+use Rattle.cs_events.specs.Runs.{Setting, Log, guess_at, read_cell, used}
+use Rattle.cs_cfg.specs.Graph.{Code}
+use Rattle.cs_cfg.specs.Working.{CodeState}
+use Rattle.cs_eval.specs.declared.piece.Guessed.{Guessed}
+use Rattle.cs_eval.specs.declared.piece.Piece.{Piece}
+use Rattle.cs_eval.specs.Parts.{with_number}
+use Rattle.cs_eval.specs.Splits.{Asking, IsExact, IsOfGuess, IsPieceWith, IsPieceOf, Each, HaveOwnLabels, IsIn, IsCovered, IsSplit}
+use Rattle.cs_eval.proofs.OperandValues.{decide, with_number-same, with_number-other}
+use Rattle.cs_state.specs.declared.asked.Asked.{Asked}
+use Rattle.cs_state.specs.declared.state.State.{State}
+use Rattle.cs_state.specs.Cells.{block_of}
+use Rattle.cs_state.specs.Meaning.{meaning}
+use Rattle.cs_state.specs.Naming.{Naming}
+use Rattle.cs_progress.specs.Acting.{UsesAll}
+use Rattle.cs_progress.specs.Locals.{IsOver, HasIntegerCode}
+use Rattle.cs_progress.specs.Stepping.{next_act, next_left, UsesAnswers}
+use Rattle.cs_explored.specs.declared.child.Child.{Child}
+use Rattle.cs_explored.specs.declared.watch.Rule.{Rule}
+use Rattle.cs_explored.specs.Answering.{leads_on}
+use Rattle.cs_children.specs.Adding.{IsOfPiece, AreOfPieces, AreGuessesAfter}
+use Rattle.cs_successors.specs.EntryRuns.{stays}
+use Rattle.cs_successors.specs.Coming.{is_declared, IsIntegerState, StateEnd, GoesBy, IsAt, PassesTo, GuessesAs, EndsIn, IsChildOf, IsEndOf, ComesToChild, ComesToEnd}
+use Rattle.cs_children.proofs.DeclaredSymbols.{stays_declared, over_declared, locals_more, answers_more}
+use Rattle.cs_children.proofs.GuessedAsked.{asked_before}
+use Rattle.cs_children.proofs.IntegerActs.{IsNoAllocation}
+use Rattle.cs_children.proofs.OneMoreAnswer.{uses_one}
+use Rattle.cs_children.proofs.PassedPieces.{event_with, asks_over, passes_piece}
+use Rattle.cs_children.proofs.Reaching.{Comes}
+use Rattle.cs_children.proofs.UsedGuesses.{used_none, own_leads_on}
+
+module _ (code : Code) (program : TypedProgram) (budgets : RunBudgets) (names : Naming) (rules : List Rule) (state : State)
+    (is : IsIntegerState code program budgets names state) (at : Place) where
+  -- what shows first under each valuation that fits: an operation, which no allocation shows
+  abbrev pub Shows : Asking → Type 0
+  Shows asking = (cells : Path → InputKind → Cell) (v : Valuation) → Fits v state.constraints
+      → IsNoAllocation (asking.operation v)
+      × ((onward : ℤ → Act CodeState) × (next_left code names program budgets cells state v ≡ Asks at (asking.operation v) onward))
+
+  -- a number that may be guessed is used, and is that of a new symbol, which stands for the guess at the next event
+  pub record IsUsed (guess : Sym) (asking : Asking) (v : Valuation) (number : ℤ) : Type 0 where
+    pub used_is : used (guess_range program.model (asking.operation v)) (Some number) ≡ Some number
+    pub fresh : set_of state.constraints guess.0 ≡ None
+    pub named : slice_get names.syms guess.0 ≡ Some (GuessAt (state.counters.events + 1))
+
+  module _ (guess : Sym) (asking : Asking) (first : Shows asking)
+      (may : (v : Valuation) (number : ℤ) → Fits v state.constraints → asking.IsGuess v number → IsUsed guess asking v number)
+      (room : state.counters.events < budgets.events) where
+    abbrev Exact : Piece → Type 0
+    Exact piece = IsExact program.model state.constraints asking piece
+
+    abbrev OfGuess : Piece → Type 0
+    OfGuess piece = IsOfGuess program.model state.constraints guess.0 asking piece
+
+    -- the valuations of a piece
+    with_fits : (given : Option Guessed) (piece : Piece) → IsPieceWith program.model state.constraints guess.0 asking given piece → (v : Valuation)
+        → Fits v piece.constraints → Fits v state.constraints
+    with_fits None piece exact v fits = (exact.from v fits).0
+    with_fits (Some guessed) piece inexact v fits = (inexact.from v fits).0
+
+    -- a valuation with another number for the guess gives declared symbols the same numbers
+    beside_guess : (number : ℤ) (v : Valuation) → set_of state.constraints guess.0 ≡ None
+        → (symbol : ℕ) → is_declared state.constraints symbol ≡ true → with_number guess.0 number v symbol ≡ v symbol
+    beside_guess number v fresh symbol declared = with_number-other guess.0 number v symbol (λ same.
+        let none : is_declared state.constraints symbol ≡ false = ap (λ (s : ℕ). is_declared state.constraints s) same ∙ ap is_some fresh in
+        let wrong : true ≡ false = sym declared ∙ none in
+        cc)
+
+    module _ (piece : Piece) (child : Child) (is_piece : IsPieceOf program.model state.constraints guess.0 asking piece)
+        (of : IsOfPiece rules state at guess piece child) where
+      abbrev after : State
+      after = child.state.value
+
+      abbrev answer : Lin
+      answer = leads_on piece.label piece.answer
+
+      sets_are : after.constraints ≡ piece.constraints
+      sets_are = ap (λ (s : State). s.constraints) of.state
+
+      fits_piece : (v : Valuation) → Fits v after.constraints → Fits v piece.constraints
+      fits_piece v fits = subst (λ (sets : Sets). Fits v sets) sets_are fits
+
+      fits_after : (v : Valuation) → Fits v piece.constraints → Fits v after.constraints
+      fits_after v fits = subst (λ (sets : Sets). Fits v sets) (sym sets_are) fits
+
+      fits_state : (v : Valuation) → Fits v after.constraints → Fits v state.constraints
+      fits_state v fits = with_fits piece.guessed piece is_piece.meaning v (fits_piece v fits)
+
+      number_is : after.counters.events ≡ state.counters.events + 1
+      number_is = ap (λ (s : State). s.counters.events) of.state
+
+      -- the piece's own answer leads on
+      answer_is : (v : Valuation) → Fits v state.constraints → (given : Option ℤ) → shows program.model (asking.operation v) given ≡ piece.label
+          → answer ≡ piece.answer
+      answer_is v fits given label =
+          ap (λ l. leads_on l piece.answer) (sym label)
+          ∙ own_leads_on program.model (asking.operation v) given piece.answer (first (λ path kind. UnsetCell) v fits).0
+
+      -- the state of the child is one of integers alone
+      more : (symbol : ℕ) → is_declared state.constraints symbol ≡ true → is_declared after.constraints symbol ≡ true
+      more = stays_declared state.constraints after.constraints (is_piece.some.0, fits_after is_piece.some.0 is_piece.some.1) fits_state
+
+      over_answer : IsOver (is_declared after.constraints) answer
+      over_answer = subst (λ (sets : Sets). IsOver (is_declared sets) answer) (sym sets_are) (over_declared piece.constraints answer of.declared)
+
+      as_after : after ≡ record state {
+        constraints = after.constraints;
+        answers = state.answers ++ answer ∷ [];
+        counters = after.counters;
+        asked = after.asked;
+        phase = after.phase;
+      }
+      as_after = of.state ∙ (λ i. record state {
+        constraints = sym sets_are i;
+        answers = state.answers ++ answer ∷ [];
+        counters = ap (λ (s : State). s.counters) (sym of.state) i;
+        asked = after.asked;
+        phase = after.phase;
+      })
+
+      same_meaning : (v : Valuation) → meaning code names program after v ≡ meaning code names program state v
+      same_meaning v = ap (λ (s : State). meaning code names program s v) of.state
+
+      uses_answer : (cells : Path → InputKind → Cell) (v : Valuation) → Fits v after.constraints → UsesAnswers code names program budgets cells after v
+      uses_answer cells v fits =
+          let fitted = fits_state v fits in
+          let (onward, asks) = (first cells v fitted).1 in
+          subst (λ (s : State). UsesAnswers code names program budgets cells s v) (sym of.state)
+          (subst (λ answers. UsesAll cells answers (next_act code names program budgets state v))
+          (sym (map-append (value_of v) state.answers (answer ∷ [])))
+          (uses_one cells (map (value_of v) state.answers) (value_of v answer) (next_act code names program budgets state v)
+          at (asking.operation v) onward asks (is.uses cells v fitted)))
+
+      child_integer : IsIntegerState code program budgets names after
+      child_integer = record {
+        model = ap (λ (s : State). s.model) of.state ∙ is.model;
+        integers = subst (λ (s : State). HasIntegerCode code program s.frame.spot.function) (sym of.state) is.integers;
+        locals = locals_more (is_declared state.constraints) (is_declared after.constraints) more program names.bases state after
+            (state.answers ++ answer ∷ []) is.locals as_after
+            (All-push (IsOver (is_declared after.constraints)) state.answers answer
+            (answers_more (is_declared state.constraints) (is_declared after.constraints) more state.answers is.locals.answers) over_answer);
+        blocks = λ base. ap (λ (s : State). block_of s.blocks base) of.state ∙ is.blocks base;
+        uses = uses_answer;
+        possible = (is_piece.some.0, fits_after is_piece.some.0 is_piece.some.1);
+        guessed = λ asked among.
+            subst (λ (n : ℕ). asked.event ≤ n) (sym number_is)
+            (asked_before state.counters.events piece.guessed state.asked after.asked is.guessed of.asked asked among);
+      }
+
+      -- runs pass its event to the child
+      module _ (setting : Setting) (v : Valuation) (left : Act CodeState) (log : Log) (goes : GoesBy code program budgets names setting)
+          (here : IsAt code program budgets names state setting v left log) where
+        passes_with : (given : Option ℤ)
+            → used (guess_range program.model (asking.operation v)) (guess_at setting.guesses (suc state.counters.events)) ≡ given
+            → (other : Valuation) → Fits other after.constraints
+            → ((symbol : ℕ) → is_declared state.constraints symbol ≡ true → other symbol ≡ v symbol)
+            → value_of other answer ≡ result_with program.model (asking.operation v) given
+            → (to : PassesTo code program budgets names after setting other left log)
+            × (to.one.event ≡ event_with program.model at (asking.operation v) given)
+            × (to.one.answer ≡ result_with program.model (asking.operation v) given)
+        passes_with given uses other fits agree value =
+            let (onward, asks) = (first (read_cell setting) v here.fits).1 in
+            passes_piece code program budgets names state is at setting v left log goes here (asking.operation v) onward asks room given uses after
+            answer other (ap (λ (s : State). s.answers) of.state) (same_meaning other) number_is agree value fits
+
+        labelled : (given : Option ℤ) → shows program.model (asking.operation v) given ≡ piece.label
+            → event_with program.model at (asking.operation v) given ≡ child.event
+        labelled given label = ap (λ l. record { place = at; label = l }) label ∙ sym of.event
+
+        abbrev own : ℤ
+        own = own_result program.model (asking.operation v)
+
+        -- under a valuation that fits the child, with which the guess that is listed agrees
+        child_passes : Fits v after.constraints → GuessesAs code program budgets names setting child v
+            → (to : PassesTo code program budgets names after setting v left log) × (to.one.event ≡ child.event)
+        child_passes fits agrees = by piece.guessed refl is_piece.meaning
+          where
+            given : (guessed : Option Guessed) → piece.guessed ≡ guessed
+                → guess_at setting.guesses (suc state.counters.events) ≡ option_map (λ (symbol : Sym). v symbol.0) (option_map (λ what. guess) guessed)
+            given guessed are =
+                let next : suc state.counters.events ≡ after.counters.events = (let n = number_is in omega (arith, n)) in
+                ap (guess_at setting.guesses) next ∙ agrees ∙ ap (option_map (λ (symbol : Sym). v symbol.0)) (of.guessed ∙ ap (option_map (λ what. guess)) are)
+
+            by : (guessed : Option Guessed) → piece.guessed ≡ guessed → IsPieceWith program.model state.constraints guess.0 asking guessed piece
+                → (to : PassesTo code program budgets names after setting v left log) × (to.one.event ≡ child.event)
+            by None none exact =
+                let from = exact.from v (fits_piece v fits) in
+                let to = passes_with None (ap (used (guess_range program.model (asking.operation v))) (given None none) ∙ used_none _) v fits
+                (λ symbol declared. refl) (ap (value_of v) (answer_is v here.fits None from.2) ∙ exact.answer v (fits_piece v fits)) in
+                (to.0, to.1 ∙ labelled None from.2)
+            by (Some what) some inexact =
+                let from = inexact.from v (fits_piece v fits) in
+                let is_used = may v (v guess.0) here.fits from.2 in
+                let to = passes_with (Some (v guess.0)) (ap (used (guess_range program.model (asking.operation v))) (given (Some what) some) ∙ is_used.used_is)
+                v fits (λ symbol declared. refl)
+                (ap (value_of v) (answer_is v here.fits (Some (v guess.0)) from.3) ∙ inexact.answer v (fits_piece v fits)) in
+                (to.0, to.1 ∙ labelled (Some (v guess.0)) from.3)
+
+        -- under a valuation of the piece, with no guess
+        covers_piece : (made : List Child) (place : ℕ) → slice_get made place ≡ Some child
+            → guess_at setting.guesses (suc state.counters.events) ≡ None → IsIn program.model guess.0 asking v piece.guessed piece
+            → ComesToChild code program budgets names made setting v left log
+        covers_piece made place there without within = by piece.guessed refl is_piece.meaning within
+          where
+            not_used : used (guess_range program.model (asking.operation v)) (guess_at setting.guesses (suc state.counters.events)) ≡ None
+            not_used = ap (used (guess_range program.model (asking.operation v))) without ∙ used_none _
+
+            by : (guessed : Option Guessed) → piece.guessed ≡ guessed → IsPieceWith program.model state.constraints guess.0 asking guessed piece
+                → IsIn program.model guess.0 asking v guessed piece → ComesToChild code program budgets names made setting v left log
+            by None none exact fits =
+                let from = exact.from v fits in
+                let no_guess : child.guess ≡ None = of.guessed ∙ ap (option_map (λ what. guess)) none in
+                let to = passes_with None not_used v (fits_after v fits) (λ symbol declared. refl)
+                (ap (value_of v) (answer_is v here.fits None from.2) ∙ exact.answer v fits) in
+                record {
+                  place = place;
+                  child = child;
+                  there = there;
+                  after = v;
+                  to = to.0;
+                  others = λ symbol differs. refl;
+                  guess = λ symbol some. let wrong : None ≡ Some symbol = sym no_guess ∙ some in cc;
+                  shown = λ none. to.1 ∙ labelled None from.2;
+                }
+            by (Some what) some inexact fits =
+                let other : Valuation = with_number guess.0 own v in
+                let from = inexact.from other fits in
+                let is_used = may other (other guess.0) from.0 from.2 in
+                let has_guess : child.guess ≡ Some guess = of.guessed ∙ ap (option_map (λ what. guess)) some in
+                let own_is : other guess.0 ≡ own = with_number-same guess.0 own v guess.0 refl in
+                let to = passes_with None not_used other (fits_after other fits) (beside_guess own v is_used.fresh)
+                (ap (value_of other) (answer_is other from.0 (Some (other guess.0)) from.3) ∙ inexact.answer other fits ∙ own_is) in
+                record {
+                  place = place;
+                  child = child;
+                  there = there;
+                  after = other;
+                  to = to.0;
+                  others = λ symbol differs. with_number-other guess.0 own v symbol.0 (λ same.
+                      differs (has_guess ∙ ap (λ (n : ℕ). Some (record { 0 = n })) (sym same)));
+                  guess = λ symbol has.
+                      let same : guess ≡ symbol = cc in
+                      ap (λ (s : Sym). other s.0) (sym same) ∙ own_is ∙ sym to.2;
+                  shown = λ none. let wrong : Some guess ≡ None = sym has_guess ∙ none in cc;
+                }
+
+      -- the piece makes a child
+      is_child : IsChildOf code program budgets names rules state child
+      is_child = record {
+        integer = child_integer;
+        number = (let n = number_is in omega (arith, n));
+        phase = of.phase;
+        named = λ symbol has. by_guess symbol has piece.guessed refl is_piece.meaning;
+        fits = fits_state;
+        passes = λ setting v left log goes here fits agrees. child_passes setting v left log goes here fits agrees;
+      }
+        where
+          by_guess : (symbol : Sym) → child.guess ≡ Some symbol → (guessed : Option Guessed) → piece.guessed ≡ guessed
+              → IsPieceWith program.model state.constraints guess.0 asking guessed piece
+              → slice_get names.syms symbol.0 ≡ Some (GuessAt after.counters.events)
+          by_guess symbol has None none exact =
+              let wrong : None ≡ Some symbol = sym (of.guessed ∙ ap (option_map (λ what. guess)) none) ∙ has in
+              cc
+          by_guess symbol has (Some what) some inexact =
+              let from = inexact.from is_piece.some.0 is_piece.some.1 in
+              let is_used = may is_piece.some.0 (is_piece.some.0 guess.0) from.0 from.2 in
+              let both : Some guess ≡ Some symbol = sym (of.guessed ∙ ap (option_map (λ what. guess)) some) ∙ has in
+              let same : guess ≡ symbol = cc in
+              ap (λ (s : Sym). slice_get names.syms s.0) (sym same) ∙ is_used.named ∙ ap (λ (n : ℕ). Some (GuessAt n)) (sym number_is)
+
+    abbrev IsPiece : Piece → Type 0
+    IsPiece piece = IsPieceOf program.model state.constraints guess.0 asking piece
+
+    are_children : (pieces : List Piece) (made : List Child) → Each IsPiece pieces → AreOfPieces rules state at guess pieces made
+        → All (IsChildOf code program budgets names rules state) made
+    are_children [] [] each match = All-nil (IsChildOf code program budgets names rules state)
+    are_children [] (child ∷ made) each match = absurd match
+    are_children (piece ∷ pieces) [] each match = absurd match
+    are_children (piece ∷ pieces) (child ∷ made) each match =
+        All-cons (IsChildOf code program budgets names rules state) child made (is_child piece child each.0 match.0)
+        (are_children pieces made each.1 match.1)
+
+    module _ (setting : Setting) (v : Valuation) (left : Act CodeState) (log : Log) (goes : GoesBy code program budgets names setting)
+        (here : IsAt code program budgets names state setting v left log)
+        (without : guess_at setting.guesses (suc state.counters.events) ≡ None) where
+      comes_to_one : (pieces : List Piece) (made : List Child) → Each IsPiece pieces → AreOfPieces rules state at guess pieces made
+          → IsCovered program.model guess.0 asking v pieces → ComesToChild code program budgets names made setting v left log
+      comes_to_one [] made each match covered = absurd covered
+      comes_to_one (piece ∷ pieces) [] each match covered = absurd match
+      comes_to_one (piece ∷ pieces) (child ∷ made) each match (inl within) =
+          covers_piece piece child each.0 match.0 setting v left log goes here (child ∷ made) 0 refl without within
+      comes_to_one (piece ∷ pieces) (child ∷ made) each match (inr covered) =
+          let later = comes_to_one pieces made each.1 match.1 covered in
+          record {
+            place = suc later.place;
+            child = later.child;
+            there = later.there;
+            after = later.after;
+            to = later.to;
+            others = later.others;
+            guess = later.guess;
+            shown = later.shown;
+          }
+
+    label_is : (piece : Piece) (child : Child) → IsOfPiece rules state at guess piece child → child.event.label ≡ piece.label
+    label_is piece child of = ap (λ (event : Event). event.label) of.event
+
+    others_differ : (pieces : List Piece) (made : List Child) (label : Label) → AreOfPieces rules state at guess pieces made
+        → Each (λ other. other.label ≢ label) pieces → (k : ℕ) (child : Child) → slice_get made k ≡ Some child → child.event.label ≢ label
+    others_differ [] [] label match each k child there = cc
+    others_differ [] (one ∷ made) label match each k child there = absurd match
+    others_differ (piece ∷ pieces) [] label match each k child there = absurd match
+    others_differ (piece ∷ pieces) (one ∷ made) label match each zero child there = λ same.
+        let this : one ≡ child = cc in
+        each.0 (sym (label_is piece one match.0) ∙ ap (λ (c : Child). c.event.label) this ∙ same)
+    others_differ (piece ∷ pieces) (one ∷ made) label match each (suc k) child there = others_differ pieces made label match.1 each.1 k child there
+
+    labels_differ : (pieces : List Piece) (made : List Child) → AreOfPieces rules state at guess pieces made → HaveOwnLabels pieces
+        → (one other : ℕ) (first second : Child) → slice_get made one ≡ Some first → slice_get made other ≡ Some second
+        → first.event.label ≡ second.event.label → one ≡ other
+    labels_differ [] [] match apart one other first second here there same = cc
+    labels_differ [] (child ∷ made) match apart one other first second here there same = absurd match
+    labels_differ (piece ∷ pieces) [] match apart one other first second here there same = absurd match
+    labels_differ (piece ∷ pieces) (child ∷ made) match apart zero zero first second here there same = refl
+    labels_differ (piece ∷ pieces) (child ∷ made) match apart zero (suc other) first second here there same =
+        let this : child ≡ first = cc in
+        absurd (others_differ pieces made piece.label match.1 apart.0 other second there
+        (sym same ∙ ap (λ (c : Child). c.event.label) (sym this) ∙ label_is piece child match.0))
+    labels_differ (piece ∷ pieces) (child ∷ made) match apart (suc one) zero first second here there same =
+        let this : child ≡ second = cc in
+        absurd (others_differ pieces made piece.label match.1 apart.0 one first here
+        (same ∙ ap (λ (c : Child). c.event.label) (sym this) ∙ label_is piece child match.0))
+    labels_differ (piece ∷ pieces) (child ∷ made) match apart (suc one) (suc other) first second here there same =
+        ap suc (labels_differ pieces made match.1 apart.1 one other first second here there same)
+
+    -- all pieces are all that comes of the state
+    pub pieces_come : (pieces : List Piece) (made : List Child) → IsSplit program.model state.constraints guess.0 asking pieces
+        → AreOfPieces rules state at guess pieces made → Comes code program budgets names rules state made []
+    pieces_come pieces made split match = record {
+      children = are_children pieces made split.each match;
+      endings = All-nil (IsEndOf code program budgets names state);
+      covers = λ setting v left log goes here without. inl (comes_to_one setting v left log goes here without pieces made split.each match (split.covers v here.fits));
+      labels_differ = labels_differ pieces made match split.labels;
+    }
+
+-- where the budget of events is used up, the end is all that comes of a state
+module _ (code : Code) (program : TypedProgram) (budgets : RunBudgets) (names : Naming) (rules : List Rule) (box : Box State)
+    (is : IsIntegerState code program budgets names box.value) (at : Place) (asking : Asking)
+    (first : Shows code program budgets names rules box.value is at asking) (full : budgets.events ≤ box.value.counters.events) where
+  ends_over : (setting : Setting) (v : Valuation) (left : Act CodeState) (log : Log) → GoesBy code program budgets names setting
+      → IsAt code program budgets names box.value setting v left log
+      → EndsIn code program budgets names (Over Events at) box.value setting v left log
+  ends_over setting v left log goes here =
+      let shown = (first (read_cell setting) v here.fits).1 in
+      let end = asks_over code program budgets names box.value is at setting v left log goes here (asking.operation v) shown.0 shown.1 full in
+      record {
+        last = left;
+        before = log;
+        ended = Over Events at;
+        after = end.0;
+        proceeds = stays refl refl;
+        comes = here;
+        ends = end.1;
+        same = refl;
+        returned = tt;
+      }
+
+  pub over_comes : Comes code program budgets names rules box.value [] ((Over Events at, box) ∷ [])
+  over_comes = record {
+    children = All-nil (IsChildOf code program budgets names rules box.value);
+    endings = All-cons (IsEndOf code program budgets names box.value) (Over Events at, box) [] (record {
+      possible = is.possible;
+      fits = λ v fits. fits;
+      phase = refl;
+      asked = refl;
+      ends = λ setting v left log goes here fits. ends_over setting v left log goes here;
+    }) (All-nil (IsEndOf code program budgets names box.value));
+    covers = λ setting v left log goes here without.
+        inr (record { place = 0; end = (Over Events at, box); there = refl; ending = ends_over setting v left log goes here });
+    labels_differ = λ one other first second here there. cc;
+  }

@@ -1,0 +1,22 @@
+use Rattle.std.proofs.Common.{◌≡◌, ◌+◌, rules, ap, sym, ◌∙◌, subst}
+use Rattle.std.proofs.lemmas.Result.{on_ok_weaker}
+use Rattle.std.specs.FinMap as finite
+use Rattle.cs_state.specs.declared.state.State.{State}
+use Rattle.cs_children.specs.Adding.{AreGuessesAfter}
+use Rattle.cs_children.proofs.children.Children.add.Goals as goal
+
+pub returns-in-Some : goal.returns-in-Some
+returns-in-Some c =
+    let before = c.args.state.value in
+    let event : c.asked.result.event ≡ before.counters.events + 1 = search rules in
+    let guesses : c.deref_mut-in-Some.result.now.asked ≡ before.asked = search rules in
+    on_ok_weaker c.add_child.result (λ adds. (_, adds, (record {
+      event = search rules;
+      guessed = search rules;
+      declared = search rules;
+      phase = search rules;
+      asked = subst (λ given. AreGuessesAfter (before.counters.events + 1) given before.asked c.guess.new.self.asked) (sym c.in-Some.is)
+          (c.asked.result, event,
+          ap (λ (s : State). s.asked) c.in_ok-guess.ensures.ok ∙ (λ i. finite.insert (guesses i) (event i, 0) c.asked.result));
+      state = search rules;
+    }, tt))) c.add_child.ensures

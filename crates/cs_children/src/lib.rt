@@ -1,0 +1,8 @@
+//! What comes of a state: the states directly after its next events, and its ends.
+#![tactic(auto)]
+
+mod children;
+mod exploration;
+
+pub use children::Children;
+pub use exploration::Exploration;

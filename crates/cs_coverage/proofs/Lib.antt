@@ -1,0 +1,15 @@
+pub mod OwnNumbers
+pub mod Patched
+pub mod AlikeEntries
+pub mod LiveTerms
+pub mod LiveMeaning
+pub mod Merging
+pub mod Passing
+pub mod Coverage
+pub mod ReadingNothing
+pub mod LocalsRead
+pub mod Positions
+pub mod ClosedGraphs
+pub mod PlacedRows
+pub mod ExpandedRows
+pub mod LegibleStates

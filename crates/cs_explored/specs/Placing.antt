@@ -1,0 +1,71 @@
+-- Children that are placed in a graph, one after another, each as a row unless one has its key.
+use Rattle.std.specs.Prelude.{◌≡◌, ℕ, nat_eq, Bool, true, false, List, [], ◌∷◌, ◌++◌, map, None, Some, Contains}
+use Rattle.std.specs.Global.{Box}
+use Rattle.std.specs.Cmp.Lexicographic.{pointwise}
+use Rattle.cs_events.specs.declared.outcome.Outcome.{Outcome}
+use Rattle.cs_results.specs.declared.result.Cut.{Cut}
+use Rattle.cs_results.specs.declared.result.Cut.TheVariants.{Nodes}
+use Rattle.cs_state.specs.declared.state.State.{State}
+use Rattle.cs_keys.specs.Live.{live_part}
+use Rattle.cs_keys.specs.Words.{words_of}
+use Rattle.cs_graph.specs.Adding.{IsAdded}
+use Rattle.cs_graph.specs.Contents.{Contents}
+use Rattle.cs_graph.specs.declared.adding.Added.{Added}
+use Rattle.cs_explored.specs.declared.child.Child.{Child}
+use Rattle.cs_explored.specs.declared.explored.End.{End}
+use Rattle.cs_explored.specs.declared.explored.Row.{Row}
+use Rattle.cs_explored.specs.declared.findings.Findings.{Findings}
+
+-- rows with their keys
+abbrev pub RowGraph : Type 0
+RowGraph = Contents (List ℕ) Row
+
+-- the row of a child
+abbrev pub child_row : ℕ → Child → Row
+child_row parent child = record { parent = parent; event = Some child.event; guess = child.guess; state = child.state }
+
+-- a row with an equal key was there, or the row is the last from now on
+abbrev pub PlacesRow : Row → RowGraph → RowGraph → Type 0
+PlacesRow row before after =
+    (visits : ℕ) × (added : Added) × IsAdded (pointwise nat_eq) (words_of (live_part row.state.value)) visits row added before after
+
+-- the same of all children of a row, one after another
+abbrev pub PlacesAll : ℕ → List Child → RowGraph → RowGraph → Type 0
+PlacesAll parent [] before after = after ≡ before
+PlacesAll parent (child ∷ made) before after =
+    (between : RowGraph) × PlacesRow (child_row parent child) before between × PlacesAll parent made between after
+
+-- the end of a row
+abbrev pub end_of_row : ℕ → Outcome × Box State → End
+end_of_row row one = record { row = row; outcome = one.0; state = one.1 }
+
+-- the row in which an entry begins
+abbrev pub first_row : Box State → Row
+first_row state = record { parent = 0; event = None; guess = None; state = state }
+
+-- ends and tables are kept
+pub record KeepsEnds (before after : Findings) : Type 0 where
+  pub ends : after.ends.items ≡ before.ends.items
+  pub tables : after.tables ≡ before.tables
+
+-- rows and tables are kept
+pub record KeepsRows (before after : Findings) : Type 0 where
+  pub graph : after.graph ≡ before.graph
+  pub tables : after.tables ≡ before.tables
+
+-- ends of a row are added, and nothing else changes
+pub record AddsEnds (row : ℕ) (new : List (Outcome × Box State)) (before after : Findings) : Type 0 where
+  pub ends : after.ends.items ≡ before.ends.items ++ map (end_of_row row) new
+  pub cuts : after.cuts.items ≡ before.cuts.items
+  pub rows : KeepsRows before after
+
+-- cuts are added, and nothing else changes
+pub record AddsCuts (new : List Cut) (before after : Findings) : Type 0 where
+  pub cuts : after.cuts.items ≡ before.cuts.items ++ new
+  pub ends : after.ends.items ≡ before.ends.items
+  pub rows : KeepsRows before after
+
+-- all children of a row are placed, and nothing is cut; or the graph was full, which is a cut
+abbrev pub PlacesChildren : ℕ → List Child → Bool → Findings → Findings → Type 0
+PlacesChildren parent made true before after = PlacesAll parent made before.graph after.graph × (after.cuts.items ≡ before.cuts.items)
+PlacesChildren parent made false before after = Contains after.cuts.items (Nodes before.nodes)
