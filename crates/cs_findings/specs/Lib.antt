@@ -6,3 +6,4 @@ pub mod RealGuesses
 pub mod Neighbours
 pub mod GoodFindings
 pub mod GoodEntries
+pub mod EveryRun
