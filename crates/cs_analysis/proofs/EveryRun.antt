@@ -1,0 +1,86 @@
+-- An exploration that covers the runs of an entry, and whose ends all have findings, leaves no run out: for `analyze`.
+use Rattle.std.proofs.Common.{◌≡◌, ℕ, ℤ, Bool, true, false, Option, None, Some, List, [], ◌∷◌, All, refl, sym, ◌∙◌, subst}
+use Rattle.std.proofs.lemmas.Option.{slice_get_within, get_or_from_slice_get}
+use Rattle.std.specs.Prelude.{slice_get, IsTrue, ◌&&◌, Contains}
+use Rattle.cs_inputs.specs.declared.path.Path.{Path}
+use Rattle.cs_inputs.specs.Inputs.{number_at}
+use Rattle.cs_ast.specs.declared.place.Place.{Place}
+use Rattle.cs_ast.specs.TypedTree.{Statement}
+use Rattle.cs_ast.specs.TypedProgram.{TypedProgram}
+use Rattle.cs_events.specs.declared.outcome.Outcome.{Outcome}
+use Rattle.cs_events.specs.declared.outcome.Outcome.TheVariants.{Done, Fault, Over}
+use Rattle.cs_events.specs.PendingEvents.{Pending, Operates, Tries, Accesses}
+use Rattle.cs_events.specs.Runs.{Log}
+use Rattle.cs_event_runs.specs.First.{Step}
+use Rattle.cs_event_runs.specs.ByEvents.{silently}
+use Rattle.cs_event_runs.proofs.EventLaws.{events_by_end}
+use Rattle.cs_meaning.specs.Machine.{routine_of}
+use Rattle.cs_meaning.specs.ProgramRuns.{RunGives, setting_of}
+use Rattle.cs_cfg.specs.Graph.{Code}
+use Rattle.cs_cfg.specs.CodeSteps.{code_step}
+use Rattle.cs_cfg.specs.Lowered.{IsLowered}
+use Rattle.cs_results.specs.declared.budgets.Budgets.{Budgets}
+use Rattle.cs_results.specs.declared.result.Cut.{Cut}
+use Rattle.cs_results.specs.declared.result.EntryResult.{EntryResult}
+use Rattle.cs_explored.specs.declared.explored.End.{End}
+use Rattle.cs_explored.specs.declared.explored.Explored.{Explored}
+use Rattle.cs_progress.specs.Stepping.{end_of}
+use Rattle.cs_coverage.specs.Covering.{PassesNone, IsElsewhere, IsCutAt, HasAllNodes}
+use Rattle.cs_coverage.specs.Positions.{CoversPositions, HasEnding}
+use Rattle.cs_integer_functions.specs.IntegerFunctions.{is_integer_routine, is_integer_body, are_integer_variables, IsIntegerFunction}
+use Rattle.cs_findings.specs.Runs.{run_budgets}
+use Rattle.cs_findings.specs.EveryRun.{HasFinding, ReportsEveryRun}
+
+-- where nothing is cut, no access is
+nothing_is_cut : (cuts : List Cut) → cuts ≡ [] → (at : Place) → ¬ IsCutAt cuts at
+nothing_is_cut cuts none at = λ cut. search
+
+elsewhere : (cuts : List Cut) → cuts ≡ [] → (pending : Pending) → IsElsewhere (IsCutAt cuts) pending
+elsewhere cuts none (Operates at operation) = tt
+elsewhere cuts none (Tries at path) = tt
+elsewhere cuts none (Accesses at object offset) = nothing_is_cut cuts none at
+
+passes_none : (cuts : List Cut) → cuts ≡ [] → (steps : List Step) → PassesNone (IsCutAt cuts) steps
+passes_none cuts none [] = tt
+passes_none cuts none (one ∷ steps) = (elsewhere cuts none one.pending, passes_none cuts none steps)
+
+all_nodes : (cuts : List Cut) → cuts ≡ [] → HasAllNodes cuts
+all_nodes cuts none nodes = λ cut. search
+
+-- an end says of a fault and of a budget what the run says
+found_by_end : (given : EntryResult) (outcome ended : Outcome) → ended ≡ end_of outcome → HasFinding given ended → HasFinding given outcome
+found_by_end given (Done returned) ended is found = tt
+found_by_end given (Fault kind at) ended is found = subst (HasFinding given) is found
+found_by_end given (Over budget at) ended is found = subst (HasFinding given) is found
+
+-- a function that works with integers alone has a body
+body_of_integer : (body : Option Statement) → is_integer_body body ≡ true → (inside : Statement) × (body ≡ Some inside)
+body_of_integer None is = absurd (false_true is)
+  where
+    false_true : false ≡ true → ⊥
+    false_true e = cc
+body_of_integer (Some inside) is = (inside, refl)
+
+both : (one other : Bool) → IsTrue (one && other) → other ≡ true
+both one other h = search
+
+pub has_body : (program : TypedProgram) (entry : ℕ) → IsIntegerFunction program entry
+    → (body : Statement) × ((routine_of program entry).body ≡ Some body)
+has_body program entry is =
+    body_of_integer (routine_of program entry).body
+    (both (are_integer_variables (routine_of program entry).variables) (is_integer_body (routine_of program entry).body) is)
+
+pub misses_none : (code : Code) (program : TypedProgram) (budgets : Budgets) (explored : Explored) (given : EntryResult)
+    → IsLowered code program → IsIntegerFunction program given.entry → CoversPositions code program given.entry (run_budgets budgets) explored
+    → (given.cuts.items ≡ [] → explored.cuts.items ≡ []) → All (λ (end : End). HasFinding given end.outcome) explored.ends.items
+    → ReportsEveryRun program budgets given
+misses_none code program budgets explored given lowered integer covers cuts all none inputs outcome log gives =
+    let body = has_body program given.entry integer in let clear = cuts none in
+    let ends = lowered.runs.ends given.entry body.0 (record { inputs = inputs; guesses = [] }) (run_budgets budgets) outcome log body.1 gives in
+    let found = events_by_end ends in
+    let covered = covers.endings (all_nodes explored.cuts.items clear) (number_at inputs) found.steps outcome log (silently refl found.runs)
+    (passes_none explored.cuts.items clear found.steps) in
+    let within = slice_get_within explored.ends.items covered.number covered.end covered.there in
+    let is = get_or_from_slice_get explored.ends.items covered.number covered.end covered.end covered.there in
+    found_by_end given outcome covered.end.outcome covered.ended
+    (subst (λ (end : End). HasFinding given end.outcome) is (all covered.number covered.end within))
