@@ -1,4 +1,5 @@
 pub mod OwnNumbers
+pub mod Assumed
 pub mod Patched
 pub mod AlikeEntries
 pub mod LiveTerms
@@ -7,9 +8,12 @@ pub mod Merging
 pub mod Passing
 pub mod Coverage
 pub mod ReadingNothing
+pub mod IntegerSpots
 pub mod LocalsRead
 pub mod Positions
+pub mod OwnBeginnings
+pub mod Beginnings
+pub mod BeginningStates
 pub mod ClosedGraphs
 pub mod PlacedRows
 pub mod ExpandedRows
-pub mod LegibleStates

@@ -46,7 +46,7 @@ module _ (code : Code) (program : TypedProgram) (entry : ℕ) (budgets : RunBudg
         row = there.0;
         there = there.1;
         same = (exact child.state.value there.0.state.value).0 (words ∙ key);
-        legible = state.legible;
+        plain = state.plain;
       }
 
   -- a row that is new
@@ -95,7 +95,7 @@ module _ (code : Code) (program : TypedProgram) (entry : ℕ) (budgets : RunBudg
           row = row;
           there = subst (λ (rows : List Row). slice_get rows (length before.rows) ≡ Some row) (sym new.rows) (last_there before.rows row);
           same = refl;
-          legible = state.legible;
+          plain = state.plain;
         };
         graph = record {
           keys = new_keys before after row visits number is new;

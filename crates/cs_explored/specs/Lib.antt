@@ -1,3 +1,4 @@
+pub mod Assumed
 pub mod Found
 pub mod Watching
 pub mod Answering
