@@ -22,7 +22,7 @@ use Rattle.cs_explored.specs.declared.explored.End.{End}
 use Rattle.cs_explored.specs.declared.explored.Row.{Row}
 use Rattle.cs_explored.specs.declared.watch.Rule.{Rule}
 use Rattle.cs_successors.specs.Coming.{IsChildOf, ComesOfState}
-use Rattle.cs_explored.specs.Assumed.{HasPlainKeys}
+use Rattle.cs_store.specs.Held.{HasPlainKeys}
 use Rattle.cs_explored.specs.Placing.{RowGraph, PlacesRow, PlacesAll, end_of_row}
 use Rattle.cs_coverage.specs.Closing.{Waits, IsOpen, AreNames, IsBeginning, IsListed, IsRowState, IsExpanded, IsClosed, IsClosedGraph}
 use Rattle.cs_coverage.proofs.Coverage.{element}

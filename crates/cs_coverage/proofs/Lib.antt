@@ -13,6 +13,7 @@ pub mod LocalsRead
 pub mod Positions
 pub mod OwnBeginnings
 pub mod Beginnings
+pub mod StartBlocks
 pub mod BeginningStates
 pub mod ClosedGraphs
 pub mod PlacedRows

@@ -33,7 +33,7 @@ use Rattle.cs_state.specs.Naming.{Naming}
 use Rattle.cs_state.specs.Objects.{Owner, owner, owner_numbered, local_of, block_there, written_over, contents_in, number_of, unwritten, memory_of}
 use Rattle.cs_keys.specs.Live.{LiveFrame, LiveRegion, LivePart, live_term, live_temporary, live_frame, live_binding, live_region}
 use Rattle.cs_keys.specs.Live.{live_part}
-use Rattle.cs_explored.specs.Assumed.{HasPlainKeys}
+use Rattle.cs_store.specs.Held.{HasPlainKeys}
 use Rattle.cs_progress.specs.Stepping.{next_left}
 use Rattle.cs_successors.specs.Coming.{IsAt}
 use Rattle.cs_coverage.proofs.AlikeEntries.{FindsAlike, said_alike, get_alike, map_keyed, map_alike}

@@ -22,7 +22,7 @@ use Rattle.cs_explored.specs.declared.explored.End.{End}
 use Rattle.cs_explored.specs.declared.explored.Row.{Row}
 use Rattle.cs_explored.specs.declared.watch.Rule.{Rule}
 use Rattle.cs_successors.specs.Coming.{IsIntegerState, ComesOfState}
-use Rattle.cs_explored.specs.Assumed.{HasPlainKeys}
+use Rattle.cs_store.specs.Held.{HasPlainKeys}
 use Rattle.cs_explored.specs.Placing.{RowGraph}
 
 -- a row has the live part of a child

@@ -14,7 +14,7 @@ use Rattle.cs_explored.specs.Found.{Grows, IsPlaced}
 use Rattle.cs_keys.specs.Live.{live_part}
 use Rattle.cs_keys.specs.Words.{words_of}
 use Rattle.cs_explored.specs.Placing.{RowGraph, child_row, end_of_row, PlacesRow, PlacesAll, KeepsEnds, KeepsRows, AddsEnds, AddsCuts, HavePlainKeys}
-use Rattle.cs_explored.specs.Assumed.{HasPlainKeys}
+use Rattle.cs_store.specs.Held.{HasPlainKeys}
 use Rattle.cs_explored.proofs.Growing.{grows_not, grows_on, grows_same, grows_end}
 
 -- so many children were placed, and nothing was cut

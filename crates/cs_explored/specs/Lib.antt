@@ -1,4 +1,3 @@
-pub mod Assumed
 pub mod Found
 pub mod Watching
 pub mod Answering

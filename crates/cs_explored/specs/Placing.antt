@@ -6,7 +6,7 @@ use Rattle.cs_events.specs.declared.outcome.Outcome.{Outcome}
 use Rattle.cs_results.specs.declared.result.Cut.{Cut}
 use Rattle.cs_results.specs.declared.result.Cut.TheVariants.{Nodes}
 use Rattle.cs_state.specs.declared.state.State.{State}
-use Rattle.cs_explored.specs.Assumed.{HasPlainKeys}
+use Rattle.cs_store.specs.Held.{HasPlainKeys}
 use Rattle.cs_keys.specs.Live.{live_part}
 use Rattle.cs_keys.specs.Words.{words_of}
 use Rattle.cs_graph.specs.Adding.{IsAdded}

@@ -1,7 +1,7 @@
 //! What an exploration has found so far.
 ghost use Rattle.std.specs.Prelude.{◌≡◌, ◌≤◌, ◌<◌, [], length, IfOk, OnOk};
 ghost use Rattle.cs_graph.specs.Adding.{empty};
-ghost use Rattle.cs_explored.specs.Assumed.{HasPlainKeys};
+ghost use Rattle.cs_store.specs.Held.{HasPlainKeys};
 ghost use Rattle.cs_keys.specs.Live.{live_part};
 ghost use Rattle.cs_keys.specs.Words.{words_of};
 ghost use Rattle.cs_explored.specs.Placing.{child_row, first_row, KeepsEnds, AddsEnds, AddsCuts, PlacesChildren};
@@ -165,6 +165,7 @@ impl Findings {
 fn has_plain_keys(row: &Row)
     ensures { HasPlainKeys row.now.state.value.store }
 {
+    row.state.store.has_plain_keys();
 }
 
 // The row with a state whose large tables are listed, so that the states after it share what was listed.
