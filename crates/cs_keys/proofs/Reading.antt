@@ -12,11 +12,11 @@ use Rattle.cs_types.specs.declared.data_model.DataModel.TheVariants.{Lp64, Ilp32
 use Rattle.cs_model.specs.declared.standing.Standing.TheVariants.{Live, Freed, Ended}
 use Rattle.cs_ranges.specs.declared.range_set.Interval.{Interval}
 use Rattle.cs_store.specs.declared.value.Fill.TheVariants as fill
-use Rattle.cs_keys.specs.Live.{Constant, Linear, LiveValue, Number, Null, At, Start, Unset}
+use Rattle.cs_keys.specs.Live.{Constant, Linear, Far, LiveValue, Number, Null, At, Start, Unset}
 use Rattle.cs_keys.specs.Live.{Scalar, Whole, Nothing, LivePart}
 use Rattle.cs_word_lists.specs.Written.{LAST, with_word, with_natural, zigzag, with_integer, with_list}
 use Rattle.cs_constraints.specs.SetWords.{with_interval}
-use Rattle.cs_keys.specs.Words.{with_set, with_symbol, with_line, with_plain_term, with_plain_value, with_plain_binding}
+use Rattle.cs_keys.specs.Words.{with_set, with_symbol, with_line, with_far_line, with_plain_term, with_plain_value, with_plain_binding}
 use Rattle.cs_keys.specs.Words.{numbers_of_term, numbers_of, all_numbers, with_bindings}
 use Rattle.cs_keys.specs.Words.{with_term, with_value, with_temporary, with_spot, with_frame, with_returned, with_fill, with_region}
 use Rattle.cs_keys.specs.Words.{with_standing, with_block, with_read, with_model, with_counters, with_position, with_memory, with_counted}
@@ -92,11 +92,19 @@ line_read r q x y e =
     let symbol = symbol_read _ _ _ _ e in let origin = integer_read _ _ _ _ symbol.0 in let slope = integer_read _ _ _ _ origin.0 in
     (slope.0, λ i. record { slope = slope.1 i; origin = origin.1 i; symbol = symbol.1 i })
 
+pub far_line_read : IsRead with_far_line
+far_line_read r q x y e =
+    let symbol = symbol_read _ _ _ _ e in let value = integer_read _ _ _ _ symbol.0 in let at = integer_read _ _ _ _ value.0 in
+    let slope = integer_read _ _ _ _ at.0 in
+    (slope.0, λ i. record { slope = slope.1 i; at = at.1 i; value = value.1 i; symbol = symbol.1 i })
+
 pub term_read : IsRead with_term
 term_read r q (Constant x) (Constant y) e =
     let form = word_read _ _ _ _ e in let number = integer_read r q x y form.0 in (number.0, ap (λ n. Constant n) number.1)
 term_read r q (Linear x) (Linear y) e =
     let form = word_read _ _ _ _ e in let line = line_read r q x y form.0 in (line.0, ap (λ l. Linear l) line.1)
+term_read r q (Far x) (Far y) e =
+    let form = word_read _ _ _ _ e in let line = far_line_read r q x y form.0 in (line.0, ap (λ l. Far l) line.1)
 term_read r q x y e = let form = (word_read _ _ _ _ e).1 in absurd (omega arith)
 
 pub value_read : IsRead with_value
@@ -169,6 +177,20 @@ plain_term_read r q (Linear x) (Linear y) e =
         same = λ numbers i. Linear (record {
           slope = slope.1 i;
           origin = origin.1 i;
+          symbol = record { number = symbol.1 i; set = same_Some x.symbol.set y.symbol.set numbers i };
+        });
+      },
+    )
+plain_term_read r q (Far x) (Far y) e =
+    let form = word_read _ _ _ _ e in let symbol = word_read _ _ _ _ form.0 in let value = integer_read _ _ _ _ symbol.0 in
+    let at = integer_read _ _ _ _ value.0 in let slope = integer_read _ _ _ _ at.0 in (
+      slope.0,
+      record {
+        both = refl;
+        same = λ numbers i. Far (record {
+          slope = slope.1 i;
+          at = at.1 i;
+          value = value.1 i;
           symbol = record { number = symbol.1 i; set = same_Some x.symbol.set y.symbol.set numbers i };
         });
       },

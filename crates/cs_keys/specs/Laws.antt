@@ -1,18 +1,21 @@
 -- What keys are for: they are equal exactly where live parts are, and equal live parts have terms with equal values.
-use Rattle.std.specs.Prelude.{◌≡◌, ◌↔◌, ℤ}
+use Rattle.std.specs.Prelude.{◌≡◌, ◌↔◌, option_map}
 use Rattle.cs_terms.specs.declared.term.Lin.{Lin}
-use Rattle.cs_terms.specs.Term.{value_at}
+use Rattle.cs_terms.specs.Term.{Valuation, value_of}
 use Rattle.cs_constraints.specs.Constraints.{Sets}
 use Rattle.cs_state.specs.declared.state.State.{State}
-use Rattle.cs_state.specs.Terms.{MayBe, IsHeldTerm}
-use Rattle.cs_keys.specs.Live.{live_term, live_part}
+use Rattle.cs_keys.specs.Live.{live_symbol, live_term, live_part}
 use Rattle.cs_keys.specs.Words.{words_of}
 
 -- the words of two states are the same exactly where their live parts are
 abbrev pub KeysAreExact : Type 0
 KeysAreExact = (one other : State) → (words_of (live_part one) ≡ words_of (live_part other)) ↔ (live_part one ≡ live_part other)
 
--- terms that a state may hold and that are the same in its live part have the same value at each number that their symbol may have
+-- two terms are the same function of the same symbol, which may have the same numbers
+pub record AreOneFunction (sets others : Sets) (one other : Lin) : Type 0 where
+  pub symbol : option_map (live_symbol sets) one.sym ≡ option_map (live_symbol others) other.sym
+  pub values : (valuation : Valuation) → value_of valuation one ≡ value_of valuation other
+
+-- terms that are the same in two live parts, or twice in one, are the same function
 abbrev pub TermsHaveValues : Type 0
-TermsHaveValues = (sets : Sets) (one other : Lin) (x : ℤ) → IsHeldTerm sets one → IsHeldTerm sets other
-    → live_term sets one ≡ live_term sets other → MayBe sets one.sym x → value_at one x ≡ value_at other x
+TermsHaveValues = (sets others : Sets) (one other : Lin) → live_term sets one ≡ live_term others other → AreOneFunction sets others one other

@@ -1,6 +1,6 @@
 -- The live part of a state: all that it says of the runs that come to its position, but for its guesses and for the numbers of symbols that
 -- nothing mentions. Each symbol that is mentioned stands there with the numbers that it may have.
-use Rattle.std.specs.Prelude.{ℕ, ℤ, List, map, Option, None, Some, option_map}
+use Rattle.std.specs.Prelude.{ℕ, ℤ, List, map, Option, None, Some, option_map, if◌then◌else◌}
 use Rattle.std.specs.FinMap as finite
 use Rattle.cs_types.specs.declared.data_model.DataModel.{DataModel}
 use Rattle.cs_model.specs.declared.standing.Standing.{Standing}
@@ -13,7 +13,7 @@ use Rattle.cs_store.specs.declared.value.Value.{Value}
 use Rattle.cs_store.specs.declared.value.Value.TheVariants as value
 use Rattle.cs_store.specs.Contents.{Contents, bindings_of}
 use Rattle.cs_store.specs.Held.{Regions, regions_of}
-use Rattle.cs_store.specs.Listings.{origin_of}
+use Rattle.cs_store.specs.Listings.{origin_of, has_origin}
 use Rattle.cs_cfg.specs.declared.code.Spot.{Spot}
 use Rattle.cs_state.specs.declared.block.Block.{Block}
 use Rattle.cs_state.specs.declared.frame.Frame.{Frame}
@@ -31,15 +31,24 @@ pub record LiveSymbol : Type 0 where
   pub number : ℕ
   pub set : Option (List Interval)
 
--- a function of a symbol: its slope, and its value where the symbol is 0, in the arithmetic of 128 bits
+-- a function of a symbol: its slope, and its value where the symbol is 0
 pub record Line : Type 0 where
   pub slope : ℤ
   pub origin : ℤ
   pub symbol : LiveSymbol
 
+-- a function of a symbol as a term has it: its slope, and its value at some number
+pub record FarLine : Type 0 where
+  pub slope : ℤ
+  pub at : ℤ
+  pub value : ℤ
+  pub symbol : LiveSymbol
+
+-- a constant, a function whose value at 0 can be computed in 128 bits, or any other function
 pub data LiveTerm : Type 0 where
   Constant : ℤ → LiveTerm
   Linear : Line → LiveTerm
+  Far : FarLine → LiveTerm
 
 pub data LiveValue : Type 0 where
   Number : LiveTerm → LiveValue
@@ -99,10 +108,13 @@ module _ (sets : Sets) where
   abbrev pub live_line : Sym → Lin → Line
   live_line sym term = record { slope = term.slope; origin = origin_of term; symbol = live_symbol sym }
 
+  abbrev pub far_line : Sym → Lin → FarLine
+  far_line sym term = record { slope = term.slope; at = term.at; value = term.value; symbol = live_symbol sym }
+
   -- a constant, or a function of the symbol
   abbrev pub live_over : Option Sym → Lin → LiveTerm
   live_over None term = Constant term.value
-  live_over (Some sym) term = Linear (live_line sym term)
+  live_over (Some sym) term = if has_origin term then Linear (live_line sym term) else Far (far_line sym term)
 
   abbrev pub live_term : Lin → LiveTerm
   live_term term = live_over term.sym term

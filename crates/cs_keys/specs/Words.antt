@@ -14,7 +14,7 @@ use Rattle.cs_cfg.specs.declared.code.Spot.{Spot}
 use Rattle.cs_store.specs.declared.value.Fill.{Fill}
 use Rattle.cs_store.specs.declared.value.Fill.TheVariants as fill
 use Rattle.cs_state.specs.declared.state.Counters.{Counters}
-use Rattle.cs_keys.specs.Live.{LiveSymbol, Line, LiveTerm, Constant, Linear, LiveValue, Number, Null, At, Start, Unset}
+use Rattle.cs_keys.specs.Live.{LiveSymbol, Line, FarLine, LiveTerm, Constant, Linear, Far, LiveValue, Number, Null, At, Start, Unset}
 use Rattle.cs_keys.specs.Live.{LiveTemporary, Scalar, Whole, Nothing, LiveFrame, LiveRegion, LiveBlock, LiveRead, LivePart}
 
 abbrev pub with_set : List ℕ → Option (List Interval) → List ℕ
@@ -27,9 +27,13 @@ with_symbol words symbol = with_word (with_set words symbol.set) symbol.number
 abbrev pub with_line : List ℕ → Line → List ℕ
 with_line words line = with_symbol (with_integer (with_integer words line.slope) line.origin) line.symbol
 
+abbrev pub with_far_line : List ℕ → FarLine → List ℕ
+with_far_line words line = with_symbol (with_integer (with_integer (with_integer words line.slope) line.at) line.value) line.symbol
+
 abbrev pub with_term : List ℕ → LiveTerm → List ℕ
 with_term words (Constant number) = with_word (with_integer words number) 0
 with_term words (Linear line) = with_word (with_line words line) 1
+with_term words (Far line) = with_word (with_far_line words line) 2
 
 abbrev pub with_value : List ℕ → LiveValue → List ℕ
 with_value words (Number term) = with_word (with_term words term) 0
@@ -65,6 +69,8 @@ abbrev pub with_plain_term : List ℕ → LiveTerm → List ℕ
 with_plain_term words (Constant number) = with_word (with_integer words number) 0
 with_plain_term words (Linear line) =
     with_word (with_word (with_integer (with_integer words line.slope) line.origin) line.symbol.number) 1
+with_plain_term words (Far line) =
+    with_word (with_word (with_integer (with_integer (with_integer words line.slope) line.at) line.value) line.symbol.number) 2
 
 abbrev pub with_plain_value : List ℕ → LiveValue → List ℕ
 with_plain_value words (Number term) = with_word (with_plain_term words term) 0
@@ -81,6 +87,7 @@ with_plain_binding words binding = with_word (with_plain_value words binding.1) 
 abbrev pub numbers_of_term : LiveTerm → Option (Option (List Interval))
 numbers_of_term (Constant number) = None
 numbers_of_term (Linear line) = Some line.symbol.set
+numbers_of_term (Far line) = Some line.symbol.set
 
 abbrev pub numbers_of : LiveValue → Option (Option (List Interval))
 numbers_of (Number term) = numbers_of_term term

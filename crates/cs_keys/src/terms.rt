@@ -1,9 +1,9 @@
 //! Terms and values in words, each symbol with the numbers that it may have.
-ghost use Rattle.std.specs.Prelude.{◌≡◌, map, OnOk};
+ghost use Rattle.std.specs.Prelude.{◌≡◌, map, OnOk, Some};
 ghost use Rattle.cs_constraints.specs.Constraints.{set_of};
-ghost use Rattle.cs_keys.specs.Live.{live_symbol, live_line, live_term, live_value};
+ghost use Rattle.cs_keys.specs.Live.{live_symbol, far_line, live_over, live_term, live_value};
 ghost use Rattle.cs_word_lists.specs.Written.{with_list};
-ghost use Rattle.cs_keys.specs.Words.{with_set, with_symbol, with_line, with_term, with_value};
+ghost use Rattle.cs_keys.specs.Words.{with_set, with_symbol, with_far_line, with_term, with_value};
 
 use crate::word_list::Key;
 use cs_constraints::Constraints;
@@ -47,14 +47,30 @@ impl Key {
         self.word(sym.0)
     }
 
-    // A function of a symbol.
-    fn line(&mut self, constraints: &Constraints, sym: Sym, term: &Lin) -> Result<(), AllocError>
+    // A function of a symbol as a term has it.
+    fn far(&mut self, constraints: &Constraints, sym: Sym, term: &Lin) -> Result<(), AllocError>
         ensures { OnOk result
-            (self.new ≡ with_line self.old (live_line constraints.now sym term.now)) }
+            (self.new ≡ with_far_line self.old (far_line constraints.now sym term.now)) }
     {
         self.integer(term.slope)?;
-        self.integer(origin(term))?;
+        self.integer(term.at)?;
+        self.integer(term.value)?;
         self.symbol(constraints, sym)
+    }
+
+    // A function of a symbol, by its value at 0 if that can be computed in 128 bits.
+    fn over(&mut self, constraints: &Constraints, sym: Sym, term: &Lin) -> Result<(), AllocError>
+        ensures { OnOk result
+            (self.new ≡ with_term self.old (live_over constraints.now (Some sym) term.now)) }
+    {
+        let Some(origin) = origin(term) else {
+            self.far(constraints, sym, term)?;
+            return self.word(2);
+        };
+        self.integer(term.slope)?;
+        self.integer(origin)?;
+        self.symbol(constraints, sym)?;
+        self.word(1)
     }
 
     /// A term.
@@ -62,12 +78,11 @@ impl Key {
         ensures { OnOk result
             (self.new ≡ with_term self.old (live_term constraints.now term.now)) }
     {
-        let Some(sym) = term.sym else {
-            self.integer(term.value)?;
-            return self.word(0);
-        };
-        self.line(constraints, sym, term)?;
-        self.word(1)
+        if let Some(sym) = term.sym {
+            return self.over(constraints, sym, term);
+        }
+        self.integer(term.value)?;
+        self.word(0)
     }
 
     /// Terms in order.

@@ -1,12 +1,20 @@
--- Bindings are listed one after the other: for the loop of `list`.
-use Rattle.std.proofs.Common.{◌≡◌, ℕ, suc, ◌+◌, List, [], ◌∷◌, ◌++◌, length, sym, ap, ◌∙◌, subst, arith, add-zero, append_assoc}
-use Rattle.std.specs.Prelude.{fold}
+-- Bindings are listed one after the other: for the loop of `list`. A term is listed by its value at 0 where there is one: for `put_term`.
+use Rattle.std.proofs.Common.{◌≡◌, ℕ, ℤ, suc, ◌+◌, Bool, true, false, List, [], ◌∷◌, ◌++◌, length, sym, ap, ◌∙◌, subst, arith, add-zero}
+use Rattle.std.proofs.Common.{append_assoc, refl}
+use Rattle.std.specs.Bool.{then_some}
+use Rattle.std.specs.Prelude.{fold, Some}
 use Rattle.std.specs.Option.{option_to_list}
 use Rattle.std.proofs.lemmas.List.{append-nil}
+use Rattle.std.proofs.lemmas.Option.{none-some, same_Some}
 use Rattle.cs_word_lists.specs.Written.{with_word}
 use Rattle.cs_terms.specs.declared.symbol.Sym.{Sym}
 use Rattle.cs_store.specs.declared.value.Value.{Value}
 use Rattle.cs_store.specs.Listings.{list_binding, symbol_in, symbols_in, listing_of}
+
+-- a number that is there
+pub is_there : (there : Bool) (given found : ℤ) → Some found ≡ then_some there given → (there ≡ true) × (found ≡ given)
+is_there true given found e = (refl, same_Some found given e)
+is_there false given found e = absurd (none-some found (sym e))
 
 abbrev Binding : Type 0
 Binding = ℕ × Value

@@ -1,8 +1,8 @@
 -- Listings: the words of the values that are bound in a region, and the symbols that they mention. A term is listed by its slope, its value
--- where its symbol is 0, and the number of its symbol; what numbers the symbol may have isn't listed.
-use Rattle.std.specs.Prelude.{◌≡◌, ℕ, ℤ, ◌-ℤ◌, ◌*ℤ◌, List, [], Option, None, Some}
+-- where its symbol is 0, and the number of its symbol; what numbers the symbol may have isn't listed. A term whose value at 0 can't be
+-- computed in 128 bits is listed as it is.
+use Rattle.std.specs.Prelude.{◌≡◌, ◌^◌, ℕ, ℤ, pos, neg_ℤ, int_le, int_lt, ◌-ℤ◌, ◌*ℤ◌, Bool, ◌&&◌, if◌then◌else◌, List, [], Option, None, Some}
 use Rattle.std.specs.FinMap as finite
-use Rattle.std.specs.Int.{w128, int_wrap}
 use Rattle.std.specs.List.{flat_map}
 use Rattle.std.specs.Option.{option_to_list}
 use Rattle.cs_word_lists.specs.Written.{with_word, with_integer, with_list}
@@ -13,15 +13,31 @@ use Rattle.cs_store.specs.declared.value.Value.{Value}
 use Rattle.cs_store.specs.declared.value.Value.TheVariants.{Number, Null, At, Start, Unset}
 use Rattle.cs_store.specs.Contents.{by_number}
 
--- the value of a term where its symbol is 0, in the arithmetic of 128 bits
-abbrev pub origin_of : Lin → ℤ
-origin_of term = int_wrap w128 (term.value -ℤ (term.slope *ℤ term.at))
+-- whether an integer fits in 128 bits
+abbrev pub fits_128 : ℤ → Bool
+fits_128 number = int_le (neg_ℤ (pos (2 ^ 127))) number && int_lt number (pos (2 ^ 127))
 
--- a term ends with 0 where it is a constant, and with 1 where it has a symbol
+-- the value of a term where its symbol is 0
+abbrev pub origin_of : Lin → ℤ
+origin_of term = term.value -ℤ (term.slope *ℤ term.at)
+
+-- whether that value can be computed in 128 bits: the product fits, and then the difference
+abbrev pub has_origin : Lin → Bool
+has_origin term = fits_128 (term.slope *ℤ term.at) && fits_128 (origin_of term)
+
+-- a term over a symbol, by its value at 0
+abbrev pub list_near : Sym → List ℕ → Lin → List ℕ
+list_near sym words term = with_word (with_integer (with_integer words term.slope) (origin_of term)) sym.0
+
+-- a term over a symbol as it is
+abbrev pub list_far : Sym → List ℕ → Lin → List ℕ
+list_far sym words term = with_word (with_integer (with_integer (with_integer words term.slope) term.at) term.value) sym.0
+
+-- a term ends with 0 where it is a constant, with 1 where it is listed by its value at 0, and with 2 where it is listed as it is
 abbrev pub list_term_over : Option Sym → List ℕ → Lin → List ℕ
 list_term_over None words term = with_word (with_integer words term.value) 0
 list_term_over (Some sym) words term =
-    with_word (with_word (with_integer (with_integer words term.slope) (origin_of term)) sym.0) 1
+    if has_origin term then with_word (list_near sym words term) 1 else with_word (list_far sym words term) 2
 
 abbrev pub list_term : List ℕ → Lin → List ℕ
 list_term words term = list_term_over term.sym words term

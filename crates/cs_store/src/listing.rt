@@ -1,8 +1,9 @@
 //! Listings: the words of the values that are bound in a region, and the symbols that they mention.
 ghost use Rattle.std.specs.Prelude.{◌≡◌, ◌++◌, IfOk, OnOk};
+ghost use Rattle.std.specs.Bool.{then_some};
 ghost use Rattle.std.specs.Option.{option_to_list};
 ghost use Rattle.cs_store.specs.Contents.{bindings_of};
-ghost use Rattle.cs_store.specs.Listings.{origin_of, list_term, list_value, symbol_in, listing_of};
+ghost use Rattle.cs_store.specs.Listings.{origin_of, has_origin, list_far, list_term, list_value, symbol_in, listing_of};
 
 use crate::region::Region;
 use crate::value::Value;
@@ -104,11 +105,12 @@ fn symbol_in(value: &Value) -> Option<Sym>
     }
 }
 
-/// The value of a term where its symbol is 0, in the arithmetic of 128 bits.
-pub fn origin(term: &Lin) -> i128
-    ensures { result ≡ origin_of term.now }
+/// The value of a term where its symbol is 0, if it can be computed in 128 bits.
+pub fn origin(term: &Lin) -> Option<i128>
+    ensures { result ≡ then_some (has_origin term.now) (origin_of term.now) }
 {
-    term.value.wrapping_sub(term.slope.wrapping_mul(term.at))
+    let product = term.slope.checked_mul(term.at)?;
+    term.value.checked_sub(product)
 }
 
 fn put_term(words: &mut Words, term: &Lin) -> Result<(), AllocError>
@@ -118,10 +120,24 @@ fn put_term(words: &mut Words, term: &Lin) -> Result<(), AllocError>
         words.integer(term.value)?;
         return words.word(0);
     };
+    let Some(origin) = origin(term) else {
+        put_far(words, sym, term)?;
+        return words.word(2);
+    };
     words.integer(term.slope)?;
-    words.integer(origin(term))?;
+    words.integer(origin)?;
     words.word(sym.0)?;
     words.word(1)
+}
+
+// A term over a symbol as it is.
+fn put_far(words: &mut Words, sym: Sym, term: &Lin) -> Result<(), AllocError>
+    ensures { OnOk result (words.new ≡ list_far sym words.old term.now) }
+{
+    words.integer(term.slope)?;
+    words.integer(term.at)?;
+    words.integer(term.value)?;
+    words.word(sym.0)
 }
 
 fn put_value(words: &mut Words, value: &Value) -> Result<(), AllocError>
