@@ -1,5 +1,4 @@
 pub mod OwnNumbers
-pub mod Assumed
 pub mod Patched
 pub mod AlikeEntries
 pub mod LiveTerms

@@ -7,7 +7,7 @@ use Rattle.cs_terms.specs.declared.term.Lin.{Lin}
 use Rattle.cs_terms.specs.Term.{Valuation, value_with, value_of}
 use Rattle.cs_constraints.specs.Constraints.{Sets, set_of}
 use Rattle.cs_keys.specs.Live.{LiveSymbol, live_symbol, live_term}
-use Rattle.cs_coverage.proofs.Assumed.{AreOneFunction, same_values}
+use Rattle.cs_keys.proofs.Lines.{same_values}
 
 module _ (sets others : Sets) (valuation other : Valuation)
     (agrees : (symbol : ℕ) → set_of sets symbol ≡ set_of others symbol → other symbol ≡ valuation symbol) where

@@ -1,9 +1,11 @@
-use Rattle.std.proofs.Common.{refl, ◌∙◌}
+use Rattle.std.proofs.Common.{refl, sym, ◌∙◌, subst}
+use Rattle.std.specs.List.{Any}
 use Rattle.cs_explored.proofs.Growing.{grows_not, grows_on, grows_worked}
+use Rattle.cs_engine.proofs.Exploring.{given_graph, done_graph}
 use Rattle.cs_engine.proofs.engine.expand_all.Goals as goal
 
 pub loop-init : goal.loop-init
-loop-init g c = record { grows = grows_not c.args.findings.now; kinds = refl }
+loop-init g c = record { grows = grows_not c.args.findings.now; kinds = refl; open_graph = λ every entry explores open_graph. open_graph }
 
 pub loop-preserved : goal.loop-preserved
 loop-preserved g c = record {
@@ -11,6 +13,7 @@ loop-preserved g c = record {
       (grows_on c.loop.findings _ c.expand.new.findings (grows_worked c.loop.findings c.next.new.self c.next.ensures.rest)
       c.in_ok-expand.ensures.grows);
   kinds = c.expand.ensures.kinds ∙ c.loop.invariant.kinds;
+  open_graph = ?;
 }
 
 pub returns-then-not-branch-clause-grows : goal.returns-then-not-branch-clause-grows
@@ -18,3 +21,6 @@ returns-then-not-branch-clause-grows g c =
     grows_on c.args.findings.now c.loop.findings c.expand.new.findings c.loop.invariant.grows
     (grows_on c.loop.findings _ c.expand.new.findings (grows_worked c.loop.findings c.next.new.self c.next.ensures.rest)
     c.in_ok-expand.ensures.grows)
+
+pub returns-then-not-branch-clause-done : goal.returns-then-not-branch-clause-done
+returns-then-not-branch-clause-done g c every entry explores open_graph = ?
