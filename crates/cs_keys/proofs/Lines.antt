@@ -66,8 +66,8 @@ module _ (sets others : Sets) (one other : Lin) where
         symbol = ap (λ symbol. Some symbol) symbols;
         values =
             λ valuation.
-                same_line one.slope other.slope one.at other.at one.value other.value (valuation s.0) slopes origins
-                ∙ ap (λ (symbol : LiveSymbol). affine other.slope other.at other.value (valuation symbol.number)) symbols;
+            same_line one.slope other.slope one.at other.at one.value other.value (valuation s.0) slopes origins
+            ∙ ap (λ (symbol : LiveSymbol). affine other.slope other.at other.value (valuation symbol.number)) symbols;
       }
 
   far : (s t : Sym) → far_line sets s one ≡ far_line others t other → HaveOneValue sets others (Some s) (Some t) one other
