@@ -7,7 +7,6 @@ pub mod Merging
 pub mod Passing
 pub mod Coverage
 pub mod ReadingNothing
-pub mod IntegerSpots
 pub mod LocalsRead
 pub mod Positions
 pub mod OwnBeginnings

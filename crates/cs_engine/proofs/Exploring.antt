@@ -7,6 +7,7 @@ use Rattle.cs_ast.specs.TypedProgram.{TypedProgram}
 use Rattle.cs_events.specs.declared.outcome.RunBudgets.{RunBudgets}
 use Rattle.cs_cfg.specs.Graph.{Code}
 use Rattle.cs_terms.specs.Table.{HasEachOnce}
+use Rattle.cs_regions.specs.Numbering.{IsNumbered}
 use Rattle.cs_meaning.specs.Machine.{routine_of}
 use Rattle.cs_meaning.specs.Steps.{parameters_of}
 use Rattle.cs_results.specs.declared.result.Cut.{Cut}
@@ -23,6 +24,7 @@ use Rattle.cs_graph.specs.Adding.{with_work}
 use Rattle.cs_graph.specs.Waiting.{IsGiven}
 use Rattle.cs_explored.specs.declared.child.Child.{Child}
 use Rattle.cs_explored.specs.declared.explored.End.{End}
+use Rattle.cs_explored.specs.declared.explored.Explored.{Explored}
 use Rattle.cs_explored.specs.declared.explored.Row.{Row}
 use Rattle.cs_explored.specs.declared.findings.Findings.{Findings}
 use Rattle.cs_explored.specs.declared.watch.Rule.{Rule}
@@ -31,12 +33,14 @@ use Rattle.cs_explored.specs.Placing.{RowGraph, first_row, end_of_row, PlacesAll
 use Rattle.cs_successors.specs.Coming.{StateEnd, IsIntegerState, ComesOfState}
 use Rattle.cs_children.specs.declared.exploration.Exploration.{Exploration}
 use Rattle.cs_children.specs.Finding.{code_of, limits_of, ComesOf}
-use Rattle.cs_coverage.specs.Closing.{Waits, IsOpen, AreNames, IsRowState, IsClosedGraph}
+use Rattle.cs_coverage.specs.Closing.{Waits, IsOpen, AreNames, IsRowState, IsClosed, IsClosedGraph}
 use Rattle.cs_coverage.specs.Covering.{HasAllNodes}
+use Rattle.cs_coverage.specs.Positions.{CoversPositions}
 use Rattle.cs_coverage.proofs.Beginnings.{is_beginning}
 use Rattle.cs_coverage.proofs.BeginningStates.{begins_integer}
 use Rattle.cs_coverage.proofs.Coverage.{element}
 use Rattle.cs_coverage.proofs.ExpandedRows.{IsFound, graph_given, graph_later, graph_expanded, graph_done, graph_begun}
+use Rattle.cs_coverage.proofs.Positions.{covers_positions}
 use Rattle.cs_coverage.proofs.StartBlocks.{no_blocks}
 use Rattle.cs_engine.specs.Exploring.{program_of, ExploresIntegers, IsOpenGraph, IsDone}
 
@@ -143,3 +147,16 @@ module _ (exploration : Exploration) (entry : ℕ) (explores : ExploresIntegers 
         (expanded
         (λ place child at. element (λ (child : Child). HasPlainKeys child.state.value.store) made place child at places.2)
         (subst (λ (graph : RowGraph). PlacesAll row made graph after.graph) graph_is places.0) (open_graph before_all)))
+
+  -- a closed graph covers all positions
+  pub covered : (findings : Findings) (explored : Explored) → IsNumbered (naming findings.tables).bases → explored.rows.items ≡ findings.graph.rows
+      → explored.ends.items ≡ findings.ends.items → explored.cuts.items ≡ findings.cuts.items → explored.tables ≡ findings.tables
+      → IsDone exploration entry findings → CoversPositions code program entry budgets explored
+  covered findings explored numbered rows ends cuts tables done =
+      covers_positions code program entry budgets rules explored
+      (subst (λ (t : Tables). IsNumbered (naming t).bases) (sym tables) numbered)
+      (λ all.
+      subst (λ (t : Tables). IsClosed code program entry budgets rules (naming t) explored.rows.items explored.ends.items (λ number. ⊥)) (sym tables)
+      (subst (λ (l : List Row). IsClosed code program entry budgets rules (naming findings.tables) l explored.ends.items (λ number. ⊥)) (sym rows)
+      (subst (λ (l : List End). IsClosed code program entry budgets rules (naming findings.tables) findings.graph.rows l (λ number. ⊥)) (sym ends)
+      (done (subst HasAllNodes cuts all)))))

@@ -1,5 +1,12 @@
-use Rattle.std.proofs.Common.{refl}
+use Rattle.std.proofs.Common.{◌≡◌, Some, refl, sym, ap, ◌∙◌, subst, slice_get}
+use Rattle.std.specs.Prelude.{List}
+use Rattle.cs_results.specs.declared.result.Cut.{Cut}
+use Rattle.cs_explored.specs.Placing.{AddsCuts, PlacesChildren}
+use Rattle.cs_explored.specs.declared.explored.Row.{Row}
 use Rattle.cs_explored.proofs.Growing.{grows_on, grows_same}
+use Rattle.cs_state.specs.declared.state.State.{State}
+use Rattle.cs_state.specs.Naming.{naming}
+use Rattle.cs_children.specs.Finding.{ComesOf}
 use Rattle.cs_engine.proofs.Exploring.{expanded_graph}
 use Rattle.cs_engine.proofs.engine.expand.Goals as goal
 
@@ -11,4 +18,22 @@ returns-clause-grows g c =
     (grows_on c.add_ends.new.self c.add_cuts.new.self c.add_all.new.self c.in_ok-add_cuts.ensures.grows c.in_ok-room.ensures.grows))
 
 pub returns-clause-expands : goal.returns-clause-expands
-returns-clause-expands g c every entry explores open_graph = ?
+returns-clause-expands g c every entry explores open_graph =
+    let from : Row = c.in-Some.from.now in
+    let there : slice_get c.args.findings.now.graph.rows c.args.row ≡ Some from =
+    let found = c.in-Some.ensures.lookup in let rows = c.rows.ensures in cc in
+    let same : c.in_ok-state.state.value ≡ from.state.value =
+    let boxed = c.in_ok-state.ensures.ok in let copied = c.in_ok-copy.ensures in let inner = c.deref.ensures in cc in
+    let comes : ComesOf c.args.exploration.now (naming c.find.new.tables) from.state.value c.find.new.self.made.items c.find.new.self.ends.items =
+    subst (λ (state : State). ComesOf c.args.exploration.now (naming c.find.new.tables) state c.find.new.self.made.items c.find.new.self.ends.items) same
+    (c.in_ok-find.ensures.all every c.new-children.ensures) in
+    let cutting : AddsCuts c.find.new.self.cuts.items c.add_ends.new.self c.add_cuts.new.self =
+    subst (λ (cuts : List Cut). AddsCuts cuts c.add_ends.new.self c.add_cuts.new.self) c.deref-2.ensures.value c.in_ok-add_cuts.ensures.adds in
+    expanded_graph c.args.exploration.now entry explores c.keys_are_exact.ensures c.args.findings.now c.add_ends.new.self c.add_cuts.new.self
+    c.add_all.new.self c.find.new.tables c.args.row from there c.find.new.self.made.items c.find.new.self.ends.items c.find.new.self.cuts.items
+    c.find.ensures.extends c.in_ok-add_ends.ensures.adds cutting c.in_ok-room.ensures.rest comes c.in_ok-room.room c.in_ok-room.ensures.all open_graph
+
+pub returns-clause-full : goal.returns-clause-full
+returns-clause-full g c none all =
+    all c.add_cuts.new.self.nodes
+    (subst (λ room. PlacesChildren c.args.row c.find.new.self.made.items room c.add_cuts.new.self c.add_all.new.self) none c.in_ok-room.ensures.all)
