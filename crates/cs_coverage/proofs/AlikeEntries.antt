@@ -44,7 +44,8 @@ module _ {V : Type 0} where
   find_alike R key [] (f ∷ fs) alike = absurd alike
   find_alike R key (e ∷ es) [] alike = absurd alike
   find_alike R key (e ∷ es) (f ∷ fs) alike =
-      subst (λ k. FindsAlike R (cond (eq_by_cmp key_cmp key e.0) (Some e.1) (find key_cmp key es)) (cond (eq_by_cmp key_cmp key k) (Some f.1) (find key_cmp key fs)))
+      subst (λ k. FindsAlike R (cond (eq_by_cmp key_cmp key e.0) (Some e.1) (find key_cmp key es))
+      (cond (eq_by_cmp key_cmp key k) (Some f.1) (find key_cmp key fs)))
       alike.0
       (either_alike R (eq_by_cmp key_cmp key e.0) e.1 f.1 (find key_cmp key es) (find key_cmp key fs) alike.1 (find_alike R key es fs alike.2))
 

@@ -212,7 +212,8 @@ module _ (code : Code) (program : TypedProgram) (entry : ℕ) (budgets : RunBudg
         → written_over cell (contents_in state.store (number_of names.bases object)) block ≡ block
     as_it_was object other block unset =
         let fills = fill_in object in
-        let cells : (offset : ℕ) → option_map cell (finite.get (contents_in state.store (number_of names.bases object)).direct (offset, 0)) ≡ block.written offset =
+        let cells : (offset : ℕ) → option_map cell (finite.get (contents_in state.store (number_of names.bases object)).direct (offset, 0))
+        ≡ block.written offset =
         λ offset. none_of cell _ (λ value is. let bound = is_bound object offset value is in other bound.number bound.object_is) ∙ sym (unset offset) in
         λ i. record block { fill = fill_over (fills i) block.fill; written = λ offset. cells offset i }
 
@@ -286,7 +287,8 @@ module _ (code : Code) (program : TypedProgram) (entry : ℕ) (budgets : RunBudg
     local_is declaration (Some v) =
         let fills = fill_in (LocalObject 0 declaration) in
         let argument = slice_get-map (λ (v : Variable). Scalar (received program inputs v)) parameters declaration in
-        let cells : (offset : ℕ) → option_map cell (finite.get (contents_at declaration).direct (offset, 0)) ≡ argument_at (slice_get arguments declaration) offset =
+        let cells : (offset : ℕ) → option_map cell (finite.get (contents_at declaration).direct (offset, 0))
+        ≡ argument_at (slice_get arguments declaration) offset =
         λ offset. written_local declaration (slice_get parameters declaration) refl offset ∙ ap (λ a. argument_at a offset) (sym argument) in
         λ i. Some (record (local_block program None v) { fill = fill_over (fills i) (local_block program None v).fill; written = λ offset. cells offset i })
 

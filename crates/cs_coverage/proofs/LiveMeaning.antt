@@ -33,7 +33,9 @@ no_items (x ∷ xs) e = absurd (omega (arith, e))
 
 -- an empty map has no entries
 pub none_there : {V : Type 0} → finite.entries (finite.empty {X = V} {R = key_cmp}) ≡ []
-none_there {V} = no_items (finite.entries (finite.empty {X = V} {R = key_cmp})) (sym (finite.len-entries (finite.empty {X = V} {R = key_cmp})) ∙ finite.len-empty key_cmp V)
+none_there {V} =
+    no_items (finite.entries (finite.empty {X = V} {R = key_cmp}))
+    (sym (finite.len-entries (finite.empty {X = V} {R = key_cmp})) ∙ finite.len-empty key_cmp V)
 
 module _ (sets others : Sets) where
   -- a value that is said to be the same

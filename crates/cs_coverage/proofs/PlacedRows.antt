@@ -139,7 +139,10 @@ module _ (code : Code) (program : TypedProgram) (entry : ℕ) (budgets : RunBudg
       record {
         have = have_both child made between.rows after.rows others.more.0 others.more.1 one.has others.have;
         graph = others.graph;
-        more = (one.more.0 ++ others.more.0, others.more.1 ∙ ap (λ (rows : List Row). rows ++ others.more.0) one.more.1 ∙ append_assoc before.rows one.more.0 others.more.0);
+        more = (
+          one.more.0 ++ others.more.0,
+          others.more.1 ∙ ap (λ (rows : List Row). rows ++ others.more.0) one.more.1 ∙ append_assoc before.rows one.more.0 others.more.0,
+        );
       }
     where
       have_both : (child : Child) (made : List Child) (rows later more : List Row) → later ≡ rows ++ more → HasRowFor rows child → HaveRows made later

@@ -18,8 +18,8 @@ no_pointer ty target e = cc
 
 module _ (code : Code) (program : TypedProgram) (entry : ℕ) (names : Naming) (state : State) where
   abbrev IsOfPointer : Block → Type 0
-  IsOfPointer block = (number : ℕ) × (v : Variable) × IsParameter (parameters_of (routine_of program entry)) (length (parameters_of (routine_of program entry))) v number
-      × IsPointer v.ty
+  IsOfPointer block = (number : ℕ) × (v : Variable)
+      × IsParameter (parameters_of (routine_of program entry)) (length (parameters_of (routine_of program entry))) v number × IsPointer v.ty
 
   none_there : HasIntegerParameters program entry → (found : Option Block) → ((block : Block) → found ≡ Some block → IsOfPointer block) → found ≡ None
   none_there integers None comes = refl

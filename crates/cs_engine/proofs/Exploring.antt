@@ -96,9 +96,12 @@ module _ (exploration : Exploration) (entry : ℕ) (explores : ExploresIntegers 
       graph_given code program entry budgets rules (naming before.tables) before.graph graph before.ends.items row given rest (open_graph all)
 
   -- no row waits
-  pub done_graph : (findings : Findings) → findings.graph.work ≡ [] → IsOpenGraph exploration entry Waits findings → IsDone exploration entry findings
-  done_graph findings none open_graph all =
-      graph_done code program entry budgets rules (naming findings.tables) findings.graph findings.ends.items none (open_graph all)
+  pub done_graph : (findings : Findings) (graph : RowGraph) → findings.graph.work ≡ [] → graph ≡ with_work graph.work findings.graph
+      → IsOpenGraph exploration entry Waits findings → IsDone exploration entry (record findings { graph = graph })
+  done_graph findings graph none rest open_graph all =
+      subst (λ (rows : List Row). IsClosed code program entry budgets rules (naming findings.tables) rows findings.ends.items (λ number. ⊥))
+      (sym (ap (λ (g : RowGraph). g.rows) rest))
+      (graph_done code program entry budgets rules (naming findings.tables) findings.graph findings.ends.items none (open_graph all))
 
   -- all that comes of a row was added
   module _ (exact : KeysAreExact) (before ended cut after : Findings) (tables : Tables) (row : ℕ) (from : Row)

@@ -1,5 +1,6 @@
 use Rattle.std.proofs.Common.{◌≡◌, Some, refl, sym, ap, ◌∙◌, subst, slice_get}
 use Rattle.std.specs.Prelude.{List}
+use Rattle.std.proofs.lemmas.Option.{slice_get-get_or}
 use Rattle.cs_results.specs.declared.result.Cut.{Cut}
 use Rattle.cs_explored.specs.Placing.{AddsCuts, PlacesChildren}
 use Rattle.cs_explored.specs.declared.explored.Row.{Row}
@@ -21,9 +22,10 @@ pub returns-clause-expands : goal.returns-clause-expands
 returns-clause-expands g c every entry explores open_graph =
     let from : Row = c.in-Some.from.now in
     let there : slice_get c.args.findings.now.graph.rows c.args.row ≡ Some from =
-    let found = c.in-Some.ensures.lookup in let rows = c.rows.ensures in cc in
+    ap (λ (rows : List Row). slice_get rows c.args.row) (sym c.rows.ensures)
+    ∙ slice_get-get_or c.rows.result.now c.args.row from c.in-Some.ensures.lookup.3.0 ∙ ap Some (sym (c.in-Some.ensures.lookup.3.1 from)) in
     let same : c.in_ok-state.state.value ≡ from.state.value =
-    let boxed = c.in_ok-state.ensures.ok in let copied = c.in_ok-copy.ensures in let inner = c.deref.ensures in cc in
+    c.in_ok-state.ensures.ok ∙ c.in_ok-copy.ensures ∙ c.deref.ensures in
     let comes : ComesOf c.args.exploration.now (naming c.find.new.tables) from.state.value c.find.new.self.made.items c.find.new.self.ends.items =
     subst (λ (state : State). ComesOf c.args.exploration.now (naming c.find.new.tables) state c.find.new.self.made.items c.find.new.self.ends.items) same
     (c.in_ok-find.ensures.all every c.new-children.ensures) in

@@ -31,5 +31,5 @@ returns-then-not-branch-clause-done g c every entry explores open_graph all = ab
 pub returns-in_default-clause-done : goal.returns-in_default-clause-done
 returns-in_default-clause-done g c every entry explores open_graph =
     let empty : c.loop.findings.graph.work ≡ [] = search rules in
-    done_graph c.args.exploration.now entry explores c.loop.findings empty
+    done_graph c.args.exploration.now entry explores c.loop.findings c.next.new.self empty c.next.ensures.rest
     (c.loop.invariant.open_graph every entry explores open_graph)

@@ -17,7 +17,8 @@ pub returns-clause-all : goal.returns-clause-all
 returns-clause-all c =
     let yields = YieldsList-from_vec {s = c.into_iter-child-iterator.result} c.args.made.items c.into_iter-child-iterator.ensures.into_iter_gives.0
     (c.into_iter-child-iterator.ensures.into_iter_gives.1 ∙ c.args.made.ok.0) in
-    let all = YieldsList-end yields c.loop-child.yielded c.loop-child.child-iterator c.loop-child.yielded_by c.next.result c.next.new.self c.in-None.is c.next.ensures.steps in (
+    let all = YieldsList-end yields c.loop-child.yielded c.loop-child.child-iterator c.loop-child.yielded_by c.next.result c.next.new.self
+    c.in-None.is c.next.ensures.steps in (
       subst (λ (made : List Child). PlacesAll c.args.row made c.args.self.now.graph c.loop-child.self.graph) (sym (map-id c.loop-child.yielded) ∙ all.0)
           c.loop-child.invariant.placed,
       c.loop-child.invariant.cuts,
