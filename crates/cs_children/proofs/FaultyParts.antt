@@ -32,7 +32,7 @@ use Rattle.cs_state.specs.Cells.{block_of}
 use Rattle.cs_state.specs.Naming.{Naming}
 use Rattle.cs_state.specs.Writes.{with_constraints}
 use Rattle.cs_progress.specs.Acting.{BeginsWithCheck, ComesOf}
-use Rattle.cs_progress.specs.Locals.{HasIntegerCode}
+use Rattle.cs_progress.specs.Locals.{HasLocalsAlone, HasIntegerCode}
 use Rattle.cs_progress.specs.Stepping.{next_left, UsesAnswers}
 use Rattle.cs_explored.specs.declared.watch.Rule.{Rule}
 use Rattle.cs_children.specs.Adding.{IsFaultyEnd, AreFaultyEnds, GoesOn}
@@ -135,6 +135,10 @@ module _ (code : Code) (program : TypedProgram) (budgets : RunBudgets) (names : 
         fits = λ v fits. part_fits test part.state is_part v (faulty_fits v fits);
         phase = ap (λ (s : State). s.phase) is_end.1 ∙ ap (λ (s : State). s.phase) is_part.rest;
         asked = ap (λ (s : State). s.asked) is_end.1 ∙ ap (λ (s : State). s.asked) is_part.rest;
+        locals = subst (λ (s : State). HasLocalsAlone program names.bases (is_declared s.constraints) s) (sym is_end.1)
+            (part_integer test part.state is_part).locals;
+        integers = subst (λ (s : State). HasIntegerCode code program s.frame.spot.function) (sym is_end.1)
+            (part_integer test part.state is_part).integers;
         ends = λ setting v left log goes here fits. part_ends setting v left log here (faulty_fits v fits);
       }
 

@@ -111,6 +111,8 @@ module _ (code : graph.Code) (program : TypedProgram) (budgets : RunBudgets) (na
       fits = λ v fits. fits;
       phase = refl;
       asked = refl;
+      locals = is.locals;
+      integers = is.integers;
       ends = λ setting v left log goes here fits. ends_so setting v left log here;
     }) (All-nil (IsEndOf code program budgets names box.value));
     covers = λ setting v left log goes here without.
@@ -241,18 +243,21 @@ module _ (exploration : Exploration) (given : Naming) (before state : State) (fo
 
       -- all that comes then is all that comes of the state before
       finished : (made : List Child) (ends : List StateEnd) (all : Children) → Comes code program limits names rules after made ends
-          → Adds found all made ends → OutcomesDiffer all.ends.items → ComesOfState code program limits names rules before all.made.items all.ends.items
+          → Adds found all made ends → OutcomesDiffer all.ends.items
+          → ComesOfState code program limits names rules before all.made.items all.ends.items × (all.cuts.items ≡ [])
       finished made ends all comes adds differ =
           let are : all.made.items ≡ made = adds.children ∙ ap (λ xs. xs ++ made) so_far.made in
-          subst (λ xs. ComesOfState code program limits names rules before xs all.ends.items) (sym are)
+          (subst (λ xs. ComesOfState code program limits names rules before xs all.ends.items) (sym are)
           (subst (ComesOfState code program limits names rules before made) (sym adds.endings)
           (comes_of code program limits names rules before after found.ends.items (further after waiting) made ends comes
-          (subst OutcomesDiffer adds.endings differ)))
+          (subst OutcomesDiffer adds.endings differ))),
+          adds.cuts ∙ so_far.cuts)
 
   -- an operation is done
   pub finds_done : (after : State) → Stepped after next.Done → FindsSoFar exploration later before after found
   finds_done after steps = record {
     made = so_far.made;
+    cuts = so_far.cuts;
     reached = λ names program explores is.
         let (done, locals) = stepped names program explores is after next.Done steps in
         further names program explores is after
@@ -265,6 +270,7 @@ module _ (exploration : Exploration) (given : Naming) (before state : State) (fo
         → GoesOn checked.value.rest goes middle after → goes ≡ true → FindsSoFar exploration later before after all
     finds_rest all after goes (ends, adds, match) on is_true = record {
       made = adds.children ∙ append-nil found.made.items ∙ so_far.made;
+      cuts = adds.cuts ∙ so_far.cuts;
       reached = λ names program explores is.
           let (waits, locals) = stepped names program explores is middle (next.Checks at checked) steps in
           let here = waiting names program explores is middle (next.Checks at checked) waits locals in

@@ -397,6 +397,8 @@ module _ (code : Code) (program : TypedProgram) (budgets : RunBudgets) (names : 
       fits = λ v fits. fits;
       phase = refl;
       asked = refl;
+      locals = is.locals;
+      integers = is.integers;
       ends = λ setting v left log goes here fits. ends_over setting v left log goes here;
     }) (All-nil (IsEndOf code program budgets names box.value));
     covers = λ setting v left log goes here without.
