@@ -1,25 +1,22 @@
 -- The faulty parts of a state end, and the rest goes on: for the contract of `find`.
-use Rattle.std.proofs.Common.{◌≡◌, ℕ, zero, suc, ℤ, Bool, true, false, not, List, [], ◌∷◌, ◌||◌, Option, Some, All, inl, inr, refl, sym, ap, ◌∙◌, subst, arith, length}
-use Rattle.std.specs.Prelude.{slice_get, IsTrue, ◌⊎◌, Contains, ◌≤◌}
-use Rattle.std.specs.List.{AllZip, list_any}
+use Rattle.std.proofs.Common.{◌≡◌, ℕ, suc, Bool, true, false, not, List, [], ◌∷◌, ◌||◌, All, inl, inr, refl, sym, ap, ◌∙◌, subst}
+use Rattle.std.specs.Prelude.{◌⊎◌, Contains, ◌≤◌}
 use Rattle.std.specs.FinMap as finite
 use Rattle.std.proofs.lemmas.List.Elements.{All-nil, All-cons, All-head, All-tail}
 use Rattle.cs_inputs.specs.declared.path.Path.{Path}
 use Rattle.cs_ast.specs.declared.place.Place.{Place}
 use Rattle.cs_ast.specs.TypedProgram.{TypedProgram}
 use Rattle.cs_model.specs.declared.kind.Kind.{Kind}
-use Rattle.cs_terms.specs.Term.{Valuation, value_of}
+use Rattle.cs_terms.specs.Term.{Valuation}
 use Rattle.cs_constraints.specs.Constraints.{Fits}
 use Rattle.cs_checker.specs.declared.subject.Subject.{Subject}
 use Rattle.cs_checker.specs.Faults.{is_faulty_for}
 use Rattle.cs_events.specs.declared.input.InputKind.{InputKind}
-use Rattle.cs_events.specs.declared.outcome.Outcome.{Outcome}
 use Rattle.cs_events.specs.declared.outcome.Outcome.TheVariants.{Fault}
 use Rattle.cs_events.specs.declared.outcome.RunBudgets.{RunBudgets}
 use Rattle.cs_events.specs.Objects.{Cell, UnsetCell}
 use Rattle.cs_events.specs.Acts.{Act, Stops}
 use Rattle.cs_events.specs.Runs.{Setting, Log, read_cell}
-use Rattle.cs_event_runs.specs.First.{Ended, first_of}
 use Rattle.cs_cfg.specs.Graph.{Code}
 use Rattle.cs_cfg.specs.Working.{CodeState}
 use Rattle.cs_access.specs.Checks.{IsPart, AreFaults, IsRest, is_faulty}
@@ -37,7 +34,7 @@ use Rattle.cs_progress.specs.Stepping.{next_left, UsesAnswers}
 use Rattle.cs_explored.specs.declared.watch.Rule.{Rule}
 use Rattle.cs_children.specs.Adding.{IsFaultyEnd, AreFaultyEnds, GoesOn}
 use Rattle.cs_successors.specs.EntryRuns.{stays}
-use Rattle.cs_successors.specs.Coming.{is_declared, IsIntegerState, StateEnd, GoesBy, IsAt, EndsIn, IsChildOf, IsEndOf, ComesToEnd, IsReachedFrom}
+use Rattle.cs_successors.specs.Coming.{is_declared, IsIntegerState, StateEnd, IsAt, EndsIn, IsChildOf, IsEndOf, ComesToEnd, IsReachedFrom}
 use Rattle.cs_children.proofs.DeclaredSymbols.{stays_declared, locals_more, answers_more}
 use Rattle.cs_children.proofs.Reaching.{Comes}
 use Rattle.cs_children.proofs.StandingFirst.{stands_first}

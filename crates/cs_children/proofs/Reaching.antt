@@ -1,12 +1,9 @@
 -- What comes of a state to which runs come silently from another one comes of that one too: for the contract of `find`.
-use Rattle.std.proofs.Common.{◌≡◌, ◌≢◌, ℕ, zero, suc, List, [], ◌∷◌, ◌++◌, Option, None, Some, All, inl, inr, refl, sym, ap, ◌∙◌, subst}
-use Rattle.std.specs.Prelude.{◌⊎◌, slice_get, length, option_map}
-use Rattle.std.proofs.lemmas.List.{append-nil}
+use Rattle.std.proofs.Common.{◌≡◌, ℕ, zero, suc, List, [], ◌∷◌, ◌++◌, None, Some, All, inl, inr, refl, ap, ◌∙◌, subst}
+use Rattle.std.specs.Prelude.{◌⊎◌, slice_get}
 use Rattle.std.proofs.lemmas.List.Elements.{All-nil, All-append, All-weaker}
 use Rattle.cs_ast.specs.TypedProgram.{TypedProgram}
-use Rattle.cs_terms.specs.declared.symbol.Sym.{Sym}
 use Rattle.cs_terms.specs.Term.{Valuation}
-use Rattle.cs_constraints.specs.Constraints.{Fits}
 use Rattle.cs_events.specs.declared.outcome.Outcome.{Outcome}
 use Rattle.cs_events.specs.declared.outcome.RunBudgets.{RunBudgets}
 use Rattle.cs_events.specs.Acts.{Act}
@@ -20,7 +17,7 @@ use Rattle.cs_explored.specs.declared.child.Child.{Child}
 use Rattle.cs_explored.specs.declared.watch.Rule.{Rule}
 use Rattle.cs_explored.specs.Watching.{IsPhaseAfter}
 use Rattle.cs_successors.specs.EntryRuns.{Proceeds, stays}
-use Rattle.cs_successors.specs.Coming.{IsIntegerState, StateEnd, OutcomesDiffer, GoesBy, IsAt, ComesSilently, PassesTo, EndsIn, IsChildOf, IsEndOf}
+use Rattle.cs_successors.specs.Coming.{IsIntegerState, StateEnd, OutcomesDiffer, GoesBy, IsAt, PassesTo, EndsIn, IsChildOf, IsEndOf}
 use Rattle.cs_successors.specs.Coming.{ComesToChild, ComesToEnd, ComesOfState, IsReachedFrom}
 use Rattle.cs_successors.proofs.Proceeding.{proceeds_on, leaves_on}
 
