@@ -1,6 +1,7 @@
 -- What the parts of `find` make of what was found before: for its contract.
 use Rattle.std.proofs.Common.{◌≡◌, ℕ, suc, ◌+◌, ◌<◌, ◌≤◌, ℤ, Bool, true, false, List, [], ◌∷◌, ◌++◌, Some, All, map, inr, if◌then◌else◌, refl, sym, ap, ◌∙◌, subst, arith}
 use Rattle.std.specs.Prelude.{slice_get}
+use Rattle.std.specs.List.{Any}
 use Rattle.std.specs.Global.{Box}
 use Rattle.std.specs.Ordering.{int_eq}
 use Rattle.std.proofs.lemmas.List.{append-nil}
@@ -9,6 +10,7 @@ use Rattle.cs_inputs.specs.declared.path.Path.{Path}
 use Rattle.cs_types.specs.declared.data_model.DataModel.{DataModel}
 use Rattle.cs_ast.specs.declared.place.Place.{Place}
 use Rattle.cs_ast.specs.TypedProgram.{TypedProgram}
+use Rattle.cs_model.specs.declared.kind.Kind.{Kind}
 use Rattle.cs_terms.specs.declared.symbol.Sym.{Sym}
 use Rattle.cs_terms.specs.declared.term.Lin.{Lin}
 use Rattle.cs_terms.specs.Term.{Valuation, value_of}
@@ -42,6 +44,7 @@ use Rattle.cs_progress.specs.declared.next.Next.{Next}
 use Rattle.cs_progress.specs.declared.next.Next.TheVariants as next
 use Rattle.cs_progress.specs.Locals.{HasLocalsAlone}
 use Rattle.cs_progress.specs.Stepping.{StepsInLocals, Steps, Waits, EndsAs, ShowsCase, BeginsIn, UsesAnswers, next_left, next_act}
+use Rattle.cs_operators.specs.Asking.{HasEveryKind}
 use Rattle.cs_explored.specs.declared.child.Child.{Child}
 use Rattle.cs_explored.specs.declared.watch.Rule.{Rule}
 use Rattle.cs_children.specs.declared.children.Children.{Children}
@@ -75,6 +78,25 @@ explores_before exploration one two names program more explores = record {
   extends = extends_on one two names more explores.extends;
   numbered = explores.numbered;
 }
+
+-- checkers that keep their kinds have every kind still
+pub has_every_kind : {Checker : Type 0} (kind : Checker → Kind) (before after : List Checker) → map kind after ≡ map kind before
+    → HasEveryKind kind before → HasEveryKind kind after
+has_every_kind kind before after same every = λ fault. subst (Any (λ one. one ≡ fault)) (sym same) (every fault)
+
+-- nothing has come of a state yet
+pub finds_none_yet : (exploration : Exploration) (given : Naming) (state : State) (found : Children) → AreNone found
+    → FindsSoFar exploration given state state found
+finds_none_yet exploration given state found none = record {
+  made = none.made;
+  cuts = none.cuts;
+  reached = λ names program explores is.
+      subst (IsReachedFrom (code_of exploration) program (limits_of exploration) names state state) (sym none.ends)
+      (reached_itself (code_of exploration) program (limits_of exploration) names state is);
+}
+
+pub none_differ : (found : Children) → AreNone found → OutcomesDiffer found.ends.items
+none_differ found none = subst OutcomesDiffer (sym none.ends) (λ one other first second here there. cc)
 
 -- what stands first in an act that shows numbers alone
 shown_plain : {S : Type 0} {at : Place} {one : Operation} {onward : ℤ → Act S} → ShowsNumbers (Asks at one onward) → IsNoAllocation one
