@@ -32,7 +32,7 @@ use Rattle.cs_explored.specs.Found.{IsPlaced}
 use Rattle.cs_explored.specs.Placing.{RowGraph, first_row, end_of_row, PlacesAll, PlacesChildren, KeepsEnds, AddsEnds, AddsCuts}
 use Rattle.cs_successors.specs.Coming.{StateEnd, IsIntegerState, ComesOfState}
 use Rattle.cs_children.specs.declared.exploration.Exploration.{Exploration}
-use Rattle.cs_children.specs.Finding.{code_of, limits_of, ComesOf}
+use Rattle.cs_children.specs.Finding.{code_of, limits_of, Explores}
 use Rattle.cs_coverage.specs.Closing.{Waits, IsOpen, AreNames, IsRowState, IsClosed, IsClosedGraph}
 use Rattle.cs_coverage.specs.Covering.{HasAllNodes}
 use Rattle.cs_coverage.specs.Positions.{CoversPositions}
@@ -43,6 +43,13 @@ use Rattle.cs_coverage.proofs.ExpandedRows.{IsFound, graph_given, graph_later, g
 use Rattle.cs_coverage.proofs.Positions.{covers_positions}
 use Rattle.cs_coverage.proofs.StartBlocks.{no_blocks}
 use Rattle.cs_engine.specs.Exploring.{program_of, ExploresIntegers, IsOpenGraph, IsDone}
+
+-- these children and ends are all that comes of a state, if it is one of integer code
+abbrev pub ComesOf : Exploration → Naming → State → List Child → List StateEnd → Type 0
+ComesOf exploration given state made ends =
+    (names : Naming) (program : TypedProgram) → Explores exploration given names program
+    → IsIntegerState (code_of exploration) program (limits_of exploration) names state
+    → ComesOfState (code_of exploration) program (limits_of exploration) names exploration.rules.now state made ends
 
 -- nodes that are there later were there before
 all_before : (cuts more : List Cut) → HasAllNodes (cuts ++ more) → HasAllNodes cuts

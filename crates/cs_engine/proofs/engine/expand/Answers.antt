@@ -7,8 +7,7 @@ use Rattle.cs_explored.specs.declared.explored.Row.{Row}
 use Rattle.cs_explored.proofs.Growing.{grows_on, grows_same}
 use Rattle.cs_state.specs.declared.state.State.{State}
 use Rattle.cs_state.specs.Naming.{naming}
-use Rattle.cs_children.specs.Finding.{ComesOf}
-use Rattle.cs_engine.proofs.Exploring.{expanded_graph}
+use Rattle.cs_engine.proofs.Exploring.{ComesOf, expanded_graph}
 use Rattle.cs_engine.proofs.engine.expand.Goals as goal
 
 pub returns-clause-grows : goal.returns-clause-grows
@@ -28,7 +27,7 @@ returns-clause-expands g c every entry explores open_graph =
     c.in_ok-state.ensures.ok ∙ c.in_ok-copy.ensures ∙ c.deref.ensures in
     let comes : ComesOf c.args.exploration.now (naming c.find.new.tables) from.state.value c.find.new.self.made.items c.find.new.self.ends.items =
     subst (λ (state : State). ComesOf c.args.exploration.now (naming c.find.new.tables) state c.find.new.self.made.items c.find.new.self.ends.items) same
-    (c.in_ok-find.ensures.all every c.new-children.ensures) in
+    (λ names program it integer. (c.in_ok-find.ensures.all every c.new-children.ensures names program it integer).0) in
     let cutting : AddsCuts c.find.new.self.cuts.items c.add_ends.new.self c.add_cuts.new.self =
     subst (λ (cuts : List Cut). AddsCuts cuts c.add_ends.new.self c.add_cuts.new.self) c.deref-2.ensures.value c.in_ok-add_cuts.ensures.adds in
     expanded_graph c.args.exploration.now entry explores c.keys_are_exact.ensures c.args.findings.now c.add_ends.new.self c.add_cuts.new.self
