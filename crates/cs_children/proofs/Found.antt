@@ -1,6 +1,7 @@
 -- What the parts of `find` make of what was found before: for its contract.
 use Rattle.std.proofs.Common.{◌≡◌, ℕ, suc, ◌+◌, ◌<◌, ◌≤◌, ℤ, Bool, true, false, List, [], ◌∷◌, ◌++◌, Some, All, map, inr, if◌then◌else◌, refl, sym, ap, ◌∙◌, subst, arith}
 use Rattle.std.specs.Prelude.{slice_get}
+use Rattle.std.specs.List.{Any}
 use Rattle.std.specs.Global.{Box}
 use Rattle.std.specs.Ordering.{int_eq}
 use Rattle.std.proofs.lemmas.List.{append-nil}
@@ -9,6 +10,7 @@ use Rattle.cs_inputs.specs.declared.path.Path.{Path}
 use Rattle.cs_types.specs.declared.data_model.DataModel.{DataModel}
 use Rattle.cs_ast.specs.declared.place.Place.{Place}
 use Rattle.cs_ast.specs.TypedProgram.{TypedProgram}
+use Rattle.cs_model.specs.declared.kind.Kind.{Kind}
 use Rattle.cs_terms.specs.declared.symbol.Sym.{Sym}
 use Rattle.cs_terms.specs.declared.term.Lin.{Lin}
 use Rattle.cs_terms.specs.Term.{Valuation, value_of}
@@ -42,6 +44,7 @@ use Rattle.cs_progress.specs.declared.next.Next.{Next}
 use Rattle.cs_progress.specs.declared.next.Next.TheVariants as next
 use Rattle.cs_progress.specs.Locals.{HasLocalsAlone}
 use Rattle.cs_progress.specs.Stepping.{StepsInLocals, Steps, Waits, EndsAs, ShowsCase, BeginsIn, UsesAnswers, next_left, next_act}
+use Rattle.cs_operators.specs.Asking.{HasEveryKind}
 use Rattle.cs_explored.specs.declared.child.Child.{Child}
 use Rattle.cs_explored.specs.declared.watch.Rule.{Rule}
 use Rattle.cs_children.specs.declared.children.Children.{Children}
@@ -75,6 +78,25 @@ explores_before exploration one two names program more explores = record {
   extends = extends_on one two names more explores.extends;
   numbered = explores.numbered;
 }
+
+-- checkers that keep their kinds have every kind still
+pub has_every_kind : {Checker : Type 0} (kind : Checker → Kind) (before after : List Checker) → map kind after ≡ map kind before
+    → HasEveryKind kind before → HasEveryKind kind after
+has_every_kind kind before after same every = λ fault. subst (Any (λ one. one ≡ fault)) (sym same) (every fault)
+
+-- nothing has come of a state yet
+pub finds_none_yet : (exploration : Exploration) (given : Naming) (state : State) (found : Children) → AreNone found
+    → FindsSoFar exploration given state state found
+finds_none_yet exploration given state found none = record {
+  made = none.made;
+  cuts = none.cuts;
+  reached = λ names program explores is.
+      subst (IsReachedFrom (code_of exploration) program (limits_of exploration) names state state) (sym none.ends)
+      (reached_itself (code_of exploration) program (limits_of exploration) names state is);
+}
+
+pub none_differ : (found : Children) → AreNone found → OutcomesDiffer found.ends.items
+none_differ found none = subst OutcomesDiffer (sym none.ends) (λ one other first second here there. cc)
 
 -- what stands first in an act that shows numbers alone
 shown_plain : {S : Type 0} {at : Place} {one : Operation} {onward : ℤ → Act S} → ShowsNumbers (Asks at one onward) → IsNoAllocation one
@@ -111,6 +133,8 @@ module _ (code : graph.Code) (program : TypedProgram) (budgets : RunBudgets) (na
       fits = λ v fits. fits;
       phase = refl;
       asked = refl;
+      locals = is.locals;
+      integers = is.integers;
       ends = λ setting v left log goes here fits. ends_so setting v left log here;
     }) (All-nil (IsEndOf code program budgets names box.value));
     covers = λ setting v left log goes here without.
@@ -241,18 +265,21 @@ module _ (exploration : Exploration) (given : Naming) (before state : State) (fo
 
       -- all that comes then is all that comes of the state before
       finished : (made : List Child) (ends : List StateEnd) (all : Children) → Comes code program limits names rules after made ends
-          → Adds found all made ends → OutcomesDiffer all.ends.items → ComesOfState code program limits names rules before all.made.items all.ends.items
+          → Adds found all made ends → OutcomesDiffer all.ends.items
+          → ComesOfState code program limits names rules before all.made.items all.ends.items × (all.cuts.items ≡ [])
       finished made ends all comes adds differ =
           let are : all.made.items ≡ made = adds.children ∙ ap (λ xs. xs ++ made) so_far.made in
-          subst (λ xs. ComesOfState code program limits names rules before xs all.ends.items) (sym are)
+          (subst (λ xs. ComesOfState code program limits names rules before xs all.ends.items) (sym are)
           (subst (ComesOfState code program limits names rules before made) (sym adds.endings)
           (comes_of code program limits names rules before after found.ends.items (further after waiting) made ends comes
-          (subst OutcomesDiffer adds.endings differ)))
+          (subst OutcomesDiffer adds.endings differ))),
+          adds.cuts ∙ so_far.cuts)
 
   -- an operation is done
   pub finds_done : (after : State) → Stepped after next.Done → FindsSoFar exploration later before after found
   finds_done after steps = record {
     made = so_far.made;
+    cuts = so_far.cuts;
     reached = λ names program explores is.
         let (done, locals) = stepped names program explores is after next.Done steps in
         further names program explores is after
@@ -265,6 +292,7 @@ module _ (exploration : Exploration) (given : Naming) (before state : State) (fo
         → GoesOn checked.value.rest goes middle after → goes ≡ true → FindsSoFar exploration later before after all
     finds_rest all after goes (ends, adds, match) on is_true = record {
       made = adds.children ∙ append-nil found.made.items ∙ so_far.made;
+      cuts = adds.cuts ∙ so_far.cuts;
       reached = λ names program explores is.
           let (waits, locals) = stepped names program explores is middle (next.Checks at checked) steps in
           let here = waiting names program explores is middle (next.Checks at checked) waits locals in

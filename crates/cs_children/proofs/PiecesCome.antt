@@ -1,10 +1,8 @@
 -- What comes of a state in which something shows first: for the contract of `find`.
-use Rattle.std.proofs.Common.{◌≡◌, ◌≢◌, ℕ, zero, suc, ◌+◌, ◌<◌, ◌≤◌, ℤ, Bool, true, false, List, [], ◌∷◌, ◌++◌, Option, None, Some, All, map, inl, inr, refl, sym, ap, ◌∙◌, subst, arith}
-use Rattle.std.specs.Prelude.{slice_get, option_map, is_some, Contains, ◌⊎◌}
+use Rattle.std.proofs.Common.{◌≡◌, ◌≢◌, ℕ, zero, suc, ◌+◌, ◌<◌, ◌≤◌, ℤ, true, false, List, [], ◌∷◌, ◌++◌, Option, None, Some, All, map, inl, inr, refl, sym, ap, ◌∙◌, subst, arith}
+use Rattle.std.specs.Prelude.{slice_get, option_map, is_some}
 use Rattle.std.specs.Global.{Box}
 use Rattle.std.proofs.lemmas.List.{map-append}
-use Rattle.std.specs.List.{AllZip}
-use Rattle.std.specs.FinMap as finite
 use Rattle.std.proofs.lemmas.List.Elements.{All-nil, All-cons, All-push}
 use Rattle.cs_inputs.specs.declared.path.Path.{Path}
 use Rattle.cs_ast.specs.declared.place.Place.{Place}
@@ -30,8 +28,7 @@ use Rattle.cs_eval.specs.declared.piece.Guessed.{Guessed}
 use Rattle.cs_eval.specs.declared.piece.Piece.{Piece}
 use Rattle.cs_eval.specs.Parts.{with_number}
 use Rattle.cs_eval.specs.Splits.{Asking, IsExact, IsOfGuess, IsPieceWith, IsPieceOf, Each, HaveOwnLabels, IsIn, IsCovered, IsSplit}
-use Rattle.cs_eval.proofs.OperandValues.{decide, with_number-same, with_number-other}
-use Rattle.cs_state.specs.declared.asked.Asked.{Asked}
+use Rattle.cs_eval.proofs.OperandValues.{with_number-same, with_number-other}
 use Rattle.cs_state.specs.declared.state.State.{State}
 use Rattle.cs_state.specs.Cells.{block_of}
 use Rattle.cs_state.specs.Meaning.{meaning}
@@ -42,9 +39,9 @@ use Rattle.cs_progress.specs.Stepping.{next_act, next_left, UsesAnswers}
 use Rattle.cs_explored.specs.declared.child.Child.{Child}
 use Rattle.cs_explored.specs.declared.watch.Rule.{Rule}
 use Rattle.cs_explored.specs.Answering.{leads_on}
-use Rattle.cs_children.specs.Adding.{IsOfPiece, AreOfPieces, AreGuessesAfter}
+use Rattle.cs_children.specs.Adding.{IsOfPiece, AreOfPieces}
 use Rattle.cs_successors.specs.EntryRuns.{stays}
-use Rattle.cs_successors.specs.Coming.{is_declared, IsIntegerState, StateEnd, GoesBy, IsAt, PassesTo, GuessesAs, EndsIn, IsChildOf, IsEndOf, ComesToChild, ComesToEnd}
+use Rattle.cs_successors.specs.Coming.{is_declared, IsIntegerState, GoesBy, IsAt, PassesTo, GuessesAs, EndsIn, IsChildOf, IsEndOf, ComesToChild}
 use Rattle.cs_children.proofs.DeclaredSymbols.{stays_declared, over_declared, locals_more, answers_more}
 use Rattle.cs_children.proofs.GuessedAsked.{asked_before}
 use Rattle.cs_children.proofs.IntegerActs.{IsNoAllocation}
@@ -397,6 +394,8 @@ module _ (code : Code) (program : TypedProgram) (budgets : RunBudgets) (names : 
       fits = λ v fits. fits;
       phase = refl;
       asked = refl;
+      locals = is.locals;
+      integers = is.integers;
       ends = λ setting v left log goes here fits. ends_over setting v left log goes here;
     }) (All-nil (IsEndOf code program budgets names box.value));
     covers = λ setting v left log goes here without.
