@@ -1,11 +1,10 @@
 -- An exploration that covers the runs of an entry, and whose ends all have findings, leaves no run out: for `analyze`.
-use Rattle.std.proofs.Common.{◌≡◌, ℕ, ℤ, Bool, true, false, Option, None, Some, List, [], ◌∷◌, All, refl, sym, ◌∙◌, subst}
+use Rattle.std.proofs.Common.{◌≡◌, ℕ, ℤ, Some, List, [], ◌∷◌, All, refl, subst}
 use Rattle.std.proofs.lemmas.Option.{slice_get_within, get_or_from_slice_get}
-use Rattle.std.specs.Prelude.{slice_get, IsTrue, ◌&&◌, Contains}
+use Rattle.std.specs.Prelude.{slice_get, Contains}
 use Rattle.cs_inputs.specs.declared.path.Path.{Path}
 use Rattle.cs_inputs.specs.Inputs.{number_at}
 use Rattle.cs_ast.specs.declared.place.Place.{Place}
-use Rattle.cs_ast.specs.TypedTree.{Statement}
 use Rattle.cs_ast.specs.TypedProgram.{TypedProgram}
 use Rattle.cs_events.specs.declared.outcome.Outcome.{Outcome}
 use Rattle.cs_events.specs.declared.outcome.Outcome.TheVariants.{Done, Fault, Over}
@@ -26,8 +25,11 @@ use Rattle.cs_explored.specs.declared.explored.End.{End}
 use Rattle.cs_explored.specs.declared.explored.Explored.{Explored}
 use Rattle.cs_progress.specs.Stepping.{end_of}
 use Rattle.cs_coverage.specs.Covering.{PassesNone, IsElsewhere, IsCutAt, HasAllNodes}
+use Rattle.cs_coverage.specs.IntegerEntries.{IsIntegerEntry}
 use Rattle.cs_coverage.specs.Positions.{CoversPositions, HasEnding}
-use Rattle.cs_integer_functions.specs.IntegerFunctions.{is_integer_routine, is_integer_body, are_integer_variables, IsIntegerFunction}
+use Rattle.cs_progress.specs.Locals.{HasIntegerCode}
+use Rattle.cs_integer_functions.specs.IntegerFunctions.{IsIntegerFunction}
+use Rattle.cs_integer_functions.proofs.Parameters.{integer_parameters, has_body}
 use Rattle.cs_findings.specs.Runs.{run_budgets}
 use Rattle.cs_findings.specs.EveryRun.{HasFinding, ReportsEveryRun}
 
@@ -53,22 +55,11 @@ found_by_end given (Done returned) ended is found = tt
 found_by_end given (Fault kind at) ended is found = subst (HasFinding given) is found
 found_by_end given (Over budget at) ended is found = subst (HasFinding given) is found
 
--- a function that works with integers alone has a body
-body_of_integer : (body : Option Statement) → is_integer_body body ≡ true → (inside : Statement) × (body ≡ Some inside)
-body_of_integer None is = absurd (false_true is)
-  where
-    false_true : false ≡ true → ⊥
-    false_true e = cc
-body_of_integer (Some inside) is = (inside, refl)
-
-both : (one other : Bool) → IsTrue (one && other) → other ≡ true
-both one other h = search
-
-pub has_body : (program : TypedProgram) (entry : ℕ) → IsIntegerFunction program entry
-    → (body : Statement) × ((routine_of program entry).body ≡ Some body)
-has_body program entry is =
-    body_of_integer (routine_of program entry).body
-    (both (are_integer_variables (routine_of program entry).variables) (is_integer_body (routine_of program entry).body) is)
+-- a function that works with integers alone is such an entry, if its code works so too
+pub integer_entry : (code : Code) (program : TypedProgram) (function : ℕ) → IsIntegerFunction program function
+    → HasIntegerCode code program function → IsIntegerEntry code program function
+integer_entry code program function is has =
+    record { integers = has; parameters = λ number v there. integer_parameters program function number v is there }
 
 pub misses_none : (code : Code) (program : TypedProgram) (budgets : Budgets) (explored : Explored) (given : EntryResult)
     → IsLowered code program → IsIntegerFunction program given.entry → CoversPositions code program given.entry (run_budgets budgets) explored

@@ -3,11 +3,12 @@ ghost use Rattle.std.specs.Prelude.{◌≡◌, ◌≤◌, map, length, IfOk};
 ghost use Rattle.cs_ast.specs.TypedProgram.{typed_program};
 ghost use Rattle.cs_objects.specs.Prepared.{IsReady};
 ghost use Rattle.cs_cfg.specs.GraphView as view;
+ghost use Rattle.cs_coverage.specs.IntegerEntries.{IsIntegerEntry};
 ghost use Rattle.cs_coverage.specs.Positions.{CoversPositions};
 ghost use Rattle.cs_findings.specs.EveryRun.{MissesNothing};
 ghost use Rattle.cs_findings.specs.GoodEntries.{IsGoodEntry};
 ghost use Rattle.cs_findings.specs.Runs.{run_budgets};
-ghost use Rattle.cs_progress.specs.Locals.{HasIntegerCode};
+ghost use Rattle.cs_operators.specs.Asking.{HasEveryKind};
 ghost use Rattle.cs_witness.specs.Entries.{CanRun};
 
 use crate::whole::has_all;
@@ -45,7 +46,8 @@ pub fn analyze(
     requires nodes { entry.now.budgets.nodes ≤ 200000 }
     ensures good { IfOk result (λ analysis. IsGoodEntry
         (typed_program entry.now.program.now) entry.now.budgets analysis.witnessed.result) }
-    ensures complete { IfOk result (λ analysis. MissesNothing
+    ensures complete { IfOk result (λ analysis.
+        HasEveryKind (λ b. kind_of b) checkers.old.items → MissesNothing
         (typed_program entry.now.program.now) entry.now.budgets analysis.witnessed.result) }
     ensures entry { IfOk result (λ analysis.
         analysis.witnessed.result.entry ≡ entry.now.function) }
@@ -76,10 +78,12 @@ fn explored(
 ) -> Result<Explored, AllocError>
     requires runs { CanRun entry.now }
     requires nodes { entry.now.budgets.nodes ≤ 200000 }
-    ensures covers { IfOk result (λ explored. HasIntegerCode (view.code entry.now.code.now)
-        (typed_program entry.now.program.now) entry.now.function → CoversPositions
-        (view.code entry.now.code.now) (typed_program entry.now.program.now)
-        entry.now.function (run_budgets entry.now.budgets) explored) }
+    ensures covers { IfOk result (λ explored.
+        HasEveryKind (λ b. kind_of b) checkers.old.items
+        → IsIntegerEntry (view.code entry.now.code.now) (typed_program entry.now.program.now)
+        entry.now.function → CoversPositions (view.code entry.now.code.now)
+        (typed_program entry.now.program.now) entry.now.function
+        (run_budgets entry.now.budgets) explored) }
     ensures rows { IfOk result (λ explored.
         length explored.rows.items ≤ entry.now.budgets.nodes) }
     ensures kinds { map (λ b. kind_of b) checkers.new.items
@@ -103,11 +107,15 @@ fn explored_in(
     checkers: &mut Vec<Box<dyn Checker>>,
 ) -> Result<Explored, AllocError>
     requires ready { IsReady setting.now }
+    requires program { setting.now.program.now ≡ entry.now.program.now }
+    requires budgets { setting.now.budgets ≡ run_budgets entry.now.budgets }
     requires nodes { entry.now.budgets.nodes ≤ 200000 }
-    ensures covers { IfOk result (λ explored. HasIntegerCode (view.code entry.now.code.now)
-        (typed_program entry.now.program.now) entry.now.function → CoversPositions
-        (view.code entry.now.code.now) (typed_program entry.now.program.now)
-        entry.now.function (run_budgets entry.now.budgets) explored) }
+    ensures covers { IfOk result (λ explored.
+        HasEveryKind (λ b. kind_of b) checkers.old.items
+        → IsIntegerEntry (view.code entry.now.code.now) (typed_program entry.now.program.now)
+        entry.now.function → CoversPositions (view.code entry.now.code.now)
+        (typed_program entry.now.program.now) entry.now.function
+        (run_budgets entry.now.budgets) explored) }
     ensures rows { IfOk result (λ explored.
         length explored.rows.items ≤ entry.now.budgets.nodes) }
     ensures kinds { map (λ b. kind_of b) checkers.new.items

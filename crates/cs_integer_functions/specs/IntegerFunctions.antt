@@ -1,6 +1,6 @@
 -- Functions that work with integers alone: their parameters and locals are integers, and their expressions are numbers, loads and stores of these, conversions
 -- and operators of integers. They use no pointer, no struct and no file-scope object, and they call nothing. Every statement may occur.
-use Rattle.std.specs.Prelude.{ℕ, Bool, true, false, ◌&&◌, List, [], ◌∷◌, Option, None, Some, IsTrue}
+use Rattle.std.specs.Prelude.{◌≡◌, ℕ, Bool, true, false, ◌&&◌, List, [], ◌∷◌, Option, None, Some}
 use Rattle.cs_types.specs.Shape.{Shape, integer}
 use Rattle.cs_ast.specs.TypedTree.{Typed, Of, Form, Number, Local, Load, Convert, Unary, Not, Binary, Compare, And, Or, Choice, Comma, Assign, Update}
 use Rattle.cs_ast.specs.TypedTree.{Initial, Value, Statement, Block, Declare, Run, If, IfElse, While, Do, For, Switch, Goto, Label, Break, Continue, Return}
@@ -82,4 +82,4 @@ is_integer_routine routine = are_integer_variables routine.variables && is_integ
 
 -- the function of a program with a number is one
 abbrev pub IsIntegerFunction : TypedProgram → ℕ → Type 0
-IsIntegerFunction program function = IsTrue (is_integer_routine (routine_of program function))
+IsIntegerFunction program function = is_integer_routine (routine_of program function) ≡ true
