@@ -1,5 +1,5 @@
 -- A state of locals alone means the same under valuations that agree on the symbols that it mentions: for the contract of `find`.
-use Rattle.std.proofs.Common.{◌≡◌, ℕ, zero, suc, ℤ, Bool, true, List, [], ◌∷◌, Option, None, Some, All, length, map, refl, sym, ap, ◌∙◌, subst, arith}
+use Rattle.std.proofs.Common.{◌≡◌, ℕ, ℤ, Bool, true, List, [], ◌∷◌, Option, None, Some, All, map, refl, sym, ap, ◌∙◌}
 use Rattle.std.proofs.lemmas.List.Elements.{All-head, All-tail}
 use Rattle.std.specs.Prelude.{option_map, slice_get, reverse, if◌then◌else◌}
 use Rattle.std.specs.Option.{option_and_then, option_map_or}
@@ -10,19 +10,15 @@ use Rattle.cs_terms.specs.declared.symbol.Sym.{Sym}
 use Rattle.cs_terms.specs.declared.term.Lin.{Lin}
 use Rattle.cs_terms.specs.Term.{Valuation, value_of, value_with}
 use Rattle.cs_events.specs.Objects.{Object, StartBlock, GlobalObject, LiteralObject, LocalObject, HeapBlock, Cell, NumberCell}
-use Rattle.cs_meaning.specs.Machine.{Scalar, Whole}
+use Rattle.cs_meaning.specs.Machine.{Scalar}
 use Rattle.cs_meaning.specs.Memory as memory
-use Rattle.cs_cfg.specs.Graph.{Point, Code}
-use Rattle.cs_cfg.specs.Working.{CodeState}
+use Rattle.cs_cfg.specs.Graph.{Code}
 use Rattle.cs_regions.specs.declared.base.Base.{Base}
 use Rattle.cs_store.specs.declared.value.Value.{Value}
 use Rattle.cs_store.specs.declared.value.Value.TheVariants as value
 use Rattle.cs_store.specs.declared.value.Found.TheVariants.{Direct, Fill}
-use Rattle.cs_store.specs.declared.value.Fill.TheVariants as fill
-use Rattle.cs_store.specs.Contents.{Contents, filled}
 use Rattle.cs_store.specs.Held.{Regions, contents_of, held}
 use Rattle.cs_state.specs.declared.block.Block.{Block}
-use Rattle.cs_state.specs.declared.frame.Frame.{Frame}
 use Rattle.cs_state.specs.declared.state.State.{State}
 use Rattle.cs_state.specs.declared.temporary.Temporary.{Temporary}
 use Rattle.cs_state.specs.declared.temporary.Temporary.TheVariants as temporary
@@ -56,17 +52,10 @@ module _ (known : ℕ → Bool) (one other : Valuation) (agree : (symbol : ℕ) 
     cell_agrees (value.Start base offset) points = absurd points
     cell_agrees value.Unset points = refl
 
-    cells_agree : (given : List Value) → All (PointsToLocal bases known frame count) given
-        → map (cell_of bases blocks other) given ≡ map (cell_of bases blocks one) given
-    cells_agree [] points = refl
-    cells_agree (first ∷ given) points =
-        λ i. cell_agrees first (All-head (PointsToLocal bases known frame count) first given points) i
-        ∷ cells_agree given (All-tail (PointsToLocal bases known frame count) first given points) i
-
     operand_agrees : (given : Temporary) → PointToLocals bases known frame count given
         → operand_of bases blocks other given ≡ operand_of bases blocks one given
     operand_agrees (temporary.Scalar given) points = ap Scalar (cell_agrees given points)
-    operand_agrees (temporary.Whole given) points = ap Whole (cells_agree given points)
+    operand_agrees (temporary.Whole given) points = absurd points
     operand_agrees temporary.Nothing points = refl
 
     operands_agree : (given : List Temporary) → All (PointToLocals bases known frame count) given

@@ -1,14 +1,13 @@
 -- Symbols that are declared stay so where some valuations are kept, and states of locals alone mention no others: for the contract of `find`.
-use Rattle.std.proofs.Common.{◌≡◌, ◌≢◌, ℕ, ◌+◌, ℤ, pos, negsuc, ◌≤ℤ◌, ◌<ℤ◌, Bool, true, false, true≢false, List, [], ◌∷◌, ◌||◌, Option, None, Some, All, inl, inr, refl, sym, ap, ◌∙◌, subst, arith}
+use Rattle.std.proofs.Common.{◌≡◌, ℕ, ◌+◌, ℤ, pos, negsuc, ◌≤ℤ◌, ◌<ℤ◌, Bool, true, false, true≢false, List, [], ◌∷◌}
+use Rattle.std.proofs.Common.{◌||◌, Option, None, Some, All, inl, inr, refl, sym, ap, ◌∙◌, subst, arith}
 use Rattle.std.specs.Prelude.{is_some, unsigned_abs, int_le, ◌&&◌}
 use Rattle.std.proofs.lemmas.Int.{ints}
-use Rattle.std.proofs.lemmas.Bool.Decides.{nat_tests}
 use Rattle.std.proofs.lemmas.List.Elements.{All-weaker}
 use Rattle.cs_ast.specs.TypedProgram.{TypedProgram}
 use Rattle.cs_ranges.specs.declared.range_set.Interval.{Interval}
 use Rattle.cs_ranges.specs.Interval.{in_interval}
 use Rattle.cs_ranges.specs.RangeSet.{contains}
-use Rattle.cs_terms.specs.declared.symbol.Sym.{Sym}
 use Rattle.cs_terms.specs.declared.term.Lin.{Lin}
 use Rattle.cs_terms.specs.Term.{Valuation}
 use Rattle.cs_constraints.specs.Constraints.{Sets, set_of, Fits, IsDeclared}
@@ -20,7 +19,7 @@ use Rattle.cs_store.specs.declared.value.Value.TheVariants as value
 use Rattle.cs_state.specs.declared.state.State.{State}
 use Rattle.cs_state.specs.declared.temporary.Temporary.{Temporary}
 use Rattle.cs_state.specs.declared.temporary.Temporary.TheVariants as temporary
-use Rattle.cs_progress.specs.Locals.{IsOver, PointsToLocal, PointToLocals, HasLocalsAlone, AreIn, IsIn, count_of_locals}
+use Rattle.cs_progress.specs.Locals.{IsOver, PointsToLocal, PointToLocals, HasLocalsAlone, AreIn, count_of_locals}
 use Rattle.cs_successors.specs.Coming.{is_declared}
 
 -- no set has all numbers: none above these
@@ -43,9 +42,11 @@ bounded : (set : List Interval) → (bound : ℕ) × ((x : ℤ) → pos bound <�
 unfolding contains
 bounded [] = (0, λ x high. refl)
 bounded (one ∷ set) =
-    let rest = bounded set in
-    (unsigned_abs one.high + rest.0, λ x high.
-    ap (λ (b : Bool). b || contains set x) (above one rest.0 x high) ∙ rest.1 x (omega (arith, ints)))
+    let rest = bounded set in (
+      unsigned_abs one.high + rest.0,
+      λ x high.
+          ap (λ (b : Bool). b || contains set x) (above one rest.0 x high) ∙ rest.1 x (omega (arith, ints)),
+    )
 
 -- what is declared there or not
 declared_or_none : (found : Option (List Interval)) → (is_some found ≡ false → ⊥) → is_some found ≡ true
@@ -98,8 +99,7 @@ module _ (known other : ℕ → Bool) (more : (symbol : ℕ) → known symbol �
   all_more : (bases : List Base) (frame count : ℕ) (given : Temporary) → PointToLocals bases known frame count given
       → PointToLocals bases other frame count given
   all_more bases frame count (temporary.Scalar given) points = points_more bases frame count given points
-  all_more bases frame count (temporary.Whole given) points =
-      All-weaker (PointsToLocal bases known frame count) (PointsToLocal bases other frame count) (points_more bases frame count) given points
+  all_more bases frame count (temporary.Whole given) points = absurd points
   all_more bases frame count temporary.Nothing points = tt
 
   -- a state of locals alone is one where more symbols are known, with one more answer, and with other constraints, guesses and counters

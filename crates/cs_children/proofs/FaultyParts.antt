@@ -1,25 +1,22 @@
 -- The faulty parts of a state end, and the rest goes on: for the contract of `find`.
-use Rattle.std.proofs.Common.{◌≡◌, ℕ, zero, suc, ℤ, Bool, true, false, not, List, [], ◌∷◌, ◌||◌, Option, Some, All, inl, inr, refl, sym, ap, ◌∙◌, subst, arith, length}
-use Rattle.std.specs.Prelude.{slice_get, IsTrue, ◌⊎◌, Contains, ◌≤◌}
-use Rattle.std.specs.List.{AllZip, list_any}
+use Rattle.std.proofs.Common.{◌≡◌, ℕ, suc, Bool, true, false, not, List, [], ◌∷◌, ◌||◌, All, inl, inr, refl, sym, ap, ◌∙◌, subst}
+use Rattle.std.specs.Prelude.{◌⊎◌, Contains, ◌≤◌}
 use Rattle.std.specs.FinMap as finite
 use Rattle.std.proofs.lemmas.List.Elements.{All-nil, All-cons, All-head, All-tail}
 use Rattle.cs_inputs.specs.declared.path.Path.{Path}
 use Rattle.cs_ast.specs.declared.place.Place.{Place}
 use Rattle.cs_ast.specs.TypedProgram.{TypedProgram}
 use Rattle.cs_model.specs.declared.kind.Kind.{Kind}
-use Rattle.cs_terms.specs.Term.{Valuation, value_of}
+use Rattle.cs_terms.specs.Term.{Valuation}
 use Rattle.cs_constraints.specs.Constraints.{Fits}
 use Rattle.cs_checker.specs.declared.subject.Subject.{Subject}
 use Rattle.cs_checker.specs.Faults.{is_faulty_for}
 use Rattle.cs_events.specs.declared.input.InputKind.{InputKind}
-use Rattle.cs_events.specs.declared.outcome.Outcome.{Outcome}
 use Rattle.cs_events.specs.declared.outcome.Outcome.TheVariants.{Fault}
 use Rattle.cs_events.specs.declared.outcome.RunBudgets.{RunBudgets}
 use Rattle.cs_events.specs.Objects.{Cell, UnsetCell}
 use Rattle.cs_events.specs.Acts.{Act, Stops}
 use Rattle.cs_events.specs.Runs.{Setting, Log, read_cell}
-use Rattle.cs_event_runs.specs.First.{Ended, first_of}
 use Rattle.cs_cfg.specs.Graph.{Code}
 use Rattle.cs_cfg.specs.Working.{CodeState}
 use Rattle.cs_access.specs.Checks.{IsPart, AreFaults, IsRest, is_faulty}
@@ -32,12 +29,12 @@ use Rattle.cs_state.specs.Cells.{block_of}
 use Rattle.cs_state.specs.Naming.{Naming}
 use Rattle.cs_state.specs.Writes.{with_constraints}
 use Rattle.cs_progress.specs.Acting.{BeginsWithCheck, ComesOf}
-use Rattle.cs_progress.specs.Locals.{HasIntegerCode}
+use Rattle.cs_progress.specs.Locals.{HasLocalsAlone, HasIntegerCode}
 use Rattle.cs_progress.specs.Stepping.{next_left, UsesAnswers}
 use Rattle.cs_explored.specs.declared.watch.Rule.{Rule}
 use Rattle.cs_children.specs.Adding.{IsFaultyEnd, AreFaultyEnds, GoesOn}
 use Rattle.cs_successors.specs.EntryRuns.{stays}
-use Rattle.cs_successors.specs.Coming.{is_declared, IsIntegerState, StateEnd, GoesBy, IsAt, EndsIn, IsChildOf, IsEndOf, ComesToEnd, IsReachedFrom}
+use Rattle.cs_successors.specs.Coming.{is_declared, IsIntegerState, StateEnd, IsAt, EndsIn, IsChildOf, IsEndOf, ComesToEnd, IsReachedFrom}
 use Rattle.cs_children.proofs.DeclaredSymbols.{stays_declared, locals_more, answers_more}
 use Rattle.cs_children.proofs.Reaching.{Comes}
 use Rattle.cs_children.proofs.StandingFirst.{stands_first}
@@ -135,6 +132,10 @@ module _ (code : Code) (program : TypedProgram) (budgets : RunBudgets) (names : 
         fits = λ v fits. part_fits test part.state is_part v (faulty_fits v fits);
         phase = ap (λ (s : State). s.phase) is_end.1 ∙ ap (λ (s : State). s.phase) is_part.rest;
         asked = ap (λ (s : State). s.asked) is_end.1 ∙ ap (λ (s : State). s.asked) is_part.rest;
+        locals = subst (λ (s : State). HasLocalsAlone program names.bases (is_declared s.constraints) s) (sym is_end.1)
+            (part_integer test part.state is_part).locals;
+        integers = subst (λ (s : State). HasIntegerCode code program s.frame.spot.function) (sym is_end.1)
+            (part_integer test part.state is_part).integers;
         ends = λ setting v left log goes here fits. part_ends setting v left log here (faulty_fits v fits);
       }
 

@@ -1,6 +1,7 @@
 -- What the parts of `find` make of what was found before: for its contract.
-use Rattle.std.proofs.Common.{◌≡◌, ℕ, suc, ◌+◌, ◌<◌, ◌≤◌, ℤ, Bool, true, false, List, [], ◌∷◌, ◌++◌, Some, All, map, inr, if◌then◌else◌, refl, sym, ap, ◌∙◌, subst, arith}
-use Rattle.std.specs.Prelude.{slice_get}
+use Rattle.std.proofs.Common.{◌≡◌, ℕ, suc, ◌+◌, ◌<◌, ◌≤◌, ℤ, Bool, true, false, List, [], ◌∷◌, ◌++◌, map, inr}
+use Rattle.std.proofs.Common.{if◌then◌else◌, refl, sym, ap, ◌∙◌, subst, arith}
+use Rattle.std.specs.List.{Any}
 use Rattle.std.specs.Global.{Box}
 use Rattle.std.specs.Ordering.{int_eq}
 use Rattle.std.proofs.lemmas.List.{append-nil}
@@ -9,7 +10,7 @@ use Rattle.cs_inputs.specs.declared.path.Path.{Path}
 use Rattle.cs_types.specs.declared.data_model.DataModel.{DataModel}
 use Rattle.cs_ast.specs.declared.place.Place.{Place}
 use Rattle.cs_ast.specs.TypedProgram.{TypedProgram}
-use Rattle.cs_terms.specs.declared.symbol.Sym.{Sym}
+use Rattle.cs_model.specs.declared.kind.Kind.{Kind}
 use Rattle.cs_terms.specs.declared.term.Lin.{Lin}
 use Rattle.cs_terms.specs.Term.{Valuation, value_of}
 use Rattle.cs_constraints.specs.Constraints.{Fits}
@@ -30,30 +31,28 @@ use Rattle.cs_cfg.specs.Working.{CodeState}
 use Rattle.cs_cfg.specs.CodeSteps.{way_of}
 use Rattle.cs_access.specs.declared.checking.Checked.{Checked}
 use Rattle.cs_eval.specs.declared.question.Question.{Question}
-use Rattle.cs_eval.specs.declared.piece.Piece.{Piece}
 use Rattle.cs_eval.specs.Cases.{case_of, asking_of_cases}
 use Rattle.cs_eval.specs.Followed.{AreAnswers, asking_of}
-use Rattle.cs_eval.specs.Questions.{operation_of}
-use Rattle.cs_eval.specs.Splits.{IsSplit}
 use Rattle.cs_state.specs.declared.state.State.{State}
 use Rattle.cs_state.specs.Meaning.{meaning}
 use Rattle.cs_state.specs.Naming.{Naming, Extends}
 use Rattle.cs_progress.specs.declared.next.Next.{Next}
 use Rattle.cs_progress.specs.declared.next.Next.TheVariants as next
 use Rattle.cs_progress.specs.Locals.{HasLocalsAlone}
-use Rattle.cs_progress.specs.Stepping.{StepsInLocals, Steps, Waits, EndsAs, ShowsCase, BeginsIn, UsesAnswers, next_left, next_act}
+use Rattle.cs_progress.specs.Stepping.{StepsInLocals, Steps, Waits, EndsAs, ShowsCase, BeginsIn, next_left}
+use Rattle.cs_operators.specs.Asking.{HasEveryKind}
 use Rattle.cs_explored.specs.declared.child.Child.{Child}
 use Rattle.cs_explored.specs.declared.watch.Rule.{Rule}
 use Rattle.cs_children.specs.declared.children.Children.{Children}
 use Rattle.cs_children.specs.declared.exploration.Exploration.{Exploration}
 use Rattle.cs_children.specs.Adding.{ComesOfPieces, over, shows}
-use Rattle.cs_children.specs.Adding.{Adds, AddsPieces, AddsFaulty, AreOfQuestion, AreOfSwitch, GoesOn, KeepApart}
+use Rattle.cs_children.specs.Adding.{Adds, AddsPieces, AddsFaulty, AreOfQuestion, AreOfSwitch, GoesOn}
 use Rattle.cs_successors.specs.Coming.{is_declared, IsIntegerState, StateEnd, OutcomesDiffer, IsAt, EndsIn, IsChildOf, IsEndOf, ComesOfState, IsReachedFrom}
 use Rattle.cs_successors.specs.EntryRuns.{stays}
 use Rattle.cs_children.specs.Finding.{code_of, model_of, limits_of, AreNone, Explores, FindsAll, FindsSoFar}
 use Rattle.cs_children.proofs.FaultyParts.{rest_reached, nothing_left}
 use Rattle.cs_children.proofs.IntegerActs.{IsNoAllocation, ShowsNumbers, asks, left_shows, code_shows}
-use Rattle.cs_children.proofs.PiecesCome.{Shows, IsUsed, pieces_come, over_comes}
+use Rattle.cs_children.proofs.PiecesCome.{Shows, pieces_come, over_comes}
 use Rattle.cs_children.proofs.Reaching.{Comes, comes_of, reached_on, reached_itself}
 use Rattle.cs_children.proofs.SilentSteps.{done_reached, waits_reached, begins_in}
 use Rattle.cs_children.proofs.StandingFirst.{stands_first}
@@ -75,6 +74,25 @@ explores_before exploration one two names program more explores = record {
   extends = extends_on one two names more explores.extends;
   numbered = explores.numbered;
 }
+
+-- checkers that keep their kinds have every kind still
+pub has_every_kind : {Checker : Type 0} (kind : Checker → Kind) (before after : List Checker) → map kind after ≡ map kind before
+    → HasEveryKind kind before → HasEveryKind kind after
+has_every_kind kind before after same every = λ fault. subst (Any (λ one. one ≡ fault)) (sym same) (every fault)
+
+-- nothing has come of a state yet
+pub finds_none_yet : (exploration : Exploration) (given : Naming) (state : State) (found : Children) → AreNone found
+    → FindsSoFar exploration given state state found
+finds_none_yet exploration given state found none = record {
+  made = none.made;
+  cuts = none.cuts;
+  reached = λ names program explores is.
+      subst (IsReachedFrom (code_of exploration) program (limits_of exploration) names state state) (sym none.ends)
+      (reached_itself (code_of exploration) program (limits_of exploration) names state is);
+}
+
+pub none_differ : (found : Children) → AreNone found → OutcomesDiffer found.ends.items
+none_differ found none = subst OutcomesDiffer (sym none.ends) (λ one other first second here there. cc)
 
 -- what stands first in an act that shows numbers alone
 shown_plain : {S : Type 0} {at : Place} {one : Operation} {onward : ℤ → Act S} → ShowsNumbers (Asks at one onward) → IsNoAllocation one
@@ -111,6 +129,8 @@ module _ (code : graph.Code) (program : TypedProgram) (budgets : RunBudgets) (na
       fits = λ v fits. fits;
       phase = refl;
       asked = refl;
+      locals = is.locals;
+      integers = is.integers;
       ends = λ setting v left log goes here fits. ends_so setting v left log here;
     }) (All-nil (IsEndOf code program budgets names box.value));
     covers = λ setting v left log goes here without.
@@ -155,7 +175,8 @@ module _ (code : graph.Code) (program : TypedProgram) (budgets : RunBudgets) (na
 
   -- and those of a `switch`
   module _ (at : Place) (term : Lin)
-      (first : (cells : Path → InputKind → Cell) (v : Valuation) → Fits v box.value.constraints → ShowsCase code box.value v at term (Left cells v)) where
+      (first : (cells : Path → InputKind → Cell) (v : Valuation) → Fits v box.value.constraints
+      → ShowsCase code box.value v at term (Left cells v)) where
     -- the case that shows, by the cases that stand at the spot
     case_shows : (temporary : ℕ) (cases : List graph.SwitchCase) (otherwise : ℕ) (place : Place)
         → point_of code box.value.frame.spot ≡ record { operations = []; end = graph.Switch place temporary cases otherwise }
@@ -167,9 +188,10 @@ module _ (code : graph.Code) (program : TypedProgram) (budgets : RunBudgets) (na
         let ends : graph.Switch at one.temporary one.cases one.otherwise ≡ graph.Switch place temporary cases otherwise =
         ap (λ (p : graph.Point). p.end) (sym one.stands ∙ stands) in
         let same : one.cases ≡ cases = cc in
-        let too : one.otherwise ≡ otherwise = cc in
-        (one.onward,
-        one.shows ∙ (λ i. Asks at (operation.Show (label.Case (way_of (same i) (too i) (value_of v term) 0).number)) one.onward))
+        let too : one.otherwise ≡ otherwise = cc in (
+          one.onward,
+          one.shows ∙ (λ i. Asks at (operation.Show (label.Case (way_of (same i) (too i) (value_of v term) 0).number)) one.onward),
+        )
 
     cases_come : (limit : ℕ) → limit ≡ budgets.events → (made : List Child) (ends : List StateEnd)
         → ComesOfPieces limit rules box at (AreOfSwitch code box.value term) made ends → Comes code program budgets names rules box.value made ends
@@ -219,7 +241,8 @@ module _ (exploration : Exploration) (given : Naming) (before state : State) (fo
         steps.steps names program (is_declared state.constraints) explores.model explores.extends explores.numbered reached.integer.locals
         reached.integer.integers reached.integer.possible reached.integer.uses
 
-    further : (after : State) → IsReachedFrom code program limits names state after [] → IsReachedFrom code program limits names before after found.ends.items
+    further : (after : State) → IsReachedFrom code program limits names state after []
+        → IsReachedFrom code program limits names before after found.ends.items
     further after onward =
         subst (IsReachedFrom code program limits names before after) (append-nil found.ends.items)
         (reached_on code program limits names before state found.ends.items reached after [] onward)
@@ -241,18 +264,22 @@ module _ (exploration : Exploration) (given : Naming) (before state : State) (fo
 
       -- all that comes then is all that comes of the state before
       finished : (made : List Child) (ends : List StateEnd) (all : Children) → Comes code program limits names rules after made ends
-          → Adds found all made ends → OutcomesDiffer all.ends.items → ComesOfState code program limits names rules before all.made.items all.ends.items
+          → Adds found all made ends → OutcomesDiffer all.ends.items
+          → ComesOfState code program limits names rules before all.made.items all.ends.items × (all.cuts.items ≡ [])
       finished made ends all comes adds differ =
-          let are : all.made.items ≡ made = adds.children ∙ ap (λ xs. xs ++ made) so_far.made in
-          subst (λ xs. ComesOfState code program limits names rules before xs all.ends.items) (sym are)
-          (subst (ComesOfState code program limits names rules before made) (sym adds.endings)
-          (comes_of code program limits names rules before after found.ends.items (further after waiting) made ends comes
-          (subst OutcomesDiffer adds.endings differ)))
+          let are : all.made.items ≡ made = adds.children ∙ ap (λ xs. xs ++ made) so_far.made in (
+            subst (λ xs. ComesOfState code program limits names rules before xs all.ends.items) (sym are)
+                (subst (ComesOfState code program limits names rules before made) (sym adds.endings)
+                (comes_of code program limits names rules before after found.ends.items (further after waiting) made ends comes
+                (subst OutcomesDiffer adds.endings differ))),
+            adds.cuts ∙ so_far.cuts,
+          )
 
   -- an operation is done
   pub finds_done : (after : State) → Stepped after next.Done → FindsSoFar exploration later before after found
   finds_done after steps = record {
     made = so_far.made;
+    cuts = so_far.cuts;
     reached = λ names program explores is.
         let (done, locals) = stepped names program explores is after next.Done steps in
         further names program explores is after
@@ -265,6 +292,7 @@ module _ (exploration : Exploration) (given : Naming) (before state : State) (fo
         → GoesOn checked.value.rest goes middle after → goes ≡ true → FindsSoFar exploration later before after all
     finds_rest all after goes (ends, adds, match) on is_true = record {
       made = adds.children ∙ append-nil found.made.items ∙ so_far.made;
+      cuts = adds.cuts ∙ so_far.cuts;
       reached = λ names program explores is.
           let (waits, locals) = stepped names program explores is middle (next.Checks at checked) steps in
           let here = waiting names program explores is middle (next.Checks at checked) waits locals in

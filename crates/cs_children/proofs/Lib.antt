@@ -11,4 +11,5 @@ mod PassedPieces
 mod GuessedAsked
 mod PiecesCome
 mod Apart
+mod AddedPieces
 mod Found

@@ -1,5 +1,6 @@
 -- A run passes its next event to the child of a piece of what shows first: for the contract of `find`.
-use Rattle.std.proofs.Common.{◌≡◌, ◌≢◌, ℕ, suc, ◌+◌, ◌<◌, ◌≤◌, nat_lt, ℤ, Bool, true, false, List, [], ◌∷◌, ◌++◌, Option, None, Some, length, map, if◌then◌else◌, refl, sym, ap, ◌∙◌, subst, arith}
+use Rattle.std.proofs.Common.{◌≡◌, ℕ, suc, ◌+◌, ◌<◌, ◌≤◌, ℤ, Bool, true, false, [], ◌∷◌, ◌++◌, Option, length, map}
+use Rattle.std.proofs.Common.{if◌then◌else◌, refl, sym, ap, ◌∙◌, arith}
 use Rattle.std.proofs.lemmas.Bool.Decides.{nat_tests}
 use Rattle.std.proofs.lemmas.List.{length-append, map-append}
 use Rattle.cs_inputs.specs.declared.path.Path.{Path}
@@ -29,7 +30,7 @@ use Rattle.cs_state.specs.declared.state.State.{State}
 use Rattle.cs_state.specs.Meaning.{meaning}
 use Rattle.cs_state.specs.Naming.{Naming}
 use Rattle.cs_progress.specs.Stepping.{next_act, next_left}
-use Rattle.cs_successors.specs.EntryRuns.{Proceeds, stays, shows as passes}
+use Rattle.cs_successors.specs.EntryRuns.{now}
 use Rattle.cs_successors.specs.Coming.{is_declared, IsIntegerState, GoesBy, IsAt, PassesTo}
 use Rattle.cs_children.proofs.Agreeing.{values_agree, means_alike}
 use Rattle.cs_children.proofs.OneMoreAnswer.{left_of_one}
@@ -129,7 +130,7 @@ module _ (code : Code) (program : TypedProgram) (budgets : RunBudgets) (names : 
             one = step_with program.model at operation given;
             rest = onward (result_with program.model operation given);
             later = with_event later (Operates at operation) (event_with program.model at operation given);
-            proceeds = passes asks_shows (stays refl refl);
+            leaves = now asks_shows;
             comes = record {
               fits = fits;
               same = comes_after;

@@ -1,12 +1,9 @@
 -- What comes of a state to which runs come silently from another one comes of that one too: for the contract of `find`.
-use Rattle.std.proofs.Common.{◌≡◌, ◌≢◌, ℕ, zero, suc, List, [], ◌∷◌, ◌++◌, Option, None, Some, All, inl, inr, refl, sym, ap, ◌∙◌, subst}
-use Rattle.std.specs.Prelude.{◌⊎◌, slice_get, length, option_map}
-use Rattle.std.proofs.lemmas.List.{append-nil}
+use Rattle.std.proofs.Common.{◌≡◌, ℕ, zero, suc, List, [], ◌∷◌, ◌++◌, None, Some, All, inl, inr, refl, ap, ◌∙◌, subst}
+use Rattle.std.specs.Prelude.{◌⊎◌, slice_get}
 use Rattle.std.proofs.lemmas.List.Elements.{All-nil, All-append, All-weaker}
 use Rattle.cs_ast.specs.TypedProgram.{TypedProgram}
-use Rattle.cs_terms.specs.declared.symbol.Sym.{Sym}
 use Rattle.cs_terms.specs.Term.{Valuation}
-use Rattle.cs_constraints.specs.Constraints.{Fits}
 use Rattle.cs_events.specs.declared.outcome.Outcome.{Outcome}
 use Rattle.cs_events.specs.declared.outcome.RunBudgets.{RunBudgets}
 use Rattle.cs_events.specs.Acts.{Act}
@@ -20,9 +17,9 @@ use Rattle.cs_explored.specs.declared.child.Child.{Child}
 use Rattle.cs_explored.specs.declared.watch.Rule.{Rule}
 use Rattle.cs_explored.specs.Watching.{IsPhaseAfter}
 use Rattle.cs_successors.specs.EntryRuns.{Proceeds, stays}
-use Rattle.cs_successors.specs.Coming.{IsIntegerState, StateEnd, OutcomesDiffer, GoesBy, IsAt, ComesSilently, PassesTo, EndsIn, IsChildOf, IsEndOf}
+use Rattle.cs_successors.specs.Coming.{IsIntegerState, StateEnd, OutcomesDiffer, GoesBy, IsAt, PassesTo, EndsIn, IsChildOf, IsEndOf}
 use Rattle.cs_successors.specs.Coming.{ComesToChild, ComesToEnd, ComesOfState, IsReachedFrom}
-use Rattle.cs_successors.proofs.Proceeding.{proceeds_on}
+use Rattle.cs_successors.proofs.Proceeding.{proceeds_on, leaves_on}
 
 -- items of a list stay where others come after it, and are there where others come before it
 pub item_first : {X : Type 0} (xs ys : List X) (k : ℕ) (x : X) → slice_get xs k ≡ Some x → slice_get (xs ++ ys) k ≡ Some x
@@ -46,7 +43,7 @@ module _ (code : Code) (program : TypedProgram) (budgets : RunBudgets) (names : 
       one = to.one;
       rest = to.rest;
       later = to.later;
-      proceeds = proceeds_on step setting way to.proceeds;
+      leaves = leaves_on step setting way to.leaves;
       comes = to.comes;
     }
 
@@ -75,7 +72,7 @@ module _ (code : Code) (program : TypedProgram) (budgets : RunBudgets) (names : 
         one = comes.to.one;
         rest = comes.to.rest;
         later = comes.to.later;
-        proceeds = proceeds_on step setting way comes.to.proceeds;
+        leaves = leaves_on step setting way comes.to.leaves;
         comes = comes.to.comes;
       };
       others = comes.others;
@@ -126,13 +123,16 @@ module _ (code : Code) (program : TypedProgram) (budgets : RunBudgets) (names : 
       fits = λ valuation fits. reached.fits valuation (is.fits valuation fits);
       phase = is.phase ∙ reached.phase;
       asked = is.asked ∙ reached.asked;
+      locals = is.locals;
+      integers = is.integers;
       ends = λ setting valuation left log goes at fits.
           let way = reached.comes setting valuation left log goes at (is.fits valuation fits) in
           ends_after setting valuation left way.rest log way.later way.proceeds end.0 end.1.value
           (is.ends setting valuation way.rest way.later goes way.comes fits);
     }
 
-    ends_of_first : (more : List StateEnd) → All (IsEndOf code program budgets names one) more → All (IsEndOf code program budgets names before) (ends ++ more)
+    ends_of_first : (more : List StateEnd) → All (IsEndOf code program budgets names one) more
+        → All (IsEndOf code program budgets names before) (ends ++ more)
     ends_of_first more are =
         All-append (IsEndOf code program budgets names before) ends more reached.endings
         (All-weaker (IsEndOf code program budgets names one) (IsEndOf code program budgets names before) end_of_first more are)

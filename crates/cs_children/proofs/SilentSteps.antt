@@ -1,11 +1,10 @@
 -- Steps of a state with which nothing shows: an operation that is done, and one that waits. For the contract of `find`.
-use Rattle.std.proofs.Common.{◌≡◌, ℕ, ℤ, List, [], ◌∷◌, Option, None, Some, length, map, refl, sym, ap, ◌∙◌, subst, arith, inl}
+use Rattle.std.proofs.Common.{◌≡◌, ℕ, List, [], ◌∷◌, Option, None, Some, length, map, refl, sym, ap, ◌∙◌, subst, arith, inl}
 use Rattle.std.specs.Prelude.{reverse, option_map, Contains, ◌≤◌}
 use Rattle.std.proofs.lemmas.List.Elements.{All-nil}
 use Rattle.std.specs.FinMap as finite
 use Rattle.cs_inputs.specs.declared.path.Path.{Path}
 use Rattle.cs_ast.specs.TypedProgram.{TypedProgram}
-use Rattle.cs_terms.specs.declared.term.Lin.{Lin}
 use Rattle.cs_terms.specs.Term.{Valuation, value_of}
 use Rattle.cs_constraints.specs.Constraints.{Sets, Fits}
 use Rattle.cs_events.specs.declared.input.InputKind.{InputKind}
@@ -13,19 +12,16 @@ use Rattle.cs_events.specs.declared.outcome.RunBudgets.{RunBudgets}
 use Rattle.cs_events.specs.Objects.{Cell}
 use Rattle.cs_events.specs.Acts.{Act, Goes}
 use Rattle.cs_events.specs.Runs.{Setting, Log, read_cell}
-use Rattle.cs_event_runs.specs.First.{first_of}
 use Rattle.cs_event_runs.specs.Left.{left_of}
-use Rattle.cs_meaning.specs.Machine.{CallFrame, to_do}
+use Rattle.cs_meaning.specs.Machine.{to_do}
 use Rattle.cs_meaning.specs.Memory.{Memory}
 use Rattle.cs_cfg.specs.declared.code.Spot.{Spot}
-use Rattle.cs_cfg.specs.Graph.{Point, Code}
+use Rattle.cs_cfg.specs.Graph.{Code}
 use Rattle.cs_cfg.specs.Instructions.{jump_from, JumpsTo, here, jumps}
 use Rattle.cs_cfg.specs.Spots.{SpotState, at_points, point_of, begins}
 use Rattle.cs_cfg.specs.Working.{CodeState}
 use Rattle.cs_cfg.specs.CodeSteps.{code_step}
 use Rattle.cs_cfg.proofs.SpotStates.{silent}
-use Rattle.cs_state.specs.declared.asked.Asked.{Asked}
-use Rattle.cs_state.specs.declared.frame.Frame.{Frame}
 use Rattle.cs_state.specs.declared.state.Counters.{Counters}
 use Rattle.cs_state.specs.declared.state.State.{State}
 use Rattle.cs_state.specs.Cells.{Blocks, block_of, operand_of}
@@ -105,7 +101,8 @@ module _ (code : Code) (program : TypedProgram) (budgets : RunBudgets) (names : 
   module _ (before after : State) (is : IsIntegerState code program budgets names before) (known : KeepsKnown before after)
       (function : after.frame.spot.function ≡ before.frame.spot.function)
       (locals : HasLocalsAlone program names.bases (is_declared before.constraints) after)
-      (uses : (cells : Path → InputKind → Cell) (v : Valuation) → Fits v before.constraints → UsesAnswers code names program budgets cells after v) where
+      (uses : (cells : Path → InputKind → Cell) (v : Valuation) → Fits v before.constraints
+      → UsesAnswers code names program budgets cells after v) where
     fits_before : (v : Valuation) → Fits v after.constraints → Fits v before.constraints
     fits_before v fits = subst (λ (sets : Sets). Fits v sets) known.constraints fits
 

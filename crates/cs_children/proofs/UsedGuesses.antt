@@ -1,6 +1,5 @@
 -- A number that may be guessed is used, and what an operation shows: for the contracts of `ask` and `find`.
-use Rattle.std.proofs.Common.{◌≡◌, ℤ, ◌≤ℤ◌, Bool, true, false, Option, None, Some, if◌then◌else◌, refl, ap, arith}
-use Rattle.std.specs.Prelude.{int_le, ◌&&◌}
+use Rattle.std.proofs.Common.{◌≡◌, ℤ, ◌≤ℤ◌, Bool, true, Option, None, Some, if◌then◌else◌, refl, ap, arith}
 use Rattle.std.proofs.lemmas.Int.{ints}
 use Rattle.cs_types.specs.declared.data_model.DataModel.{DataModel}
 use Rattle.cs_types.specs.declared.int_type.IntType.{IntType}
@@ -19,7 +18,6 @@ use Rattle.cs_events.specs.Runs.{used}
 use Rattle.cs_eval.specs.declared.question.Question.{Question}
 use Rattle.cs_eval.specs.declared.question.Question.TheVariants as question
 use Rattle.cs_eval.specs.Followed.{IsBinaryGuess, IsGuess}
-use Rattle.cs_eval.specs.Operands.{IsBetween}
 use Rattle.cs_eval.specs.Questions.{operation_of}
 use Rattle.cs_explored.specs.Answering.{leads_on}
 use Rattle.cs_children.proofs.IntegerActs.{IsNoAllocation}

@@ -1,5 +1,5 @@
 -- What is found of a state of a function that works with integers alone: all that comes of it.
-use Rattle.std.specs.Prelude.{◌≡◌, [], List}
+use Rattle.std.specs.Prelude.{◌≡◌, []}
 use Rattle.cs_types.specs.declared.data_model.DataModel.{DataModel}
 use Rattle.cs_ast.specs.TypedProgram.{TypedProgram}
 use Rattle.cs_events.specs.declared.outcome.RunBudgets.{RunBudgets}
@@ -8,11 +8,9 @@ use Rattle.cs_cfg.specs.GraphView as view
 use Rattle.cs_regions.specs.Numbering.{IsNumbered}
 use Rattle.cs_state.specs.declared.state.State.{State}
 use Rattle.cs_state.specs.Naming.{Naming, Extends}
-use Rattle.cs_explored.specs.declared.child.Child.{Child}
-use Rattle.cs_explored.specs.declared.watch.Rule.{Rule}
 use Rattle.cs_children.specs.declared.children.Children.{Children}
 use Rattle.cs_children.specs.declared.exploration.Exploration.{Exploration}
-use Rattle.cs_successors.specs.Coming.{StateEnd, IsIntegerState, ComesOfState, IsReachedFrom}
+use Rattle.cs_successors.specs.Coming.{IsIntegerState, ComesOfState, IsReachedFrom}
 
 -- the code that is explored, its data model, the budgets of its runs, and how many events an exploration lets pass
 abbrev pub code_of : Exploration → Code
@@ -37,20 +35,18 @@ pub record Explores (exploration : Exploration) (given names : Naming) (program 
   pub extends : Extends given names
   pub numbered : IsNumbered names.bases
 
--- these children and ends are all that comes of a state, if it is one of a function that works with integers alone
-abbrev pub ComesOf : Exploration → Naming → State → List Child → List StateEnd → Type 0
-ComesOf exploration given state made ends =
+-- all that comes of a state is found, and the exploration isn't cut there, if the state is one of a function that works with integers alone
+abbrev pub FindsAll : Exploration → Naming → State → Children → Type 0
+FindsAll exploration given state found =
     (names : Naming) (program : TypedProgram) → Explores exploration given names program
     → IsIntegerState (code_of exploration) program (limits_of exploration) names state
-    → ComesOfState (code_of exploration) program (limits_of exploration) names exploration.rules.now state made ends
+    → ComesOfState (code_of exploration) program (limits_of exploration) names exploration.rules.now state found.made.items found.ends.items
+    × (found.cuts.items ≡ [])
 
--- all that comes of a state is found, and the exploration wasn't cut there
-abbrev pub FindsAll : Exploration → Naming → State → Children → Type 0
-FindsAll exploration given state found = ComesOf exploration given state found.made.items found.ends.items
-
--- so far the runs of a state have come to another one, or to one of the ends that were found
+-- so far the runs of a state have come to another one, or to one of the ends that were found; nothing else was found
 pub record FindsSoFar (exploration : Exploration) (given : Naming) (before state : State) (found : Children) : Type 0 where
   pub made : found.made.items ≡ []
+  pub cuts : found.cuts.items ≡ []
   pub reached : (names : Naming) (program : TypedProgram) → Explores exploration given names program
       → IsIntegerState (code_of exploration) program (limits_of exploration) names before
       → IsReachedFrom (code_of exploration) program (limits_of exploration) names before state found.ends.items

@@ -79,7 +79,9 @@ impl Children {
         Err(AllocError)
     }
 
-    // The runs of a state end. No other end has this outcome: a check whose faults are a part of a state comes right before an event.
+    // The runs of a state end. No other end has this outcome, so that want of memory is never answered for one: each check that leaves a
+    // part of a state comes in an operation with an event, directly before it (an operator's) or directly after it (a pointer was looked at).
+    // So between two events a place is checked once in such a way, and the faults of one kind are one part.
     fn end(&mut self, outcome: Outcome, state: Box<State>) -> Result<(), AllocError>
         ensures adds { OnOk result (Adds self.old self.new [] ((outcome, state) ∷ [])) }
         ensures apart { OnOk result (KeepApart self.old self.new) }
@@ -148,7 +150,8 @@ impl Children {
         Ok(())
     }
 
-    // An operation shows.
+    // An operation shows. The symbol of the guess isn't declared, since it is named by the number of the next event, and a state declares the
+    // symbol of a guess only where it passes that event: so want of memory is never answered for it.
     #[inline(never)]
     fn ask(
         &mut self,
@@ -227,7 +230,8 @@ impl Children {
         self.add(exploration, before, place, last, guess)
     }
 
-    // The state after one piece. An answer is over a declared symbol; another one would be want of memory.
+    // The state after one piece. Its answer is over a declared symbol, so that want of memory is never answered for one that isn't: a symbol of
+    // the operands, which the state mentions and so has declared, or the symbol of the guess, which the piece declares.
     fn add(
         &mut self,
         exploration: &Exploration,

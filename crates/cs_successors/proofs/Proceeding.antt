@@ -7,7 +7,7 @@ use Rattle.cs_events.specs.Runs.{Setting, Log, Performed, Continues, perform, Le
 use Rattle.cs_events.proofs.LogGrowth.{act_adds, way_adds}
 use Rattle.cs_event_runs.specs.First.{Step, First, Silent, Shown, Ended, first_of, performed}
 use Rattle.cs_event_runs.proofs.Firsts.{performs_first, HasEvents, adds_first}
-use Rattle.cs_successors.specs.EntryRuns.{Proceeds, stays, silently, shows}
+use Rattle.cs_successors.specs.EntryRuns.{LeavesAfter, later as follows, unseen, Proceeds, stays, silently, shows}
 
 -- a log isn't shorter than one that it goes on from
 as_long : (log later : Log) → GoesOn log later → length log.events ≤ length later.events
@@ -26,9 +26,20 @@ module _ {M : Type 0} (step : M → Act M) (setting : Setting) where
   proceeds_on (silently is rest) onward = silently is (proceeds_on rest onward)
   proceeds_on (shows is rest) onward = shows is (proceeds_on rest onward)
 
+  -- a way, and more steps after it
+  pub leaves_on : {left middle last : Act M} {log between end : Log} {steps more : List Step} → Proceeds step setting left log steps middle between
+      → LeavesAfter step setting (first_of setting between middle) more last end
+      → LeavesAfter step setting (first_of setting log left) (steps ++ more) last end
+  leaves_on {last = last} {end = end} {more = more} (stays {last = middle} {log = log} is same) onward =
+      subst (λ act. LeavesAfter step setting (first_of setting log act) more last end) (sym is)
+      (subst (λ log. LeavesAfter step setting (first_of setting log middle) more last end) (sym same) onward)
+  leaves_on (silently is rest) onward = unseen is (leaves_on rest onward)
+  leaves_on (shows is rest) onward = follows is (leaves_on rest onward)
+
   -- what goes on and adds no event is silent
   module _ (log : Log) (act : Act M) (next : M) (later : Log) (short : length later.events ≤ length log.events) where
-    shows_nothing : (first : First M) → HasEvents setting log.events first → performed setting first ≡ Continues next later → first ≡ Silent next later
+    shows_nothing : (first : First M) → HasEvents setting log.events first → performed setting first ≡ Continues next later
+        → first ≡ Silent next later
     shows_nothing (Silent other after) has is =
         let same : other ≡ next = cc in
         let same_log : after ≡ later = cc in

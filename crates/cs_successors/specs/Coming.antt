@@ -1,5 +1,5 @@
 -- What comes of a state: the states directly after its next events, and its ends, beside the runs that have come to the state.
-use Rattle.std.specs.Prelude.{◌≡◌, ◌≢◌, ◌⊎◌, ◌≤◌, ℕ, suc, Bool, List, [], ◌∷◌, All, length, Option, None, Some, option_map, is_some}
+use Rattle.std.specs.Prelude.{◌≡◌, ◌≢◌, ◌⊎◌, ◌≤◌, ℕ, suc, Bool, List, [], ◌∷◌, All, length, None, Some, option_map, is_some}
 use Rattle.std.specs.Prelude.{slice_get, Contains}
 use Rattle.std.specs.FinMap as finite
 use Rattle.std.specs.Global.{Box}
