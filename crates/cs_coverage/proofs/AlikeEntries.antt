@@ -1,10 +1,9 @@
 -- Maps with keys beside a zero whose entries are alike, as live parts say them, hold what is alike: for states with equal live parts.
-use Rattle.std.proofs.Common.{◌≡◌, ℕ, Bool, true, false, cond, List, [], ◌∷◌, map, Option, None, Some, All, refl, sym, ap, ◌∙◌, subst}
+use Rattle.std.proofs.Common.{◌≡◌, ℕ, Bool, true, false, cond, List, [], ◌∷◌, map, Option, None, Some, refl, sym, ap, ◌∙◌, subst}
 use Rattle.std.specs.Prelude.{is_some, IsTrue}
 use Rattle.std.specs.Ordering.{eq_by_cmp}
 use Rattle.std.specs.FinMap as finite
 use Rattle.std.specs.FinMap.Entries.{find}
-use Rattle.std.proofs.lemmas.List.Elements.{All-head, All-tail}
 use Rattle.cs_pmap.specs.Keys.{key_cmp, EntryList}
 use Rattle.cs_store.proofs.EntryLists.{Keyed}
 use Rattle.cs_store.proofs.Keys.{key_itself}
@@ -45,7 +44,8 @@ module _ {V : Type 0} where
   find_alike R key [] (f ∷ fs) alike = absurd alike
   find_alike R key (e ∷ es) [] alike = absurd alike
   find_alike R key (e ∷ es) (f ∷ fs) alike =
-      subst (λ k. FindsAlike R (cond (eq_by_cmp key_cmp key e.0) (Some e.1) (find key_cmp key es)) (cond (eq_by_cmp key_cmp key k) (Some f.1) (find key_cmp key fs)))
+      subst (λ k. FindsAlike R (cond (eq_by_cmp key_cmp key e.0) (Some e.1) (find key_cmp key es))
+      (cond (eq_by_cmp key_cmp key k) (Some f.1) (find key_cmp key fs)))
       alike.0
       (either_alike R (eq_by_cmp key_cmp key e.0) e.1 f.1 (find key_cmp key es) (find key_cmp key fs) alike.1 (find_alike R key es fs alike.2))
 
@@ -76,15 +76,14 @@ module _ {V : Type 0} where
   map_keyed m keyed key there = keyed key (subst (λ (o : Option V). IsTrue (is_some o)) (sym (finite.get-entries m key)) there)
 
 -- lists of which the same is said have the same values
-module _ {A B C : Type 0} (said other : A → B) (p q : A → C) (P Q : A → Type 0)
-    (same : (x y : A) → P x → Q y → said x ≡ other y → p x ≡ q y) where
-  pub map_alike : (xs ys : List A) → All P xs → All Q ys → map said xs ≡ map other ys → map p xs ≡ map q ys
-  map_alike [] [] first second is = refl
-  map_alike [] (y ∷ ys) first second is = cc
-  map_alike (x ∷ xs) [] first second is = cc
-  map_alike (x ∷ xs) (y ∷ ys) first second is =
+module _ {A B C : Type 0} (said other : A → B) (p q : A → C) (same : (x y : A) → said x ≡ other y → p x ≡ q y) where
+  pub map_alike : (xs ys : List A) → map said xs ≡ map other ys → map p xs ≡ map q ys
+  map_alike [] [] is = refl
+  map_alike [] (y ∷ ys) is = cc
+  map_alike (x ∷ xs) [] is = cc
+  map_alike (x ∷ xs) (y ∷ ys) is =
       let here : said x ≡ other y = cc in
       let rest : map said xs ≡ map other ys = cc in
-      let head = same x y (All-head P x xs first) (All-head Q y ys second) here in
-      let tail = map_alike xs ys (All-tail P x xs first) (All-tail Q y ys second) rest in
+      let head = same x y here in
+      let tail = map_alike xs ys rest in
       λ i. head i ∷ tail i

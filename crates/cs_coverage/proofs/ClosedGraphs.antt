@@ -58,14 +58,14 @@ row_kept rows more child has = record {
   row = has.row;
   there = kept_place rows more has.number has.row has.there;
   same = has.same;
-  legible = has.legible;
+  plain = has.plain;
 }
 
 module _ (code : Code) (program : TypedProgram) (entry : ℕ) (budgets : RunBudgets) (rules : List Rule) where
   -- more names
   module _ (given later : Naming) (extends : Extends given later) where
     pub state_later : (state : State) → IsRowState code program entry budgets rules given state → IsRowState code program entry budgets rules later state
-    state_later state is = record { integer = λ names are. is.integer names (earlier_names extends are); legible = is.legible }
+    state_later state is = record { integer = λ names are. is.integer names (earlier_names extends are); plain = is.plain }
 
     expanded_later : (rows : List Row) (ends : List End) (number : ℕ) (row : Row) → IsExpanded code program entry budgets rules given rows ends number row
         → IsExpanded code program entry budgets rules later rows ends number row
@@ -83,7 +83,7 @@ module _ (code : Code) (program : TypedProgram) (entry : ℕ) (budgets : RunBudg
       first = record {
         row = is.first.row;
         there = is.first.there;
-        starts = λ names are. is.first.starts names (earlier_names extends are);
+        begins = λ names are. is.first.begins names (earlier_names extends are);
       };
       states = λ number row there. state_later row.state.value (is.states number row there);
       expanded = λ number row there not. expanded_later rows ends number row (is.expanded number row there not);
@@ -132,7 +132,7 @@ module _ (code : Code) (program : TypedProgram) (entry : ℕ) (budgets : RunBudg
       first = record {
         row = is.first.row;
         there = kept_place rows (new ∷ []) 0 is.first.row is.first.there;
-        starts = is.first.starts;
+        begins = is.first.begins;
       };
       states = λ number row there. elim (last_or_before rows new row number there) [
         | inl before ↦ is.states number row before

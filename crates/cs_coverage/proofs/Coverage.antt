@@ -23,7 +23,7 @@ use Rattle.cs_explored.specs.declared.explored.Row.{Row}
 use Rattle.cs_explored.specs.declared.watch.Rule.{Rule}
 use Rattle.cs_progress.specs.Stepping.{end_of, result_in, HasReturned}
 use Rattle.cs_successors.specs.EntryRuns.{setting_with, step_of, start_of, LeavesAfter, now, later, unseen, Proceeds, stays, HasLeft, begins, passes, EndsAfter}
-use Rattle.cs_successors.specs.Coming.{IsEndOf, ComesToChild, ComesToEnd}
+use Rattle.cs_successors.specs.Coming.{IsChildOf, IsEndOf, ComesToChild, ComesToEnd}
 use Rattle.cs_coverage.specs.Closing.{AreNames, IsClosed}
 use Rattle.cs_coverage.specs.Standing.{StandsAtRow, StandsAtEnd}
 use Rattle.cs_coverage.proofs.Merging.{merged}
@@ -59,8 +59,8 @@ module _ (code : Code) (program : TypedProgram) (entry : ℕ) (budgets : RunBudg
   -- at its beginning a run stands at the first row
   at_first : (left : Act CodeState) (log : Log) → left ≡ step (start_of code program entry budgets here) → log ≡ empty → AtRow left log
   at_first left log is none =
-      let starts = closed.first.starts names are in
-      let own = starts.covers inputs in
+      let begins = closed.first.begins names are in
+      let own = begins.covers inputs in
       record {
         number = 0;
         row = closed.first.row;
@@ -70,8 +70,8 @@ module _ (code : Code) (program : TypedProgram) (entry : ℕ) (budgets : RunBudg
           fits = own.1;
           same =
               ap (left_of (read_cell here) []) is
-              ∙ (λ i. left_of (read_cell here) (map (value_of own.0) (sym starts.answers i)) (step (sym own.2 i)));
-          passed = ap (λ (l : Log). length l.events) none ∙ sym starts.events;
+              ∙ (λ i. left_of (read_cell here) (map (value_of own.0) (sym begins.answers i)) (step (sym own.2 i)));
+          passed = ap (λ (l : Log). length l.events) none ∙ sym begins.events;
         };
       }
 
@@ -92,13 +92,17 @@ module _ (code : Code) (program : TypedProgram) (entry : ℕ) (budgets : RunBudg
       let parts = closed.expanded at.number at.row at.there (λ waits. waits) in
       let found = parts.children child.place child.child child.there in
       let state = closed.states found.number found.row found.there in
-      let possible = (state.integer names are).possible in
+      let integer = state.integer names are in
+      let possible = integer.possible in
+      let own = element (IsChildOf code program budgets names rules at.row.state.value) parts.made child.place child.child child.there
+      (parts.comes names are).children in
       record {
         number = found.number;
         row = found.row;
         there = found.there;
         valuation = _;
-        at = merged code program budgets names child.child.state.value found.row.state.value found.same found.legible state.legible child.after
+        at = merged code program budgets names child.child.state.value found.row.state.value found.same
+            (record { plain = found.plain; blocks = own.integer.blocks }) (record { plain = state.plain; blocks = integer.blocks }) child.after
             possible.0 possible.1 here child.to.rest child.to.later child.to.comes;
       }
 

@@ -10,7 +10,6 @@ use Rattle.cs_events.specs.declared.outcome.RunBudgets.{RunBudgets}
 use Rattle.cs_cfg.specs.Graph.{Code}
 use Rattle.cs_state.specs.declared.state.State.{State}
 use Rattle.cs_state.specs.Naming.{Naming, Extends}
-use Rattle.cs_state.specs.Starting.{StartsFrom}
 use Rattle.cs_keys.specs.Laws.{KeysAreExact}
 use Rattle.cs_keys.specs.Live.{live_part}
 use Rattle.cs_keys.specs.Words.{words_of}
@@ -23,9 +22,9 @@ use Rattle.cs_explored.specs.declared.explored.End.{End}
 use Rattle.cs_explored.specs.declared.explored.Row.{Row}
 use Rattle.cs_explored.specs.declared.watch.Rule.{Rule}
 use Rattle.cs_successors.specs.Coming.{IsChildOf, ComesOfState}
-use Rattle.cs_coverage.specs.Legible.{IsLegible}
+use Rattle.cs_store.specs.Held.{HasPlainKeys}
 use Rattle.cs_explored.specs.Placing.{RowGraph, PlacesRow, PlacesAll, end_of_row}
-use Rattle.cs_coverage.specs.Closing.{Waits, IsOpen, AreNames, IsListed, IsRowState, IsExpanded, IsClosed, IsClosedGraph}
+use Rattle.cs_coverage.specs.Closing.{Waits, IsOpen, AreNames, IsBeginning, IsListed, IsRowState, IsExpanded, IsClosed, IsClosedGraph}
 use Rattle.cs_coverage.proofs.Coverage.{element}
 use Rattle.cs_coverage.proofs.ClosedGraphs.{kept_place, closed_later, closed_with_ends, closed_but, closed_given, closed_expanded}
 use Rattle.cs_coverage.proofs.PlacedRows.{placed}
@@ -78,7 +77,7 @@ module _ (code : Code) (program : TypedProgram) (entry : ℕ) (budgets : RunBudg
   -- what comes of a state, with all that a graph needs
   pub record IsFound (given : Naming) (state : State) (made : List Child) (endings : List (Outcome × Box State)) : Type 0 where
     pub comes : (names : Naming) → AreNames given names → ComesOfState code program budgets names rules state made endings
-    pub legible : (place : ℕ) (child : Child) → slice_get made place ≡ Some child → IsLegible child.state.value
+    pub plain : (place : ℕ) (child : Child) → slice_get made place ≡ Some child → HasPlainKeys child.state.value.store
 
   module _ (exact : KeysAreExact) (given : Naming) (before after : RowGraph) (ends : List End) (row : ℕ) (from : Row)
       (there : slice_get before.rows row ≡ Some from) (made : List Child) (endings : List (Outcome × Box State))
@@ -88,7 +87,7 @@ module _ (code : Code) (program : TypedProgram) (entry : ℕ) (budgets : RunBudg
     children_states place child at = record {
       integer = λ names are.
           (element (IsChildOf code program budgets names rules from.state.value) made place child at (found.comes names are).children).integer;
-      legible = found.legible place child at;
+      plain = found.plain place child at;
     }
 
     listed_behind : (place : ℕ) (one : Outcome × Box State) → slice_get endings place ≡ Some one
@@ -132,11 +131,11 @@ module _ (code : Code) (program : TypedProgram) (entry : ℕ) (budgets : RunBudg
   begun : (given : Naming) (before after : RowGraph) (row : Row) (words : List ℕ) → words ≡ words_of (live_part row.state.value) → before.keys ≡ []
       → before.rows ≡ [] → (visits : ℕ) (added : Added) → IsAdded (pointwise nat_eq) words visits row added before after
       → IsRowState code program entry budgets rules given row.state.value
-      → ((names : Naming) → AreNames given names → StartsFrom code program entry names row.state.value)
+      → ((names : Naming) → AreNames given names → IsBeginning code program entry names row.state.value)
       → IsGraph given after [] Waits
-  begun given before after row words says no_keys no_rows visits (Old number) is state starts =
+  begun given before after row words says no_keys no_rows visits (Old number) is state begins =
       absurd (nowhere number is.0.0 (subst (λ (keys : List (List ℕ)). slice_get keys number ≡ Some is.0.0) no_keys is.0.1))
-  begun given before after row words says no_keys no_rows visits (New number) is state starts =
+  begun given before after row words says no_keys no_rows visits (New number) is state begins =
       let keys : after.keys ≡ words ∷ [] = is.2.keys ∙ ap (λ (l : List (List ℕ)). l ++ words ∷ []) no_keys in
       let rows : after.rows ≡ row ∷ [] = is.2.rows ∙ ap (λ (l : List Row). l ++ row ∷ []) no_rows in
       let number_is : number ≡ 0 = is.2.next ∙ ap length no_rows in
@@ -146,7 +145,7 @@ module _ (code : Code) (program : TypedProgram) (entry : ℕ) (budgets : RunBudg
             (subst (λ (l : List Row). slice_get l place ≡ Some found) rows there) says;
         long = ap length keys ∙ sym (ap length rows);
         closed = record {
-          first = record { row = row; there = subst (λ (l : List Row). slice_get l 0 ≡ Some row) (sym rows) refl; starts = starts };
+          first = record { row = row; there = subst (λ (l : List Row). slice_get l 0 ≡ Some row) (sym rows) refl; begins = begins };
           states = λ place found there.
               subst (λ (r : Row). IsRowState code program entry budgets rules given r.state.value)
               (alone row place found (subst (λ (l : List Row). slice_get l place ≡ Some found) rows there)).1 state;
@@ -158,7 +157,7 @@ module _ (code : Code) (program : TypedProgram) (entry : ℕ) (budgets : RunBudg
 
   pub graph_begun : (given : Naming) (before after : RowGraph) (row : Row) → before.keys ≡ [] → before.rows ≡ [] → PlacesRow row before after
       → IsRowState code program entry budgets rules given row.state.value
-      → ((names : Naming) → AreNames given names → StartsFrom code program entry names row.state.value)
+      → ((names : Naming) → AreNames given names → IsBeginning code program entry names row.state.value)
       → IsGraph given after [] Waits
-  graph_begun given before after row no_keys no_rows places state starts =
-      begun given before after row (words_of (live_part row.state.value)) refl no_keys no_rows places.0 places.1 places.2 state starts
+  graph_begun given before after row no_keys no_rows places state begins =
+      begun given before after row (words_of (live_part row.state.value)) refl no_keys no_rows places.0 places.1 places.2 state begins

@@ -9,7 +9,10 @@ pub mod Coverage
 pub mod ReadingNothing
 pub mod LocalsRead
 pub mod Positions
+pub mod OwnBeginnings
+pub mod Beginnings
+pub mod StartBlocks
+pub mod BeginningStates
 pub mod ClosedGraphs
 pub mod PlacedRows
 pub mod ExpandedRows
-pub mod LegibleStates

@@ -1,7 +1,7 @@
 -- A run that has come to where a state stands has come to where each other one with an equal live part stands: for the merging of rows.
-use Rattle.std.proofs.Common.{◌≡◌, ℕ, List, [], ◌∷◌, map, Option, None, Some, refl, sym, ap, ◌∙◌}
+use Rattle.std.proofs.Common.{◌≡◌, ℕ, List, [], ◌∷◌, map, Option, None, Some, refl, sym, ap, ◌∙◌, subst}
 use Rattle.std.specs.Prelude.{option_map, unwrap_or, is_some, IsTrue, reverse}
-use Rattle.std.specs.Option.{option_and_then, option_map_or}
+use Rattle.std.specs.Option.{option_and_then}
 use Rattle.std.specs.FinMap as finite
 use Rattle.std.proofs.lemmas.Simd.{map-map}
 use Rattle.cs_pmap.specs.Keys.{key_cmp}
@@ -21,7 +21,6 @@ use Rattle.cs_cfg.specs.CodeSteps.{code_step}
 use Rattle.cs_terms.specs.Term.{Valuation, value_of}
 use Rattle.cs_constraints.specs.Constraints.{set_of, Fits}
 use Rattle.cs_store.specs.declared.value.Fill.TheVariants.{Unset as UnsetFill}
-use Rattle.cs_store.specs.declared.value.Found.TheVariants as found
 use Rattle.cs_store.specs.declared.value.Value.{Value}
 use Rattle.cs_store.specs.Contents.{Contents, filled, bindings_of}
 use Rattle.cs_store.specs.Held.{contents_of}
@@ -32,9 +31,9 @@ use Rattle.cs_state.specs.Cells.{block_of, is_there, cell_of, operand_of}
 use Rattle.cs_state.specs.Meaning.{frame_of, meaning}
 use Rattle.cs_state.specs.Naming.{Naming}
 use Rattle.cs_state.specs.Objects.{Owner, owner, owner_numbered, local_of, block_there, written_over, contents_in, number_of, unwritten, memory_of}
-use Rattle.cs_keys.specs.Live.{LiveBlock, LiveFrame, LiveRegion, LivePart, live_term, live_temporary, live_frame, live_binding, live_region}
-use Rattle.cs_keys.specs.Live.{live_entry, live_part}
-use Rattle.cs_coverage.specs.Legible.{IsSmall, IsSmallTemporary, IsSmallFrame, IsLegible}
+use Rattle.cs_keys.specs.Live.{LiveFrame, LiveRegion, LivePart, live_term, live_temporary, live_frame, live_binding, live_region}
+use Rattle.cs_keys.specs.Live.{live_part}
+use Rattle.cs_store.specs.Held.{HasPlainKeys}
 use Rattle.cs_progress.specs.Stepping.{next_left}
 use Rattle.cs_successors.specs.Coming.{IsAt}
 use Rattle.cs_coverage.proofs.AlikeEntries.{FindsAlike, said_alike, get_alike, map_keyed, map_alike}
@@ -50,38 +49,36 @@ some_found : {V : Type 0} (o : Option V) → IsTrue (is_some o) → (v : V) × (
 some_found None h = cc
 some_found (Some v) h = (v, refl)
 
-module _ (one two : State) (same : live_part one ≡ live_part two) (says : IsLegible one) (tells : IsLegible two) (valuation other : Valuation)
-    (fits : Fits valuation one.constraints) (suits : Fits other two.constraints)
+-- a state whose live part says all: it has no block, and plain keys
+pub record SaysAll (state : State) : Type 0 where
+  pub plain : HasPlainKeys state.store
+  pub blocks : (base : ℕ) → block_of state.blocks base ≡ None
+
+module _ (one two : State) (same : live_part one ≡ live_part two) (says : SaysAll one) (tells : SaysAll two) (valuation other : Valuation)
     (agrees : (symbol : ℕ) → set_of one.constraints symbol ≡ set_of two.constraints symbol → other symbol ≡ valuation symbol) where
   -- blocks
   blocks_alike : (base : ℕ) → FindsAlike (SameBlock one.constraints two.constraints) (block_of one.blocks base) (block_of two.blocks base)
   blocks_alike base =
-      get_alike (SameBlock one.constraints two.constraints) (base, 0) one.blocks two.blocks
-      (said_alike (live_entry one.constraints) (live_entry two.constraints) (λ l. l.base) (SameBlock one.constraints two.constraints)
-      (λ e. refl) (λ e. refl) (λ e f is. ap (λ (l : LiveBlock). record l { base = 0 }) is) (finite.entries one.blocks) (finite.entries two.blocks)
-      (map_keyed one.blocks (λ key there. let found = some_found (finite.get one.blocks key) there in says.plain.blocks key found.0 found.1))
-      (map_keyed two.blocks (λ key there. let found = some_found (finite.get two.blocks key) there in tells.plain.blocks key found.0 found.1))
-      (ap (λ (l : LivePart). l.blocks) same))
+      subst (λ o. FindsAlike (SameBlock one.constraints two.constraints) o (block_of two.blocks base)) (sym (says.blocks base))
+      (subst (λ o. FindsAlike (SameBlock one.constraints two.constraints) None o) (sym (tells.blocks base)) tt)
 
   blocks_there : (base : ℕ) → is_there valuation (block_of one.blocks base) ≡ is_there other (block_of two.blocks base)
   blocks_there base =
-      there_alike one.constraints two.constraints valuation other agrees fits suits (block_of one.blocks base) (block_of two.blocks base)
-      (blocks_alike base)
+      there_alike one.constraints two.constraints valuation other agrees (block_of one.blocks base) (block_of two.blocks base) (blocks_alike base)
 
   -- frames
   module _ (code : Code) (names : Naming) where
-    frame_alike : (f g : Frame) → IsSmallFrame one.constraints f → IsSmallFrame two.constraints g
-        → live_frame one.constraints f ≡ live_frame two.constraints g
+    frame_alike : (f g : Frame) → live_frame one.constraints f ≡ live_frame two.constraints g
         → frame_of code names one valuation f ≡ frame_of code names two other g
-    frame_alike f g small tiny is =
+    frame_alike f g is =
         let numbers : f.number ≡ g.number = ap (λ (l : LiveFrame). l.number) is in
         let spots : f.spot ≡ g.spot = ap (λ (l : LiveFrame). l.spot) is in
         let visits : f.visits ≡ g.visits = ap (λ (l : LiveFrame). l.visits) is in
         let operands =
         map_alike (live_temporary one.constraints) (live_temporary two.constraints) (operand_of names.bases one.blocks valuation)
-        (operand_of names.bases two.blocks other) (IsSmallTemporary one.constraints) (IsSmallTemporary two.constraints)
-        (same_operand one.constraints two.constraints valuation other agrees fits suits names.bases one.blocks two.blocks blocks_there)
-        f.temporaries g.temporaries small tiny (ap (λ (l : LiveFrame). l.temporaries) is) in
+        (operand_of names.bases two.blocks other)
+        (same_operand one.constraints two.constraints valuation other agrees names.bases one.blocks two.blocks blocks_there)
+        f.temporaries g.temporaries (ap (λ (l : LiveFrame). l.temporaries) is) in
         λ i. record {
           function = (spots i).function;
           number = numbers i;
@@ -93,22 +90,19 @@ module _ (one two : State) (same : live_part one ≡ live_part two) (says : IsLe
     frames_alike : map (frame_of code names one valuation) one.callers ≡ map (frame_of code names two other) two.callers
     frames_alike =
         map_alike (live_frame one.constraints) (live_frame two.constraints) (frame_of code names one valuation) (frame_of code names two other)
-        (IsSmallFrame one.constraints) (IsSmallFrame two.constraints) frame_alike one.callers two.callers says.small.callers tells.small.callers
-        (ap (λ (l : LivePart). l.callers) same)
+        frame_alike one.callers two.callers (ap (λ (l : LivePart). l.callers) same)
 
-  owner_alike : (f g : Frame) → IsSmallFrame one.constraints f → IsSmallFrame two.constraints g
-      → live_frame one.constraints f ≡ live_frame two.constraints g → owner f ≡ owner g
-  owner_alike f g small tiny is =
+  owner_alike : (f g : Frame) → live_frame one.constraints f ≡ live_frame two.constraints g → owner f ≡ owner g
+  owner_alike f g is =
       let numbers : f.number ≡ g.number = ap (λ (l : LiveFrame). l.number) is in
       let spots : f.spot ≡ g.spot = ap (λ (l : LiveFrame). l.spot) is in
       λ i. record { number = numbers i; function = (spots i).function }
 
   owners_alike : map owner (one.frame ∷ one.callers) ≡ map owner (two.frame ∷ two.callers)
   owners_alike =
-      let first = owner_alike one.frame two.frame says.small.frame tells.small.frame (ap (λ (l : LivePart). l.frame) same) in
+      let first = owner_alike one.frame two.frame (ap (λ (l : LivePart). l.frame) same) in
       let rest =
-      map_alike (live_frame one.constraints) (live_frame two.constraints) owner owner (IsSmallFrame one.constraints)
-      (IsSmallFrame two.constraints) owner_alike one.callers two.callers says.small.callers tells.small.callers
+      map_alike (live_frame one.constraints) (live_frame two.constraints) owner owner owner_alike one.callers two.callers
       (ap (λ (l : LivePart). l.callers) same) in
       λ i. first i ∷ rest i
 
@@ -141,35 +135,24 @@ module _ (one two : State) (same : live_part one ≡ live_part two) (says : IsLe
       by (Some c) None alike = absurd alike
       by (Some c) (Some d) alike = alike
 
-  nothing_there : {V : Type 0} (o : ℕ) (x : V) → finite.get (finite.empty {X = V} {R = key_cmp}) (o, 0) ≡ Some x → ⊥
-  nothing_there {V} o x is = none_some (sym (finite.get-empty {X = V} key_cmp (o, 0)) ∙ is)
-    where
-      none_some : None ≡ Some x → ⊥
-      none_some e = cc
-
   module _ (program : TypedProgram) (names : Naming) where
     written_alike : (base : Option ℕ) (block : Known)
         → written_over (cell_of names.bases one.blocks valuation) (contents_in one.store base) block
         ≡ written_over (cell_of names.bases two.blocks other) (contents_in two.store base) block
     written_alike None block =
-        same_written one.constraints two.constraints valuation other agrees fits suits names.bases one.blocks two.blocks blocks_there
-        (filled UnsetFill) (filled UnsetFill) no_offsets no_offsets nothing_alike (λ o x is. absurd (nothing_there o x is))
-        (λ o y is. absurd (nothing_there o y is)) block
+        same_written one.constraints two.constraints valuation other agrees names.bases one.blocks two.blocks blocks_there
+        (filled UnsetFill) (filled UnsetFill) no_offsets no_offsets nothing_alike block
     written_alike (Some base) block =
-        same_written one.constraints two.constraints valuation other agrees fits suits names.bases one.blocks two.blocks blocks_there
-        (contents_of one.store base) (contents_of two.store base) (says.plain.bindings base) (tells.plain.bindings base) (contents_alike base)
-        (λ o x is. says.small.stored base o x
-        (ap (λ b. option_map_or (λ value. found.Direct value) b (found.Fill (contents_of one.store base).fill)) is))
-        (λ o y is. tells.small.stored base o y
-        (ap (λ b. option_map_or (λ value. found.Direct value) b (found.Fill (contents_of two.store base).fill)) is)) block
+        same_written one.constraints two.constraints valuation other agrees names.bases one.blocks two.blocks blocks_there
+        (contents_of one.store base) (contents_of two.store base) (says.plain.bindings base) (tells.plain.bindings base) (contents_alike base) block
 
     base_alike : (object : Object) (base : Option ℕ)
         → option_and_then (block_there program names (map owner (one.frame ∷ one.callers)) one.blocks valuation object) base
         ≡ option_and_then (block_there program names (map owner (two.frame ∷ two.callers)) two.blocks other object) base
     base_alike object None = refl
     base_alike object (Some base) =
-        found_made one.constraints two.constraints valuation other agrees fits suits names.types object (block_of one.blocks base)
-        (block_of two.blocks base) (says.small.blocks base) (tells.small.blocks base) (blocks_alike base)
+        found_made one.constraints two.constraints valuation other agrees names.types object (block_of one.blocks base)
+        (block_of two.blocks base) (blocks_alike base)
 
     unwritten_alike : (object : Object)
         → unwritten program names (map owner (one.frame ∷ one.callers)) one.blocks valuation object
@@ -192,7 +175,7 @@ module _ (one two : State) (same : live_part one ≡ live_part two) (says : IsLe
     -- both states mean the same
     pub meaning_alike : (code : Code) → meaning code names program one valuation ≡ meaning code names program two other
     meaning_alike code =
-        let frame = frame_alike code names one.frame two.frame says.small.frame tells.small.frame (ap (λ (l : LivePart). l.frame) same) in
+        let frame = frame_alike code names one.frame two.frame (ap (λ (l : LivePart). l.frame) same) in
         let callers = frames_alike code names in
         let counters : one.counters ≡ two.counters = ap (λ (l : LivePart). l.counters) same in
         let memory = memory_alike in
@@ -207,9 +190,8 @@ module _ (one two : State) (same : live_part one ≡ live_part two) (says : IsLe
 
     answers_alike : map (value_of valuation) one.answers ≡ map (value_of other) two.answers
     answers_alike =
-        map_alike (live_term one.constraints) (live_term two.constraints) (value_of valuation) (value_of other) (IsSmall one.constraints)
-        (IsSmall two.constraints) (same_value one.constraints two.constraints valuation other agrees fits suits) one.answers two.answers
-        says.small.answers tells.small.answers (ap (λ (l : LivePart). l.answers) same)
+        map_alike (live_term one.constraints) (live_term two.constraints) (value_of valuation) (value_of other)
+        (same_value one.constraints two.constraints valuation other agrees) one.answers two.answers (ap (λ (l : LivePart). l.answers) same)
 
     -- and the same is left of the operation in progress
     pub left_alike : (code : Code) (budgets : RunBudgets) (cells : Path → InputKind → Cell)
@@ -225,7 +207,7 @@ events_alike one two same = ap (λ (l : LivePart). l.counters.events) same
 
 module _ (code : Code) (program : TypedProgram) (budgets : RunBudgets) (names : Naming) where
   -- a run that has come to where a state stands has come to where one with an equal live part stands
-  pub merged : (one two : State) → live_part one ≡ live_part two → IsLegible one → IsLegible two → (valuation possible : Valuation)
+  pub merged : (one two : State) → live_part one ≡ live_part two → SaysAll one → SaysAll two → (valuation possible : Valuation)
       → Fits possible two.constraints → (setting : Setting) (left : Act CodeState) (log : Log)
       → IsAt code program budgets names one setting valuation left log
       → IsAt code program budgets names two setting (patched two.constraints valuation possible) left log
@@ -233,8 +215,7 @@ module _ (code : Code) (program : TypedProgram) (budgets : RunBudgets) (names : 
     fits = patched_fits two.constraints valuation possible fits;
     same =
         at.same
-        ∙ left_alike one two same says tells valuation (patched two.constraints valuation possible) at.fits
-        (patched_fits two.constraints valuation possible fits)
+        ∙ left_alike one two same says tells valuation (patched two.constraints valuation possible)
         (patched_agrees two.constraints one.constraints valuation possible at.fits) program names code budgets (read_cell setting);
     passed = at.passed ∙ events_alike one two same;
   }

@@ -46,7 +46,7 @@ module _ (code : Code) (program : TypedProgram) (entry : ℕ) (budgets : RunBudg
         row = there.0;
         there = there.1;
         same = (exact child.state.value there.0.state.value).0 (words ∙ key);
-        legible = state.legible;
+        plain = state.plain;
       }
 
   -- a row that is new
@@ -95,7 +95,7 @@ module _ (code : Code) (program : TypedProgram) (entry : ℕ) (budgets : RunBudg
           row = row;
           there = subst (λ (rows : List Row). slice_get rows (length before.rows) ≡ Some row) (sym new.rows) (last_there before.rows row);
           same = refl;
-          legible = state.legible;
+          plain = state.plain;
         };
         graph = record {
           keys = new_keys before after row visits number is new;
@@ -139,7 +139,10 @@ module _ (code : Code) (program : TypedProgram) (entry : ℕ) (budgets : RunBudg
       record {
         have = have_both child made between.rows after.rows others.more.0 others.more.1 one.has others.have;
         graph = others.graph;
-        more = (one.more.0 ++ others.more.0, others.more.1 ∙ ap (λ (rows : List Row). rows ++ others.more.0) one.more.1 ∙ append_assoc before.rows one.more.0 others.more.0);
+        more = (
+          one.more.0 ++ others.more.0,
+          others.more.1 ∙ ap (λ (rows : List Row). rows ++ others.more.0) one.more.1 ∙ append_assoc before.rows one.more.0 others.more.0,
+        );
       }
     where
       have_both : (child : Child) (made : List Child) (rows later more : List Row) → later ≡ rows ++ more → HasRowFor rows child → HaveRows made later

@@ -1,7 +1,7 @@
 pub mod OwnNumbers
 pub mod Phases
 pub mod Covering
-pub mod Legible
+pub mod IntegerEntries
 pub mod Closing
 pub mod Standing
 pub mod Positions

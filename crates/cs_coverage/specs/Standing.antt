@@ -1,5 +1,5 @@
 -- Where runs stand in a graph: at a row directly after an event, and at an end before they end.
-use Rattle.std.specs.Prelude.{◌≡◌, ℕ, true, List, Some, slice_get}
+use Rattle.std.specs.Prelude.{◌≡◌, ℕ, List, Some, slice_get}
 use Rattle.cs_ast.specs.TypedProgram.{TypedProgram}
 use Rattle.cs_terms.specs.Term.{Valuation}
 use Rattle.cs_events.specs.declared.outcome.Outcome.{Outcome}
@@ -15,7 +15,7 @@ use Rattle.cs_explored.specs.declared.explored.Row.{Row}
 use Rattle.cs_progress.specs.Locals.{HasLocalsAlone, HasIntegerCode}
 use Rattle.cs_progress.specs.Stepping.{end_of, result_in, HasReturned}
 use Rattle.cs_successors.specs.EntryRuns.{EndsWith}
-use Rattle.cs_successors.specs.Coming.{IsAt}
+use Rattle.cs_successors.specs.Coming.{is_declared, IsAt}
 
 module _ (code : Code) (program : TypedProgram) (entry : ℕ) (budgets : RunBudgets) (names : Naming) where
   -- a run that has so much left to do, with this log, has come to where a row stands
@@ -37,6 +37,6 @@ module _ (code : Code) (program : TypedProgram) (entry : ℕ) (budgets : RunBudg
     pub ends_with : EndsWith code program entry budgets setting steps last before outcome log
     pub valuation : Valuation
     pub at : IsAt code program budgets names end.state.value setting valuation last before
-    pub locals : HasLocalsAlone program names.bases (λ symbol. true) end.state.value
+    pub locals : HasLocalsAlone program names.bases (is_declared end.state.value.constraints) end.state.value
     pub integers : HasIntegerCode code program end.state.value.frame.spot.function
     pub returned : HasReturned outcome (result_in names.bases end.state.value.blocks valuation end.state.value.result)

@@ -1,4 +1,5 @@
 pub mod Parameters
+pub mod Exploring
 pub mod Chains
 pub mod Exact
 pub mod Inexact

@@ -1,12 +1,17 @@
 //! The exploration of an entry, row by row.
-ghost use Rattle.std.specs.Prelude.{◌≡◌, ◌≤◌, map, length, IfOk, OnOk};
+ghost use Rattle.std.specs.Prelude.{◌≡◌, ◌≤◌, ℕ, false, map, length, IfOk, OnOk};
 ghost use Rattle.cs_objects.specs.Prepared.{IsReady};
 ghost use Rattle.cs_explored.specs.Found.{IsSound, Grows, AreLinked, AreOfRows};
+ghost use Rattle.cs_operators.specs.Asking.{HasEveryKind};
+ghost use Rattle.cs_coverage.specs.Closing.{Waits, IsOpen};
+ghost use Rattle.cs_engine.specs.Exploring.{ExploresIntegers, IsFull, IsOpenGraph, IsDone, CoversIntegers};
 
 use crate::entry::start;
+use crate::numbering::have_each_once;
 use cs_checker::Checker;
 use cs_children::{Children, Exploration};
 use cs_explored::{Explored, Findings};
+use cs_keys::laws::keys_are_exact;
 use std::alloc::AllocError;
 
 /// Explores the runs of an entry.
@@ -22,11 +27,15 @@ pub fn explore(
     ensures linked { IfOk result (λ explored. AreLinked explored.rows.items) }
     ensures ends { IfOk result (λ explored.
         AreOfRows explored.rows.items explored.ends.items) }
+    ensures covers { IfOk result (λ explored.
+        HasEveryKind (λ b. kind_of b) checkers.old.items
+        → CoversIntegers exploration.now entry explored) }
     ensures kinds { map (λ b. kind_of b) checkers.new.items
         ≡ map (λ b. kind_of b) checkers.old.items }
 {
     let mut findings = begin(exploration, entry)?;
     expand_all(exploration, &mut findings, checkers)?;
+    have_each_once(&findings.tables);
     Ok(findings.explored())
 }
 
@@ -37,10 +46,14 @@ fn begin(exploration: &Exploration, entry: u32) -> Result<Findings, AllocError>
     ensures sound { IfOk result (λ findings. IsSound findings) }
     ensures nodes { IfOk result (λ findings.
         findings.nodes ≡ exploration.now.budgets.nodes) }
+    ensures begins { IfOk result (λ findings.
+        ExploresIntegers exploration.now entry
+        → IsOpenGraph exploration.now entry Waits findings) }
 {
     let alloc = exploration.context.alloc;
     let mut findings = Findings::new(alloc, exploration.budgets.nodes);
     let state = start(exploration.context, entry, &mut findings.tables)?;
+    have_each_once(&findings.tables);
     let state = Box::new(alloc, state)?;
     findings.add_first(alloc, state)?;
     Ok(findings)
@@ -54,6 +67,10 @@ fn expand_all(
 ) -> Result<(), AllocError>
     requires { IsReady exploration.now.context.now.setting.now }
     ensures grows { OnOk result (Grows findings.old findings.new) }
+    ensures done { OnOk result (HasEveryKind (λ b. kind_of b) checkers.old.items
+        → (entry : ℕ) → ExploresIntegers exploration.now entry
+        → IsOpenGraph exploration.now entry Waits findings.old
+        → IsDone exploration.now entry findings.new) }
     ensures kinds { map (λ b. kind_of b) checkers.new.items
         ≡ map (λ b. kind_of b) checkers.old.items }
 {
@@ -77,9 +94,15 @@ fn expand(
 ) -> Result<bool, AllocError>
     requires { IsReady exploration.now.context.now.setting.now }
     ensures grows { OnOk result (Grows findings.old findings.new) }
+    ensures expands { OnOk result (HasEveryKind (λ b. kind_of b) checkers.old.items
+        → (entry : ℕ) → ExploresIntegers exploration.now entry
+        → IsOpenGraph exploration.now entry (IsOpen row) findings.old
+        → IsOpenGraph exploration.now entry Waits findings.new) }
+    ensures full { IfOk result (λ room. room ≡ false → IsFull findings.new) }
     ensures kinds { map (λ b. kind_of b) checkers.new.items
         ≡ map (λ b. kind_of b) checkers.old.items }
 {
+    keys_are_exact();
     let alloc = exploration.context.alloc;
     let Some(from) = findings.graph.rows().get(row as usize) else {
         return Err(AllocError);

@@ -1,12 +1,14 @@
 //! The state in which the exploration of an entry begins.
-ghost use Rattle.std.specs.Prelude.{◌≡◌, ◌<◌, ℕ, true, false, length, map, Some, slice_get};
+ghost use Rattle.std.specs.Prelude.{◌≡◌, ◌<◌, ℕ, true, false, length, map, Some, slice_get, IfOk, OnOk};
 ghost use Rattle.cs_types.specs.Shape.{shape_of};
 ghost use Rattle.cs_types.specs.Layout.{IsLaidOut};
 ghost use Rattle.cs_ast.specs.TypedProgram.{typed_program, variable, routine};
 ghost use Rattle.cs_meaning.specs.Machine.{routine_of};
 ghost use Rattle.cs_meaning.specs.Steps as meaning;
 ghost use Rattle.cs_objects.specs.Prepared.{IsReady};
-ghost use Rattle.cs_state.specs.Starting.{HaveSizes, HasSizes, DifferInName};
+ghost use Rattle.cs_cfg.specs.GraphView as view;
+ghost use Rattle.cs_state.specs.Naming.{naming};
+ghost use Rattle.cs_state.specs.Starting.{HaveSizes, HasSizes, DifferInName, IsStart};
 ghost use Rattle.cs_engine.specs.Parameters.{DiffersFromBefore};
 
 use cs_ast::typed::program::{Function, Local, Program};
@@ -16,18 +18,19 @@ use cs_types::CType;
 use cs_values::types::is_small;
 use std::alloc::AllocError;
 
-/// The state in which an entry begins, at a spot where something else stands than a jump. An entry that can't begin is want of memory.
+/// The state in which an entry begins. An entry that can't begin is want of memory.
 pub(crate) fn start(context: &Context, entry: u32, tables: &mut Tables) -> Result<State, AllocError>
     requires { IsReady context.now.setting.now }
+    ensures start { IfOk result (IsStart (view.code context.now.code.now)
+        (typed_program context.now.setting.now.program.now) entry (naming tables.new)) }
+    ensures names { OnOk result (DifferInName (meaning.parameters_of
+        (routine_of (typed_program context.now.setting.now.program.now) entry))) }
 {
     let program = context.setting.program;
     if !can_start(program, entry) {
         return Err(AllocError);
     }
-    let mut state = State::start(context.alloc, context.code, program, entry, tables)?;
-    let spot = context.code.settled(state.frame.spot).ok_or(AllocError)?;
-    state.go_to(spot);
-    Ok(state)
+    State::start(context.alloc, context.code, program, entry, tables)
 }
 
 // Whether an entry can begin: no two of its parameters have one name (C11 6.7, paragraph 3), and no size passes the bounds in what they

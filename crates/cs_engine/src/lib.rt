@@ -3,6 +3,7 @@
 
 mod engine;
 mod entry;
+mod numbering;
 
 pub use cs_children::Exploration;
 pub use engine::explore;

@@ -1,6 +1,7 @@
 -- Children, ends and cuts that are added one after another: for the contracts of `Findings`.
 use Rattle.std.proofs.Common.{◌≡◌, ◌<◌, ℕ, Bool, true, false, List, [], ◌∷◌, ◌++◌, map, length, refl, sym, ap, ◌∙◌, subst, arith}
 use Rattle.std.proofs.lemmas.List.{append-nil, append_assoc, map-append}
+use Rattle.std.proofs.lemmas.List.Elements.{All-nil, All-push}
 use Rattle.std.specs.Global.{Box}
 use Rattle.cs_results.specs.declared.result.Cut.{Cut}
 use Rattle.cs_events.specs.declared.outcome.Outcome.{Outcome}
@@ -12,7 +13,8 @@ use Rattle.cs_explored.specs.declared.explored.Row.{Row}
 use Rattle.cs_explored.specs.Found.{Grows, IsPlaced}
 use Rattle.cs_keys.specs.Live.{live_part}
 use Rattle.cs_keys.specs.Words.{words_of}
-use Rattle.cs_explored.specs.Placing.{RowGraph, child_row, end_of_row, PlacesRow, PlacesAll, KeepsEnds, KeepsRows, AddsEnds, AddsCuts}
+use Rattle.cs_explored.specs.Placing.{RowGraph, child_row, end_of_row, PlacesRow, PlacesAll, KeepsEnds, KeepsRows, AddsEnds, AddsCuts, HavePlainKeys}
+use Rattle.cs_store.specs.Held.{HasPlainKeys}
 use Rattle.cs_explored.proofs.Growing.{grows_not, grows_on, grows_same, grows_end}
 
 -- so many children were placed, and nothing was cut
@@ -21,6 +23,7 @@ pub record PlacedSoFar (row : ℕ) (made : List Child) (before after : Findings)
   pub placed : PlacesAll row made before.graph after.graph
   pub cuts : after.cuts.items ≡ before.cuts.items
   pub rest : KeepsEnds before after
+  pub plain : HavePlainKeys made
 
 -- so many ends were added
 pub record EndedSoFar (row : ℕ) (new : List (Outcome × Box State)) (before after : Findings) : Type 0 where
@@ -34,7 +37,13 @@ pub record CutSoFar (new : List Cut) (before after : Findings) : Type 0 where
 
 -- at the beginning
 pub placed_none : (row : ℕ) (findings : Findings) → PlacedSoFar row [] findings findings
-placed_none row findings = record { grows = grows_not findings; placed = refl; cuts = refl; rest = record { ends = refl; tables = refl } }
+placed_none row findings = record {
+  grows = grows_not findings;
+  placed = refl;
+  cuts = refl;
+  rest = record { ends = refl; tables = refl };
+  plain = All-nil (λ (child : Child). HasPlainKeys child.state.value.store);
+}
 
 pub ended_none : (row : ℕ) (findings : Findings) → EndedSoFar row [] findings findings
 ended_none row findings = record {
@@ -84,14 +93,16 @@ cut_more new one before between after adds cuts ends rows = record {
 -- one more child was placed
 pub place_next : (row : ℕ) (made : List Child) (child : Child) (before between after : Findings) (new : Row) (room : Bool) → new ≡ child_row row child
     → room ≡ true → IsPlaced (words_of (live_part new.state.value)) new room between after → Grows between after → KeepsEnds between after
-    → PlacedSoFar row made before between → PlacedSoFar row (made ++ child ∷ []) before after
-place_next row made child before between after new false is there placed grows rest so_far = cc
-place_next row made child before between after new true is there placed grows rest so_far = record {
+    → HasPlainKeys new.state.value.store → PlacedSoFar row made before between → PlacedSoFar row (made ++ child ∷ []) before after
+place_next row made child before between after new false is there placed grows rest plain so_far = cc
+place_next row made child before between after new true is there placed grows rest plain so_far = record {
   grows = grows_on before between after so_far.grows grows;
   placed = place_more row made child before.graph between.graph after.graph so_far.placed
       (subst (λ (r : Row). PlacesRow r between.graph after.graph) is placed.0);
   cuts = placed.1 ∙ so_far.cuts;
   rest = keeps_on before between after so_far.rest rest;
+  plain = All-push (λ (child : Child). HasPlainKeys child.state.value.store) made child so_far.plain
+      (subst (λ (r : Row). HasPlainKeys r.state.value.store) is plain);
 }
 
 -- one more end was added

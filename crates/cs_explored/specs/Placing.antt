@@ -1,11 +1,12 @@
 -- Children that are placed in a graph, one after another, each as a row unless one has its key.
-use Rattle.std.specs.Prelude.{◌≡◌, ℕ, nat_eq, Bool, true, false, List, [], ◌∷◌, ◌++◌, map, None, Some, Contains}
+use Rattle.std.specs.Prelude.{◌≡◌, ℕ, nat_eq, Bool, true, false, List, [], ◌∷◌, ◌++◌, map, All, None, Some, Contains}
 use Rattle.std.specs.Global.{Box}
 use Rattle.std.specs.Cmp.Lexicographic.{pointwise}
 use Rattle.cs_events.specs.declared.outcome.Outcome.{Outcome}
 use Rattle.cs_results.specs.declared.result.Cut.{Cut}
 use Rattle.cs_results.specs.declared.result.Cut.TheVariants.{Nodes}
 use Rattle.cs_state.specs.declared.state.State.{State}
+use Rattle.cs_store.specs.Held.{HasPlainKeys}
 use Rattle.cs_keys.specs.Live.{live_part}
 use Rattle.cs_keys.specs.Words.{words_of}
 use Rattle.cs_graph.specs.Adding.{IsAdded}
@@ -65,7 +66,12 @@ pub record AddsCuts (new : List Cut) (before after : Findings) : Type 0 where
   pub ends : after.ends.items ≡ before.ends.items
   pub rows : KeepsRows before after
 
+-- what the states of children hold is kept under numbers beside zeros
+abbrev pub HavePlainKeys : List Child → Type 0
+HavePlainKeys made = All (λ (child : Child). HasPlainKeys child.state.value.store) made
+
 -- all children of a row are placed, and nothing is cut; or the graph was full, which is a cut
 abbrev pub PlacesChildren : ℕ → List Child → Bool → Findings → Findings → Type 0
-PlacesChildren parent made true before after = PlacesAll parent made before.graph after.graph × (after.cuts.items ≡ before.cuts.items)
+PlacesChildren parent made true before after =
+    PlacesAll parent made before.graph after.graph × (after.cuts.items ≡ before.cuts.items) × HavePlainKeys made
 PlacesChildren parent made false before after = Contains after.cuts.items (Nodes before.nodes)

@@ -1,6 +1,7 @@
 //! What an exploration has found so far.
 ghost use Rattle.std.specs.Prelude.{◌≡◌, ◌≤◌, ◌<◌, [], length, IfOk, OnOk};
 ghost use Rattle.cs_graph.specs.Adding.{empty};
+ghost use Rattle.cs_store.specs.Held.{HasPlainKeys};
 ghost use Rattle.cs_keys.specs.Live.{live_part};
 ghost use Rattle.cs_keys.specs.Words.{words_of};
 ghost use Rattle.cs_explored.specs.Placing.{child_row, first_row, KeepsEnds, AddsEnds, AddsCuts, PlacesChildren};
@@ -54,6 +55,7 @@ impl Findings {
         ensures placed { IfOk result (λ room.
             IsPlaced (words_of (live_part state.value)) (first_row state) room self.old self.new) }
         ensures rest { OnOk result (KeepsEnds self.old self.new) }
+        ensures plain { OnOk result (HasPlainKeys state.value.store) }
     {
         self.add(
             alloc,
@@ -73,7 +75,9 @@ impl Findings {
             IsPlaced (words_of (live_part row.state.value)) row room self.old self.new) }
         ensures grows { OnOk result (Grows self.old self.new) }
         ensures rest { OnOk result (KeepsEnds self.old self.new) }
+        ensures plain { OnOk result (HasPlainKeys row.state.value.store) }
     {
+        has_plain_keys(&row);
         let row = listed(row)?;
         let key = key(alloc, &*row.state)?;
         let visits = visits_of(&*row.state);
@@ -155,6 +159,13 @@ impl Findings {
             tables,
         }
     }
+}
+
+// What a row's state holds is kept under numbers beside zeros, of which a key has all.
+fn has_plain_keys(row: &Row)
+    ensures { HasPlainKeys row.now.state.value.store }
+{
+    row.state.store.has_plain_keys();
 }
 
 // The row with a state whose large tables are listed, so that the states after it share what was listed.

@@ -34,7 +34,7 @@ use Rattle.cs_state.specs.declared.block.Block.{Block}
 use Rattle.cs_state.specs.declared.state.State.{State}
 use Rattle.cs_state.specs.Cells.{block_of}
 use Rattle.cs_state.specs.Naming.{Naming, Extends}
-use Rattle.cs_state.specs.Starting.{Ranges, Declares, IsAfter, GivesNumber, GivesPointer, HoldsNumber, HoldsPointer, Gives, Receives, HoldsValue}
+use Rattle.cs_state.specs.Starting.{Ranges, Declares, IsAfter, GivesNumber, GivesPointer, HoldsNumber, HoldsPointer, Gives, Receives, HoldsValue, IsPointer}
 use Rattle.cs_state.specs.Starting.{HoldsInput, IsParameter, HasReceived, DifferInName}
 
 -- the name in a path of a parameter
@@ -114,7 +114,7 @@ pub record IsGiven (program : TypedProgram) (names : Naming) (shape : Shape) (pa
   pub holds : HoldsValue program names shape path count value new
   pub store : new.store ≡ old.store
   pub block_new : (b : ℕ) (block : Block) → block_of new.blocks b ≡ Some block
-      → (block_of old.blocks b ≡ Some block) ⊎ (slice_get names.bases b ≡ Some (Entry path))
+      → (block_of old.blocks b ≡ Some block) ⊎ ((slice_get names.bases b ≡ Some (Entry path)) × IsPointer shape)
   pub block_kept : (b : ℕ) → slice_get names.bases b ≢ Some (Entry path) → block_of new.blocks b ≡ block_of old.blocks b
   pub symbol_new : (s : ℕ) (set : List Interval) → set_of new.constraints s ≡ Some set
       → (set_of old.constraints s ≡ Some set) ⊎ (slice_get names.syms s ≡ Some (Input path))
@@ -173,7 +173,8 @@ module _ (program : TypedProgram) (names : Naming) (path : Path) (count : Option
         store = ap (λ (s : State). s.store) g.rest;
         block_new = λ b block there.
             elim (eqb_tells b g.base) [
-              | inl same ↦ inr (subst (λ (n : ℕ). slice_get names.bases n ≡ Some (Entry path)) (sym same.1) g.is_after.named)
+              | inl same ↦
+                  inr (subst (λ (n : ℕ). slice_get names.bases n ≡ Some (Entry path)) (sym same.1) g.is_after.named, (target, refl))
               | inr differ ↦ inl (sym (get_elsewhere old.blocks g.base b g.block differ.1) ∙ sym (ap (λ m. block_of m b) blocks) ∙ there)
             ];
         block_kept = λ b other.

@@ -20,7 +20,7 @@ use Rattle.cs_state.specs.declared.block.Block.{Block}
 use Rattle.cs_state.specs.declared.state.State.{State}
 use Rattle.cs_state.specs.Cells.{block_of}
 use Rattle.cs_state.specs.Naming.{Naming, Extends}
-use Rattle.cs_state.specs.Starting.{HoldsValue, HoldsInput, IsParameter, HasReceived, DifferInName, Receives, Gives}
+use Rattle.cs_state.specs.Starting.{HoldsValue, HoldsInput, IsParameter, HasReceived, DifferInName, Receives, Gives, IsPointer}
 use Rattle.cs_types.specs.Shape.{Shape, void, integer, pointer, array, struct}
 use Rattle.cs_state.specs.Writes.{with_memory, with_known}
 use Rattle.cs_state.proofs.Received.{IsGiven, given, holds_kept, same_input, same_entry, same_local, same_name}
@@ -146,14 +146,15 @@ module _ (program : TypedProgram) {names after : Naming} (e : Extends names afte
 
   abbrev Blocked : ℕ → Type 0
   Blocked b = (number : ℕ) × (w : Variable) × IsParameter variables (count + 1) w number × (slice_get after.bases b ≡ Some (Entry (parameter_path w)))
+      × IsPointer w.ty
 
   blocks_more : (b : ℕ) (block : Block) → block_of new.blocks b ≡ Some block → Blocked b
   blocks_more b block here =
       elim (is.block_new b block (sym (same_blocks b) ∙ here)) [
         | inl before ↦
             let it = h.blocks b block before in
-            (it.0, it.1, still it.2, e.bases b (Entry (parameter_path it.1)) it.3)
-        | inr named ↦ (count, v, now, named)
+            (it.0, it.1, still it.2, e.bases b (Entry (parameter_path it.1)) it.3, it.4)
+        | inr new_one ↦ (count, v, now, new_one.0, new_one.1)
       ]
 
   abbrev Symbolized : ℕ → Type 0

@@ -57,6 +57,10 @@ DifferInName variables = (one other : ℕ) (v w : Variable) → slice_get variab
     → v.name ≡ w.name
     → one ≡ other
 
+-- a type is one of pointers
+abbrev pub IsPointer : Shape → Type 0
+IsPointer shape = (target : Shape) × (shape ≡ pointer target)
+
 -- the path of a parameter with a name
 abbrev pub path_of : List ℕ → Path
 path_of name = record { root = Param name; cells = [] }
@@ -194,6 +198,7 @@ module _ (program : TypedProgram) (names : Naming) where
     pub unfilled : (b o : ℕ) (fill : store.Fill) → held state.store b o ≡ Fill fill → fill ≡ UnsetFill
     pub blocks : (b : ℕ) (block : Block) → block_of state.blocks b ≡ Some block
         → (number : ℕ) × (v : Variable) × IsParameter variables count v number × (slice_get names.bases b ≡ Some (Entry (parameter_path v)))
+        × IsPointer v.ty
     pub symbols : (sym : ℕ) (set : List Interval) → set_of state.constraints sym ≡ Some set
         → (number : ℕ) × (v : Variable) × IsParameter variables count v number × (slice_get names.syms sym ≡ Some (Input (parameter_path v)))
 

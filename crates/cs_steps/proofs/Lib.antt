@@ -5,7 +5,7 @@ mod Working
 mod Fetching
 mod LoadedWork
 mod CutMeanings
-mod Going
+pub mod Going
 mod KeptStates
 mod Beginning
 mod Stepped

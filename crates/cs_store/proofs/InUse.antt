@@ -2,7 +2,7 @@
 use Rattle.std.proofs.Common.{◌≡◌, ◌==◌, ℕ, Bool, true, false, cond, nat_eq, List, [], ◌∷◌, length, refl, sym, ap, ◌∙◌, subst}
 use Rattle.std.specs.Prelude.{◌≢◌, Option, None, Some}
 use Rattle.std.specs.FinMap as finite
-use Rattle.std.specs.Option.{option_map_or, option_or}
+use Rattle.std.specs.Option.{option_map_or, option_or, unwrap_or}
 use Rattle.std.specs.Ordering.{eq_by_cmp}
 use Rattle.std.specs.Cmp.{nat_eq_equiv}
 use Rattle.std.proofs.lemmas.Bool.{false≢true}
@@ -14,9 +14,9 @@ use Rattle.cs_store.specs.declared.value.Fill.{Fill}
 use Rattle.cs_store.specs.declared.value.Fill.TheVariants.{Unset}
 use Rattle.cs_store.specs.declared.value.Found.{Found}
 use Rattle.cs_store.specs.declared.value.Found.TheVariants as found
-use Rattle.cs_store.specs.Contents.{Contents, HoldsNothing, after_leaves, filled, held_in, last_leaf}
-use Rattle.cs_store.specs.Held.{Regions, AreInUse, held}
-use Rattle.cs_store.proofs.Keys.{same_key, key_itself, other_key}
+use Rattle.cs_store.specs.Contents.{Contents, HasOffsets, HoldsNothing, after_leaves, filled, held_in, last_leaf}
+use Rattle.cs_store.specs.Held.{Regions, AreInUse, HasPlainKeys, held}
+use Rattle.cs_store.proofs.Keys.{same_key, key_itself, no_offsets, other_key}
 use Rattle.cs_store.proofs.Regions.{held_filled, same_lookup, no_lookup}
 
 -- a region with a direct binding holds something
@@ -53,15 +53,17 @@ leaves_something (leaf ∷ leaves) contents before some e =
 pub in_use_empty : AreInUse finite.empty
 in_use_empty key contents e = absurd (none-some contents (sym (finite.get-empty {X = Contents} key_cmp key) ∙ e))
 
-pub in_use_insert : (store : Regions) (base : ℕ) (new : Contents) → AreInUse store → ¬ HoldsNothing new → AreInUse (finite.insert store (base, 0) new)
-in_use_insert store base new all some key contents e =
+pub in_use_insert : (store : Regions) (base : ℕ) (new : Contents) → AreInUse store → ¬ HoldsNothing new → HasOffsets new.direct
+    → AreInUse (finite.insert store (base, 0) new)
+in_use_insert store base new all some plain key contents e =
     by (eq_by_cmp key_cmp key (base, 0)) refl (sym (finite.get-insert key_cmp_total store (base, 0) new key) ∙ e)
   where
     by : (t : Bool) → eq_by_cmp key_cmp key (base, 0) ≡ t → cond (eq_by_cmp key_cmp key (base, 0)) (Some new) (finite.get store key) ≡ Some contents
-        → (key.1 ≡ 0) × ¬ HoldsNothing contents
+        → (key.1 ≡ 0) × ¬ HoldsNothing contents × HasOffsets contents.direct
     by true t here = (
       ap (λ (p : ℕ × ℕ). p.1) (same_key key (base, 0) t),
       subst (λ (z : Contents). ¬ HoldsNothing z) (same_Some new contents (rw t at here)) some,
+      subst (λ (z : Contents). HasOffsets z.direct) (same_Some new contents (rw t at here)) plain,
     )
     by false t here = all key contents (rw t at here)
 
@@ -90,3 +92,15 @@ pub held_left : (store : Regions) (b c o : ℕ) → c ≢ b → held (finite.rem
 held_left store b c o differ =
     same_lookup (finite.remove store (b, 0)) store c o (finite.get-remove key_cmp_total store (b, 0) (c, 0)
     ∙ ap (λ t. cond t None (finite.get store (c, 0))) (other_key c b differ))
+
+-- regions in use have plain keys
+pub plain_keys : (store : Regions) → AreInUse store → HasPlainKeys store
+plain_keys store all = record {
+  regions = λ key contents e. (all key contents e).0;
+  bindings = λ base. by (finite.get store (base, 0)) (λ contents e. (all (base, 0) contents e).2);
+}
+  where
+    by : (found : Option Contents) → ((contents : Contents) → found ≡ Some contents → HasOffsets contents.direct)
+        → HasOffsets (unwrap_or found (filled Unset)).direct
+    by None some = no_offsets
+    by (Some contents) some = some contents refl

@@ -7,7 +7,7 @@ use Rattle.std.specs.List.Sorted.{IsStrictlyIncreasing}
 use Rattle.cs_pmap.specs.Keys.{key_cmp}
 use Rattle.cs_store.specs.declared.value.Fill.TheVariants.{Unset}
 use Rattle.cs_store.specs.declared.value.Found.{Found}
-use Rattle.cs_store.specs.Contents.{Contents, filled, held_in, by_number, HoldsNothing}
+use Rattle.cs_store.specs.Contents.{Contents, filled, held_in, by_number, HasOffsets, HoldsNothing}
 
 -- the contents of base regions, keyed by the region's number beside a zero
 abbrev pub Regions : Type 0
@@ -21,9 +21,15 @@ contents_of store base = unwrap_or (get store (base, 0)) (filled Unset)
 abbrev pub held : Regions → ℕ → ℕ → Found
 held store base offset = held_in (contents_of store base) offset
 
--- each region is kept under its number beside a zero, and holds something
+-- each region is kept under its number beside a zero, and holds something, each value under its offset beside a zero
 abbrev pub AreInUse : Regions → Type 0
-AreInUse store = (key : ℕ × ℕ) (contents : Contents) → get store key ≡ Some contents → (key.1 ≡ 0) × ¬ HoldsNothing contents
+AreInUse store = (key : ℕ × ℕ) (contents : Contents) → get store key ≡ Some contents
+    → (key.1 ≡ 0) × ¬ HoldsNothing contents × HasOffsets contents.direct
+
+-- each region and each value that is bound is kept under a number beside a zero
+pub record HasPlainKeys (store : Regions) : Type 0 where
+  pub regions : (key : ℕ × ℕ) (contents : Contents) → get store key ≡ Some contents → key.1 ≡ 0
+  pub bindings : (base : ℕ) → HasOffsets (contents_of store base).direct
 
 -- the base regions that hold something, with their contents
 abbrev pub regions_of : Regions → List (ℕ × Contents)

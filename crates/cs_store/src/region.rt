@@ -2,7 +2,7 @@
 //! of Clang's analyzer.
 ghost use Rattle.std.specs.Prelude.{◌≡◌, ℕ, IfOk, IfSome, OnOk, OnErr};
 ghost use Rattle.std.specs.Iterator.{YieldsFirstBy, item_count};
-ghost use Rattle.cs_store.specs.Contents.{filled, held_in, with_binding, keyed, after_leaves, bindings_of, IsListing};
+ghost use Rattle.cs_store.specs.Contents.{filled, held_in, with_binding, keyed, after_leaves, bindings_of, HasOffsets, IsListing};
 ghost use Rattle.cs_store.specs.Listings.{listing_of};
 
 use crate::listing::Listing;
@@ -51,6 +51,13 @@ impl Region {
             direct: PMap::new(alloc),
             listing: None,
         }
+    }
+
+    /// Each direct binding is kept under its offset beside a zero.
+    pub(crate) fn has_offsets(&self)
+        ensures { HasOffsets self.now.direct }
+    {
+        let _ = &self.direct;
     }
 
     /// The default binding.

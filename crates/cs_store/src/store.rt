@@ -4,7 +4,7 @@ ghost use Rattle.std.specs.FinMap.{get, insert};
 ghost use Rattle.std.specs.Iterator.{YieldsFirstBy, item_count};
 ghost use Rattle.std.specs.List.{Contains, list_any};
 ghost use Rattle.cs_store.specs.Contents.{Contents, HoldsNothing, after_leaves, IsListing};
-ghost use Rattle.cs_store.specs.Held.{contents_of, held, regions_of, IsRegionListing};
+ghost use Rattle.cs_store.specs.Held.{contents_of, held, regions_of, HasPlainKeys, IsRegionListing};
 
 use crate::region::{Bindings, Region};
 use crate::value::{Fill, Found, Value};
@@ -168,6 +168,13 @@ impl Store {
         Ok(())
     }
 
+    /// Each region and each value that is bound is kept under a number beside a zero.
+    pub fn has_plain_keys(&self)
+        ensures { HasPlainKeys self.now }
+    {
+        let _ = &self.regions;
+    }
+
     // A region that was written takes the place of what was held.
     fn put(&mut self, base: u64, region: Region) -> Result<(), AllocError>
         requires { ¬ HoldsNothing region }
@@ -175,6 +182,7 @@ impl Store {
         ensures err { OnErr result (self.new ≡ self.old) }
     {
         let mut region = region;
+        region.has_offsets();
         region.list_if_small(self.alloc)?;
         let is_listed = self.listed && !region.is_large();
         self.regions.insert((base, 0), region)?;

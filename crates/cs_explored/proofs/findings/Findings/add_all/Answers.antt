@@ -3,7 +3,7 @@ use Rattle.std.proofs.lemmas.List.{map-id}
 use Rattle.std.proofs.lemmas.Iterator.Adapters.{YieldsList-from_vec}
 use Rattle.std.proofs.lemmas.Iterator.Consumers.{YieldsList-end}
 use Rattle.cs_explored.specs.declared.child.Child.{Child}
-use Rattle.cs_explored.specs.Placing.{PlacesAll}
+use Rattle.cs_explored.specs.Placing.{PlacesAll, HavePlainKeys}
 use Rattle.cs_explored.proofs.Placed.{placed_none, place_next, keeps_on}
 use Rattle.cs_explored.proofs.findings.Findings.add_all.Goals as goal
 
@@ -17,10 +17,12 @@ pub returns-clause-all : goal.returns-clause-all
 returns-clause-all c =
     let yields = YieldsList-from_vec {s = c.into_iter-child-iterator.result} c.args.made.items c.into_iter-child-iterator.ensures.into_iter_gives.0
     (c.into_iter-child-iterator.ensures.into_iter_gives.1 ∙ c.args.made.ok.0) in
-    let all = YieldsList-end yields c.loop-child.yielded c.loop-child.child-iterator c.loop-child.yielded_by c.next.result c.next.new.self c.in-None.is c.next.ensures.steps in (
+    let all = YieldsList-end yields c.loop-child.yielded c.loop-child.child-iterator c.loop-child.yielded_by c.next.result c.next.new.self
+    c.in-None.is c.next.ensures.steps in (
       subst (λ (made : List Child). PlacesAll c.args.row made c.args.self.now.graph c.loop-child.self.graph) (sym (map-id c.loop-child.yielded) ∙ all.0)
           c.loop-child.invariant.placed,
       c.loop-child.invariant.cuts,
+      subst HavePlainKeys (sym (map-id c.loop-child.yielded) ∙ all.0) c.loop-child.invariant.plain,
     )
 
 pub returns-clause-rest : goal.returns-clause-rest
@@ -29,4 +31,5 @@ returns-clause-rest c = c.loop-child.invariant.rest
 pub loop-child-preserved : goal.loop-child-preserved
 loop-child-preserved c =
     place_next c.args.row c.loop-child.yielded c.in-Some.child c.args.self.now c.loop-child.self c.add.new.self c.row_of.result c.in_ok-add.field-0
-    c.row_of.ensures c.if-not-branch.false c.in_ok-add.ensures.placed c.in_ok-add.ensures.grows c.in_ok-add.ensures.rest c.loop-child.invariant
+    c.row_of.ensures c.if-not-branch.false c.in_ok-add.ensures.placed c.in_ok-add.ensures.grows c.in_ok-add.ensures.rest c.in_ok-add.ensures.plain
+    c.loop-child.invariant

@@ -1,6 +1,7 @@
 use Rattle.std.proofs.Common.{sym, subst, ◌∙◌}
 use Rattle.cs_store.specs.Held.{AreInUse}
-use Rattle.cs_store.specs.Contents.{HoldsNothing}
+use Rattle.cs_store.specs.Contents.{Contents, HasOffsets, HoldsNothing}
+use Rattle.cs_store.proofs.Keys.{no_offsets}
 use Rattle.cs_store.proofs.Regions.{held_here, held_elsewhere, held_filled}
 use Rattle.cs_store.proofs.InUse.{in_use_insert, in_use_less, filled_something, left_was_there, held_removed, held_left}
 use Rattle.cs_store.proofs.store.Store.bind_default.Goals as goal
@@ -26,7 +27,8 @@ returns-in-Unset-clause-elsewhere c =
 pub invariant_of-self-2 : goal.invariant_of-self-2
 invariant_of-self-2 c =
     let some = subst (λ contents. ¬ HoldsNothing contents) (sym c.filled-region.ensures) (filled_something c.args.fill c.in_default.not-Unset) in
-    (c.self.invariant.0, subst AreInUse (sym c.in_ok-insert.ensures.ok) (in_use_insert c.self.inside.regions c.args.base _ c.self.invariant.1 some))
+    let plain = subst (λ (contents : Contents). HasOffsets contents.direct) (sym c.filled-region.ensures) no_offsets in
+    (c.self.invariant.0, subst AreInUse (sym c.in_ok-insert.ensures.ok) (in_use_insert c.self.inside.regions c.args.base _ c.self.invariant.1 some plain))
 
 pub returns : goal.returns
 returns c = record {
