@@ -204,7 +204,8 @@ no_answer_of_memory (Generate words) files program text answer =
     no_analysis Memory (lists_report every_kind answer.results) (λ e. cc) (λ e. cc) answer.yields
 
 -- neither have words: the status of a whole text is one of those with which the text is written
-pub whole_is_done : (words : List (List ℕ)) (left : Option (List ℕ)) (status : Status) (text : List ℕ) → IsWhole words left status text → IsDone status
+pub whole_is_done : (words : List (List ℕ)) (left : Option (List ℕ)) (status : Status) (text : List ℕ) → IsWhole words left status text
+    → IsDone status
 whole_is_done words left Clean text h = tt
 whole_is_done words left Found text h = tt
 whole_is_done words left BadWords text h = tt
