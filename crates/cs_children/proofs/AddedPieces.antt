@@ -1,5 +1,6 @@
 -- What is added of a state in which something shows first: for the contracts of `ask` and `select`.
-use Rattle.std.proofs.Common.{◌≡◌, ℕ, ◌<◌, ◌≤◌, Bool, true, false, not, List, [], ◌∷◌, Option, None, Some, refl, sym, ap, ◌∙◌, subst}
+use Rattle.std.proofs.Common.{◌≡◌, ℕ, ◌<◌, ◌≤◌, Bool, true, false, not, List, [], ◌∷◌, Option, None, Some, sym}
+use Rattle.std.proofs.Common.{subst}
 use Rattle.std.specs.Prelude.{Result, OnOk, MatchOption, is_some, option_map}
 use Rattle.std.specs.Global.{Box}
 use Rattle.std.proofs.lemmas.Result.{on_ok_weaker}

@@ -1,5 +1,6 @@
 -- Symbols that are declared stay so where some valuations are kept, and states of locals alone mention no others: for the contract of `find`.
-use Rattle.std.proofs.Common.{◌≡◌, ℕ, ◌+◌, ℤ, pos, negsuc, ◌≤ℤ◌, ◌<ℤ◌, Bool, true, false, true≢false, List, [], ◌∷◌, ◌||◌, Option, None, Some, All, inl, inr, refl, sym, ap, ◌∙◌, subst, arith}
+use Rattle.std.proofs.Common.{◌≡◌, ℕ, ◌+◌, ℤ, pos, negsuc, ◌≤ℤ◌, ◌<ℤ◌, Bool, true, false, true≢false, List, [], ◌∷◌}
+use Rattle.std.proofs.Common.{◌||◌, Option, None, Some, All, inl, inr, refl, sym, ap, ◌∙◌, subst, arith}
 use Rattle.std.specs.Prelude.{is_some, unsigned_abs, int_le, ◌&&◌}
 use Rattle.std.proofs.lemmas.Int.{ints}
 use Rattle.std.proofs.lemmas.List.Elements.{All-weaker}
@@ -41,9 +42,11 @@ bounded : (set : List Interval) → (bound : ℕ) × ((x : ℤ) → pos bound <�
 unfolding contains
 bounded [] = (0, λ x high. refl)
 bounded (one ∷ set) =
-    let rest = bounded set in
-    (unsigned_abs one.high + rest.0, λ x high.
-    ap (λ (b : Bool). b || contains set x) (above one rest.0 x high) ∙ rest.1 x (omega (arith, ints)))
+    let rest = bounded set in (
+      unsigned_abs one.high + rest.0,
+      λ x high.
+          ap (λ (b : Bool). b || contains set x) (above one rest.0 x high) ∙ rest.1 x (omega (arith, ints)),
+    )
 
 -- what is declared there or not
 declared_or_none : (found : Option (List Interval)) → (is_some found ≡ false → ⊥) → is_some found ≡ true

@@ -1,6 +1,6 @@
 -- What the parts of `find` make of what was found before: for its contract.
-use Rattle.std.proofs.Common.{◌≡◌, ℕ, suc, ◌+◌, ◌<◌, ◌≤◌, ℤ, Bool, true, false, List, [], ◌∷◌, ◌++◌, Some, All, map, inr, if◌then◌else◌, refl, sym, ap, ◌∙◌, subst, arith}
-use Rattle.std.specs.Prelude.{slice_get}
+use Rattle.std.proofs.Common.{◌≡◌, ℕ, suc, ◌+◌, ◌<◌, ◌≤◌, ℤ, Bool, true, false, List, [], ◌∷◌, ◌++◌, map, inr}
+use Rattle.std.proofs.Common.{if◌then◌else◌, refl, sym, ap, ◌∙◌, subst, arith}
 use Rattle.std.specs.List.{Any}
 use Rattle.std.specs.Global.{Box}
 use Rattle.std.specs.Ordering.{int_eq}
@@ -11,7 +11,6 @@ use Rattle.cs_types.specs.declared.data_model.DataModel.{DataModel}
 use Rattle.cs_ast.specs.declared.place.Place.{Place}
 use Rattle.cs_ast.specs.TypedProgram.{TypedProgram}
 use Rattle.cs_model.specs.declared.kind.Kind.{Kind}
-use Rattle.cs_terms.specs.declared.symbol.Sym.{Sym}
 use Rattle.cs_terms.specs.declared.term.Lin.{Lin}
 use Rattle.cs_terms.specs.Term.{Valuation, value_of}
 use Rattle.cs_constraints.specs.Constraints.{Fits}
@@ -32,31 +31,28 @@ use Rattle.cs_cfg.specs.Working.{CodeState}
 use Rattle.cs_cfg.specs.CodeSteps.{way_of}
 use Rattle.cs_access.specs.declared.checking.Checked.{Checked}
 use Rattle.cs_eval.specs.declared.question.Question.{Question}
-use Rattle.cs_eval.specs.declared.piece.Piece.{Piece}
 use Rattle.cs_eval.specs.Cases.{case_of, asking_of_cases}
 use Rattle.cs_eval.specs.Followed.{AreAnswers, asking_of}
-use Rattle.cs_eval.specs.Questions.{operation_of}
-use Rattle.cs_eval.specs.Splits.{IsSplit}
 use Rattle.cs_state.specs.declared.state.State.{State}
 use Rattle.cs_state.specs.Meaning.{meaning}
 use Rattle.cs_state.specs.Naming.{Naming, Extends}
 use Rattle.cs_progress.specs.declared.next.Next.{Next}
 use Rattle.cs_progress.specs.declared.next.Next.TheVariants as next
 use Rattle.cs_progress.specs.Locals.{HasLocalsAlone}
-use Rattle.cs_progress.specs.Stepping.{StepsInLocals, Steps, Waits, EndsAs, ShowsCase, BeginsIn, UsesAnswers, next_left, next_act}
+use Rattle.cs_progress.specs.Stepping.{StepsInLocals, Steps, Waits, EndsAs, ShowsCase, BeginsIn, next_left}
 use Rattle.cs_operators.specs.Asking.{HasEveryKind}
 use Rattle.cs_explored.specs.declared.child.Child.{Child}
 use Rattle.cs_explored.specs.declared.watch.Rule.{Rule}
 use Rattle.cs_children.specs.declared.children.Children.{Children}
 use Rattle.cs_children.specs.declared.exploration.Exploration.{Exploration}
 use Rattle.cs_children.specs.Adding.{ComesOfPieces, over, shows}
-use Rattle.cs_children.specs.Adding.{Adds, AddsPieces, AddsFaulty, AreOfQuestion, AreOfSwitch, GoesOn, KeepApart}
+use Rattle.cs_children.specs.Adding.{Adds, AddsPieces, AddsFaulty, AreOfQuestion, AreOfSwitch, GoesOn}
 use Rattle.cs_successors.specs.Coming.{is_declared, IsIntegerState, StateEnd, OutcomesDiffer, IsAt, EndsIn, IsChildOf, IsEndOf, ComesOfState, IsReachedFrom}
 use Rattle.cs_successors.specs.EntryRuns.{stays}
 use Rattle.cs_children.specs.Finding.{code_of, model_of, limits_of, AreNone, Explores, FindsAll, FindsSoFar}
 use Rattle.cs_children.proofs.FaultyParts.{rest_reached, nothing_left}
 use Rattle.cs_children.proofs.IntegerActs.{IsNoAllocation, ShowsNumbers, asks, left_shows, code_shows}
-use Rattle.cs_children.proofs.PiecesCome.{Shows, IsUsed, pieces_come, over_comes}
+use Rattle.cs_children.proofs.PiecesCome.{Shows, pieces_come, over_comes}
 use Rattle.cs_children.proofs.Reaching.{Comes, comes_of, reached_on, reached_itself}
 use Rattle.cs_children.proofs.SilentSteps.{done_reached, waits_reached, begins_in}
 use Rattle.cs_children.proofs.StandingFirst.{stands_first}
@@ -179,7 +175,8 @@ module _ (code : graph.Code) (program : TypedProgram) (budgets : RunBudgets) (na
 
   -- and those of a `switch`
   module _ (at : Place) (term : Lin)
-      (first : (cells : Path → InputKind → Cell) (v : Valuation) → Fits v box.value.constraints → ShowsCase code box.value v at term (Left cells v)) where
+      (first : (cells : Path → InputKind → Cell) (v : Valuation) → Fits v box.value.constraints
+      → ShowsCase code box.value v at term (Left cells v)) where
     -- the case that shows, by the cases that stand at the spot
     case_shows : (temporary : ℕ) (cases : List graph.SwitchCase) (otherwise : ℕ) (place : Place)
         → point_of code box.value.frame.spot ≡ record { operations = []; end = graph.Switch place temporary cases otherwise }
@@ -191,9 +188,10 @@ module _ (code : graph.Code) (program : TypedProgram) (budgets : RunBudgets) (na
         let ends : graph.Switch at one.temporary one.cases one.otherwise ≡ graph.Switch place temporary cases otherwise =
         ap (λ (p : graph.Point). p.end) (sym one.stands ∙ stands) in
         let same : one.cases ≡ cases = cc in
-        let too : one.otherwise ≡ otherwise = cc in
-        (one.onward,
-        one.shows ∙ (λ i. Asks at (operation.Show (label.Case (way_of (same i) (too i) (value_of v term) 0).number)) one.onward))
+        let too : one.otherwise ≡ otherwise = cc in (
+          one.onward,
+          one.shows ∙ (λ i. Asks at (operation.Show (label.Case (way_of (same i) (too i) (value_of v term) 0).number)) one.onward),
+        )
 
     cases_come : (limit : ℕ) → limit ≡ budgets.events → (made : List Child) (ends : List StateEnd)
         → ComesOfPieces limit rules box at (AreOfSwitch code box.value term) made ends → Comes code program budgets names rules box.value made ends
@@ -243,7 +241,8 @@ module _ (exploration : Exploration) (given : Naming) (before state : State) (fo
         steps.steps names program (is_declared state.constraints) explores.model explores.extends explores.numbered reached.integer.locals
         reached.integer.integers reached.integer.possible reached.integer.uses
 
-    further : (after : State) → IsReachedFrom code program limits names state after [] → IsReachedFrom code program limits names before after found.ends.items
+    further : (after : State) → IsReachedFrom code program limits names state after []
+        → IsReachedFrom code program limits names before after found.ends.items
     further after onward =
         subst (IsReachedFrom code program limits names before after) (append-nil found.ends.items)
         (reached_on code program limits names before state found.ends.items reached after [] onward)
@@ -268,12 +267,13 @@ module _ (exploration : Exploration) (given : Naming) (before state : State) (fo
           → Adds found all made ends → OutcomesDiffer all.ends.items
           → ComesOfState code program limits names rules before all.made.items all.ends.items × (all.cuts.items ≡ [])
       finished made ends all comes adds differ =
-          let are : all.made.items ≡ made = adds.children ∙ ap (λ xs. xs ++ made) so_far.made in
-          (subst (λ xs. ComesOfState code program limits names rules before xs all.ends.items) (sym are)
-          (subst (ComesOfState code program limits names rules before made) (sym adds.endings)
-          (comes_of code program limits names rules before after found.ends.items (further after waiting) made ends comes
-          (subst OutcomesDiffer adds.endings differ))),
-          adds.cuts ∙ so_far.cuts)
+          let are : all.made.items ≡ made = adds.children ∙ ap (λ xs. xs ++ made) so_far.made in (
+            subst (λ xs. ComesOfState code program limits names rules before xs all.ends.items) (sym are)
+                (subst (ComesOfState code program limits names rules before made) (sym adds.endings)
+                (comes_of code program limits names rules before after found.ends.items (further after waiting) made ends comes
+                (subst OutcomesDiffer adds.endings differ))),
+            adds.cuts ∙ so_far.cuts,
+          )
 
   -- an operation is done
   pub finds_done : (after : State) → Stepped after next.Done → FindsSoFar exploration later before after found

@@ -1,5 +1,6 @@
 -- What integer code does shows no offset of an access, and no allocation: for the contract of `find`.
-use Rattle.std.proofs.Common.{◌≡◌, ℕ, zero, suc, ℤ, Bool, true, false, List, [], ◌∷◌, Option, None, Some, All, if◌then◌else◌, refl, sym, ap, ◌∙◌, subst}
+use Rattle.std.proofs.Common.{◌≡◌, ℕ, zero, suc, ℤ, Bool, true, false, List, [], ◌∷◌, Option, None, Some, All, if◌then◌else◌, refl, sym}
+use Rattle.std.proofs.Common.{ap, ◌∙◌, subst}
 use Rattle.std.proofs.lemmas.List.Elements.{All-head, All-tail}
 use Rattle.std.proofs.lemmas.Option.{slice_get_within, get_or_from_slice_get}
 use Rattle.std.specs.Prelude.{option_map, unwrap_or, slice_get}
@@ -154,7 +155,8 @@ module _ {S : Type 0} where
   receive program memory (Unknown path scalar) onward shows = reads (λ cell. shows _ cell)
 
   read_all : (program : TypedProgram) (memory : Memory) (object : Object) (from : ℕ) (offsets : List ℕ) (onward : Memory → List Cell → Act S)
-      → ((after : Memory) (cells : List Cell) → ShowsNumbers (onward after cells)) → ShowsNumbers (access.read_all program memory object from offsets onward)
+      → ((after : Memory) (cells : List Cell) → ShowsNumbers (onward after cells))
+      → ShowsNumbers (access.read_all program memory object from offsets onward)
   read_all program memory object from [] onward shows = shows memory []
   read_all program memory object from (offset ∷ offsets) onward shows =
       receive program memory _ _ (λ after cell. read_all program after object from offsets _ (λ end cells. shows end (cell ∷ cells)))
@@ -294,7 +296,8 @@ module _ (code : Code) (program : TypedProgram) (budgets : RunBudgets) (spot : S
           (rest_from spot.operation block.operations) refl is
 
       in_flow : (flow : Option Flow) → flow_of code spot.function ≡ flow
-          → (unwrap_or (option_and_then (λ b. point_in b spot.operation) (option_and_then (λ (f : Flow). slice_get f.blocks spot.block) flow)) no_point).operations
+          → (unwrap_or (option_and_then (λ b. point_in b spot.operation) (option_and_then (λ (f : Flow). slice_get f.blocks spot.block) flow))
+          no_point).operations
           ≡ one ∷ rest → IsPlain one
       in_flow None found is = cc
       in_flow (Some flow) found is = in_block flow.blocks (has flow found) (slice_get flow.blocks spot.block) refl is

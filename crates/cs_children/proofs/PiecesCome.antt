@@ -1,5 +1,6 @@
 -- What comes of a state in which something shows first: for the contract of `find`.
-use Rattle.std.proofs.Common.{◌≡◌, ◌≢◌, ℕ, zero, suc, ◌+◌, ◌<◌, ◌≤◌, ℤ, true, false, List, [], ◌∷◌, ◌++◌, Option, None, Some, All, map, inl, inr, refl, sym, ap, ◌∙◌, subst, arith}
+use Rattle.std.proofs.Common.{◌≡◌, ◌≢◌, ℕ, zero, suc, ◌+◌, ◌<◌, ◌≤◌, ℤ, true, false, List, [], ◌∷◌, ◌++◌, Option, None}
+use Rattle.std.proofs.Common.{Some, All, map, inl, inr, refl, sym, ap, ◌∙◌, subst, arith}
 use Rattle.std.specs.Prelude.{slice_get, option_map, is_some}
 use Rattle.std.specs.Global.{Box}
 use Rattle.std.proofs.lemmas.List.{map-append}
@@ -200,7 +201,8 @@ module _ (code : Code) (program : TypedProgram) (budgets : RunBudgets) (names : 
                 → guess_at setting.guesses (suc state.counters.events) ≡ option_map (λ (symbol : Sym). v symbol.0) (option_map (λ what. guess) guessed)
             given guessed are =
                 let next : suc state.counters.events ≡ after.counters.events = (let n = number_is in omega (arith, n)) in
-                ap (guess_at setting.guesses) next ∙ agrees ∙ ap (option_map (λ (symbol : Sym). v symbol.0)) (of.guessed ∙ ap (option_map (λ what. guess)) are)
+                ap (guess_at setting.guesses) next ∙ agrees
+                ∙ ap (option_map (λ (symbol : Sym). v symbol.0)) (of.guessed ∙ ap (option_map (λ what. guess)) are)
 
             by : (guessed : Option Guessed) → piece.guessed ≡ guessed → IsPieceWith program.model state.constraints guess.0 asking guessed piece
                 → (to : PassesTo code program budgets names after setting v left log) × (to.one.event ≡ child.event)
@@ -212,7 +214,8 @@ module _ (code : Code) (program : TypedProgram) (budgets : RunBudgets) (names : 
             by (Some what) some inexact =
                 let from = inexact.from v (fits_piece v fits) in
                 let is_used = may v (v guess.0) here.fits from.2 in
-                let to = passes_with (Some (v guess.0)) (ap (used (guess_range program.model (asking.operation v))) (given (Some what) some) ∙ is_used.used_is)
+                let to = passes_with (Some (v guess.0)) (ap (used (guess_range program.model (asking.operation v))) (given (Some what) some)
+                ∙ is_used.used_is)
                 v fits (λ symbol declared. refl)
                 (ap (value_of v) (answer_is v here.fits (Some (v guess.0)) from.3) ∙ inexact.answer v (fits_piece v fits)) in
                 (to.0, to.1 ∙ labelled (Some (v guess.0)) from.3)
@@ -360,7 +363,8 @@ module _ (code : Code) (program : TypedProgram) (budgets : RunBudgets) (names : 
     pieces_come pieces made split match = record {
       children = are_children pieces made split.each match;
       endings = All-nil (IsEndOf code program budgets names state);
-      covers = λ setting v left log goes here without. inl (comes_to_one setting v left log goes here without pieces made split.each match (split.covers v here.fits));
+      covers = λ setting v left log goes here without. inl
+          (comes_to_one setting v left log goes here without pieces made split.each match (split.covers v here.fits));
       labels_differ = labels_differ pieces made match split.labels;
     }
 

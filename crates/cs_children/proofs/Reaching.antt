@@ -131,7 +131,8 @@ module _ (code : Code) (program : TypedProgram) (budgets : RunBudgets) (names : 
           (is.ends setting valuation way.rest way.later goes way.comes fits);
     }
 
-    ends_of_first : (more : List StateEnd) → All (IsEndOf code program budgets names one) more → All (IsEndOf code program budgets names before) (ends ++ more)
+    ends_of_first : (more : List StateEnd) → All (IsEndOf code program budgets names one) more
+        → All (IsEndOf code program budgets names before) (ends ++ more)
     ends_of_first more are =
         All-append (IsEndOf code program budgets names before) ends more reached.endings
         (All-weaker (IsEndOf code program budgets names one) (IsEndOf code program budgets names before) end_of_first more are)

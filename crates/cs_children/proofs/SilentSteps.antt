@@ -101,7 +101,8 @@ module _ (code : Code) (program : TypedProgram) (budgets : RunBudgets) (names : 
   module _ (before after : State) (is : IsIntegerState code program budgets names before) (known : KeepsKnown before after)
       (function : after.frame.spot.function ≡ before.frame.spot.function)
       (locals : HasLocalsAlone program names.bases (is_declared before.constraints) after)
-      (uses : (cells : Path → InputKind → Cell) (v : Valuation) → Fits v before.constraints → UsesAnswers code names program budgets cells after v) where
+      (uses : (cells : Path → InputKind → Cell) (v : Valuation) → Fits v before.constraints
+      → UsesAnswers code names program budgets cells after v) where
     fits_before : (v : Valuation) → Fits v after.constraints → Fits v before.constraints
     fits_before v fits = subst (λ (sets : Sets). Fits v sets) known.constraints fits
 

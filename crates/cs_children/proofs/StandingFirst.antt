@@ -30,5 +30,6 @@ module _ {State : Type 0} (setting : Setting) where
   stands log (Reaches at object offset act) = tt
 
   -- the same of an act of which this is left
-  pub stands_first : (log : Log) (act left : Act State) → left_of (read_cell setting) [] act ≡ left → StandsFirst log.events (first_of setting log act) left
+  pub stands_first : (log : Log) (act left : Act State) → left_of (read_cell setting) [] act ≡ left
+      → StandsFirst log.events (first_of setting log act) left
   stands_first log act left is = subst (StandsFirst log.events (first_of setting log act)) is (stands log act)

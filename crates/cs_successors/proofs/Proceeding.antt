@@ -38,7 +38,8 @@ module _ {M : Type 0} (step : M → Act M) (setting : Setting) where
 
   -- what goes on and adds no event is silent
   module _ (log : Log) (act : Act M) (next : M) (later : Log) (short : length later.events ≤ length log.events) where
-    shows_nothing : (first : First M) → HasEvents setting log.events first → performed setting first ≡ Continues next later → first ≡ Silent next later
+    shows_nothing : (first : First M) → HasEvents setting log.events first → performed setting first ≡ Continues next later
+        → first ≡ Silent next later
     shows_nothing (Silent other after) has is =
         let same : other ≡ next = cc in
         let same_log : after ≡ later = cc in

@@ -1,4 +1,5 @@
-//! Runs of whole programs: words and a file in, and how the run ends; by the code and by the reference machine.
+//! Inputs, operations and memory of the reference interpreter; and runs of whole programs: words and a file in, and how the run ends, by
+//! the code and by the reference machine.
 #![tactic(auto)]
 
 #[cfg(test)]
@@ -6,7 +7,11 @@ mod ends;
 #[cfg(test)]
 mod guessed;
 #[cfg(test)]
+mod inputs;
+#[cfg(test)]
 mod machines;
+#[cfg(test)]
+mod operations;
 #[cfg(test)]
 mod pending;
 #[cfg(test)]

@@ -1,9 +1,11 @@
-//! Worked examples of the parts of states, with ample memory.
+//! Worked examples of the parts of states and of the rows of an exploration, with ample memory.
 #![tactic(auto)]
 
 #[cfg(test)]
 mod frames;
 #[cfg(test)]
 mod keys;
+#[cfg(test)]
+mod rows;
 #[cfg(test)]
 mod tables;

@@ -1,4 +1,4 @@
-//! Worked examples of sets of integers, terms, and constraints on symbols.
+//! Worked examples of sets of integers, terms, constraints on symbols, and what operations on terms show.
 #![tactic(auto)]
 
 #[cfg(test)]
@@ -6,6 +6,14 @@ mod answers;
 #[cfg(test)]
 mod constraints;
 #[cfg(test)]
+mod integers;
+#[cfg(test)]
+mod pointers;
+#[cfg(test)]
 mod ranges;
 #[cfg(test)]
 mod terms;
+#[cfg(test)]
+mod text;
+#[cfg(test)]
+mod truths;

@@ -1,10 +1,14 @@
-//! Suspects of whole programs before the witness: what is shown, as text, and what is dropped.
+//! Pools of runs by hand before the judge, and suspects of whole programs before the witness: what is shown, as text, and what is dropped.
 #![tactic(auto)]
 
 #[cfg(test)]
 mod findings;
 #[cfg(test)]
+mod grounds;
+#[cfg(test)]
 mod guessed;
+#[cfg(test)]
+mod pools;
 #[cfg(test)]
 mod printed;
 #[cfg(test)]

@@ -10,13 +10,22 @@ returns-in-Some c =
     let before = c.args.state.value in
     let event : c.asked.result.event ≡ before.counters.events + 1 = search rules in
     let guesses : c.deref_mut-in-Some.result.now.asked ≡ before.asked = search rules in
-    on_ok_weaker c.add_child.result (λ adds. (_, adds, (record {
-      event = search rules;
-      guessed = search rules;
-      declared = search rules;
-      phase = search rules;
-      asked = subst (λ given. AreGuessesAfter (before.counters.events + 1) given before.asked c.guess.new.self.asked) (sym c.in-Some.is)
-          (c.asked.result, event,
-          ap (λ (s : State). s.asked) c.in_ok-guess.ensures.ok ∙ (λ i. finite.insert (guesses i) (event i, 0) c.asked.result));
-      state = search rules;
-    }, tt))) c.add_child.ensures
+    on_ok_weaker c.add_child.result (λ adds. (
+      _,
+      adds,
+      (
+        record {
+          event = search rules;
+          guessed = search rules;
+          declared = search rules;
+          phase = search rules;
+          asked = subst (λ given. AreGuessesAfter (before.counters.events + 1) given before.asked c.guess.new.self.asked) (sym c.in-Some.is) (
+            c.asked.result,
+            event,
+            ap (λ (s : State). s.asked) c.in_ok-guess.ensures.ok ∙ (λ i. finite.insert (guesses i) (event i, 0) c.asked.result),
+          );
+          state = search rules;
+        },
+        tt,
+      ),
+    )) c.add_child.ensures

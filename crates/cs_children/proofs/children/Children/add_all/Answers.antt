@@ -1,4 +1,4 @@
-use Rattle.std.proofs.Common.{◌≡◌, List, [], ◌∷◌, ◌++◌, suc, length, rules, refl, sym, ap, ◌∙◌, subst, arith}
+use Rattle.std.proofs.Common.{◌≡◌, List, [], ◌∷◌, ◌++◌, suc, length, rules, sym, ap, ◌∙◌, subst, arith}
 use Rattle.std.proofs.lemmas.List.{append_assoc, nil_from_length}
 use Rattle.std.proofs.lemmas.Result.{on_ok_weaker}
 use Rattle.std.specs.Vec.Iter.{into_iter_items}
@@ -28,7 +28,7 @@ loop-piece-preserved c =
         whole ∙ ap (λ (rest : List Piece). done ++ (rest ++ last ∷ [])) there ∙ sym (append_assoc done (piece ∷ []) (left ++ last ∷ [])),
         adds_on c.args.self.now c.loop-piece.self c.add.new.self made one [] [] adds added,
         matches_on is_made done (piece ∷ []) made one match
-        (subst (λ (state : State). AreOfPieces rules state c.args.place c.args.guess (piece ∷ []) one) same matched),
+            (subst (λ (state : State). AreOfPieces rules state c.args.place c.args.guess (piece ∷ []) one) same matched),
       );
     }
 
@@ -44,5 +44,5 @@ returns c =
       made ++ more.0,
       adds_on c.args.self.now c.loop-piece.self c.add-2.new.self made more.0 [] [] adds more.1,
       subst (λ (pieces : List Piece). AreOfPieces rules c.args.before.value c.args.place c.args.guess pieces (made ++ more.0)) (sym are)
-      (matches_on (IsOfPiece rules c.args.before.value c.args.place c.args.guess) done (last ∷ []) made more.0 match more.2),
+          (matches_on (IsOfPiece rules c.args.before.value c.args.place c.args.guess) done (last ∷ []) made more.0 match more.2),
     )) c.add-2.ensures

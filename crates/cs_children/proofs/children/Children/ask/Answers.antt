@@ -1,4 +1,4 @@
-use Rattle.std.proofs.Common.{◌≡◌, ℕ, ◌+◌, ◌≤◌, ◌<◌, Some, rules, refl, ap, ◌∙◌, subst}
+use Rattle.std.proofs.Common.{◌≡◌, ℕ, ◌+◌, ◌≤◌, ◌<◌, Some, rules, ap, ◌∙◌, subst}
 use Rattle.cs_terms.specs.declared.symbol.SymName.TheVariants.{Guess as GuessAt}
 use Rattle.cs_constraints.specs.Constraints.{set_of}
 use Rattle.cs_eval.specs.Followed.{AreAnswers}

@@ -1,4 +1,4 @@
-use Rattle.std.proofs.Common.{◌≡◌, Bool, true, false, List, [], ◌∷◌, refl, sym, ap, ◌∙◌, subst}
+use Rattle.std.proofs.Common.{◌≡◌, Bool, true, false, [], ◌∷◌, refl, sym, ap, ◌∙◌, subst}
 use Rattle.std.specs.Prelude.{Result, Ok, Err, OnOk}
 use Rattle.std.specs.Global.{Box}
 use Rattle.cs_ast.specs.declared.place.Place.{Place}
@@ -57,34 +57,36 @@ module _ (exploration : Exploration) (given later : Naming) (more : Extends give
         finds_no_rest exploration given before state found so_far later more new at checked (stepped (next.Checks at checked) is) all after goes adds on_new
         is_false (keeps apart)
 
-  module _ {X Y : Type 0} (result : Result X Y) (box : Box State) (is_new : new ≡ box.value) (all : Children) (keeps : OnOk result (KeepApart found all)) where
-    boxed : (now : Next) → what ≡ now
-        → StepsInLocals (code_of exploration) (model_of exploration) (limits_of exploration) later state box.value now
-    boxed now is = subst (λ (s : State). StepsInLocals (code_of exploration) (model_of exploration) (limits_of exploration) later state s now) is_new
-        (stepped now is)
+  module _ {X Y : Type 0} (result : Result X Y) (box : Box State) (is_new : new ≡ box.value) (all : Children) (keeps : OnOk result (KeepApart found all))
+    where
+      boxed : (now : Next) → what ≡ now
+          → StepsInLocals (code_of exploration) (model_of exploration) (limits_of exploration) later state box.value now
+      boxed now is = subst (λ (s : State). StepsInLocals (code_of exploration) (model_of exploration) (limits_of exploration) later state s now) is_new
+          (stepped now is)
 
-    step_end : (outcome : Outcome) → what ≡ next.Ends outcome → OnOk result (Adds found all [] ((outcome, box) ∷ []))
-        → OnOk result (FindsAll exploration later before all)
-    step_end outcome is adds =
-        both_ok result (λ (added : Adds found all [] ((outcome, box) ∷ [])) (kept : KeepApart found all).
-        finds_end exploration given before state found so_far later more box outcome (boxed (next.Ends outcome) is) all added (kept apart)) adds keeps
+      step_end : (outcome : Outcome) → what ≡ next.Ends outcome → OnOk result (Adds found all [] ((outcome, box) ∷ []))
+          → OnOk result (FindsAll exploration later before all)
+      step_end outcome is adds =
+          both_ok result (λ (added : Adds found all [] ((outcome, box) ∷ [])) (kept : KeepApart found all).
+          finds_end exploration given before state found so_far later more box outcome (boxed (next.Ends outcome) is) all added (kept apart)) adds keeps
 
-    step_answers : (at : Place) (asked : Question) → what ≡ next.Asks at asked → (last : Naming) → Extends later last
-        → OnOk result (AddsPieces exploration.budgets.events exploration.rules.now box at (AreOfQuestion (model_of exploration) last box.value nowked) found all)
-        → OnOk result (FindsAll exploration last before all)
-    step_answers at asked is last extends adds =
-        both_ok result (λ (added : AddsPieces exploration.budgets.events exploration.rules.now box at
-        (AreOfQuestion (model_of exploration) last box.value nowked) found all) (kept : KeepApart found all).
-        finds_answers exploration given before state found so_far later more box at asked (boxed (next.Asks at asked) is) last extends all added
-        (kept apart)) adds keeps
+      step_answers : (at : Place) (asked : Question) → what ≡ next.Asks at asked → (last : Naming) → Extends later last
+          → OnOk result (AddsPieces exploration.budgets.events exploration.rules.now box at (AreOfQuestion (model_of exploration) last box.value asked) found
+          all)
+          → OnOk result (FindsAll exploration last before all)
+      step_answers at asked is last extends adds =
+          both_ok result (λ (added : AddsPieces exploration.budgets.events exploration.rules.now box at
+          (AreOfQuestion (model_of exploration) last box.value asked) found all) (kept : KeepApart found all).
+          finds_answers exploration given before state found so_far later more box at asked (boxed (next.Asks at asked) is) last extends all added
+          (kept apart)) adds keeps
 
-    step_cases : (at : Place) (term : Lin) → what ≡ next.Selects at term
-        → OnOk result (AddsPieces exploration.budgets.events exploration.rules.now box at (AreOfSwitch (code_of exploration) box.value term) found all)
-        → OnOk result (FindsAll exploration later before all)
-    step_cases at term is adds =
-        both_ok result (λ (added : AddsPieces exploration.budgets.events exploration.rules.now box at
-        (AreOfSwitch (code_of exploration) box.value term) found all) (kept : KeepApart found all).
-        finds_cases exploration given before state found so_far later more box at term (boxed (next.Selects at term) is) all added (kept apart)) adds keeps
+      step_cases : (at : Place) (term : Lin) → what ≡ next.Selects at term
+          → OnOk result (AddsPieces exploration.budgets.events exploration.rules.now box at (AreOfSwitch (code_of exploration) box.value term) found all)
+          → OnOk result (FindsAll exploration later before all)
+      step_cases at term is adds =
+          both_ok result (λ (added : AddsPieces exploration.budgets.events exploration.rules.now box at
+          (AreOfSwitch (code_of exploration) box.value term) found all) (kept : KeepApart found all).
+          finds_cases exploration given before state found so_far later more box at term (boxed (next.Selects at term) is) all added (kept apart)) adds keeps
 
 pub loop-init : goal.loop-init
 loop-init g c = record {
