@@ -2,6 +2,5 @@
 #![tactic(auto)]
 
 mod entry;
-mod whole;
 
 pub use entry::{Analysis, analyze};
