@@ -3,7 +3,7 @@ ghost use Rattle.std.specs.Prelude.{◌≡◌, ◌^◌, ◌≤◌, ℤ, pos, ◌
 ghost use Rattle.std.specs.Ordering.{int_eq};
 ghost use Rattle.cs_results.specs.declared.run.Others.TheVariants.{Two};
 ghost use Rattle.cs_findings.specs.Grounds as grounds;
-ghost use Rattle.cs_judge.specs.Wide.{IsSmall, IsSplit};
+ghost use Rattle.cs_compared.specs.Wide.{IsSmall, IsSplit};
 
 /// A number: so many times 2^32, and a rest below that.
 #[derive(Clone, Copy)]

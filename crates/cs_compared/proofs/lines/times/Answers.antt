@@ -2,8 +2,8 @@ use Rattle.std.specs.Prelude.{FitsSigned, ◌*ℤ◌}
 use Rattle.std.specs.Int.{w128}
 use Rattle.std.proofs.Common.{arith}
 use Rattle.std.proofs.lemmas.Int.{to_z-of_z}
-use Rattle.cs_judge.proofs.Products.{times-small, fits}
-use Rattle.cs_judge.proofs.lines.times.Goals as goal
+use Rattle.cs_compared.proofs.Products.{times-small, fits}
+use Rattle.cs_compared.proofs.lines.times.Goals as goal
 
 product-fits : (c : goal.Start) → FitsSigned w128 (c.args.left *ℤ c.args.right)
 product-fits c =

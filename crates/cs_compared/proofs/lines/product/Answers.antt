@@ -2,9 +2,9 @@ use Rattle.std.specs.Prelude.{FitsSigned, ◌+ℤ◌, ◌*ℤ◌}
 use Rattle.std.specs.Int.{w128}
 use Rattle.std.proofs.Common.{◌≡◌, arith}
 use Rattle.std.proofs.lemmas.Int.{to_z-of_z}
-use Rattle.cs_judge.specs.Wide.{IsSplit}
-use Rattle.cs_judge.proofs.Products.{fits, sum-small, low-small, product_is}
-use Rattle.cs_judge.proofs.lines.product.Goals as goal
+use Rattle.cs_compared.specs.Wide.{IsSplit}
+use Rattle.cs_compared.proofs.Products.{fits, sum-small, low-small, product_is}
+use Rattle.cs_compared.proofs.lines.product.Goals as goal
 
 pub returns : goal.returns
 returns c =

@@ -3,7 +3,7 @@ ghost use Rattle.std.specs.Prelude.{◌≡◌, ◌≤◌, ◌^◌, ℤ, pos, ◌
 ghost use Rattle.std.specs.Ordering.{int_eq};
 ghost use Rattle.cs_events.specs.Operations as operations;
 ghost use Rattle.cs_findings.specs.Grounds as grounds;
-ghost use Rattle.cs_judge.specs.Wide.{IsSmall, AreSmall};
+ghost use Rattle.cs_compared.specs.Wide.{IsSmall, AreSmall};
 
 use crate::lines::off_line;
 use cs_ast::typed::operator::CmpOp;

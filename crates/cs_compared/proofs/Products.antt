@@ -6,8 +6,8 @@ use Rattle.std.proofs.Math.IntN.{*ℤ_comm, *ℤ-zero, zero-*ℤ}
 use Rattle.std.proofs.Math.Nat.{mul-le-mul}
 use Rattle.std.proofs.lemmas.Int.{ints, unsigned_abs-mul, fits_signed_from_abs}
 use Rattle.cs_types.proofs.FloorDivision.{add-*ℤ}
-use Rattle.cs_judge.specs.declared.lines.Wide.{Wide}
-use Rattle.cs_judge.specs.Wide.{IsSplit}
+use Rattle.cs_compared.specs.declared.lines.Wide.{Wide}
+use Rattle.cs_compared.specs.Wide.{IsSplit}
 
 -- a product within 128 bits
 pub times-small : (l r : ℤ) → unsigned_abs l ≤ 2 ^ 36 → unsigned_abs r ≤ 2 ^ 88 → unsigned_abs (l *ℤ r) ≤ 2 ^ 124

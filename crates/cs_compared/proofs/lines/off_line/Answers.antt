@@ -3,8 +3,8 @@ use Rattle.std.specs.Int.{w128}
 use Rattle.std.specs.Ordering.{int_eq}
 use Rattle.std.proofs.Common.{arith, ap, ◌≡◌}
 use Rattle.std.proofs.lemmas.Int.{to_z-of_z}
-use Rattle.cs_judge.proofs.Products.{fits, difference-small}
-use Rattle.cs_judge.proofs.lines.off_line.Goals as goal
+use Rattle.cs_compared.proofs.Products.{fits, difference-small}
+use Rattle.cs_compared.proofs.lines.off_line.Goals as goal
 
 pub returns : goal.returns
 returns c =

@@ -3,7 +3,7 @@ use Rattle.std.specs.Prelude.{◌≡◌, ◌^◌, ◌≤◌, ℤ, pos, ◌*ℤ�
 use Rattle.cs_results.specs.declared.run.Others.{Others}
 use Rattle.cs_results.specs.declared.run.Others.TheVariants.{One, Two}
 use Rattle.cs_findings.specs.Grounds.{Pair}
-use Rattle.cs_judge.specs.declared.lines.Wide.{Wide}
+use Rattle.cs_compared.specs.declared.lines.Wide.{Wide}
 
 -- the number that is split
 abbrev pub value_of : Wide → ℤ

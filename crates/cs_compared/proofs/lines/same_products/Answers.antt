@@ -1,7 +1,7 @@
 use Rattle.std.specs.Prelude.{FitsSigned}
 use Rattle.std.specs.Int.{w128}
 use Rattle.std.proofs.lemmas.Int.{to_z-of_z}
-use Rattle.cs_judge.proofs.lines.same_products.Goals as goal
+use Rattle.cs_compared.proofs.lines.same_products.Goals as goal
 
 pub returns : goal.returns
 returns c =
