@@ -10,7 +10,7 @@ use Rattle.cs_constraints.specs.Constraints.{Sets, Fits}
 use Rattle.cs_events.specs.Operations.{compares}
 use Rattle.cs_eval.specs.Followed.{Numbers, Always, IsDecided}
 use Rattle.cs_eval.specs.Operands.{IsBetween}
-use Rattle.cs_eval.specs.Truths.{holds_between, opposite_of}
+use Rattle.cs_signs.specs.Signs.{holds_between, opposite_of}
 
 pub compares-diff : (op : CmpOp) (x y : ℤ) → compares op x y ≡ compares op (x -ℤ y) (pos 0)
 compares-diff Less x y = grind (arith, ints)

@@ -1,8 +1,6 @@
 -- How a truth is followed, and its pieces.
-use Rattle.std.specs.Prelude.{◌≡◌, ◌⊎◌, ℕ, Bool, true, false, ◌||◌, pos, int_le, int_lt, List, [], ◌∷◌, ◌++◌, Option, None, Some}
-use Rattle.cs_ranges.specs.declared.range_set.Interval.{Interval}
+use Rattle.std.specs.Prelude.{◌≡◌, ◌⊎◌, ℕ, Bool, true, false, pos, List, [], ◌∷◌, ◌++◌, Some}
 use Rattle.cs_ast.specs.declared.typed.operator.CmpOp.{CmpOp}
-use Rattle.cs_ast.specs.declared.typed.operator.CmpOp.TheVariants.{Less, AtMost, More, AtLeast, Equal, Differs}
 use Rattle.cs_terms.specs.declared.symbol.Sym.{Sym}
 use Rattle.cs_terms.specs.declared.term.Lin.{Lin}
 use Rattle.cs_terms.specs.declared.term.Lin2.{Lin2}
@@ -56,30 +54,6 @@ abbrev pub ArePiecesOf : Sets → ℕ → Followed → List Piece → Type 0
 ArePiecesOf sets guess (Where op term) pieces = AreOfHalves sets op term pieces
 ArePiecesOf sets guess (AlwaysIs holds) pieces = IsOfAll sets holds pieces
 ArePiecesOf sets guess No pieces = AreOfGuess sets guess pieces
-
--- the comparison that holds exactly where this one doesn't
-abbrev pub opposite_of : CmpOp → CmpOp
-opposite_of Less = AtLeast
-opposite_of AtMost = More
-opposite_of More = AtMost
-opposite_of AtLeast = Less
-opposite_of Equal = Differs
-opposite_of Differs = Equal
-
--- whether all numbers from the one end to the other compare so with 0, as far as the ends say: of an equation they don't
-abbrev pub holds_between : CmpOp → Interval → Bool
-holds_between Less ends = int_lt ends.high (pos 0)
-holds_between AtMost ends = int_le ends.high (pos 0)
-holds_between More ends = int_lt (pos 0) ends.low
-holds_between AtLeast ends = int_le (pos 0) ends.low
-holds_between Equal ends = false
-holds_between Differs ends = int_lt (pos 0) ends.low || int_lt ends.high (pos 0)
-
--- whether the numbers between the ends all compare so with 0, or none does, or the ends don't say
-abbrev pub IsSignBetween : CmpOp → Interval → Option Bool → Type 0
-IsSignBetween op ends None = (holds_between op ends ≡ false) × (holds_between (opposite_of op) ends ≡ false)
-IsSignBetween op ends (Some true) = holds_between op ends ≡ true
-IsSignBetween op ends (Some false) = holds_between (opposite_of op) ends ≡ true
 
 -- a comparison of a sum with 0 goes by one term
 pub record IsFollowedWhere (sets : Sets) (op : CmpOp) (term : Lin2) (by : CmpOp) (sum : Lin) : Type 0 where

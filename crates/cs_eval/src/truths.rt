@@ -9,13 +9,12 @@ ghost use Rattle.cs_eval.specs.Followed.{AreAnswers};
 ghost use Rattle.cs_eval.specs.Operands.{IsBetween, IsTermBetween, LOWEST, HIGHEST};
 ghost use Rattle.cs_eval.specs.Operands.{HasEnds, HasEndsOver, IsEndsOfSum, IsReadyOperand, IsSeveral};
 ghost use Rattle.cs_eval.specs.ProductTests.{IsTermOfCounts, IsFollowedByEnds, IsFollowedByFactor, IsFollowedByProduct};
-ghost use Rattle.cs_eval.specs.Truths as truths;
 ghost use Rattle.cs_events.specs.Operations.{truth_number};
-ghost use Rattle.cs_eval.specs.Truths.{IsReady, ArePiecesOf, AreOfGuess, IsGuessOf, IsSignBetween, IsFollowedBySign};
+ghost use Rattle.cs_eval.specs.Truths.{IsReady, ArePiecesOf, AreOfGuess, IsGuessOf, IsFollowedBySign};
 
 use crate::checked::{check_between, check_inside_values, moved};
 use crate::guesses::Inexact;
-use crate::halves::{opposite, split_by_sign};
+use crate::halves::split_by_sign;
 use crate::operands::number;
 use crate::piece::Piece;
 use crate::pieces::{guessed_piece, halves_pieces, one_piece, truth};
@@ -24,6 +23,7 @@ use cs_ast::typed::operator::CmpOp;
 use cs_constraints::Constraints;
 use cs_events::Label;
 use cs_ranges::{Interval, RangeSet, affine_value};
+use cs_signs::sign_between;
 use cs_state::{Asks, Fact};
 use cs_terms::{Lin, Lin2, diff, merged};
 use cs_types::product_bound;
@@ -200,33 +200,6 @@ fn ends_of_sum(constraints: &Constraints, term: Lin2) -> Interval
     Interval {
         low: first.low + second.low,
         high: first.high + second.high,
-    }
-}
-
-// Whether the numbers between the ends all compare so with 0, or none does.
-fn sign_between(op: CmpOp, ends: Interval) -> Option<bool>
-    ensures { IsSignBetween op ends result }
-{
-    if holds_between(op, ends) {
-        return Some(true);
-    }
-    if holds_between(opposite(op), ends) {
-        return Some(false);
-    }
-    None
-}
-
-// Whether the ends say that the numbers between them all compare so with 0. They don't say it of an equation.
-fn holds_between(op: CmpOp, ends: Interval) -> bool
-    ensures { result ≡ truths.holds_between op ends }
-{
-    match op {
-        CmpOp::Less => ends.high < 0,
-        CmpOp::AtMost => ends.high <= 0,
-        CmpOp::More => 0 < ends.low,
-        CmpOp::AtLeast => 0 <= ends.low,
-        CmpOp::Equal => false,
-        CmpOp::Differs => 0 < ends.low || ends.high < 0,
     }
 }
 

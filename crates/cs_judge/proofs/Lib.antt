@@ -1,4 +1,3 @@
-pub mod Products
 pub mod Places
 pub mod ListedGuesses
 pub mod Meetings

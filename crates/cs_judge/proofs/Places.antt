@@ -3,7 +3,8 @@ use Rattle.std.proofs.Common.{◌≡◌, ℕ, zero, suc, ◌<◌, List, [], ◌�
 use Rattle.std.proofs.Common.{inr, refl, sym, ap, ◌∙◌, subst, arith}
 use Rattle.cs_events.specs.declared.event.Event.{Event}
 use Rattle.cs_judge.specs.declared.pool.Replay.{Replay}
-use Rattle.cs_judge.specs.Agreement.{AgreeTo, AreShares}
+use Rattle.cs_compared.specs.Agreement.{AgreeTo}
+use Rattle.cs_judge.specs.Agreement.{AreShares}
 
 -- an item of a list has a place
 pub place_of : {A : Type 0} (xs : List A) (k : ℕ) (x : A) → k < length xs → slice_index_or xs k x ≡ x → slice_get xs k ≡ Some x

@@ -1,12 +1,9 @@
--- Lists that agree up to a place, and guesses that stand at the same events.
-use Rattle.std.specs.Prelude.{◌≡◌, ℕ, ◌<◌, ◌≤◌, nat_lt, List, length, Some, slice_get}
+-- Replays that pass the same events up to a place, and guesses that stand at the same events.
+use Rattle.std.specs.Prelude.{◌≡◌, ℕ, ◌≤◌, nat_lt, List, length, Some, slice_get}
 use Rattle.cs_events.specs.declared.event.Event.{Event}
 use Rattle.cs_events.specs.declared.guess.Guess.{Guess}
+use Rattle.cs_compared.specs.Agreement.{AgreeTo}
 use Rattle.cs_judge.specs.declared.pool.Replay.{Replay}
-
--- two lists have the same items before a place
-abbrev pub AgreeTo : ℕ → List Event → List Event → Type 0
-AgreeTo count one other = (index : ℕ) → index < count → slice_get one index ≡ slice_get other index
 
 -- each replay of a pool passes so many events as the shown run does
 abbrev pub AreShares : List Event → List Replay → List ℕ → Type 0

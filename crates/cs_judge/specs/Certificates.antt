@@ -12,7 +12,8 @@ use Rattle.cs_findings.specs.Narrower.{may_be_used, fits_left, fits_right}
 use Rattle.cs_events.specs.declared.event.Event.{Event}
 use Rattle.cs_judge.specs.declared.judging.Judge.{Judge}
 use Rattle.cs_judge.specs.declared.judging.Spot.{Spot}
-use Rattle.cs_judge.specs.Agreement.{AgreeTo, AreShares, AreBefore, AreAtEvents}
+use Rattle.cs_compared.specs.Agreement.{AgreeTo}
+use Rattle.cs_judge.specs.Agreement.{AreShares, AreBefore, AreAtEvents}
 use Rattle.cs_judge.specs.declared.pool.Partners.{Partners}
 use Rattle.cs_judge.specs.declared.pool.Replay.{Replay}
 use Rattle.cs_judge.specs.declared.pool.Kept.TheVariants.{Operates}

@@ -1,4 +1,3 @@
-pub mod Wide
 pub mod Agreement
 pub mod Pools
 pub mod Certificates

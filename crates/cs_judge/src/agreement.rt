@@ -1,9 +1,9 @@
-//! Runs that pass the same events first.
-ghost use Rattle.std.specs.Prelude.{◌≡◌, ◌<◌, ◌≤◌, IsTrue, IfOk, length, slice_get};
-ghost use Rattle.cs_judge.specs.Agreement.{AgreeTo, AreShares};
+//! How many events the replays of a pool pass as the shown run does.
+ghost use Rattle.std.specs.Prelude.{IfOk};
+ghost use Rattle.cs_judge.specs.Agreement.{AreShares};
 
 use crate::pool::Replay;
-use crate::same::same_event;
+use cs_compared::common;
 use cs_events::Event;
 use std::alloc::{AllocError, Global};
 
@@ -16,41 +16,4 @@ pub fn shares(alloc: Global, pool: &[Replay], shown: &[Event]) -> Result<Vec<usi
         shares.push(common(replay.events.as_slice(), shown))?;
     }
     Ok(shares)
-}
-
-/// Whether two runs pass so many events alike, where it is known of some first ones.
-pub fn agree(one: &[Event], other: &[Event], known: usize, count: usize) -> bool
-    requires known { AgreeTo known one.now other.now }
-    requires one { count ≤ length one.now }
-    requires other { count ≤ length other.now }
-    ensures { IsTrue result → AgreeTo count one.now other.now }
-{
-    for index in known..count {
-        if !same_at(one, other, index) {
-            return false;
-        }
-    }
-    true
-}
-
-// How many events two runs pass alike first.
-fn common(one: &[Event], other: &[Event]) -> usize
-    ensures { AgreeTo result one.now other.now }
-{
-    let most = one.len().min(other.len());
-    for index in 0..most {
-        if !same_at(one, other, index) {
-            return index;
-        }
-    }
-    most
-}
-
-// Whether two runs have the same event at a place.
-fn same_at(one: &[Event], other: &[Event], index: usize) -> bool
-    requires one { index < length one.now }
-    requires other { index < length other.now }
-    ensures { IsTrue result → slice_get one.now index ≡ slice_get other.now index }
-{
-    same_event(&one[index], &other[index])
 }

@@ -1,8 +1,8 @@
 //! Partners for the guesses of a pool. Nothing is proved of the choice: the judge refuses a wrong one.
 
 use crate::grounds::has_ground;
-use crate::operands::operands;
 use crate::pool::Partners;
+use cs_compared::operands;
 use cs_events::Operation;
 use cs_findings::Others;
 use cs_types::DataModel;

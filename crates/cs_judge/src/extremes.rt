@@ -1,7 +1,7 @@
 //! The least and the greatest numbers that two or three runs have.
 ghost use Rattle.std.specs.Prelude.{◌≡◌, ℕ, ◌≤◌, ◌^◌, unsigned_abs};
 ghost use Rattle.cs_findings.specs.Grounds as grounds;
-ghost use Rattle.cs_judge.specs.Wide.{IsSmall, AreSmall};
+ghost use Rattle.cs_compared.specs.Wide.{IsSmall, AreSmall};
 
 use cs_findings::Others;
 

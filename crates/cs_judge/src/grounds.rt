@@ -7,15 +7,14 @@ ghost use Rattle.cs_ast.specs.declared.typed.operator.BinOp.TheVariants.{Add, Su
 ghost use Rattle.cs_events.specs.Operations as operations;
 ghost use Rattle.cs_findings.specs.Grounds as grounds;
 ghost use Rattle.cs_findings.specs.Operands as operands;
-ghost use Rattle.cs_judge.specs.Wide.{IsSmall, AreSmall};
+ghost use Rattle.cs_compared.specs.Wide.{IsSmall, AreSmall};
 
-use crate::differences::{
-    are_spread, comparisons_differ, left_differs, right_differs, tests_differ,
-};
 use crate::extremes::{greatest_left, greatest_right, least_left, least_right, meets_zero};
-use crate::lines::{is_small, product_above, product_at_most};
-use crate::operands::operands;
 use cs_ast::typed::operator::{BinOp, CmpOp};
+use cs_compared::{
+    are_spread, comparisons_differ, is_small, left_differs, operands, product_above,
+    product_at_most, right_differs, tests_differ,
+};
 use cs_events::Operation;
 use cs_findings::Others;
 use cs_types::{DataModel, IntType, multiply, product_bound, quotient};

@@ -6,19 +6,19 @@ ghost use Rattle.cs_judge.specs.declared.pool.Replay as replays;
 ghost use Rattle.cs_findings.specs.Runs.{AllRelated};
 ghost use Rattle.cs_findings.specs.Narrower as narrower;
 ghost use Rattle.cs_judge.specs.declared.pool.Kept.TheVariants as kept;
-ghost use Rattle.cs_judge.specs.Agreement.{AgreeTo};
+ghost use Rattle.cs_compared.specs.Agreement.{AgreeTo};
 ghost use Rattle.cs_judge.specs.Pools.{ShowsReal};
 ghost use Rattle.cs_judge.specs.Certificates.{IsMet, IsLeftMet, IsRightMet, IsJudged, IsReplayJudged, IsCertificate, IsSpotAt, IsReady, IsSeated, ComesAlong};
 
-use crate::agreement::{agree, shares};
+use crate::agreement::shares;
 use crate::choosing::{Candidate, chosen};
 use crate::grounds::has_ground;
 use crate::listing::{are_at_events, are_before};
-use crate::narrower::{fits_left, fits_right, may_be_used};
-use crate::operands::{operands, operands_of_same};
 use crate::pool::{Kept, Partners, Replay, Stretch};
-use crate::same::same_place;
 use cs_ast::Place;
+use cs_compared::{
+    agree, fits_left, fits_right, may_be_used, operands, operands_of_same, same_place,
+};
 use cs_events::{Event, Guess, Operation};
 use cs_findings::Others;
 use cs_types::DataModel;

@@ -1,4 +1,4 @@
-use Rattle.std.proofs.Common.{true, false, pos, ◌∙◌}
+use Rattle.std.proofs.Common.{true, false, pos}
 use Rattle.cs_terms.specs.Term.{value_of}
 use Rattle.cs_events.specs.Operations.{compares}
 use Rattle.cs_eval.specs.Parts.{Truths}
@@ -13,11 +13,10 @@ returns c =
     let op = c.args.op in
     let truth : Truths = λ v. compares op (value_of v term) (pos 0) in
     record {
-      holds = half_of sets term c.in_ok-with.with truth true
-          (λ v fits. c.in_ok-with.ensures (value_of v term) (value_between sets _ _ term v c.requires fits))
+      holds = half_of sets term c.in_ok-sets.sets.with truth true
+          (λ v fits. c.in_ok-sets.ensures.with (value_of v term) (value_between sets _ _ term v c.requires fits))
           c.in_ok-holds.holds c.in_ok-holds.ensures;
-      fails = half_of sets term c.in_ok-without.without truth false
-          (λ v fits. c.in_ok-without.ensures (value_of v term) (value_between sets _ _ term v c.requires fits)
-          ∙ c.opposite.ensures.truth (value_of v term) (pos 0))
+      fails = half_of sets term c.in_ok-sets.sets.without truth false
+          (λ v fits. c.in_ok-sets.ensures.without (value_of v term) (value_between sets _ _ term v c.requires fits))
           c.in_ok-fails.fails c.in_ok-fails.ensures;
     }

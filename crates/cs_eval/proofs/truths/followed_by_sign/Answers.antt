@@ -3,7 +3,7 @@ use Rattle.cs_terms.specs.Term.{value_of_sum, HaveTwoSymbols}
 use Rattle.cs_constraints.proofs.Assuming.{fitting}
 use Rattle.cs_eval.specs.Followed.{Numbers}
 use Rattle.std.specs.Prelude.{Some}
-use Rattle.cs_eval.specs.Truths.{IsSignBetween}
+use Rattle.cs_signs.specs.Signs.{IsSignBetween}
 use Rattle.cs_eval.proofs.OperandValues.{sum_inside}
 use Rattle.cs_eval.proofs.Signs.{sign_true, sign_false, decided_true, decided_false, undecided}
 use Rattle.cs_eval.proofs.truths.followed_by_sign.Goals as goal

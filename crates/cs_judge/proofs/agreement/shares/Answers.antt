@@ -1,6 +1,7 @@
 use Rattle.std.proofs.Common.{◌≡◌, ◌++◌, [], ◌∷◌, length, Some, slice_get, subst, sym, ap, ◌∙◌, arith}
 use Rattle.std.proofs.lemmas.List.{length-append}
-use Rattle.cs_judge.specs.Agreement.{AgreeTo, AreShares}
+use Rattle.cs_compared.specs.Agreement.{AgreeTo}
+use Rattle.cs_judge.specs.Agreement.{AreShares}
 use Rattle.cs_judge.proofs.Places.{place_of, one_more_share}
 use Rattle.cs_judge.proofs.agreement.shares.Goals as goal
 

@@ -3,8 +3,8 @@ use Rattle.std.specs.Int.{w128}
 use Rattle.std.proofs.Common.{arith, subst}
 use Rattle.std.proofs.lemmas.Int.{to_z-of_z}
 use Rattle.cs_results.specs.declared.run.Others.TheVariants.{Two}
-use Rattle.cs_judge.specs.Wide.{AreSmall}
-use Rattle.cs_judge.proofs.Products.{fits}
+use Rattle.cs_compared.specs.Wide.{AreSmall}
+use Rattle.cs_compared.proofs.Products.{fits}
 use Rattle.cs_judge.proofs.extremes.greatest_left.Goals as goal
 
 pub returns-in-Two-clause-small : goal.returns-in-Two-clause-small

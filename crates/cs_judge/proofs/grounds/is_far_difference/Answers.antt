@@ -2,7 +2,7 @@ use Rattle.std.specs.Prelude.{◌-ℤ◌, FitsSigned}
 use Rattle.std.specs.Int.{w128}
 use Rattle.std.proofs.Common.{arith}
 use Rattle.std.proofs.lemmas.Int.{to_z-of_z, ints}
-use Rattle.cs_judge.proofs.Products.{fits}
+use Rattle.cs_compared.proofs.Products.{fits}
 use Rattle.cs_judge.proofs.grounds.is_far_difference.Goals as goal
 
 pub returns : goal.returns

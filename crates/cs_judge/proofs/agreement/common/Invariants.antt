@@ -1,5 +1,0 @@
-use Rattle.cs_judge.specs.Agreement.{AgreeTo}
-use Rattle.cs_judge.proofs.agreement.common.Given as goal
-
-abbrev pub invariant-loop-index : goal.invariant-loop-index
-invariant-loop-index l = AgreeTo l.index l.one l.other
