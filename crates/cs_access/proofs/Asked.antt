@@ -1,12 +1,13 @@
 -- Checkers that are asked one by one, and the kinds that they give conditions for: for the contract of `check`.
 use Rattle.std.proofs.Common.{◌≡◌, ◌<◌, ◌≤◌, ◌+◌, ℕ, Bool, true, false, List, [], ◌∷◌, ◌++◌, take, drop, get_or, set, map, length, refl, sym, ap, ◌∙◌}
-use Rattle.std.proofs.Common.{subst, inl, inr, arith, Result, Ok, Err}
+use Rattle.std.proofs.Common.{subst, inl, inr, arith, Option, None, Result, Ok, Err}
 use Rattle.std.specs.Prelude.{OnOk}
 use Rattle.std.specs.Result.{is_ok}
 use Rattle.std.proofs.lemmas.List.{take_more, take_more_set, drop_more, drop_all, take_all, map-append, length-set}
 use Rattle.cs_model.specs.declared.kind.Kind.{Kind}
 use Rattle.cs_terms.specs.Term.{Valuation}
 use Rattle.cs_checker.specs.declared.answer.Answer.{Answer}
+use Rattle.cs_checker.specs.declared.answer.Cond.{Cond}
 use Rattle.cs_checker.specs.declared.subject.Subject.{Subject}
 use Rattle.cs_checker.specs.Faults.{is_faulty_for}
 use Rattle.cs_checker.specs.Answers.{some_holds, YieldsFaults, HasTermsFor}
@@ -28,6 +29,16 @@ module _ (kind : Kind) (subject : Subject) (answer : Answer) (faults : YieldsFau
       exact : HasFaultyValues subject faulty
       exact v can =
           values subject terms v can ∙ faults v (has_values subject v can) ∙ ap (λ (k : Kind). is_faulty_for k subject v) (sym same)
+
+-- none of two conditions that aren't there holds
+pub none_of_two : (conds : List (Option Cond)) (numbers : Valuation) → length conds ≡ 2 → get_or conds 0 None ≡ None → get_or conds 1 None ≡ None
+    → some_holds conds numbers ≡ false
+unfolding some_holds
+none_of_two [] numbers two first second = absurd cc
+none_of_two (one ∷ []) numbers two first second = absurd cc
+none_of_two (one ∷ other ∷ []) numbers two first second =
+    ap (λ o. some_holds (o ∷ other ∷ []) numbers) first ∙ ap (λ o. some_holds (None ∷ o ∷ []) numbers) second
+none_of_two (one ∷ other ∷ more ∷ conds) numbers two first second = absurd cc
 
 -- one more kind
 pub kinds_more : (subject : Subject) (kinds : List Kind) (kind : Kind) (found more : List FaultyKind) → AreFaultyKinds subject kinds found

@@ -109,12 +109,16 @@ fn ask_one(
     ensures found { OnOk result
         (IsNextKind subject.now (kind_of checker.old) found.old.items found.new.items) }
 {
-    let answer = checker.examine(subject);
-    if answer.is_never() {
-        return Ok(());
+    // An answer is large. Most have no condition, and aren't moved from where they were written.
+    match checker.examine(subject) {
+        Answer {
+            conds: [None, None],
+        } => Ok(()),
+        answer => {
+            let kind = checker.kind();
+            list_kind(alloc, kind, &answer, found)
+        }
     }
-    let kind = checker.kind();
-    list_kind(alloc, kind, &answer, found)
 }
 
 // Adds a kind with the values of its conditions.

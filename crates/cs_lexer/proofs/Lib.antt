@@ -8,6 +8,7 @@ pub mod Advancing
 pub mod CutSoFar
 pub mod Groups
 pub mod JoinedTexts
+pub mod Untouched
 pub mod Turned
 pub mod Faults
 pub mod FilesNamed

@@ -1,5 +1,6 @@
 //! Tokens without the attributes among them.
 ghost use Rattle.std.specs.Prelude.{◌≡◌, ℕ, ◌≤◌, ◌<◌, ◌+◌, ◌^◌, false, List, length, reverse, take, slice_index, IfOk};
+ghost use Rattle.std.specs.List.{list_any};
 ghost use Rattle.cs_lexer.specs.Attributes as spec;
 ghost use Rattle.cs_lexer.specs.Attributes.{IsClosings};
 
@@ -88,8 +89,26 @@ fn has_group(token: &Token, reversed: &[Token], closings: &[bool]) -> bool
     }
 }
 
-/// The tokens without the attributes among them.
+// Whether a word among the tokens begins an attribute.
+fn has_attribute(tokens: &[Token]) -> bool
+    ensures { result ≡ list_any (λ token. spec.is_attribute token.kind) tokens.now }
+{
+    tokens.iter().any(is_attribute)
+}
+
+/// The tokens without the attributes among them. Most texts have none, and their tokens stay where they are.
+#[tactic(auto, using(crate::proofs::Untouched::none_dropped))]
 pub fn without_attributes(alloc: Global, tokens: Vec<Token>) -> Result<Vec<Token>, AllocError>
+    ensures { IfOk result (λ kept. kept.items ≡ spec.without_attributes 0 tokens.items) }
+{
+    if !has_attribute(tokens.as_slice()) {
+        return Ok(tokens);
+    }
+    sifted(alloc, tokens)
+}
+
+// The same, token by token.
+fn sifted(alloc: Global, tokens: Vec<Token>) -> Result<Vec<Token>, AllocError>
     ensures { IfOk result (λ kept. kept.items ≡ spec.without_attributes 0 tokens.items) }
 {
     let mut left = tokens;

@@ -1,5 +1,6 @@
 //! Tokens with the texts that stand side by side made one.
-ghost use Rattle.std.specs.Prelude.{◌≡◌, ◌≤◌, ◌∷◌, Some, reverse, length, IfOk};
+ghost use Rattle.std.specs.Prelude.{◌≡◌, ◌≤◌, ◌∷◌, Some, is_some, reverse, length, IfOk};
+ghost use Rattle.std.specs.List.{list_any};
 ghost use Rattle.cs_lexer.specs.Texts as spec;
 ghost use Rattle.cs_lexer.specs.Texts.{IsWholeKind, IsWholeText};
 
@@ -54,8 +55,33 @@ fn whole_token(alloc: Global, token: Token, left: &mut Vec<Token>) -> Result<Tok
     Ok(Token { kind, place })
 }
 
-/// The tokens with the texts that stand side by side made one, at the place of the first.
+// Whether a token is a text.
+fn is_text(token: &Token) -> bool
+    ensures { result ≡ is_some (spec.text_of_kind token.now.kind) }
+{
+    matches!(token.kind, TokenKind::Text(_))
+}
+
+// Whether a text is among the tokens.
+fn has_text(tokens: &[Token]) -> bool
+    ensures { result ≡ list_any (λ token. is_some (spec.text_of_kind token.kind)) tokens.now }
+{
+    tokens.iter().any(is_text)
+}
+
+/// The tokens with the texts that stand side by side made one, at the place of the first. Where there is no text, they stay where they are.
+#[tactic(auto, using(crate::proofs::Untouched::none_joined))]
 pub fn joined(alloc: Global, tokens: Vec<Token>) -> Result<Vec<Token>, AllocError>
+    ensures { IfOk result (λ made. made.items ≡ spec.joined tokens.items) }
+{
+    if !has_text(tokens.as_slice()) {
+        return Ok(tokens);
+    }
+    gathered(alloc, tokens)
+}
+
+// The same, token by token.
+fn gathered(alloc: Global, tokens: Vec<Token>) -> Result<Vec<Token>, AllocError>
     ensures { IfOk result (λ made. made.items ≡ spec.joined tokens.items) }
 {
     let mut left = tokens;

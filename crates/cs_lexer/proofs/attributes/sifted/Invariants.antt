@@ -1,6 +1,6 @@
 use Rattle.std.proofs.Common.{length}
 use Rattle.cs_lexer.proofs.Groups.{Sifted}
-use Rattle.cs_lexer.proofs.attributes.without_attributes.Given as goal
+use Rattle.cs_lexer.proofs.attributes.sifted.Given as goal
 
 abbrev pub invariant-loop-token : goal.invariant-loop-token
 invariant-loop-token l = Sifted l.fn.tokens.items l.left.items l.closings.items l.depth l.kept.items

@@ -1,7 +1,7 @@
 use Rattle.std.proofs.Common.{◌≡◌, true, false, reverse, ap, sym, ◌∙◌}
 use Rattle.cs_lexer.specs.Attributes.{has_group}
 use Rattle.cs_lexer.proofs.Groups.{in_group, outside, still_outside, sift_group, sift_kept}
-use Rattle.cs_lexer.proofs.attributes.without_attributes.Goals as goal
+use Rattle.cs_lexer.proofs.attributes.sifted.Goals as goal
 
 pub loop-token-preserved-then-depth-gt0 : goal.loop-token-preserved-then-depth-gt0
 loop-token-preserved-then-depth-gt0 c =
