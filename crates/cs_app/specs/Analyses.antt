@@ -16,8 +16,7 @@ use Rattle.cs_small_form.specs.Reading.{IsOfForm}
 use Rattle.cs_words.specs.declared.command.AnalyzeWords.{AnalyzeWords}
 use Rattle.cs_app.specs.Entries.{IsAnalysisOf}
 use Rattle.cs_app.specs.Results.{IsResultsAnswer, results_status}
-use Rattle.cs_entries.specs.Named.{entry_of}
-use Rattle.cs_app.specs.Functions.{IsOfNoForm}
+use Rattle.cs_app.specs.Functions.{IsOfNoForm, entry_of}
 use Rattle.cs_answers.specs.declared.status.Status.{Status}
 use Rattle.cs_answers.specs.declared.status.Status.TheVariants.{NoEntry}
 

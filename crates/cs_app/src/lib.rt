@@ -17,3 +17,4 @@ mod results;
 pub use app::csa;
 pub use cs_answers::Status;
 pub use laws::{refused_is_not_accepted, trees_are_refused_by_types};
+pub use replay::entry_of;
