@@ -17,8 +17,8 @@ use Rattle.cs_results.specs.Selected.{lists_report}
 use Rattle.cs_words.specs.declared.command.AnalyzeWords.{AnalyzeWords}
 use Rattle.cs_app.specs.Analyses.{has_body, bodies, entries_named, LacksEntry, AreGoodResults, IsExploredAnalysis, IsExploredAnswer}
 use Rattle.cs_app.specs.Functions.{entry_of}
-use Rattle.cs_answers.specs.declared.status.Status.{Status}
-use Rattle.cs_answers.specs.declared.status.Status.TheVariants.{NoEntry}
+use Rattle.cs_app.specs.declared.status.Status.{Status}
+use Rattle.cs_app.specs.declared.status.Status.TheVariants.{NoEntry}
 use Rattle.cs_app.proofs.AnswerLemmas.{no_analysis}
 
 -- one more number

@@ -25,13 +25,13 @@ use Rattle.cs_program.specs.declared.refusal.FileRefusal.TheVariants as file_ref
 use Rattle.cs_program.specs.Answers.{IsProgramOf, IsRefusedFor}
 use Rattle.cs_program.specs.Trees.{Parses, typed_tree}
 use Rattle.cs_app.specs.Refusals.{IsFileLine, IsSyntaxLine, IsTypeLine, too_long, by_lexing, by_syntax, by_type}
-use Rattle.cs_answers.specs.declared.status.Status.{Status}
-use Rattle.cs_answers.specs.declared.status.Status.TheVariants.{Clean, Found, BadWords, BadFile, ReadFault, WriteFault, Memory, NoEntry}
-use Rattle.cs_answers.specs.declared.answer.Answer.{Answer}
-use Rattle.cs_answers.specs.declared.answer.Failure.{Failure}
+use Rattle.cs_app.specs.declared.status.Status.{Status}
+use Rattle.cs_app.specs.declared.status.Status.TheVariants.{Clean, Found, BadWords, BadFile}
+use Rattle.cs_app.specs.declared.answer.Answer.{Answer}
+use Rattle.cs_app.specs.declared.answer.Failure.{Failure}
 use Rattle.cs_results.specs.Selected.{every_kind, lists_report}
 use Rattle.cs_app.specs.Entries.{has_report}
-use Rattle.cs_app.specs.Answers.{IsProgramAnswer, IsAnswer, IsLeft, IsFileAnswer, IsWhole, IsDone, Reads, file_of, model_of}
+use Rattle.cs_app.specs.Answers.{IsProgramAnswer, IsAnswer, IsLeft, IsFileAnswer, IsWhole, Reads, file_of, model_of}
 use Rattle.cs_app.proofs.ReplayLemmas.{no_outcome}
 
 -- ---- a program
@@ -167,56 +167,3 @@ pub none_meant : {A : Type 0} (other : Command) (n : ℕ) (refusal : WordsRefusa
     → refusal ≡ words_refusal.Words n → (read ≡ Ok other) ⊎ (read ≡ Err words_refusal.Memory) → A
 none_meant other n refusal read is one (inl e) = absurd cc
 none_meant other n refusal read is one (inr e) = absurd cc
-
--- ---- statuses
--- a program has no answer that is a fault of a stream or want of memory
-no_answer_of_read_fault : {A : Type 0} (command : Command) (files : List (List ℕ)) (program : TypedProgram) (text : List ℕ)
-    → IsProgramAnswer command files program ReadFault text → A
-no_answer_of_read_fault (Analyze words) files program text (inl small) =
-    no_analysis ReadFault (list_any has_report small.3.results) (λ e. cc) (λ e. cc) small.3.found
-no_answer_of_read_fault (Analyze words) files program text (inr other) =
-    no_analysis ReadFault (lists_report words.kinds other.1.results) (λ e. cc) (λ e. cc) other.1.answer.yields
-no_answer_of_read_fault (Flow words) files program text answer = absurd (let is = answer.0 in cc)
-no_answer_of_read_fault (Replay words) files program text answer = no_outcome ReadFault answer.2.outcome (λ e. cc) (λ e. cc) answer.2.yields
-no_answer_of_read_fault (Generate words) files program text answer =
-    no_analysis ReadFault (lists_report every_kind answer.results) (λ e. cc) (λ e. cc) answer.yields
-
-no_answer_of_write_fault : {A : Type 0} (command : Command) (files : List (List ℕ)) (program : TypedProgram) (text : List ℕ)
-    → IsProgramAnswer command files program WriteFault text → A
-no_answer_of_write_fault (Analyze words) files program text (inl small) =
-    no_analysis WriteFault (list_any has_report small.3.results) (λ e. cc) (λ e. cc) small.3.found
-no_answer_of_write_fault (Analyze words) files program text (inr other) =
-    no_analysis WriteFault (lists_report words.kinds other.1.results) (λ e. cc) (λ e. cc) other.1.answer.yields
-no_answer_of_write_fault (Flow words) files program text answer = absurd (let is = answer.0 in cc)
-no_answer_of_write_fault (Replay words) files program text answer = no_outcome WriteFault answer.2.outcome (λ e. cc) (λ e. cc) answer.2.yields
-no_answer_of_write_fault (Generate words) files program text answer =
-    no_analysis WriteFault (lists_report every_kind answer.results) (λ e. cc) (λ e. cc) answer.yields
-
-no_answer_of_memory : {A : Type 0} (command : Command) (files : List (List ℕ)) (program : TypedProgram) (text : List ℕ)
-    → IsProgramAnswer command files program Memory text → A
-no_answer_of_memory (Analyze words) files program text (inl small) =
-    no_analysis Memory (list_any has_report small.3.results) (λ e. cc) (λ e. cc) small.3.found
-no_answer_of_memory (Analyze words) files program text (inr other) =
-    no_analysis Memory (lists_report words.kinds other.1.results) (λ e. cc) (λ e. cc) other.1.answer.yields
-no_answer_of_memory (Flow words) files program text answer = absurd (let is = answer.0 in cc)
-no_answer_of_memory (Replay words) files program text answer = no_outcome Memory answer.2.outcome (λ e. cc) (λ e. cc) answer.2.yields
-no_answer_of_memory (Generate words) files program text answer =
-    no_analysis Memory (lists_report every_kind answer.results) (λ e. cc) (λ e. cc) answer.yields
-
--- neither have words: the status of a whole text is one of those with which the text is written
-pub whole_is_done : (words : List (List ℕ)) (left : Option (List ℕ)) (status : Status) (text : List ℕ) → IsWhole words left status text
-    → IsDone status
-whole_is_done words left Clean text h = tt
-whole_is_done words left Found text h = tt
-whole_is_done words left BadWords text h = tt
-whole_is_done words left BadFile text h = tt
-whole_is_done words left NoEntry text h = tt
-whole_is_done words left ReadFault text h =
-    let a = h.2.2 in
-    no_answer_of_read_fault h.0 a.lexed.files.items a.program text a.answer
-whole_is_done words left WriteFault text h =
-    let a = h.2.2 in
-    no_answer_of_write_fault h.0 a.lexed.files.items a.program text a.answer
-whole_is_done words left Memory text h =
-    let a = h.2.2 in
-    no_answer_of_memory h.0 a.lexed.files.items a.program text a.answer

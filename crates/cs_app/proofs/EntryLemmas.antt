@@ -12,8 +12,8 @@ use Rattle.cs_small_meaning.specs.Tree.{Definition}
 use Rattle.cs_small_meaning.specs.View.{definition}
 use Rattle.cs_small_meaning.specs.declared.finding.EntryResult.{EntryResult}
 use Rattle.cs_small_meaning.specs.Texts.{entry_lines}
-use Rattle.cs_answers.specs.declared.status.Status.{Status}
-use Rattle.cs_answers.specs.declared.status.Status.TheVariants.{Clean, Found}
+use Rattle.cs_app.specs.declared.status.Status.{Status}
+use Rattle.cs_app.specs.declared.status.Status.TheVariants.{Clean, Found}
 use Rattle.cs_app.specs.Entries.{IsAnalyzable, IsResultOf, AreResultsFrom, entries_text, has_report, found_if, status_of, IsAnalysisOf}
 
 results_push : (number : ℕ) (functions : List Definition) (results : List EntryResult) (f : Definition) (reported : EntryResult)

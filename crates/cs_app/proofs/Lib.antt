@@ -4,4 +4,3 @@ pub mod ReplayLemmas
 pub mod AnswerLemmas
 pub mod AnalysisLemmas
 pub mod AcceptedLemmas
-pub mod WrittenAnswers

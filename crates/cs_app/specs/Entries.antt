@@ -8,8 +8,8 @@ use Rattle.cs_small_meaning.specs.declared.budgets.Budgets.{Budgets}
 use Rattle.cs_small_meaning.specs.Findings.{IsGoodEntry}
 use Rattle.cs_small_meaning.specs.Texts.{entry_lines}
 use Rattle.cs_small_analysis.specs.Shape.{IsCoverable, LeavesRoom}
-use Rattle.cs_answers.specs.declared.status.Status.{Status}
-use Rattle.cs_answers.specs.declared.status.Status.TheVariants.{Clean, Found}
+use Rattle.cs_app.specs.declared.status.Status.{Status}
+use Rattle.cs_app.specs.declared.status.Status.TheVariants.{Clean, Found}
 
 -- the budgets that a run has where the words name none
 abbrev pub DEFAULT_BUDGETS : Budgets

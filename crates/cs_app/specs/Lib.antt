@@ -1,3 +1,4 @@
+pub mod Statuses
 pub mod Functions
 pub mod Refusals
 pub mod Entries

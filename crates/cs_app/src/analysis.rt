@@ -5,9 +5,9 @@ ghost use Rattle.cs_well_formed.specs.Programs.{IsWellFormed};
 ghost use Rattle.cs_app.specs.Analyses as analyses;
 ghost use Rattle.cs_app.specs.Analyses.{IsAnalysisAnswer};
 
+use crate::answer::Answer;
 use crate::entries::analyzed;
 use crate::exploration::explored;
-use cs_answers::Answer;
 use cs_ast::Place;
 use cs_ast::typed::program::Program;
 use cs_checker::Checker;

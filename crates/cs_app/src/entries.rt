@@ -3,7 +3,8 @@ ghost use Rattle.std.specs.Prelude.{◌≡◌, map, All, IfOk};
 ghost use Rattle.cs_small_meaning.specs.View.{definition};
 ghost use Rattle.cs_app.specs.Entries.{IsAnalyzable, IsAnalysisOf, found_if};
 
-use cs_answers::{Answer, Status};
+use crate::answer::Answer;
+use crate::status::Status;
 use cs_names::Name;
 use cs_report::append_entry;
 use cs_small_analysis::analyze;

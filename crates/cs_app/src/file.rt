@@ -5,11 +5,11 @@ ghost use Rattle.cs_well_formed.specs.Programs.{IsWellFormed};
 ghost use Rattle.cs_app.specs.Answers.{IsProgramAnswer, IsAnswer, model_of};
 
 use crate::analysis::analysis;
+use crate::answer::Answer;
 use crate::exploration::summarized;
 use crate::flow::flow;
 use crate::refused::refused;
 use crate::replay::replayed;
-use cs_answers::Answer;
 use cs_ast::typed::program::Program;
 use cs_checker::Checker;
 use cs_names::Name;
