@@ -1,14 +1,27 @@
 //! The analysis of an entry.
-ghost use Rattle.std.specs.Prelude.{◌≡◌, ◌≤◌, map, length, IfOk};
+ghost use Rattle.std.specs.Prelude.{◌≡◌, ◌≤◌, true, map, length, IfOk, OnOk};
 ghost use Rattle.cs_ast.specs.TypedProgram.{typed_program};
 ghost use Rattle.cs_objects.specs.Prepared.{IsReady};
+ghost use Rattle.cs_cfg.specs.GraphView as view;
+ghost use Rattle.cs_coverage.specs.IntegerEntries.{IsIntegerEntry};
+ghost use Rattle.cs_coverage.specs.Positions.{CoversPositions};
+ghost use Rattle.cs_findings.specs.EveryRun.{MissesNothing};
 ghost use Rattle.cs_findings.specs.GoodEntries.{IsGoodEntry};
+ghost use Rattle.cs_findings.specs.Runs.{run_budgets};
+ghost use Rattle.cs_integer_functions.specs.IntegerFunctions.{IsIntegerFunction};
+ghost use Rattle.cs_operators.specs.Asking.{HasEveryKind};
+ghost use Rattle.cs_progress.specs.Locals.{HasIntegerCode};
+ghost use Rattle.cs_analysis.specs.Whole.{IsAllOf};
 ghost use Rattle.cs_witness.specs.Entries.{CanRun};
 
+use crate::whole::has_all;
 use cs_checker::Checker;
 use cs_engine::{Exploration, explore};
 use cs_explored::Explored;
+use cs_findings::EntryResult;
 use cs_inputs::Inputs;
+use cs_integer_code::has_integer_code;
+use cs_integer_functions::is_integer_function;
 use cs_objects::Setting;
 use cs_progress::Context;
 use cs_suspects::{listed, suspects};
@@ -23,8 +36,11 @@ pub struct Analysis {
     pub rows: u64,
 }
 
-/// Explores the runs of an entry, and gives what is shown of its ends: nothing has to be known of the exploration, since each end that it
-/// finds is replayed and judged.
+/// Explores the runs of an entry, and gives what is shown of its ends: each end that the exploration finds is replayed and judged, so
+/// nothing has to be known of it for the findings to be true.
+///
+/// Of an entry that works with integers alone, no run is left out. The exploration covers its runs; that its code works with integers alone
+/// too, and that each end which is a fault or a budget was shown, is asked here. No test has met a no, which would be want of memory.
 pub fn analyze(
     alloc: Global,
     entry: &Entry,
@@ -34,18 +50,51 @@ pub fn analyze(
     requires nodes { entry.now.budgets.nodes ≤ 200000 }
     ensures good { IfOk result (λ analysis. IsGoodEntry
         (typed_program entry.now.program.now) entry.now.budgets analysis.witnessed.result) }
+    ensures complete { IfOk result (λ analysis.
+        HasEveryKind (λ b. kind_of b) checkers.old.items → MissesNothing
+        (typed_program entry.now.program.now) entry.now.budgets analysis.witnessed.result) }
     ensures entry { IfOk result (λ analysis.
         analysis.witnessed.result.entry ≡ entry.now.function) }
     ensures rows { IfOk result (λ analysis. analysis.rows ≤ entry.now.budgets.nodes) }
     ensures kinds { map (λ b. kind_of b) checkers.new.items
         ≡ map (λ b. kind_of b) checkers.old.items }
 {
+    let is_integer = works_with_integers(entry)?;
     let explored = explored(alloc, entry, checkers)?;
     let found = suspects(alloc, &explored)?;
     let cuts = listed(alloc, &explored.cuts)?;
     let rows = explored.rows.len() as u64;
     let witnessed = result(alloc, entry, &found, cuts)?;
+    refuse_lost(is_integer, &explored, &witnessed.result)?;
     Ok(Analysis { witnessed, rows })
+}
+
+// Whether the entry works with integers alone. Its code then does so, too.
+fn works_with_integers(entry: &Entry) -> Result<bool, AllocError>
+    ensures function { IfOk result (λ is_integer. IsIntegerFunction
+        (typed_program entry.now.program.now) entry.now.function → is_integer ≡ true) }
+    ensures code { IfOk result (λ is_integer. is_integer ≡ true
+        → HasIntegerCode (view.code entry.now.code.now)
+        (typed_program entry.now.program.now) entry.now.function) }
+{
+    if !is_integer_function(entry.program, entry.function) {
+        return Ok(false);
+    }
+    if has_integer_code(entry.program, entry.code, entry.function) {
+        Ok(true)
+    } else {
+        Err(AllocError)
+    }
+}
+
+// Nothing that an exploration of integers has found is lost.
+fn refuse_lost(is_integer: bool, explored: &Explored, found: &EntryResult) -> Result<(), AllocError>
+    ensures { OnOk result (is_integer ≡ true → IsAllOf explored.now found.now) }
+{
+    if is_integer && !has_all(explored, found) {
+        return Err(AllocError);
+    }
+    Ok(())
 }
 
 // What an exploration of the entry finds, with nothing known of its inputs.
@@ -56,6 +105,12 @@ fn explored(
 ) -> Result<Explored, AllocError>
     requires runs { CanRun entry.now }
     requires nodes { entry.now.budgets.nodes ≤ 200000 }
+    ensures covers { IfOk result (λ explored.
+        HasEveryKind (λ b. kind_of b) checkers.old.items
+        → IsIntegerEntry (view.code entry.now.code.now) (typed_program entry.now.program.now)
+        entry.now.function → CoversPositions (view.code entry.now.code.now)
+        (typed_program entry.now.program.now) entry.now.function
+        (run_budgets entry.now.budgets) explored) }
     ensures rows { IfOk result (λ explored.
         length explored.rows.items ≤ entry.now.budgets.nodes) }
     ensures kinds { map (λ b. kind_of b) checkers.new.items
@@ -79,7 +134,15 @@ fn explored_in(
     checkers: &mut Vec<Box<dyn Checker>>,
 ) -> Result<Explored, AllocError>
     requires ready { IsReady setting.now }
+    requires program { setting.now.program.now ≡ entry.now.program.now }
+    requires budgets { setting.now.budgets ≡ run_budgets entry.now.budgets }
     requires nodes { entry.now.budgets.nodes ≤ 200000 }
+    ensures covers { IfOk result (λ explored.
+        HasEveryKind (λ b. kind_of b) checkers.old.items
+        → IsIntegerEntry (view.code entry.now.code.now) (typed_program entry.now.program.now)
+        entry.now.function → CoversPositions (view.code entry.now.code.now)
+        (typed_program entry.now.program.now) entry.now.function
+        (run_budgets entry.now.budgets) explored) }
     ensures rows { IfOk result (λ explored.
         length explored.rows.items ≤ entry.now.budgets.nodes) }
     ensures kinds { map (λ b. kind_of b) checkers.new.items

@@ -2,5 +2,6 @@
 #![tactic(auto)]
 
 mod entry;
+mod whole;
 
 pub use entry::{Analysis, analyze};
