@@ -1,5 +1,5 @@
 -- All runs fit the state in which an exploration begins, by their own numbers: for `FitsAfter`.
-use Rattle.std.proofs.Common.{ℕ, [], Some, slice_get}
+use Rattle.std.proofs.Common.{◌≡◌, ℕ, [], Some, slice_get}
 use Rattle.cs_ast.specs.TypedProgram.{TypedProgram, Variable}
 use Rattle.cs_terms.specs.Table.{HasEachOnce}
 use Rattle.cs_events.specs.declared.outcome.RunBudgets.{RunBudgets}
