@@ -4,7 +4,7 @@ use Rattle.std.proofs.Common.{◌≡◌, ℕ, Bool, true, false, cond, List, [],
 use Rattle.std.specs.Prelude.{option_map}
 use Rattle.std.specs.Io.KnownBytes.{Appends}
 use Rattle.cs_types.specs.declared.data_model.DataModel.{DataModel}
-use Rattle.std.specs.List.{list_any}
+use Rattle.cs_model.specs.declared.kind.Kind.{Kind}
 use Rattle.cs_ast.specs.declared.place.Place.{Place}
 use Rattle.cs_ast.specs.declared.raw.external.RawExternal.{RawExternal}
 use Rattle.cs_ast.specs.TypedProgram.{TypedProgram}
@@ -25,8 +25,7 @@ use Rattle.cs_app.specs.Functions.{entry_of}
 use Rattle.cs_app.specs.Refusals.{IsLexLine, IsSyntaxLine, type_line, IsRefusal, too_long, by_lexing, by_syntax, by_type}
 use Rattle.cs_app.specs.declared.status.Status.{Status}
 use Rattle.cs_app.specs.declared.status.Status.TheVariants.{Clean, Found, BadWords, BadFile, ReadFault, WriteFault, Memory, NoEntry}
-use Rattle.cs_app.specs.Entries.{has_report}
-use Rattle.cs_app.specs.Analyses.{LacksEntry, IsExploredAnswer, entries_named}
+use Rattle.cs_app.specs.Analyses.{LacksEntry, IsAnalysisAnswer, entries_named}
 use Rattle.cs_app.specs.Answers.{IsProgramAnswer, IsReplayAnswer, Accepts, IsAnswer, IsLeft, IsFileAnswer, IsAnswered, Suits, IsAcceptable, model_of}
 use Rattle.cs_app.specs.Answers.{outcome_status}
 use Rattle.cs_app.specs.Answers.{IsTypeRefused, refused_line, IsRefusedWith}
@@ -65,10 +64,10 @@ not_lacking (Some name) program text entries lacks named =
     let both : None ≡ Some entries = sym (ap (option_map (λ (n : ℕ). n ∷ [])) lacks.0) ∙ named in
     absurd cc
 
-explored_is_answered : (words : AnalyzeWords) (program : TypedProgram) (status : Status) (text : List ℕ) (entries : List ℕ)
-    → entries_named words.entry program ≡ Some entries → IsExploredAnswer words program status text → IsAnswered status
-explored_is_answered words program NoEntry text entries named lacks = not_lacking words.entry program text entries lacks named
-explored_is_answered words program status text entries named answer =
+analysis_is_answered : (checked : List Kind) (words : AnalyzeWords) (program : TypedProgram) (status : Status) (text : List ℕ) (entries : List ℕ)
+    → entries_named words.entry program ≡ Some entries → IsAnalysisAnswer checked words program status text → IsAnswered status
+analysis_is_answered checked words program NoEntry text entries named lacks = not_lacking words.entry program text entries lacks named
+analysis_is_answered checked words program status text entries named answer =
     yields_answer status (lists_report words.kinds answer.results) answer.answer.yields
 
 replay_is_answered : (files : List (List ℕ)) (program : TypedProgram) (words : ReplayWords) (status : Status) (text : List ℕ) (entry : ℕ)
@@ -79,26 +78,26 @@ replay_is_answered files program words NoEntry text entry found answer =
 replay_is_answered files program words status text entry found answer = outcome_answers status answer.2.outcome answer.2.yields
 
 -- a program that suits the command is answered
-program_is_answered : (command : Command) (files : List (List ℕ)) (program : TypedProgram) (status : Status) (text : List ℕ) → Suits command program
-    → IsProgramAnswer command files program status text → IsAnswered status
-program_is_answered (Analyze words) files program status text suits (inl small) =
-    yields_answer status (list_any has_report small.3.results) small.3.found
-program_is_answered (Analyze words) files program status text suits (inr other) =
-    explored_is_answered words program status text suits.0 suits.1 other.1
-program_is_answered (Flow words) files program status text suits answer = subst IsAnswered (sym answer.0) tt
-program_is_answered (Replay words) files program status text suits answer =
+program_is_answered : (checked : List Kind) (command : Command) (files : List (List ℕ)) (program : TypedProgram) (status : Status) (text : List ℕ)
+    → Suits command program
+    → IsProgramAnswer checked command files program status text → IsAnswered status
+program_is_answered checked (Analyze words) files program status text suits answer =
+    analysis_is_answered checked words program status text suits.0 suits.1 answer
+program_is_answered checked (Flow words) files program status text suits answer = subst IsAnswered (sym answer.0) tt
+program_is_answered checked (Replay words) files program status text suits answer =
     replay_is_answered files program words status text suits.0 suits.1 answer
-program_is_answered (Generate words) files program status text suits answer =
+program_is_answered checked (Generate words) files program status text suits answer =
     yields_answer status (lists_report every_kind answer.results) answer.yields
 
 -- the file's program is the one that suits the command, whichever tree it was made of
-accepted_is_answered : (command : Command) (file : List ℕ) (lexed : Lexed) (tree : List RawExternal) (program : TypedProgram) (status : Status)
-    (text : List ℕ) → HasProgram (model_of command) file lexed tree program → Suits command program → Accepts command file status text
+accepted_is_answered : (checked : List Kind) (command : Command) (file : List ℕ) (lexed : Lexed) (tree : List RawExternal) (program : TypedProgram)
+    (status : Status)
+    (text : List ℕ) → HasProgram (model_of command) file lexed tree program → Suits command program → Accepts checked command file status text
     → IsAnswered status
-accepted_is_answered command file lexed tree program status text h suits a =
+accepted_is_answered checked command file lexed tree program status text h suits a =
     let again = one_typing (model_of command) file lexed a.lexed tree a.tree h.parsed a.accepted.parsed in
     let same = one_program (typed_tree (model_of command) a.lexed a.tree) program a.program (again ∙ h.typed) a.accepted.typed in
-    program_is_answered command a.lexed.files.items a.program status text (subst (Suits command) same suits) a.answer
+    program_is_answered checked command a.lexed.files.items a.program status text (subst (Suits command) same suits) a.answer
 
 -- a file whose tokens are a tree is refused by no check but that of types, which says what typing says of the tree
 pub trees_are_refused_by_types : TreesAreRefusedByTypes
@@ -121,33 +120,37 @@ not_refused model file lexed tree program text h refusal =
     not_both (typed_tree model lexed tree) program by.0 by.1 h.typed by.2
 
 pub refused_is_not_accepted : RefusedIsNotAccepted
-refused_is_not_accepted command file status text other refusal a =
+refused_is_not_accepted checked command file status text other refusal a =
     not_refused (model_of command) file a.lexed a.tree a.program text a.accepted refusal
 
-suited_is_answered : (command : Command) (file : List ℕ) (lexed : Lexed) (tree : List RawExternal) (program : TypedProgram) (status : Status)
-    (text : List ℕ) → HasProgram (model_of command) file lexed tree program → Suits command program → IsAnswer command file status text
+suited_is_answered : (checked : List Kind) (command : Command) (file : List ℕ) (lexed : Lexed) (tree : List RawExternal) (program : TypedProgram)
+    (status : Status)
+    (text : List ℕ) → HasProgram (model_of command) file lexed tree program → Suits command program → IsAnswer checked command file status text
     → IsAnswered status
-suited_is_answered command file lexed tree program BadFile text h suits (inl refusal) =
+suited_is_answered checked command file lexed tree program BadFile text h suits (inl refusal) =
     absurd (not_refused (model_of command) file lexed tree program text h refusal)
-suited_is_answered command file lexed tree program BadFile text h suits (inr accepts) =
-    accepted_is_answered command file lexed tree program BadFile text h suits accepts
-suited_is_answered command file lexed tree program status text h suits accepts =
-    accepted_is_answered command file lexed tree program status text h suits accepts
+suited_is_answered checked command file lexed tree program BadFile text h suits (inr accepts) =
+    accepted_is_answered checked command file lexed tree program BadFile text h suits accepts
+suited_is_answered checked command file lexed tree program status text h suits accepts =
+    accepted_is_answered checked command file lexed tree program status text h suits accepts
 
 -- what is accepted has no other whole text than that of an answer
-pub acceptable_is_answered : (words : List (List ℕ)) (left : Option (List ℕ)) (status : Status) (text : List ℕ) → (acceptable : IsAcceptable words left)
-    → IsFileAnswer acceptable.command left status text → IsAnswered status
-acceptable_is_answered words left status text acceptable answer =
+pub acceptable_is_answered : (checked : List Kind) (words : List (List ℕ)) (left : Option (List ℕ)) (status : Status) (text : List ℕ)
+    → (acceptable : IsAcceptable words left)
+    → IsFileAnswer checked acceptable.command left status text → IsAnswered status
+acceptable_is_answered checked words left status text acceptable answer =
     let same : answer.0 ≡ acceptable.bytes = subst (λ l. IsLeft l answer.0) acceptable.reported answer.1 in
-    suited_is_answered acceptable.command acceptable.bytes acceptable.lexed acceptable.tree acceptable.program status text acceptable.accepted
-    acceptable.suits (subst (λ file. IsAnswer acceptable.command file status text) same answer.2)
+    suited_is_answered checked acceptable.command acceptable.bytes acceptable.lexed acceptable.tree acceptable.program status text acceptable.accepted
+    acceptable.suits (subst (λ file. IsAnswer checked acceptable.command file status text) same answer.2)
 
 -- ---- a tree that typing refuses
 
 -- is no program
-not_accepted : (command : Command) (file : List ℕ) (lexed : Lexed) (tree : List RawExternal) (code : TypeCode) (place : Place) (status : Status)
-    (text : List ℕ) → Parses file lexed tree → typed_tree (model_of command) lexed tree ≡ Fault code place → Accepts command file status text → ⊥
-not_accepted command file lexed tree code place status text h fault a =
+not_accepted : (checked : List Kind) (command : Command) (file : List ℕ) (lexed : Lexed) (tree : List RawExternal) (code : TypeCode) (place : Place)
+    (status : Status)
+    (text : List ℕ) → Parses file lexed tree → typed_tree (model_of command) lexed tree ≡ Fault code place → Accepts checked command file status text
+    → ⊥
+not_accepted checked command file lexed tree code place status text h fault a =
     let again = one_typing (model_of command) file lexed a.lexed tree a.tree h a.accepted.parsed in
     not_both (typed_tree (model_of command) a.lexed a.tree) a.program code place a.accepted.typed (again ∙ fault)
 
@@ -160,21 +163,24 @@ refused_so model file lexed tree code place text h fault refusal =
     let same = one_fault (typed_tree model lexed tree) code by.0 place by.1 fault by.2 in
     by.3 ∙ (λ i. type_line lexed.files.items (same.0 i) (same.1 i))
 
-refused_with : (command : Command) (file : List ℕ) (lexed : Lexed) (tree : List RawExternal) (code : TypeCode) (place : Place) (status : Status)
+refused_with : (checked : List Kind) (command : Command) (file : List ℕ) (lexed : Lexed) (tree : List RawExternal) (code : TypeCode) (place : Place)
+    (status : Status)
     (text : List ℕ) (before now : Option (List ℕ)) → Parses file lexed tree → typed_tree (model_of command) lexed tree ≡ Fault code place
-    → IsAnswer command file status text → Appends before now text → IsRefusedWith (type_line lexed.files.items code place) status before now
-refused_with command file lexed tree code place BadFile text before now h fault (inl refusal) appended =
+    → IsAnswer checked command file status text → Appends before now text → IsRefusedWith (type_line lexed.files.items code place) status before now
+refused_with checked command file lexed tree code place BadFile text before now h fault (inl refusal) appended =
     subst (Appends before now) (refused_so (model_of command) file lexed tree code place text h fault refusal) appended
-refused_with command file lexed tree code place BadFile text before now h fault (inr accepts) appended =
-    absurd (not_accepted command file lexed tree code place BadFile text h fault accepts)
-refused_with command file lexed tree code place status text before now h fault accepts appended =
-    not_accepted command file lexed tree code place status text h fault accepts
+refused_with checked command file lexed tree code place BadFile text before now h fault (inr accepts) appended =
+    absurd (not_accepted checked command file lexed tree code place BadFile text h fault accepts)
+refused_with checked command file lexed tree code place status text before now h fault accepts appended =
+    not_accepted checked command file lexed tree code place status text h fault accepts
 
 -- what typing refuses has no other whole text than the line of that refusal
-pub type_refused_is_told : (words : List (List ℕ)) (left : Option (List ℕ)) (status : Status) (text : List ℕ) (before now : Option (List ℕ))
-    → (refused : IsTypeRefused words left) → IsFileAnswer refused.command left status text → Appends before now text
+pub type_refused_is_told : (checked : List Kind) (words : List (List ℕ)) (left : Option (List ℕ)) (status : Status) (text : List ℕ)
+    (before now : Option (List ℕ))
+    → (refused : IsTypeRefused words left) → IsFileAnswer checked refused.command left status text → Appends before now text
     → IsRefusedWith (refused_line refused) status before now
-type_refused_is_told words left status text before now refused answer appended =
+type_refused_is_told checked words left status text before now refused answer appended =
     let same : answer.0 ≡ refused.bytes = subst (λ l. IsLeft l answer.0) refused.reported answer.1 in
-    refused_with refused.command refused.bytes refused.lexed refused.tree refused.code refused.place status text before now refused.parsed refused.refused
-    (subst (λ file. IsAnswer refused.command file status text) same answer.2) appended
+    refused_with checked refused.command refused.bytes refused.lexed refused.tree refused.code refused.place status text before now refused.parsed
+    refused.refused
+    (subst (λ file. IsAnswer checked refused.command file status text) same answer.2) appended

@@ -1,5 +1,6 @@
--- The functions of a program that are analyzed, and their results: for the functions that explore a program.
-use Rattle.std.proofs.Common.{◌≡◌, ℕ, ◌+◌, ◌<◌, zero, suc, Bool, true, false, cond, List, [], ◌∷◌, ◌++◌, map, length, Option, Some, None}
+-- The functions of a program that are analyzed, and their results: for the functions that analyze a program.
+use Rattle.std.proofs.Common.{◌≡◌, ℕ, ◌+◌, ◌<◌, zero, suc, Bool, true, false, cond, List, [], ◌∷◌, ◌++◌, map, length, Option, Some}
+use Rattle.std.proofs.Common.{None}
 use Rattle.std.proofs.Common.{get_or, take, refl, sym, ap, ◌∙◌, subst, arith}
 use Rattle.std.specs.Prelude.{filter, is_some, option_map, slice_get, unwrap_or, codes}
 use Rattle.std.specs.List.{range_with_len}
@@ -9,13 +10,16 @@ use Rattle.std.proofs.lemmas.Option.{unwrap_or-slice_get}
 use Rattle.cs_ast.specs.declared.typed.program.Function.{Function}
 use Rattle.cs_ast.specs.declared.typed.program.Program.{Program}
 use Rattle.cs_ast.specs.TypedProgram.{TypedProgram, Routine, routine, typed_program}
+use Rattle.cs_findings.specs.EveryRun.{MissesNothing}
 use Rattle.cs_findings.specs.GoodEntries.{IsGoodEntry}
 use Rattle.cs_meaning.specs.Machine.{NOWHERE, no_routine}
+use Rattle.cs_model.specs.declared.kind.Kind.{Kind}
 use Rattle.cs_results.specs.declared.budgets.Budgets.{Budgets}
 use Rattle.cs_results.specs.declared.result.EntryResult.{EntryResult}
 use Rattle.cs_results.specs.Selected.{lists_report}
 use Rattle.cs_words.specs.declared.command.AnalyzeWords.{AnalyzeWords}
-use Rattle.cs_app.specs.Analyses.{has_body, bodies, entries_named, LacksEntry, AreGoodResults, IsExploredAnalysis, IsExploredAnswer}
+use Rattle.cs_app.specs.Analyses.{has_body, bodies, entries_named, LacksEntry, AreAllKinds, AreGoodResults}
+use Rattle.cs_app.specs.Analyses.{IsAnalysis, IsAnalysisAnswer}
 use Rattle.cs_app.specs.Functions.{entry_of}
 use Rattle.cs_app.specs.declared.status.Status.{Status}
 use Rattle.cs_app.specs.declared.status.Status.TheVariants.{NoEntry}
@@ -46,7 +50,8 @@ all_bodies p = ap (λ (n : ℕ). filter (has_body (typed_program p)) (range_with
 body_at : (functions : List Function) (n : ℕ) (item : Function) → n < length functions → item ≡ get_or functions n item
     → is_some (unwrap_or (slice_get (map routine functions) n) (no_routine NOWHERE)).body ≡ is_some (routine item).body
 body_at functions n item there is = ap (λ (r : Routine). is_some r.body)
-    (unwrap_or-slice_get (map routine functions) n (no_routine NOWHERE) ∙ get_or-map routine functions n item (no_routine NOWHERE) there ∙ ap routine (sym is))
+    (unwrap_or-slice_get (map routine functions) n (no_routine NOWHERE) ∙ get_or-map routine functions n item (no_routine NOWHERE) there
+    ∙ ap routine (sym is))
 
 -- one more function was looked at
 pub body_added : (p : Program) (n : ℕ) (item : Function) (old new : List ℕ) → n < length p.functions.items → item ≡ get_or p.functions.items n item
@@ -63,13 +68,16 @@ alone P one holds zero d below = holds
 alone P one holds (suc k) d below = absurd (omega (arith, below))
 
 -- one more result
-pub results_more : (program : TypedProgram) (budgets : Budgets) (entries : List ℕ) (results : List EntryResult) (i d : ℕ) (one : EntryResult)
-    → i < length entries → AreGoodResults program budgets (take i entries) results → one.entry ≡ get_or entries i d → IsGoodEntry program budgets one
-    → AreGoodResults program budgets (take (i + 1) entries) (results ++ one ∷ [])
-results_more program budgets entries results i d one there before named good = record {
+pub results_more : (checked : List Kind) (program : TypedProgram) (budgets : Budgets) (entries : List ℕ) (results : List EntryResult) (i d : ℕ)
+    (one : EntryResult) → i < length entries → AreGoodResults checked program budgets (take i entries) results → one.entry ≡ get_or entries i d
+    → IsGoodEntry program budgets one → (AreAllKinds checked → MissesNothing program budgets one)
+    → AreGoodResults checked program budgets (take (i + 1) entries) (results ++ one ∷ [])
+results_more checked program budgets entries results i d one there before named good misses = record {
   in_order = map-append (λ (r : EntryResult). r.entry) results (one ∷ []) ∙ ap (λ (es : List ℕ). es ++ one.entry ∷ []) before.in_order
       ∙ ap (λ (n : ℕ). take i entries ++ n ∷ []) named ∙ sym (take_more entries i d there);
   good = All-append (IsGoodEntry program budgets) results (one ∷ []) before.good (alone (IsGoodEntry program budgets) one good);
+  complete = λ all. All-append (MissesNothing program budgets) results (one ∷ []) (before.complete all)
+      (alone (MissesNothing program budgets) one (misses all));
 }
 
 -- the function with the name is the one that is analyzed
@@ -78,16 +86,17 @@ pub entry_named : (entry : Option (List ℕ)) (name : List ℕ) (program : Typed
 entry_named entry name program n is found =
     ap (λ (e : Option (List ℕ)). entries_named e program) is ∙ ap (option_map (λ (number : ℕ). number ∷ [])) found
 
--- an exploration answers
-pub explored_answers : (words : AnalyzeWords) (program : TypedProgram) (status : Status) (text : List ℕ) → IsExploredAnalysis words program status text
-    → IsExploredAnswer words program status text
-explored_answers words program NoEntry text a = no_analysis NoEntry (lists_report words.kinds a.results) (λ e. cc) (λ e. cc) a.answer.yields
-explored_answers words program _ text a = a
+-- an analysis answers
+pub analysis_answers : (checked : List Kind) (words : AnalyzeWords) (program : TypedProgram) (status : Status) (text : List ℕ)
+    → IsAnalysis checked words program status text → IsAnalysisAnswer checked words program status text
+analysis_answers checked words program NoEntry text a =
+    no_analysis NoEntry (lists_report words.kinds a.results) (λ e. cc) (λ e. cc) a.answer.yields
+analysis_answers checked words program _ text a = a
 
 -- the line that says that no function has the name answers
-pub lacking_answers : (words : AnalyzeWords) (program : TypedProgram) (status : Status) (text name : List ℕ) → words.entry ≡ Some name
-    → entry_of name program ≡ None → status ≡ NoEntry → text ≡ codes "refused entry " ++ (name ++ codes "\n")
-    → IsExploredAnswer words program status text
-lacking_answers words program status text name named none is line =
-    subst (λ (s : Status). IsExploredAnswer words program s text) (sym is)
+pub lacking_answers : (checked : List Kind) (words : AnalyzeWords) (program : TypedProgram) (status : Status) (text name : List ℕ)
+    → words.entry ≡ Some name → entry_of name program ≡ None → status ≡ NoEntry → text ≡ codes "refused entry " ++ (name ++ codes "\n")
+    → IsAnalysisAnswer checked words program status text
+lacking_answers checked words program status text name named none is line =
+    subst (λ (s : Status). IsAnalysisAnswer checked words program s text) (sym is)
     (subst (λ (e : Option (List ℕ)). LacksEntry e program text) (sym named) (none, line))

@@ -2,9 +2,9 @@
 use Rattle.std.proofs.Common.{◌≡◌, ℕ, ◌+◌, ◌<◌, ◌≤◌, Bool, true, false, cond, List, ◌++◌, length, Option, Some, None, inl, inr, refl}
 use Rattle.std.proofs.Common.{sym, subst, arith}
 use Rattle.std.specs.Prelude.{◌⊎◌, Result, Ok, Err, IfOk, IfSome, codes, replicate}
-use Rattle.std.specs.List.{list_any}
 use Rattle.std.proofs.lemmas.List.{length-replicate}
 use Rattle.std.specs.Fmt.{decimal}
+use Rattle.cs_model.specs.declared.kind.Kind.{Kind}
 use Rattle.cs_ast.specs.declared.raw.external.RawExternal.{RawExternal}
 use Rattle.cs_ast.specs.TypedProgram.{TypedProgram, typed_program}
 use Rattle.cs_lexer.specs.declared.lexer.Lexed.{Lexed}
@@ -30,7 +30,6 @@ use Rattle.cs_app.specs.declared.status.Status.TheVariants.{Clean, Found, BadWor
 use Rattle.cs_app.specs.declared.answer.Answer.{Answer}
 use Rattle.cs_app.specs.declared.answer.Failure.{Failure}
 use Rattle.cs_results.specs.Selected.{every_kind, lists_report}
-use Rattle.cs_app.specs.Entries.{has_report}
 use Rattle.cs_app.specs.Answers.{IsProgramAnswer, IsAnswer, IsLeft, IsFileAnswer, IsWhole, Reads, file_of, model_of}
 use Rattle.cs_app.proofs.ReplayLemmas.{no_outcome}
 
@@ -42,59 +41,60 @@ no_analysis status true not_clean not_found is = absurd (not_found is)
 no_analysis status false not_clean not_found is = absurd (not_clean is)
 
 -- the answer of a command to the program that a file's tree is
-answers_program : (command : Command) (file : List ℕ) (lexed : Lexed) (parsed : List RawExternal) (program : TypedProgram) (status : Status)
+answers_program : (checked : List Kind) (command : Command) (file : List ℕ) (lexed : Lexed) (parsed : List RawExternal) (program : TypedProgram)
+    (status : Status)
     (text : List ℕ) → Parses file lexed parsed → typed_tree (model_of command) lexed parsed ≡ Fine program
-    → IsProgramAnswer command lexed.files.items program status text → IsAnswer command file status text
-answers_program command file lexed parsed program BadFile text h typed answer =
+    → IsProgramAnswer checked command lexed.files.items program status text → IsAnswer checked command file status text
+answers_program checked command file lexed parsed program BadFile text h typed answer =
     inr (record { lexed = lexed; tree = parsed; program = program; accepted = record { parsed = h; typed = typed }; answer = answer })
-answers_program command file lexed parsed program _ text h typed answer =
+answers_program checked command file lexed parsed program _ text h typed answer =
     record { lexed = lexed; tree = parsed; program = program; accepted = record { parsed = h; typed = typed }; answer = answer }
 
 -- a program has no answer of words
-no_answer_of_words : {A : Type 0} (command : Command) (files : List (List ℕ)) (program : TypedProgram) (text : List ℕ)
-    → IsProgramAnswer command files program BadWords text → A
-no_answer_of_words (Analyze words) files program text (inl small) =
-    no_analysis BadWords (list_any has_report small.3.results) (λ e. cc) (λ e. cc) small.3.found
-no_answer_of_words (Analyze words) files program text (inr other) =
-    no_analysis BadWords (lists_report words.kinds other.1.results) (λ e. cc) (λ e. cc) other.1.answer.yields
-no_answer_of_words (Flow words) files program text answer = absurd (let is = answer.0 in cc)
-no_answer_of_words (Replay words) files program text answer = no_outcome BadWords answer.2.outcome (λ e. cc) (λ e. cc) answer.2.yields
-no_answer_of_words (Generate words) files program text answer =
+no_answer_of_words : {A : Type 0} (checked : List Kind) (command : Command) (files : List (List ℕ)) (program : TypedProgram) (text : List ℕ)
+    → IsProgramAnswer checked command files program BadWords text → A
+no_answer_of_words checked (Analyze words) files program text answer =
+    no_analysis BadWords (lists_report words.kinds answer.results) (λ e. cc) (λ e. cc) answer.answer.yields
+no_answer_of_words checked (Flow words) files program text answer = absurd (let is = answer.0 in cc)
+no_answer_of_words checked (Replay words) files program text answer = no_outcome BadWords answer.2.outcome (λ e. cc) (λ e. cc) answer.2.yields
+no_answer_of_words checked (Generate words) files program text answer =
     no_analysis BadWords (lists_report every_kind answer.results) (λ e. cc) (λ e. cc) answer.yields
 
 -- ---- a file
--- the line that refuses a tree that is no program answers the file that has it
-refuses_type : (command : Command) (file : List ℕ) (lexed : Lexed) (parsed : List RawExternal) (refusal : TypeRefusal) (status : Status) (text : List ℕ)
+-- the line that refuses checked a tree that is no program answers the file that has it
+refuses_type : (checked : List Kind) (command : Command) (file : List ℕ) (lexed : Lexed) (parsed : List RawExternal) (refusal : TypeRefusal) (status : Status)
+    (text : List ℕ)
     → status ≡ BadFile → verdicts.IsRefused (typed_tree (model_of command) lexed parsed) refusal → IsTypeLine lexed.files.items refusal text
-    → Parses file lexed parsed → IsAnswer command file status text
-refuses_type command file lexed parsed (types.Code code place) status text is refused line h =
-    subst (λ s. IsAnswer command file s text) (sym is) (inl (by_type lexed parsed h code place refused line))
-refuses_type command file lexed parsed types.Memory status text is refused line h = absurd line
+    → Parses file lexed parsed → IsAnswer checked command file status text
+refuses_type checked command file lexed parsed (types.Code code place) status text is refused line h =
+    subst (λ s. IsAnswer checked command file s text) (sym is) (inl (by_type lexed parsed h code place refused line))
+refuses_type checked command file lexed parsed types.Memory status text is refused line h = absurd line
 
 -- a file that is too long has the line that says so
-long_answer : (command : Command) (file : List ℕ) (status : Status) (text : List ℕ) → status ≡ BadFile → text ≡ codes "refused too-long 4194305\n"
-    → MOST_BYTES < length file → IsAnswer command file status text
-long_answer command file status text is line long = subst (λ s. IsAnswer command file s text) (sym is) (inl (too_long long line))
+long_answer : (checked : List Kind) (command : Command) (file : List ℕ) (status : Status) (text : List ℕ) → status ≡ BadFile
+    → text ≡ codes "refused too-long 4194305\n"
+    → MOST_BYTES < length file → IsAnswer checked command file status text
+long_answer checked command file status text is line long = subst (λ s. IsAnswer checked command file s text) (sym is) (inl (too_long long line))
 
 -- the line of the check that a file doesn't pass answers it
-pub refuses : (command : Command) (file : List ℕ) (refusal : FileRefusal) (status : Status) (text : List ℕ) → status ≡ BadFile
-    → IsRefusedFor (model_of command) file refusal → IsFileLine refusal text → IsAnswer command file status text
-refuses command file file_refusal.TooLong status text is refused line = long_answer command file status text is line refused
-refuses command file (file_refusal.Tokens refusal) status text is refused line =
-    subst (λ s. IsAnswer command file s text) (sym is) (inl (by_lexing refused.0 refusal refused.1 line))
-refuses command file (file_refusal.Syntax refusal files) status text is r line =
+pub refuses : (checked : List Kind) (command : Command) (file : List ℕ) (refusal : FileRefusal) (status : Status) (text : List ℕ) → status ≡ BadFile
+    → IsRefusedFor (model_of command) file refusal → IsFileLine refusal text → IsAnswer checked command file status text
+refuses checked command file file_refusal.TooLong status text is refused line = long_answer checked command file status text is line refused
+refuses checked command file (file_refusal.Tokens refusal) status text is refused line =
+    subst (λ s. IsAnswer checked command file s text) (sym is) (inl (by_lexing refused.0 refusal refused.1 line))
+refuses checked command file (file_refusal.Syntax refusal files) status text is r line =
     let same = subst (λ names. IsSyntaxLine names refusal text) r.names line in
-    subst (λ s. IsAnswer command file s text) (sym is) (inl (by_syntax r.short r.lexed r.has_tokens refusal r.refused same))
-refuses command file (file_refusal.Types refusal files) status text is r line =
-    refuses_type command file r.lexed r.tree refusal status text is r.refused (subst (λ names. IsTypeLine names refusal text) r.names line) r.parsed
+    subst (λ s. IsAnswer checked command file s text) (sym is) (inl (by_syntax r.short r.lexed r.has_tokens refusal r.refused same))
+refuses checked command file (file_refusal.Types refusal files) status text is r line =
+    refuses_type checked command file r.lexed r.tree refusal status text is r.refused (subst (λ names. IsTypeLine names refusal text) r.names line) r.parsed
 
 -- the answer to a file's program answers the file
-pub answers_file : (command : Command) (file : List ℕ) (found : FileProgram) (status : Status) (text : List ℕ)
-    → IsProgramOf (model_of command) file found → IsProgramAnswer command found.files.items (typed_program found.program) status text
-    → IsAnswer command file status text
-answers_file command file found status text h answer =
-    answers_program command file h.lexed h.tree (typed_program found.program) status text h.accepted.parsed h.accepted.typed
-    (subst (λ names. IsProgramAnswer command names (typed_program found.program) status text) h.names answer)
+pub answers_file : (checked : List Kind) (command : Command) (file : List ℕ) (found : FileProgram) (status : Status) (text : List ℕ)
+    → IsProgramOf (model_of command) file found → IsProgramAnswer checked command found.files.items (typed_program found.program) status text
+    → IsAnswer checked command file status text
+answers_file checked command file found status text h answer =
+    answers_program checked command file h.lexed h.tree (typed_program found.program) status text h.accepted.parsed h.accepted.typed
+    (subst (λ names. IsProgramAnswer checked command names (typed_program found.program) status text) h.names answer)
 
 -- ---- what a source has left
 some_longer : (n : ℕ) → (file : List ℕ) × (n < length file)
@@ -107,54 +107,60 @@ file_of_source (Flow words) left reads = refl
 file_of_source (Replay words) left reads = refl
 file_of_source (Generate words) left reads = absurd reads
 
--- the line that refuses a file that is too long answers it
-pub refuses_length : (command : Command) (left : Option (List ℕ)) (status : Status) (text : List ℕ) → Reads command → status ≡ BadFile
-    → text ≡ codes "refused too-long 4194305\n" → IfSome left (λ file. MOST_BYTES < length file) → IsFileAnswer command left status text
-refuses_length command (Some file) status text reads is line long =
-    (file, subst (λ l. IsLeft l file) (sym (file_of_source command (Some file) reads)) refl, long_answer command file status text is line long)
-refuses_length command None status text reads is line long =
+-- the line that refuses checked a file that is too long answers it
+pub refuses_length : (checked : List Kind) (command : Command) (left : Option (List ℕ)) (status : Status) (text : List ℕ) → Reads command
+    → status ≡ BadFile
+    → text ≡ codes "refused too-long 4194305\n" → IfSome left (λ file. MOST_BYTES < length file) → IsFileAnswer checked command left status text
+refuses_length checked command (Some file) status text reads is line long =
+    (file, subst (λ l. IsLeft l file) (sym (file_of_source command (Some file) reads)) refl, long_answer checked command file status text is line long)
+refuses_length checked command None status text reads is line long =
     let some = some_longer MOST_BYTES in
-    (some.0, subst (λ l. IsLeft l some.0) (sym (file_of_source command None reads)) tt, long_answer command some.0 status text is line some.1)
+    (some.0, subst (λ l. IsLeft l some.0) (sym (file_of_source command None reads)) tt, long_answer checked command some.0 status text is line some.1)
 
 -- an answer to the bytes that were read is one to the file, where the source tells what it is
-pub answers_left : (command : Command) (left : Option (List ℕ)) (file : List ℕ) (status : Status) (text : List ℕ) → Reads command
-    → IfSome left (λ bytes. file ≡ bytes) → IsAnswer command file status text → IsFileAnswer command left status text
-answers_left command (Some bytes) file status text reads same answer =
+pub answers_left : (checked : List Kind) (command : Command) (left : Option (List ℕ)) (file : List ℕ) (status : Status) (text : List ℕ) → Reads command
+    → IfSome left (λ bytes. file ≡ bytes) → IsAnswer checked command file status text → IsFileAnswer checked command left status text
+answers_left checked command (Some bytes) file status text reads same answer =
     (file, subst (λ l. IsLeft l file) (sym (file_of_source command (Some bytes) reads)) same, answer)
-answers_left command None file status text reads same answer =
+answers_left checked command None file status text reads same answer =
     (file, subst (λ l. IsLeft l file) (sym (file_of_source command None reads)) tt, answer)
 
 -- ---- words
 -- an answer to the file answers the words, too, where they mean the command
-whole_of_file : (words : List (List ℕ)) (left : Option (List ℕ)) (command : Command) (status : Status) (text : List ℕ) → WordsMean words command
-    → IsFileAnswer command left status text → IsWhole words left status text
-whole_of_file words left command BadWords text meant answer =
+whole_of_file : (checked : List Kind) (words : List (List ℕ)) (left : Option (List ℕ)) (command : Command) (status : Status) (text : List ℕ)
+    → WordsMean words command
+    → IsFileAnswer checked command left status text → IsWhole checked words left status text
+whole_of_file checked words left command BadWords text meant answer =
     let a = answer.2 in
-    no_answer_of_words command a.lexed.files.items a.program text a.answer
-whole_of_file words left command _ text meant answer = (command, meant, answer)
+    no_answer_of_words checked command a.lexed.files.items a.program text a.answer
+whole_of_file checked words left command _ text meant answer = (command, meant, answer)
 
 -- the same of a function's result
-pub whole_of_result : (words : List (List ℕ)) (left : Option (List ℕ)) (command : Command) (r : Result Answer Failure) → WordsMean words command
-    → IfOk r (λ answer. IsFileAnswer command left answer.status answer.text.items) → IfOk r (λ answer. IsWhole words left answer.status answer.text.items)
-whole_of_result words left command (Ok answer) meant h = whole_of_file words left command answer.status answer.text.items meant h
-whole_of_result words left command (Err failure) meant h = tt
+pub whole_of_result : (checked : List Kind) (words : List (List ℕ)) (left : Option (List ℕ)) (command : Command) (r : Result Answer Failure)
+    → WordsMean words command
+    → IfOk r (λ answer. IsFileAnswer checked command left answer.status answer.text.items)
+    → IfOk r (λ answer. IsWhole checked words left answer.status answer.text.items)
+whole_of_result checked words left command (Ok answer) meant h = whole_of_file checked words left command answer.status answer.text.items meant h
+whole_of_result checked words left command (Err failure) meant h = tt
 
--- the line that refuses the words
-pub whole_of_words : (words : List (List ℕ)) (left : Option (List ℕ)) (status : Status) (text : List ℕ) (refusal : WordsRefusal) (n : ℕ)
+-- the line that refuses checked the words
+pub whole_of_words : (checked : List Kind) (words : List (List ℕ)) (left : Option (List ℕ)) (status : Status) (text : List ℕ) (refusal : WordsRefusal)
+    (n : ℕ)
     → status ≡ BadWords → refusal ≡ words_refusal.Words n → scan.IsRefusal words refusal
-    → text ≡ codes "refused words " ++ (decimal n ++ codes "\n") → IsWhole words left status text
-whole_of_words words left status text refusal n is one refused line =
-    subst (λ s. IsWhole words left s text) (sym is) (n, subst (λ r. scan.IsRefusal words r) one refused, line)
+    → text ≡ codes "refused words " ++ (decimal n ++ codes "\n") → IsWhole checked words left status text
+whole_of_words checked words left status text refusal n is one refused line =
+    subst (λ s. IsWhole checked words left s text) (sym is) (n, subst (λ r. scan.IsRefusal words r) one refused, line)
 
 -- the words that were read as a command mean it alone
-pub only_command : (words : List (List ℕ)) (left : Option (List ℕ)) (one other : Command) (read : Result Command WordsRefusal) (r : Result Answer Failure)
+pub only_command : (checked : List Kind) (words : List (List ℕ)) (left : Option (List ℕ)) (one other : Command) (read : Result Command WordsRefusal)
+    (r : Result Answer Failure)
     → read ≡ Ok one → (read ≡ Ok other) ⊎ (read ≡ Err words_refusal.Memory)
-    → IfOk r (λ answer. IsFileAnswer one left answer.status answer.text.items)
-    → IfOk r (λ answer. IsFileAnswer other left answer.status answer.text.items)
-only_command words left one other read r is (inl e) h =
+    → IfOk r (λ answer. IsFileAnswer checked one left answer.status answer.text.items)
+    → IfOk r (λ answer. IsFileAnswer checked other left answer.status answer.text.items)
+only_command checked words left one other read r is (inl e) h =
     let same : one ≡ other = cc in
-    subst (λ command. IfOk r (λ answer. IsFileAnswer command left answer.status answer.text.items)) same h
-only_command words left one other read r is (inr e) h = absurd cc
+    subst (λ command. IfOk r (λ answer. IsFileAnswer checked command left answer.status answer.text.items)) same h
+only_command checked words left one other read r is (inr e) h = absurd cc
 
 -- the words that were read as a command aren't refused
 pub not_refused_words : {A : Type 0} (one : Command) (n : ℕ) (read : Result Command WordsRefusal) → read ≡ Ok one

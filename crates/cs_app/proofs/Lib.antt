@@ -1,5 +1,3 @@
-pub mod ShapeLemmas
-pub mod EntryLemmas
 pub mod ReplayLemmas
 pub mod AnswerLemmas
 pub mod AnalysisLemmas

@@ -1,37 +1,25 @@
 -- The answers to analyses: which functions are analyzed, and what is said of each.
-use Rattle.std.specs.Prelude.{◌≡◌, ◌⊎◌, ℕ, ◌&&◌, not, nat_eq, is_none, is_some, IsTrue, Bool, List, [], ◌∷◌, ◌++◌, map, length, filter}
+use Rattle.std.specs.Prelude.{◌≡◌, ℕ, is_some, Bool, List, [], ◌∷◌, ◌++◌, map, length, filter, All}
 use Rattle.std.specs.Prelude.{Option, None, Some, option_map, codes}
-use Rattle.std.specs.List.{All, range_with_len}
+use Rattle.std.specs.List.{Any, range_with_len}
 use Rattle.cs_ast.specs.TypedProgram.{TypedProgram}
-use Rattle.cs_events.specs.declared.outcome.Outcome.TheVariants.{Fault}
+use Rattle.cs_findings.specs.EveryRun.{MissesNothing}
 use Rattle.cs_findings.specs.GoodEntries.{IsGoodEntry}
-use Rattle.cs_meaning.specs.Machine.{NOWHERE, routine_of}
-use Rattle.cs_model.specs.declared.kind.Kind.TheVariants.{Divide}
+use Rattle.cs_meaning.specs.Machine.{routine_of}
+use Rattle.cs_model.specs.declared.kind.Kind.{Kind}
 use Rattle.cs_report.specs.SummaryLines.{summary_text}
-use Rattle.cs_results.specs.Selected.{every_kind, is_selected}
+use Rattle.cs_results.specs.Selected.{every_kind}
 use Rattle.cs_results.specs.declared.budgets.Budgets.{Budgets}
 use Rattle.cs_results.specs.declared.result.EntryResult.{EntryResult}
-use Rattle.cs_small_meaning.specs.Tree.{Definition}
-use Rattle.cs_small_form.specs.Reading.{IsOfForm}
 use Rattle.cs_words.specs.declared.command.AnalyzeWords.{AnalyzeWords}
-use Rattle.cs_app.specs.Entries.{IsAnalysisOf}
 use Rattle.cs_app.specs.Results.{IsResultsAnswer, results_status}
-use Rattle.cs_app.specs.Functions.{IsOfNoForm, entry_of}
+use Rattle.cs_app.specs.Functions.{entry_of}
 use Rattle.cs_app.specs.declared.status.Status.{Status}
 use Rattle.cs_app.specs.declared.status.Status.TheVariants.{NoEntry}
 
 -- the budgets of an analysis where the words name none
 abbrev pub DEFAULT_BUDGETS : Budgets
 DEFAULT_BUDGETS = record { visits = 4; depth = 5; events = 20000; nodes = 150000; splits = 64 }
-
-abbrev pub are_default : Budgets → Bool
-are_default budgets = nat_eq budgets.visits 4 && nat_eq budgets.depth 5 && nat_eq budgets.events 20000 && nat_eq budgets.nodes 150000
-    && nat_eq budgets.splits 64
-
--- whether the words ask for all that the analysis of the small form gives: each function under the default budgets, divisions by 0 among
--- the kinds, as lines
-abbrev pub are_plain : AnalyzeWords → Bool
-are_plain words = are_default words.budgets && is_none words.entry && not words.json && is_selected words.kinds (Fault Divide NOWHERE)
 
 -- the functions with a body, in order
 abbrev pub has_body : TypedProgram → ℕ → Bool
@@ -50,37 +38,35 @@ abbrev pub LacksEntry : Option (List ℕ) → TypedProgram → List ℕ → Type
 LacksEntry None program text = ⊥
 LacksEntry (Some name) program text = (entry_of name program ≡ None) × (text ≡ codes "refused entry " ++ (name ++ codes "\n"))
 
--- a result for each of these functions, in order, and each of them good: what it reports happens
-pub record AreGoodResults (program : TypedProgram) (budgets : Budgets) (entries : List ℕ) (results : List EntryResult) : Type 0 where
-  pub in_order : map (λ (r : EntryResult). r.entry) results ≡ entries
-  pub good : All (IsGoodEntry program budgets) results
+-- each kind of fault is among these kinds of checkers
+abbrev pub AreAllKinds : List Kind → Type 0
+AreAllKinds checked = (fault : Kind) → Any (λ one. one ≡ fault) checked
 
--- the analysis of a program of the small form, which covers all runs
-abbrev pub IsSmallAnalysis : AnalyzeWords → List (List ℕ) → TypedProgram → Status → List ℕ → Type 0
-IsSmallAnalysis words files program status text =
-    IsTrue (are_plain words) × (functions : List Definition) × IsOfForm program functions × IsAnalysisOf files functions status text
+-- what an analysis answers that asks checkers of these kinds
+module _ (checked : List Kind) where
+  -- a result for each of these functions, in order, and each of them good: what it reports happens. With a checker of each kind, a result of a function
+  -- that works with integers alone leaves no run out, if nothing is cut
+  pub record AreGoodResults (program : TypedProgram) (budgets : Budgets) (entries : List ℕ) (results : List EntryResult) : Type 0 where
+    pub in_order : map (λ (r : EntryResult). r.entry) results ≡ entries
+    pub good : All (IsGoodEntry program budgets) results
+    pub complete : AreAllKinds checked → All (MissesNothing program budgets) results
 
--- the analysis of the program's functions by exploration
-pub record IsExploredAnalysis (words : AnalyzeWords) (program : TypedProgram) (status : Status) (text : List ℕ) : Type 0 where
-  pub entries : List ℕ
-  pub named : entries_named words.entry program ≡ Some entries
-  pub results : List EntryResult
-  pub good : AreGoodResults program words.budgets entries results
-  pub answer : IsResultsAnswer words.json program words.kinds results status text
+  -- the analysis of the program's functions
+  pub record IsAnalysis (words : AnalyzeWords) (program : TypedProgram) (status : Status) (text : List ℕ) : Type 0 where
+    pub entries : List ℕ
+    pub named : entries_named words.entry program ≡ Some entries
+    pub results : List EntryResult
+    pub good : AreGoodResults program words.budgets entries results
+    pub answer : IsResultsAnswer words.json program words.kinds results status text
 
--- the same, or that none of them has the name that is asked for
-abbrev pub IsExploredAnswer : AnalyzeWords → TypedProgram → Status → List ℕ → Type 0
-IsExploredAnswer words program NoEntry text = LacksEntry words.entry program text
-IsExploredAnswer words program status text = IsExploredAnalysis words program status text
+  -- the same, or that none of them has the name that is asked for
+  abbrev pub IsAnalysisAnswer : AnalyzeWords → TypedProgram → Status → List ℕ → Type 0
+  IsAnalysisAnswer words program NoEntry text = LacksEntry words.entry program text
+  IsAnalysisAnswer words program status text = IsAnalysis words program status text
 
--- the answer to the analysis of a program: programs of the small form are explored only where the words ask for something else
-abbrev pub IsAnalysisAnswer : AnalyzeWords → List (List ℕ) → TypedProgram → Status → List ℕ → Type 0
-IsAnalysisAnswer words files program status text = IsSmallAnalysis words files program status text
-    ⊎ ((IsTrue (are_plain words) → IsOfNoForm program) × IsExploredAnswer words program status text)
-
--- the summary of the analysis of a file with so many bytes
-pub record IsSummary (bytes : ℕ) (program : TypedProgram) (status : Status) (text : List ℕ) : Type 0 where
-  pub results : List EntryResult
-  pub good : AreGoodResults program DEFAULT_BUDGETS (bodies program) results
-  pub says : text ≡ summary_text bytes results
-  pub yields : status ≡ results_status every_kind results
+  -- the summary of the analysis of a file with so many bytes
+  pub record IsSummary (bytes : ℕ) (program : TypedProgram) (status : Status) (text : List ℕ) : Type 0 where
+    pub results : List EntryResult
+    pub good : AreGoodResults program DEFAULT_BUDGETS (bodies program) results
+    pub says : text ≡ summary_text bytes results
+    pub yields : status ≡ results_status every_kind results

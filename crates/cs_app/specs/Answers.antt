@@ -6,6 +6,7 @@ use Rattle.cs_io.specs.Count.{Rose}
 use Rattle.cs_io.specs.Reported.{AppendsPart}
 use Rattle.cs_types.specs.declared.data_model.DataModel.{DataModel}
 use Rattle.cs_types.specs.declared.data_model.DataModel.TheVariants.{Lp64}
+use Rattle.cs_model.specs.declared.kind.Kind.{Kind}
 use Rattle.cs_ast.specs.declared.place.Place.{Place}
 use Rattle.cs_ast.specs.declared.raw.external.RawExternal.{RawExternal}
 use Rattle.cs_ast.specs.TypedProgram.{TypedProgram}
@@ -75,39 +76,10 @@ Reads (Flow words) = Unit {0}
 Reads (Replay words) = Unit {0}
 Reads (Generate words) = ⊥
 
--- the answer of a command to a program, whose places are in these files
-abbrev pub IsProgramAnswer : Command → List (List ℕ) → TypedProgram → Status → List ℕ → Type 0
-IsProgramAnswer (Analyze words) files program status text = IsAnalysisAnswer words files program status text
-IsProgramAnswer (Flow words) files program status text = IsFlowAnswer program status text
-IsProgramAnswer (Replay words) files program status text = IsReplayAnswer files program words status text
-IsProgramAnswer (Generate words) files program status text = IsSummary (length (generated_file words.seed words.size)) program status text
-
--- the file is a program, and the command answers it so
-pub record Accepts (command : Command) (file : List ℕ) (status : Status) (text : List ℕ) : Type 0 where
-  pub lexed : Lexed
-  pub tree : List RawExternal
-  pub program : TypedProgram
-  pub accepted : HasProgram (model_of command) file lexed tree program
-  pub answer : IsProgramAnswer command lexed.files.items program status text
-
--- the status and the whole text that a command has for a file
-abbrev pub IsAnswer : Command → List ℕ → Status → List ℕ → Type 0
-IsAnswer command file BadFile text = IsRefusal (model_of command) file text ⊎ Accepts command file BadFile text
-IsAnswer command file status text = Accepts command file status text
-
 -- what a source has left is this file, where it tells
 abbrev pub IsLeft : Option (List ℕ) → List ℕ → Type 0
 IsLeft (Some left) file = file ≡ left
 IsLeft None file = Unit {0}
-
--- the same of the command's file
-abbrev pub IsFileAnswer : Command → Option (List ℕ) → Status → List ℕ → Type 0
-IsFileAnswer command left status text = (file : List ℕ) × IsLeft (file_of command left) file × IsAnswer command file status text
-
--- the whole text that belongs to a status, for these words and this file
-abbrev pub IsWhole : List (List ℕ) → Option (List ℕ) → Status → List ℕ → Type 0
-IsWhole words file BadWords text = (n : ℕ) × AreRefusedAt words n × (text ≡ codes "refused words " ++ (decimal n ++ codes "\n"))
-IsWhole words file status text = (command : Command) × WordsMean words command × IsFileAnswer command file status text
 
 -- the whole file was read, and is a program
 abbrev pub IsRead : Status → Type 0
@@ -131,14 +103,45 @@ IsDone BadFile = Unit {0}
 IsDone NoEntry = Unit {0}
 IsDone _ = ⊥
 
--- the sink took the whole text of this status
-abbrev pub IsWritten : List (List ℕ) → Option (List ℕ) → Status → Option (List ℕ) → Option (List ℕ) → Type 0
-IsWritten words file status before now = (text : List ℕ) × IsWhole words file status text × Appends before now text
+-- what commands answer with checkers of these kinds
+module _ (checked : List Kind) where
+  -- the answer of a command to a program, whose places are in these files
+  abbrev pub IsProgramAnswer : Command → List (List ℕ) → TypedProgram → Status → List ℕ → Type 0
+  IsProgramAnswer (Analyze words) files program status text = IsAnalysisAnswer checked words program status text
+  IsProgramAnswer (Flow words) files program status text = IsFlowAnswer program status text
+  IsProgramAnswer (Replay words) files program status text = IsReplayAnswer files program words status text
+  IsProgramAnswer (Generate words) files program status text = IsSummary checked (length (generated_file words.seed words.size)) program status text
 
--- the sink took a part, and not all, of the text of some status
-abbrev pub IsPartWritten : List (List ℕ) → Option (List ℕ) → Option (List ℕ) → Option (List ℕ) → Type 0
-IsPartWritten words file before now =
-    (status : Status) × (text : List ℕ) × IsWhole words file status text × AppendsPart before now text
+  -- the file is a program, and the command answers it so
+  pub record Accepts (command : Command) (file : List ℕ) (status : Status) (text : List ℕ) : Type 0 where
+    pub lexed : Lexed
+    pub tree : List RawExternal
+    pub program : TypedProgram
+    pub accepted : HasProgram (model_of command) file lexed tree program
+    pub answer : IsProgramAnswer command lexed.files.items program status text
+
+  -- the status and the whole text that a command has for a file
+  abbrev pub IsAnswer : Command → List ℕ → Status → List ℕ → Type 0
+  IsAnswer command file BadFile text = IsRefusal (model_of command) file text ⊎ Accepts command file BadFile text
+  IsAnswer command file status text = Accepts command file status text
+
+  -- the same of the command's file
+  abbrev pub IsFileAnswer : Command → Option (List ℕ) → Status → List ℕ → Type 0
+  IsFileAnswer command left status text = (file : List ℕ) × IsLeft (file_of command left) file × IsAnswer command file status text
+
+  -- the whole text that belongs to a status, for these words and this file
+  abbrev pub IsWhole : List (List ℕ) → Option (List ℕ) → Status → List ℕ → Type 0
+  IsWhole words file BadWords text = (n : ℕ) × AreRefusedAt words n × (text ≡ codes "refused words " ++ (decimal n ++ codes "\n"))
+  IsWhole words file status text = (command : Command) × WordsMean words command × IsFileAnswer command file status text
+
+  -- the sink took the whole text of this status
+  abbrev pub IsWritten : List (List ℕ) → Option (List ℕ) → Status → Option (List ℕ) → Option (List ℕ) → Type 0
+  IsWritten words file status before now = (text : List ℕ) × IsWhole words file status text × Appends before now text
+
+  -- the sink took a part, and not all, of the text of some status
+  abbrev pub IsPartWritten : List (List ℕ) → Option (List ℕ) → Option (List ℕ) → Option (List ℕ) → Type 0
+  IsPartWritten words file before now =
+      (status : Status) × (text : List ℕ) × IsWhole words file status text × AppendsPart before now text
 
 -- one of the two counts of a sink rose
 abbrev pub SinkRose : (faults faults' empty_takes empty_takes' : ℕ) → Type 0

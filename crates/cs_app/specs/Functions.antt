@@ -3,12 +3,6 @@ use Rattle.std.specs.Prelude.{◌&&◌, ℕ, nat_eq, is_some, Bool, List, Option
 use Rattle.std.specs.List.{position}
 use Rattle.std.specs.Cmp.Lexicographic.{pointwise}
 use Rattle.cs_ast.specs.TypedProgram.{TypedProgram, Routine}
-use Rattle.cs_small_meaning.specs.Tree.{Definition}
-use Rattle.cs_small_form.specs.Reading.{IsOfForm}
-
--- the functions of the program aren't all of the form
-abbrev pub IsOfNoForm : TypedProgram → Type 0
-IsOfNoForm program = (functions : List Definition) → IsOfForm program functions → ⊥
 
 -- the number of the function with this name and a body, if there is one
 abbrev pub is_entry : List ℕ → Routine → Bool

@@ -1,6 +1,7 @@
 -- A file is refused or accepted, and not both; where its tokens are a tree, it is refused just as typing says of that tree.
 use Rattle.std.specs.Prelude.{◌≡◌, ℕ, List}
 use Rattle.cs_types.specs.declared.data_model.DataModel.{DataModel}
+use Rattle.cs_model.specs.declared.kind.Kind.{Kind}
 use Rattle.cs_ast.specs.declared.place.Place.{Place}
 use Rattle.cs_ast.specs.declared.raw.external.RawExternal.{RawExternal}
 use Rattle.cs_lexer.specs.declared.lexer.Lexed.{Lexed}
@@ -15,8 +16,8 @@ use Rattle.cs_app.specs.Answers.{Accepts, model_of}
 -- no file is both
 abbrev pub RefusedIsNotAccepted : Type 0
 RefusedIsNotAccepted =
-    (command : Command) (file : List ℕ) (status : Status) (text other : List ℕ) → IsRefusal (model_of command) file text
-    → Accepts command file status other → ⊥
+    (checked : List Kind) (command : Command) (file : List ℕ) (status : Status) (text other : List ℕ) → IsRefusal (model_of command) file text
+    → Accepts checked command file status other → ⊥
 
 -- the refusal of a file whose tokens are a tree is that of its types
 abbrev pub TreesAreRefusedByTypes : Type 0

@@ -1,7 +1,6 @@
 pub mod Statuses
 pub mod Functions
 pub mod Refusals
-pub mod Entries
 pub mod Results
 pub mod Analyses
 pub mod Answers

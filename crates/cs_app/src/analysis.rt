@@ -1,80 +1,204 @@
-//! The answer to the analysis of a program.
-ghost use Rattle.std.specs.Prelude.{◌≡◌, IfOk};
-ghost use Rattle.cs_ast.specs.TypedProgram.{typed_program};
+//! The answers to analyses of a program's functions.
+ghost use Rattle.std.specs.Prelude.{◌≡◌, ◌≤◌, [], ◌∷◌, ◌++◌, if◌then◌else◌, is_some, length, map, Some, IfOk, OnOk};
+ghost use Rattle.cs_ast.specs.TypedProgram.{routine, typed_program};
+ghost use Rattle.cs_cfg.specs.GraphView as view;
+ghost use Rattle.cs_cfg.specs.Lowered.{IsLowered};
+ghost use Rattle.cs_objects.specs.Prepared.{IsPrepared};
+ghost use Rattle.cs_types.specs.Layout.{IsLaidOut};
+ghost use Rattle.cs_generate.specs.GeneratedFile.{generated_file};
 ghost use Rattle.cs_well_formed.specs.Programs.{IsWellFormed};
 ghost use Rattle.cs_app.specs.Analyses as analyses;
-ghost use Rattle.cs_app.specs.Analyses.{IsAnalysisAnswer};
+ghost use Rattle.cs_app.specs.Analyses.{AreGoodResults, IsAnalysis, IsAnalysisAnswer, IsSummary};
 
 use crate::answer::Answer;
-use crate::entries::analyzed;
-use crate::exploration::explored;
-use cs_ast::Place;
-use cs_ast::typed::program::Program;
+use crate::entries::number_of;
+use crate::replay::{entry_of, refused_entry};
+use crate::results::{results_answer, results_status};
+use cs_analysis::analyze;
+use cs_ast::typed::program::{Function, Program};
+use cs_cfg::Code;
 use cs_checker::Checker;
-use cs_events::Outcome;
-use cs_model::Kind;
-use cs_names::Name;
-use cs_results::{Budgets, is_selected};
-use cs_small_form::{FormRefusal, functions_of};
-use cs_words::AnalyzeWords;
+use cs_generate::generate_text;
+use cs_lower::lower;
+use cs_objects::prepared::Prepared;
+use cs_report::summary;
+use cs_results::{Budgets, EntryResult, every_kind};
+use cs_witness::Entry;
+use cs_words::{AnalyzeWords, GenerateWords};
 use std::alloc::{AllocError, Global};
 
-/// The analysis of a program, whose places are in these files. Where the words ask for all that the analysis of the small form gives, a
-/// program of that form is analyzed by it, since it is proved to cover all runs. Every other program is explored.
+/// How many states an exploration can number. The words allow no more.
+const MOST_NODES: u64 = 200_000;
+
+/// The analysis of the function that the words name, or of each that has a body.
 pub fn analysis(
     alloc: Global,
     words: &AnalyzeWords,
-    files: &[Name],
     program: &Program,
     checkers: &mut Vec<Box<dyn Checker>>,
 ) -> Result<Answer, AllocError>
     requires { IsWellFormed (typed_program program.now) }
-    ensures { IfOk result (λ answer.
-        IsAnalysisAnswer words.now files.now (typed_program program.now) answer.status
-        answer.text.items) }
+    ensures answer { IfOk result (λ answer.
+        IsAnalysisAnswer (map (λ b. kind_of b) checkers.old.items) words.now
+        (typed_program program.now) answer.status answer.text.items) }
+    ensures kinds { map (λ b. kind_of b) checkers.new.items
+        ≡ map (λ b. kind_of b) checkers.old.items }
 {
-    if !are_plain(words) {
-        let answer = explored(alloc, words, program, checkers)?;
+    let Some(name) = &words.entry else {
+        let entries = bodies(alloc, program)?;
+        let answer = analysis_of(alloc, words, program, &entries, checkers)?;
         return Ok(answer);
-    }
-    match functions_of(alloc, program) {
-        Ok(functions) => {
-            let answer = analyzed(alloc, files, &functions)?;
-            Ok(answer)
-        }
-        Err(FormRefusal::NotOfForm) => {
-            let answer = explored(alloc, words, program, checkers)?;
-            Ok(answer)
-        }
-        Err(FormRefusal::Memory) => Err(AllocError),
-    }
-}
-
-/// Whether the words ask for all that the analysis of the small form gives.
-fn are_plain(words: &AnalyzeWords) -> bool
-    ensures { result ≡ analyses.are_plain words.now }
-{
-    let nowhere = Place {
-        file: 0,
-        line: 0,
-        column: 0,
     };
-    are_default(words.budgets)
-        && words.entry.is_none()
-        && !words.json
-        && is_selected(
-            words.kinds.as_slice(),
-            Outcome::Fault(Kind::Divide, nowhere),
-        )
+    match entry_of(&program.functions, name) {
+        Some(entry) => {
+            let answer = analysis_of(alloc, words, program, &[entry], checkers)?;
+            Ok(answer)
+        }
+        None => {
+            let answer = refused_entry(alloc, name)?;
+            Ok(answer)
+        }
+    }
 }
 
-/// Whether these are the budgets that an analysis has where the words name none.
-fn are_default(budgets: Budgets) -> bool
-    ensures { result ≡ analyses.are_default budgets }
+/// The analysis of these functions, as the words ask for it.
+fn analysis_of(
+    alloc: Global,
+    words: &AnalyzeWords,
+    program: &Program,
+    entries: &[usize],
+    checkers: &mut Vec<Box<dyn Checker>>,
+) -> Result<Answer, AllocError>
+    requires { IsWellFormed (typed_program program.now) }
+    ensures answer { IfOk result (λ answer. (analyses.entries_named words.now.entry
+        (typed_program program.now) ≡ Some entries.now)
+        → IsAnalysis (map (λ b. kind_of b) checkers.old.items) words.now
+        (typed_program program.now) answer.status answer.text.items) }
+    ensures kinds { map (λ b. kind_of b) checkers.new.items
+        ≡ map (λ b. kind_of b) checkers.old.items }
 {
-    budgets.visits == 4
-        && budgets.depth == 5
-        && budgets.events == 20_000
-        && budgets.nodes == 150_000
-        && budgets.splits == 64
+    let results = results_of(alloc, program, words.budgets, entries, checkers)?;
+    let kinds = words.kinds.as_slice();
+    results_answer(alloc, program, &results, kinds, words.json)
+}
+
+/// The summary of the analysis of each function that has a body, under the budgets that hold where none are named. The program is that
+/// of the file which these words generate.
+pub fn summarized(
+    alloc: Global,
+    words: &GenerateWords,
+    program: &Program,
+    checkers: &mut Vec<Box<dyn Checker>>,
+) -> Result<Answer, AllocError>
+    requires { IsWellFormed (typed_program program.now) }
+    ensures answer { IfOk result (λ answer. IsSummary (map (λ b. kind_of b) checkers.old.items)
+        (length (generated_file words.now.seed words.now.size)) (typed_program program.now)
+        answer.status answer.text.items) }
+    ensures kinds { map (λ b. kind_of b) checkers.new.items
+        ≡ map (λ b. kind_of b) checkers.old.items }
+{
+    let budgets = Budgets {
+        visits: 4,
+        depth: 5,
+        events: 20_000,
+        nodes: 150_000,
+        splits: 64,
+    };
+    let entries = bodies(alloc, program)?;
+    let results = results_of(alloc, program, budgets, &entries, checkers)?;
+    let file = generate_text(alloc, u64::from(words.seed), u64::from(words.size))?;
+    let text = summary(alloc, file.as_slice().len(), &results)?;
+    let kinds = every_kind();
+    Ok(Answer {
+        status: results_status(&results, &kinds),
+        text,
+    })
+}
+
+/// The functions of a program that have a body, by number.
+#[tactic(auto, using(crate::proofs::AnalysisLemmas::all_bodies))]
+fn bodies(alloc: Global, program: &Program) -> Result<Vec<usize>, AllocError>
+    ensures { IfOk result (λ list. list.items ≡ analyses.bodies (typed_program program.now)) }
+{
+    let mut list = Vec::new(alloc);
+    for (number, function) in program.functions.iter().enumerate() {
+        add_body(&mut list, number, function)?;
+    }
+    Ok(list)
+}
+
+/// Adds the number of a function, if it has a body.
+fn add_body(list: &mut Vec<usize>, number: usize, function: &Function) -> Result<(), AllocError>
+    ensures { OnOk result (list.new.items
+        ≡ list.old.items ++ (if is_some (routine function.now).body then number ∷ [] else [])) }
+{
+    if function.body.is_some() {
+        list.push(number)?;
+    }
+    Ok(())
+}
+
+/// The results of these functions, in order.
+fn results_of(
+    alloc: Global,
+    program: &Program,
+    budgets: Budgets,
+    entries: &[usize],
+    checkers: &mut Vec<Box<dyn Checker>>,
+) -> Result<Vec<EntryResult>, AllocError>
+    requires { IsWellFormed (typed_program program.now) }
+    ensures good { IfOk result (λ results.
+        AreGoodResults (map (λ b. kind_of b) checkers.old.items) (typed_program program.now)
+        budgets entries.now results.items) }
+    ensures kinds { map (λ b. kind_of b) checkers.new.items
+        ≡ map (λ b. kind_of b) checkers.old.items }
+{
+    if budgets.nodes > MOST_NODES {
+        return Err(AllocError);
+    }
+    let code = lower(alloc, program)?;
+    match Prepared::new(alloc, program) {
+        Ok(prepared) => {
+            let results = results_with(
+                alloc, program, &prepared, &code, budgets, entries, checkers,
+            )?;
+            Ok(results)
+        }
+        Err(_) => Err(AllocError),
+    }
+}
+
+/// The same where the program is lowered, and what its runs share is prepared.
+fn results_with(
+    alloc: Global,
+    program: &Program,
+    prepared: &Prepared,
+    code: &Code,
+    budgets: Budgets,
+    entries: &[usize],
+    checkers: &mut Vec<Box<dyn Checker>>,
+) -> Result<Vec<EntryResult>, AllocError>
+    requires laid_out { IsLaidOut program.now.model program.now.table.list }
+    requires prepared { IsPrepared prepared.now program.now }
+    requires lowered { IsLowered (view.code code.now) (typed_program program.now) }
+    requires nodes { budgets.nodes ≤ 200000 }
+    ensures good { IfOk result (λ results.
+        AreGoodResults (map (λ b. kind_of b) checkers.old.items) (typed_program program.now)
+        budgets entries.now results.items) }
+    ensures kinds { map (λ b. kind_of b) checkers.new.items
+        ≡ map (λ b. kind_of b) checkers.old.items }
+{
+    let mut results = Vec::new(alloc);
+    for number in entries {
+        let entry = Entry {
+            program,
+            prepared,
+            code,
+            function: number_of(*number)?,
+            budgets,
+        };
+        let analysis = analyze(alloc, &entry, checkers)?;
+        results.push(analysis.witnessed.result)?;
+    }
+    Ok(results)
 }

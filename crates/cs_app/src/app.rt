@@ -1,5 +1,5 @@
 //! The top call.
-ghost use Rattle.std.specs.Prelude.{◌≡◌, ℕ};
+ghost use Rattle.std.specs.Prelude.{◌≡◌, ℕ, map};
 ghost use Rattle.std.specs.Io.KnownBytes.{IsAtEnd, Keeps};
 ghost use Rattle.cs_io.specs.Count.{Rose};
 ghost use Rattle.cs_words.specs.Meaning.{words_text, WordsMean, AreRefusedAt};
@@ -16,7 +16,8 @@ use cs_io::{Sink, Source, write_all_of};
 use std::alloc::Global;
 
 /// Runs the program: these words, the file that the source has left, and the text into the sink.
-/// The checkers are asked about each operation that the analysis comes to.
+/// The checkers are asked about each operation that the analysis comes to. With one of each kind, an analysis of a function that works with
+/// integers alone leaves no fault out, unless it says that it was cut.
 ///
 /// The checks come in this order: words, reading, length, lexing, syntax, types, entry, analysis
 /// or run, writing. The whole text is made before the first write, so that nothing is
@@ -30,8 +31,8 @@ pub fn csa<S: Source, K: Sink>(
 ) -> Status
     // The whole text is written that belongs to the words, the file and the status.
     ensures written { IsDone result
-        → IsWritten (words_text words.now) (S.left source.old) result (K.written sink.old)
-        (K.written sink.new) }
+        → IsWritten (map (λ b. kind_of b) checkers.old.items) (words_text words.now)
+        (S.left source.old) result (K.written sink.old) (K.written sink.new) }
     ensures read_to_the_end { (command : Command) → WordsMean (words_text words.now) command
         → Reads command → IsRead result → IsAtEnd (S.left source.new) }
     ensures unread { (n : ℕ) → AreRefusedAt (words_text words.now) n
@@ -48,10 +49,14 @@ pub fn csa<S: Source, K: Sink>(
         → SinkRose (K.faults sink.old) (K.faults sink.new) (K.empty_takes sink.old)
         (K.empty_takes sink.new) }
     ensures write_fault_writes_a_part { result ≡ Status.WriteFault →
-        IsPartWritten (words_text words.now) (S.left source.old) (K.written sink.old)
-        (K.written sink.new) }
+        IsPartWritten (map (λ b. kind_of b) checkers.old.items) (words_text words.now)
+        (S.left source.old) (K.written sink.old) (K.written sink.new) }
     ensures memory_writes_nothing { result ≡ Status.Memory
         → Keeps (K.written sink.old) (K.written sink.new) }
+
+    // The checkers keep their kinds and their order.
+    ensures kinds { map (λ b. kind_of b) checkers.new.items
+        ≡ map (λ b. kind_of b) checkers.old.items }
 
     // What is accepted is answered, where no count rises and there is memory.
     ensures complete { IsAcceptable (words_text words.now) (S.left source.old)

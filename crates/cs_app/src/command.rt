@@ -1,5 +1,5 @@
 //! The answer to the words of the command line.
-ghost use Rattle.std.specs.Prelude.{◌≡◌, ℕ, ◌++◌, Err, codes, IfOk};
+ghost use Rattle.std.specs.Prelude.{◌≡◌, ℕ, ◌++◌, Err, codes, map, IfOk};
 ghost use Rattle.std.specs.Io.KnownBytes.{IsAtEnd};
 ghost use Rattle.std.specs.Fmt.{decimal};
 ghost use Rattle.cs_io.specs.Count.{Rose};
@@ -28,10 +28,12 @@ pub fn answer_for<S: Source>(
     checkers: &mut Vec<Box<dyn Checker>>,
 ) -> Result<Answer, Failure>
     ensures whole { IfOk result (λ answer.
-        IsWhole (words_text words.now) (S.left source.old) answer.status answer.text.items) }
+        IsWhole (map (λ b. kind_of b) checkers.old.items) (words_text words.now)
+        (S.left source.old) answer.status answer.text.items) }
     ensures only { (command : Command) → WordsMean (words_text words.now) command
         → IfOk result (λ answer.
-        IsFileAnswer command (S.left source.old) answer.status answer.text.items) }
+        IsFileAnswer (map (λ b. kind_of b) checkers.old.items) command (S.left source.old)
+        answer.status answer.text.items) }
     ensures read { (command : Command) → WordsMean (words_text words.now) command
         → Reads command → IfOk result (λ answer.
         IsRead answer.status → IsAtEnd (S.left source.new)) }
@@ -41,6 +43,8 @@ pub fn answer_for<S: Source>(
         → WordsMean (words_text words.now) (Generate generation) → source.new ≡ source.old }
     ensures fault { result ≡ Err Failure.Read
         → Rose (S.faults source.old) (S.faults source.new) }
+    ensures kinds { map (λ b. kind_of b) checkers.new.items
+        ≡ map (λ b. kind_of b) checkers.old.items }
 {
     match words_of(alloc, words) {
         Ok(command) => answer_of(alloc, &command, source, checkers),
@@ -73,12 +77,15 @@ fn answer_of<S: Source>(
     checkers: &mut Vec<Box<dyn Checker>>,
 ) -> Result<Answer, Failure>
     ensures whole { IfOk result (λ answer.
-        IsFileAnswer command.now (S.left source.old) answer.status answer.text.items) }
+        IsFileAnswer (map (λ b. kind_of b) checkers.old.items) command.now (S.left source.old)
+        answer.status answer.text.items) }
     ensures read { Reads command.now → IfOk result (λ answer.
         IsRead answer.status → IsAtEnd (S.left source.new)) }
     ensures unread { (Reads command.now → ⊥) → source.new ≡ source.old }
     ensures fault { result ≡ Err Failure.Read
         → Rose (S.faults source.old) (S.faults source.new) }
+    ensures kinds { map (λ b. kind_of b) checkers.new.items
+        ≡ map (λ b. kind_of b) checkers.old.items }
 {
     match command {
         Command::Generate(words) => {
@@ -100,10 +107,13 @@ fn answer_from<S: Source>(
 ) -> Result<Answer, Failure>
     requires { Reads command.now }
     ensures whole { IfOk result (λ answer.
-        IsFileAnswer command.now (S.left source.old) answer.status answer.text.items) }
+        IsFileAnswer (map (λ b. kind_of b) checkers.old.items) command.now (S.left source.old)
+        answer.status answer.text.items) }
     ensures read { IfOk result (λ answer. IsRead answer.status → IsAtEnd (S.left source.new)) }
     ensures fault { result ≡ Err Failure.Read
         → Rose (S.faults source.old) (S.faults source.new) }
+    ensures kinds { map (λ b. kind_of b) checkers.new.items
+        ≡ map (λ b. kind_of b) checkers.old.items }
 {
     match read_all(alloc, source) {
         Ok(file) => {

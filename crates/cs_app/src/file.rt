@@ -1,12 +1,11 @@
 //! The answer to a file.
-ghost use Rattle.std.specs.Prelude.{◌≡◌, IfOk};
+ghost use Rattle.std.specs.Prelude.{◌≡◌, map, IfOk};
 ghost use Rattle.cs_ast.specs.TypedProgram.{typed_program};
 ghost use Rattle.cs_well_formed.specs.Programs.{IsWellFormed};
 ghost use Rattle.cs_app.specs.Answers.{IsProgramAnswer, IsAnswer, model_of};
 
-use crate::analysis::analysis;
+use crate::analysis::{analysis, summarized};
 use crate::answer::Answer;
-use crate::exploration::summarized;
 use crate::flow::flow;
 use crate::refused::refused;
 use crate::replay::replayed;
@@ -25,8 +24,11 @@ pub fn answer_to(
     file: &[u8],
     checkers: &mut Vec<Box<dyn Checker>>,
 ) -> Result<Answer, AllocError>
-    ensures { IfOk result (λ answer.
-        IsAnswer command.now file.now answer.status answer.text.items) }
+    ensures answer { IfOk result (λ answer.
+        IsAnswer (map (λ b. kind_of b) checkers.old.items) command.now file.now answer.status
+        answer.text.items) }
+    ensures kinds { map (λ b. kind_of b) checkers.new.items
+        ≡ map (λ b. kind_of b) checkers.old.items }
 {
     match program_of(alloc, model_of(command), file) {
         Ok(found) => {
@@ -61,13 +63,15 @@ fn answer_of(
     checkers: &mut Vec<Box<dyn Checker>>,
 ) -> Result<Answer, AllocError>
     requires { IsWellFormed (typed_program program.now) }
-    ensures { IfOk result (λ answer.
-        IsProgramAnswer command.now files.now (typed_program program.now) answer.status
-        answer.text.items) }
+    ensures answer { IfOk result (λ answer.
+        IsProgramAnswer (map (λ b. kind_of b) checkers.old.items) command.now files.now
+        (typed_program program.now) answer.status answer.text.items) }
+    ensures kinds { map (λ b. kind_of b) checkers.new.items
+        ≡ map (λ b. kind_of b) checkers.old.items }
 {
     match command {
         Command::Analyze(words) => {
-            let answer = analysis(alloc, words, files, program, checkers)?;
+            let answer = analysis(alloc, words, program, checkers)?;
             Ok(answer)
         }
         Command::Flow(_) => {

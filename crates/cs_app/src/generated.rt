@@ -1,5 +1,5 @@
 //! The answer to a generated file.
-ghost use Rattle.std.specs.Prelude.{◌≡◌, IfOk};
+ghost use Rattle.std.specs.Prelude.{◌≡◌, map, IfOk};
 ghost use Rattle.cs_generate.specs.GeneratedFile.{generated_file};
 ghost use Rattle.cs_app.specs.Answers.{IsAnswer};
 
@@ -17,8 +17,11 @@ pub fn generated(
     words: &GenerateWords,
     checkers: &mut Vec<Box<dyn Checker>>,
 ) -> Result<Answer, AllocError>
-    ensures { IfOk result (λ answer. IsAnswer command.now
+    ensures answer { IfOk result (λ answer.
+        IsAnswer (map (λ b. kind_of b) checkers.old.items) command.now
         (generated_file words.now.seed words.now.size) answer.status answer.text.items) }
+    ensures kinds { map (λ b. kind_of b) checkers.new.items
+        ≡ map (λ b. kind_of b) checkers.old.items }
 {
     let file = generate_text(alloc, u64::from(words.seed), u64::from(words.size))?;
     let answer = answer_to(alloc, command, &file, checkers)?;

@@ -6,7 +6,6 @@ mod answer;
 mod app;
 mod command;
 mod entries;
-mod exploration;
 mod file;
 mod flow;
 mod generated;

@@ -1,7 +1,6 @@
 //! The text of an analysis, of a replayed run, and of a refused file, as the program prints it.
 //!
-//! `text` and `json` print the results of any analysis; `summary` counts them. `append_entry` prints the results of the small form, and
-//! goes with it.
+//! `text` and `json` print the results of an analysis; `summary` counts them.
 #![tactic(auto)]
 
 mod counts;
@@ -14,12 +13,9 @@ mod json_finding;
 mod json_ground;
 mod refusal;
 mod replayed;
-mod small_finding;
-mod small_form;
 
 pub use counts::summary;
 pub use entry::text;
 pub use json_entry::json;
 pub use refusal::append_refusal;
 pub use replayed::append_replayed;
-pub use small_form::append_entry;

@@ -1,6 +1,8 @@
 //! What csa writes, and with which status it ends, where a read or a write fails.
 
 use cs_app::{Status, csa};
+use cs_checker::add;
+use cs_checks::DivideChecker;
 use cs_io::{MemSink, MemSource};
 use std::test::Fail;
 
@@ -22,8 +24,8 @@ fn yields_which_stream_failed(rt: HostRuntime) -> Result<(), Fail> {
         let bytes = Vec::from_slice(alloc, DIVISION.as_bytes())?;
         let mut source = MemSource::new(bytes, 16, vec![in alloc; read]?);
         let mut sink = MemSink::new(alloc, space, 16, vec![in alloc; write]?)?;
-        // A file of the small form is analyzed without a checker.
         let mut checkers = Vec::new(alloc);
+        add(&mut checkers, Box::new(alloc, DivideChecker::new())?)?;
         let ended = csa(
             alloc,
             words.as_slice(),

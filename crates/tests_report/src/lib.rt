@@ -1,4 +1,4 @@
-//! Tests of the texts of results, which are made by hand, and of the small form's interpreter.
+//! Tests of the texts of results, which are made by hand.
 #![tactic(auto)]
 
 #[cfg(test)]
@@ -7,10 +7,6 @@ mod forms;
 mod generated;
 #[cfg(test)]
 mod made;
-#[cfg(test)]
-mod small_machine;
-#[cfg(test)]
-mod small_reports;
 #[cfg(test)]
 mod summaries;
 #[cfg(test)]

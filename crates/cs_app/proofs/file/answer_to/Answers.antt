@@ -3,16 +3,16 @@ use Rattle.cs_program.specs.Answers.{IsProgramOf, IsRefusedFor}
 use Rattle.cs_app.proofs.AnswerLemmas.{answers_file, refuses}
 use Rattle.cs_app.proofs.file.answer_to.Goals as goal
 
-pub returns-in_ok-answer-in-Ok : goal.returns-in_ok-answer-in-Ok
-returns-in_ok-answer-in-Ok g c =
+pub returns-in_ok-answer-in-Ok-clause-answer : goal.returns-in_ok-answer-in-Ok-clause-answer
+returns-in_ok-answer-in-Ok-clause-answer g c =
     let answer = c.in_ok-answer-in-Ok.answer in
-    answers_file c.args.command.now c.args.file.now c.in-Ok.found answer.status answer.text.items
+    answers_file _ c.args.command.now c.args.file.now c.in-Ok.found answer.status answer.text.items
     (subst (λ model. IsProgramOf model c.args.file.now c.in-Ok.found) c.model_of.ensures c.in-Ok.ensures.program)
-    (rw c.deref.ensures.value at c.in_ok-answer-in-Ok.ensures)
+    (rw c.deref.ensures.value at c.in_ok-answer-in-Ok.ensures.answer)
 
-pub returns-in_ok-answer-in-Err : goal.returns-in_ok-answer-in-Err
-returns-in_ok-answer-in-Err g c =
+pub returns-in_ok-answer-in-Err-clause-answer : goal.returns-in_ok-answer-in-Err-clause-answer
+returns-in_ok-answer-in-Err-clause-answer g c =
     let answer = c.in_ok-answer-in-Err.answer in
-    refuses c.args.command.now c.args.file.now c.in-Err.refusal answer.status answer.text.items c.in_ok-answer-in-Err.ensures.status
+    refuses _ c.args.command.now c.args.file.now c.in-Err.refusal answer.status answer.text.items c.in_ok-answer-in-Err.ensures.status
     (subst (λ model. IsRefusedFor model c.args.file.now c.in-Err.refusal) c.model_of.ensures c.in-Err.ensures.refused)
     c.in_ok-answer-in-Err.ensures.text

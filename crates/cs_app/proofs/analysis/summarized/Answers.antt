@@ -1,0 +1,19 @@
+use Rattle.std.proofs.Common.{length, ap, ◌∙◌, subst}
+use Rattle.cs_ast.specs.TypedProgram.{typed_program}
+use Rattle.cs_generate.specs.GeneratedFile.{generated_file}
+use Rattle.cs_report.specs.SummaryLines.{summary_text}
+use Rattle.cs_app.specs.Analyses.{AreGoodResults, DEFAULT_BUDGETS}
+use Rattle.cs_app.specs.Results.{results_status}
+use Rattle.cs_app.proofs.analysis.summarized.Goals as goal
+
+pub returns-clause-answer : goal.returns-clause-answer
+returns-clause-answer g c =
+    let program = typed_program c.args.program.now in
+    let results = c.in_ok-results.results.items in
+    let bytes = ap length (c.as_slice.ensures.value ∙ c.in_ok-file.ensures ∙ (λ i. generated_file (c.from.ensures i) (c.from-2.ensures i))) in
+    record {
+      results = results;
+      good = subst (λ es. AreGoodResults _ program DEFAULT_BUDGETS es results) (c.deref.ensures.value ∙ c.in_ok-entries.ensures) c.in_ok-results.ensures.good;
+      says = c.in_ok-text.ensures ∙ (λ i. summary_text (bytes i) (c.deref-2.ensures.value i));
+      yields = c.results_status.ensures ∙ (λ i. results_status (c.every_kind-kinds.ensures i) (c.deref-3.ensures.value i));
+    }

@@ -1,4 +1,0 @@
-pub mod Shape
-pub mod Reports
-pub mod Paths
-pub mod Tests

@@ -1,4 +1,0 @@
-pub mod Positions
-pub mod Bodies
-pub mod Growing
-pub mod Limits

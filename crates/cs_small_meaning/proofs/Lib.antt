@@ -1,2 +1,0 @@
-pub mod BlockRows
-pub mod RunLemmas
