@@ -23,8 +23,8 @@ use Rattle.cs_words.specs.declared.command.Command.TheVariants.{Analyze, Flow, R
 use Rattle.cs_program.specs.Trees.{Parses, HasProgram, typed_tree}
 use Rattle.cs_app.specs.Functions.{entry_of}
 use Rattle.cs_app.specs.Refusals.{IsLexLine, IsSyntaxLine, type_line, IsRefusal, too_long, by_lexing, by_syntax, by_type}
-use Rattle.cs_app.specs.declared.status.Status.{Status}
-use Rattle.cs_app.specs.declared.status.Status.TheVariants.{Clean, Found, BadWords, BadFile, ReadFault, WriteFault, Memory, NoEntry}
+use Rattle.cs_answers.specs.declared.status.Status.{Status}
+use Rattle.cs_answers.specs.declared.status.Status.TheVariants.{Clean, Found, BadWords, BadFile, ReadFault, WriteFault, Memory, NoEntry}
 use Rattle.cs_app.specs.Analyses.{LacksEntry, IsAnalysisAnswer, entries_named}
 use Rattle.cs_app.specs.Answers.{IsProgramAnswer, IsReplayAnswer, Accepts, IsAnswer, IsLeft, IsFileAnswer, IsAnswered, Suits, IsAcceptable, model_of}
 use Rattle.cs_app.specs.Answers.{outcome_status}

@@ -8,12 +8,16 @@ use Rattle.cs_model.specs.declared.kind.Kind.{Kind}
 use Rattle.cs_ast.specs.declared.raw.external.RawExternal.{RawExternal}
 use Rattle.cs_ast.specs.TypedProgram.{TypedProgram, typed_program}
 use Rattle.cs_lexer.specs.declared.lexer.Lexed.{Lexed}
+use Rattle.cs_events.specs.declared.outcome.Outcome.{Outcome}
+use Rattle.cs_events.specs.declared.outcome.Outcome.TheVariants as ends
 use Rattle.cs_scopes.specs.declared.refusal.TypeRefusal.{TypeRefusal}
 use Rattle.cs_scopes.specs.declared.refusal.TypeRefusal.TheVariants as types
 use Rattle.cs_scopes.specs.Verdicts as verdicts
 use Rattle.cs_scopes.specs.Verdicts.{Fine}
+use Rattle.cs_words.specs.declared.command.AnalyzeWords.{AnalyzeWords}
 use Rattle.cs_words.specs.declared.command.Command.{Command}
 use Rattle.cs_words.specs.declared.command.Command.TheVariants.{Analyze, Flow, Replay, Generate}
+use Rattle.cs_words.specs.declared.command.ReplayWords.{ReplayWords}
 use Rattle.cs_words.specs.declared.refusal.WordsRefusal.{WordsRefusal}
 use Rattle.cs_words.specs.declared.refusal.WordsRefusal.TheVariants as words_refusal
 use Rattle.cs_words.specs.Meaning.{WordsMean}
@@ -25,12 +29,14 @@ use Rattle.cs_program.specs.declared.refusal.FileRefusal.TheVariants as file_ref
 use Rattle.cs_program.specs.Answers.{IsProgramOf, IsRefusedFor}
 use Rattle.cs_program.specs.Trees.{Parses, typed_tree}
 use Rattle.cs_app.specs.Refusals.{IsFileLine, IsSyntaxLine, IsTypeLine, too_long, by_lexing, by_syntax, by_type}
-use Rattle.cs_app.specs.declared.status.Status.{Status}
-use Rattle.cs_app.specs.declared.status.Status.TheVariants.{Clean, Found, BadWords, BadFile}
-use Rattle.cs_app.specs.declared.answer.Answer.{Answer}
-use Rattle.cs_app.specs.declared.answer.Failure.{Failure}
+use Rattle.cs_answers.specs.declared.status.Status.{Status}
+use Rattle.cs_answers.specs.declared.status.Status.TheVariants.{Clean, Found, BadWords, BadFile, ReadFault, WriteFault, Memory, NoEntry}
+use Rattle.cs_answers.specs.declared.answer.Answer.{Answer}
+use Rattle.cs_answers.specs.declared.answer.Failure.{Failure}
 use Rattle.cs_results.specs.Selected.{every_kind, lists_report}
-use Rattle.cs_app.specs.Answers.{IsProgramAnswer, IsAnswer, IsLeft, IsFileAnswer, IsWhole, Reads, file_of, model_of}
+use Rattle.cs_app.specs.Answers.{IsProgramAnswer, IsAnswer, IsLeft, IsFileAnswer, IsWhole, IsDone, Reads, file_of, model_of}
+use Rattle.cs_app.specs.Answers.{IsReplayAnswer, outcome_status}
+use Rattle.cs_app.specs.Analyses.{IsAnalysisAnswer}
 use Rattle.cs_app.proofs.ReplayLemmas.{no_outcome}
 
 -- ---- a program
@@ -173,3 +179,50 @@ pub none_meant : {A : Type 0} (other : Command) (n : ℕ) (refusal : WordsRefusa
     → refusal ≡ words_refusal.Words n → (read ≡ Ok other) ⊎ (read ≡ Err words_refusal.Memory) → A
 none_meant other n refusal read is one (inl e) = absurd cc
 none_meant other n refusal read is one (inr e) = absurd cc
+
+-- ---- statuses
+-- a program has no answer that is a fault of a stream or want of memory
+yields_done : (status : Status) (found : Bool) → status ≡ cond found Found Clean → IsDone status
+yields_done status true is = subst IsDone (sym is) tt
+yields_done status false is = subst IsDone (sym is) tt
+
+outcome_done : (status : Status) (outcome : Outcome) → status ≡ outcome_status outcome → IsDone status
+outcome_done status (ends.Done returned) is = subst IsDone (sym is) tt
+outcome_done status (ends.Fault kind at) is = subst IsDone (sym is) tt
+outcome_done status (ends.Over budget at) is = subst IsDone (sym is) tt
+
+analysis_is_done : (checked : List Kind) (words : AnalyzeWords) (program : TypedProgram) (status : Status) (text : List ℕ)
+    → IsAnalysisAnswer checked words program status text → IsDone status
+analysis_is_done checked words program NoEntry text lacks = tt
+analysis_is_done checked words program status text answer = yields_done status (lists_report words.kinds answer.results) answer.answer.yields
+
+replay_is_done : (files : List (List ℕ)) (program : TypedProgram) (words : ReplayWords) (status : Status) (text : List ℕ)
+    → IsReplayAnswer files program words status text → IsDone status
+replay_is_done files program words NoEntry text answer = tt
+replay_is_done files program words status text answer = outcome_done status answer.2.outcome answer.2.yields
+
+program_is_done : (checked : List Kind) (command : Command) (files : List (List ℕ)) (program : TypedProgram) (status : Status) (text : List ℕ)
+    → IsProgramAnswer checked command files program status text → IsDone status
+program_is_done checked (Analyze words) files program status text answer = analysis_is_done checked words program status text answer
+program_is_done checked (Flow words) files program status text answer = subst IsDone (sym answer.0) tt
+program_is_done checked (Replay words) files program status text answer = replay_is_done files program words status text answer
+program_is_done checked (Generate words) files program status text answer =
+    yields_done status (lists_report every_kind answer.results) answer.yields
+
+-- neither have words: the status of a whole text is one of those with which the text is written
+pub whole_is_done : (checked : List Kind) (words : List (List ℕ)) (left : Option (List ℕ)) (status : Status) (text : List ℕ)
+    → IsWhole checked words left status text → IsDone status
+whole_is_done checked words left Clean text h = tt
+whole_is_done checked words left Found text h = tt
+whole_is_done checked words left BadWords text h = tt
+whole_is_done checked words left BadFile text h = tt
+whole_is_done checked words left NoEntry text h = tt
+whole_is_done checked words left ReadFault text h =
+    let a = h.2.2 in
+    program_is_done checked h.0 a.lexed.files.items a.program ReadFault text a.answer
+whole_is_done checked words left WriteFault text h =
+    let a = h.2.2 in
+    program_is_done checked h.0 a.lexed.files.items a.program WriteFault text a.answer
+whole_is_done checked words left Memory text h =
+    let a = h.2.2 in
+    program_is_done checked h.0 a.lexed.files.items a.program Memory text a.answer

@@ -2,3 +2,4 @@ pub mod ReplayLemmas
 pub mod AnswerLemmas
 pub mod AnalysisLemmas
 pub mod AcceptedLemmas
+pub mod WrittenAnswers

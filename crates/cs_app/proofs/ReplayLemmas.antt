@@ -17,8 +17,8 @@ use Rattle.cs_meaning.specs.ProgramRuns.{RunGives}
 use Rattle.cs_report.specs.ReplayLines.{replay_line}
 use Rattle.cs_words.specs.declared.command.ReplayWords.{ReplayWords}
 use Rattle.cs_app.specs.Functions.{is_entry, entry_of}
-use Rattle.cs_app.specs.declared.status.Status.{Status}
-use Rattle.cs_app.specs.declared.status.Status.TheVariants.{Clean, Found, NoEntry}
+use Rattle.cs_answers.specs.declared.status.Status.{Status}
+use Rattle.cs_answers.specs.declared.status.Status.TheVariants.{Clean, Found, NoEntry}
 use Rattle.cs_app.specs.Answers.{outcome_status, IsReplayOf, IsReplayAnswer}
 
 -- a view of what there may be is there with it

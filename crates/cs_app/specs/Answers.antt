@@ -28,8 +28,8 @@ use Rattle.cs_program.specs.Trees.{Parses, HasProgram, typed_tree}
 use Rattle.cs_app.specs.Functions.{entry_of}
 use Rattle.cs_app.specs.Refusals.{IsRefusal, type_line}
 use Rattle.cs_app.specs.Analyses.{IsAnalysisAnswer, IsSummary, entries_named}
-use Rattle.cs_app.specs.declared.status.Status.{Status}
-use Rattle.cs_app.specs.declared.status.Status.TheVariants.{Clean, Found, BadWords, BadFile, NoEntry}
+use Rattle.cs_answers.specs.declared.status.Status.{Status}
+use Rattle.cs_answers.specs.declared.status.Status.TheVariants.{Clean, Found, BadWords, BadFile, NoEntry}
 
 -- found where a run ends in a fault
 abbrev pub outcome_status : Outcome → Status

@@ -6,8 +6,8 @@ use Rattle.cs_results.specs.declared.result.EntryResult.{EntryResult}
 use Rattle.cs_results.specs.Selected.{lists_report}
 use Rattle.cs_report.specs.AnalysisLines.{analysis_text}
 use Rattle.cs_report.specs.AnalysisJson.{analysis_json_text}
-use Rattle.cs_app.specs.declared.status.Status.{Status}
-use Rattle.cs_app.specs.declared.status.Status.TheVariants.{Clean, Found}
+use Rattle.cs_answers.specs.declared.status.Status.{Status}
+use Rattle.cs_answers.specs.declared.status.Status.TheVariants.{Clean, Found}
 
 -- the text of results with the reports of these kinds, as JSON or as lines
 abbrev pub results_text : (json : Bool) → TypedProgram → List Kind → List EntryResult → List ℕ

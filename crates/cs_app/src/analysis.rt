@@ -10,11 +10,11 @@ ghost use Rattle.cs_well_formed.specs.Programs.{IsWellFormed};
 ghost use Rattle.cs_app.specs.Analyses as analyses;
 ghost use Rattle.cs_app.specs.Analyses.{AreGoodResults, IsAnalysis, IsAnalysisAnswer, IsSummary};
 
-use crate::answer::Answer;
 use crate::entries::number_of;
 use crate::replay::{entry_of, refused_entry};
 use crate::results::{results_answer, results_status};
 use cs_analysis::analyze;
+use cs_answers::Answer;
 use cs_ast::typed::program::{Function, Program};
 use cs_cfg::Code;
 use cs_checker::Checker;

@@ -8,9 +8,8 @@ ghost use Rattle.cs_words.specs.declared.command.Command.TheVariants.{Generate};
 ghost use Rattle.cs_words.specs.declared.command.GenerateWords.{GenerateWords};
 ghost use Rattle.cs_app.specs.Answers.{IsWritten, IsPartWritten, IsDone, IsRead, Reads, IsAnswered, IsAcceptable, IsTypeRefused, refused_line, IsRefusedWith, SinkRose};
 
-use crate::answer::Failure;
 use crate::command::answer_for;
-use crate::status::Status;
+use cs_answers::Status;
 use cs_checker::Checker;
 use cs_io::{Sink, Source, write_all_of};
 use std::alloc::Global;
@@ -74,11 +73,7 @@ pub fn csa<S: Source, K: Sink>(
         → IsRefusedWith (refused_line r) result (K.written sink.old) (K.written sink.new) }
 {
     match answer_for(alloc, words, source, checkers) {
-        Ok(answer) => match write_all_of(sink, answer.text.as_slice()) {
-            Ok(()) => answer.status,
-            Err(_) => Status::WriteFault,
-        },
-        Err(Failure::Read) => Status::ReadFault,
-        Err(Failure::Memory) => Status::Memory,
+        Ok(answer) => answer.ended(write_all_of(sink, answer.text.as_slice())),
+        Err(failure) => failure.ended(),
     }
 }

@@ -9,11 +9,10 @@ ghost use Rattle.cs_words.specs.declared.command.Command.TheVariants.{Generate};
 ghost use Rattle.cs_words.specs.declared.command.GenerateWords.{GenerateWords};
 ghost use Rattle.cs_app.specs.Answers.{IsWhole, IsFileAnswer, IsRead, Reads};
 
-use crate::answer::{Answer, Failure};
 use crate::file::answer_to;
 use crate::generated::generated;
 use crate::refused::refused_length;
-use crate::status::Status;
+use cs_answers::{Answer, Failure, Status};
 use cs_checker::Checker;
 use cs_io::{ReadRefusal, Source, read_all};
 use cs_words::{Command, WordsRefusal, words_of};

@@ -3,8 +3,7 @@ ghost use Rattle.std.specs.Prelude.{IfOk};
 ghost use Rattle.cs_ast.specs.TypedProgram.{typed_program};
 ghost use Rattle.cs_app.specs.Answers.{IsFlowAnswer};
 
-use crate::answer::Answer;
-use crate::status::Status;
+use cs_answers::{Answer, Status};
 use cs_ast::typed::program::Program;
 use cs_flow::append_flow;
 use std::alloc::{AllocError, Global};

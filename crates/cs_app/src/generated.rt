@@ -3,8 +3,8 @@ ghost use Rattle.std.specs.Prelude.{◌≡◌, map, IfOk};
 ghost use Rattle.cs_generate.specs.GeneratedFile.{generated_file};
 ghost use Rattle.cs_app.specs.Answers.{IsAnswer};
 
-use crate::answer::Answer;
 use crate::file::answer_to;
+use cs_answers::Answer;
 use cs_checker::Checker;
 use cs_generate::generate_text;
 use cs_words::{Command, GenerateWords};

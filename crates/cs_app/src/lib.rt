@@ -2,7 +2,6 @@
 #![tactic(auto)]
 
 mod analysis;
-mod answer;
 mod app;
 mod command;
 mod entries;
@@ -13,9 +12,8 @@ mod laws;
 mod refused;
 mod replay;
 mod results;
-mod status;
 
 pub use app::csa;
+pub use cs_answers::Status;
 pub use laws::{refused_is_not_accepted, trees_are_refused_by_types};
 pub use replay::entry_of;
-pub use status::Status;

@@ -3,8 +3,7 @@ ghost use Rattle.std.specs.Prelude.{◌≡◌, ◌++◌, [], codes, slice_index_
 ghost use Rattle.cs_report.specs.RefusalLines.{refusal_line};
 ghost use Rattle.cs_app.specs.Refusals.{IsFileLine, IsLexLine, IsSyntaxLine, IsTypeLine, line_in};
 
-use crate::answer::Answer;
-use crate::status::Status;
+use cs_answers::{Answer, Status};
 use cs_ast::Place;
 use cs_grammar::SyntaxRefusal;
 use cs_lexer::LexRefusal;

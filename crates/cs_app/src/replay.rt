@@ -10,9 +10,8 @@ ghost use Rattle.cs_report.specs.ReplayLines.{replay_line};
 ghost use Rattle.cs_app.specs.Functions.{is_entry, entry_of};
 ghost use Rattle.cs_app.specs.Answers.{outcome_status, IsReplayOf, IsReplayAnswer};
 
-use crate::answer::Answer;
 use crate::entries::number_of;
-use crate::status::Status;
+use cs_answers::{Answer, Status};
 use cs_ast::typed::program::{Function, Program};
 use cs_cfg::Code;
 use cs_events::Outcome;

@@ -13,7 +13,8 @@ returns-clause-answer g c =
     let bytes = ap length (c.as_slice.ensures.value ∙ c.in_ok-file.ensures ∙ (λ i. generated_file (c.from.ensures i) (c.from-2.ensures i))) in
     record {
       results = results;
-      good = subst (λ es. AreGoodResults _ program DEFAULT_BUDGETS es results) (c.deref.ensures.value ∙ c.in_ok-entries.ensures) c.in_ok-results.ensures.good;
+      good = subst (λ es. AreGoodResults _ program DEFAULT_BUDGETS es results) (c.deref.ensures.value ∙ c.in_ok-entries.ensures)
+          c.in_ok-results.ensures.good;
       says = c.in_ok-text.ensures ∙ (λ i. summary_text (bytes i) (c.deref-2.ensures.value i));
       yields = c.results_status.ensures ∙ (λ i. results_status (c.every_kind-kinds.ensures i) (c.deref-3.ensures.value i));
     }

@@ -11,5 +11,6 @@ returns-in_ok-answer-in-Ok-clause-whole g c =
 pub returns-in_ok-answer-in-Err-TooLong-clause-whole : goal.returns-in_ok-answer-in-Err-TooLong-clause-whole
 returns-in_ok-answer-in-Err-TooLong-clause-whole g c =
     let answer = c.in_ok-answer-in-Err-TooLong.answer in
-    refuses_length _ c.args.command.now _ answer.status answer.text.items c.requires c.in_ok-answer-in-Err-TooLong.ensures.status c.in_ok-answer-in-Err-TooLong.ensures.text
+    refuses_length _ c.args.command.now _ answer.status answer.text.items c.requires c.in_ok-answer-in-Err-TooLong.ensures.status
+    c.in_ok-answer-in-Err-TooLong.ensures.text
     (c.in-Err-TooLong.ensures.too_long (ap Err c.in-Err-TooLong.field-0-is))

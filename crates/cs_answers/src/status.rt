@@ -1,6 +1,6 @@
 //! How a run of the program ends.
 ghost use Rattle.std.specs.Prelude.{◌≡◌};
-ghost use Rattle.cs_app.specs.Statuses.{status_code};
+ghost use Rattle.cs_answers.specs.Statuses.{status_code};
 
 /// How a run of the program ends, and what it has written.
 #[derive(Clone, Copy, PartialEq, Eq, Debug)]

@@ -1,0 +1,8 @@
+//! What a run of the program writes, and how the run ends.
+#![tactic(auto)]
+
+mod answer;
+mod status;
+
+pub use answer::{Answer, Failure};
+pub use status::Status;
