@@ -21,7 +21,7 @@ use Rattle.cs_words.specs.declared.command.AnalyzeWords.{AnalyzeWords}
 use Rattle.cs_words.specs.declared.command.ReplayWords.{ReplayWords}
 use Rattle.cs_words.specs.declared.command.Command.TheVariants.{Analyze, Flow, Replay, Generate}
 use Rattle.cs_program.specs.Trees.{Parses, HasProgram, typed_tree}
-use Rattle.cs_app.specs.Functions.{entry_of}
+use Rattle.cs_entries.specs.Named.{entry_of}
 use Rattle.cs_app.specs.Refusals.{IsLexLine, IsSyntaxLine, type_line, IsRefusal, too_long, by_lexing, by_syntax, by_type}
 use Rattle.cs_answers.specs.declared.status.Status.{Status}
 use Rattle.cs_answers.specs.declared.status.Status.TheVariants.{Clean, Found, BadWords, BadFile, ReadFault, WriteFault, Memory, NoEntry}

@@ -20,7 +20,7 @@ use Rattle.cs_results.specs.Selected.{lists_report}
 use Rattle.cs_words.specs.declared.command.AnalyzeWords.{AnalyzeWords}
 use Rattle.cs_app.specs.Analyses.{has_body, bodies, entries_named, LacksEntry, AreAllKinds, AreGoodResults}
 use Rattle.cs_app.specs.Analyses.{IsAnalysis, IsAnalysisAnswer}
-use Rattle.cs_app.specs.Functions.{entry_of}
+use Rattle.cs_entries.specs.Named.{entry_of}
 use Rattle.cs_answers.specs.declared.status.Status.{Status}
 use Rattle.cs_answers.specs.declared.status.Status.TheVariants.{NoEntry}
 use Rattle.cs_app.proofs.AnswerLemmas.{no_analysis}

@@ -1,7 +1,7 @@
 -- The entry of a replay, and which texts belong to a status of its run: for the functions that answer a replay.
 use Rattle.std.proofs.Common.{◌≡◌, ℕ, suc, Bool, true, false, List, [], ◌∷◌, ◌++◌, map, length, Option, Some, None, refl, sym, ap, ◌∙◌}
 use Rattle.std.proofs.Common.{subst, rules}
-use Rattle.std.specs.Prelude.{is_some, codes, option_map, nat_eq, ◌&&◌}
+use Rattle.std.specs.Prelude.{is_some, codes, nat_eq, ◌&&◌}
 use Rattle.std.specs.List.{position, prefix_len}
 use Rattle.std.specs.Cmp.Lexicographic.{pointwise}
 use Rattle.std.proofs.lemmas.List.Quantifiers.{position-Some}
@@ -16,15 +16,10 @@ use Rattle.cs_meaning.specs.Machine.{NOWHERE, no_routine, routine_of}
 use Rattle.cs_meaning.specs.ProgramRuns.{RunGives}
 use Rattle.cs_report.specs.ReplayLines.{replay_line}
 use Rattle.cs_words.specs.declared.command.ReplayWords.{ReplayWords}
-use Rattle.cs_app.specs.Functions.{is_entry, entry_of}
+use Rattle.cs_entries.specs.Named.{is_entry, entry_of}
 use Rattle.cs_answers.specs.declared.status.Status.{Status}
 use Rattle.cs_answers.specs.declared.status.Status.TheVariants.{Clean, Found, NoEntry}
 use Rattle.cs_app.specs.Answers.{outcome_status, IsReplayOf, IsReplayAnswer}
-
--- a view of what there may be is there with it
-pub is_some_mapped : {X Y : Type 0} (f : X → Y) (o : Option X) → is_some (option_map f o) ≡ is_some o
-is_some_mapped f None = refl
-is_some_mapped f (Some x) = refl
 
 prefix_len-map : {X Y : Type 0} (p : Y → Bool) (f : X → Y) (xs : List X) → prefix_len p (map f xs) ≡ prefix_len (λ x. p (f x)) xs
 prefix_len-map p f [] = refl

@@ -25,7 +25,7 @@ use Rattle.cs_words.specs.declared.command.Command.TheVariants.{Analyze, Flow, R
 use Rattle.cs_words.specs.declared.command.ReplayWords.{ReplayWords}
 use Rattle.cs_words.specs.Meaning.{WordsMean, AreRefusedAt}
 use Rattle.cs_program.specs.Trees.{Parses, HasProgram, typed_tree}
-use Rattle.cs_app.specs.Functions.{entry_of}
+use Rattle.cs_entries.specs.Named.{entry_of}
 use Rattle.cs_app.specs.Refusals.{IsRefusal, type_line}
 use Rattle.cs_app.specs.Analyses.{IsAnalysisAnswer, IsSummary, entries_named}
 use Rattle.cs_answers.specs.declared.status.Status.{Status}

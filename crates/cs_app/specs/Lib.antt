@@ -1,4 +1,3 @@
-pub mod Functions
 pub mod Refusals
 pub mod Results
 pub mod Analyses

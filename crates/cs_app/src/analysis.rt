@@ -10,14 +10,14 @@ ghost use Rattle.cs_well_formed.specs.Programs.{IsWellFormed};
 ghost use Rattle.cs_app.specs.Analyses as analyses;
 ghost use Rattle.cs_app.specs.Analyses.{AreGoodResults, IsAnalysis, IsAnalysisAnswer, IsSummary};
 
-use crate::entries::number_of;
-use crate::replay::{entry_of, refused_entry};
+use crate::replay::refused_entry;
 use crate::results::{results_answer, results_status};
 use cs_analysis::analyze;
 use cs_answers::Answer;
 use cs_ast::typed::program::{Function, Program};
 use cs_cfg::Code;
 use cs_checker::Checker;
+use cs_entries::{entry_of, number_of};
 use cs_generate::generate_text;
 use cs_lower::lower;
 use cs_objects::prepared::Prepared;

@@ -4,7 +4,6 @@
 mod analysis;
 mod app;
 mod command;
-mod entries;
 mod file;
 mod flow;
 mod generated;
@@ -16,4 +15,3 @@ mod results;
 pub use app::csa;
 pub use cs_answers::Status;
 pub use laws::{refused_is_not_accepted, trees_are_refused_by_types};
-pub use replay::entry_of;

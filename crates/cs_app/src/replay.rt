@@ -1,19 +1,18 @@
 //! The answer to a replay: how the run of a function ends with these inputs. The run goes over the function's flow graph.
 ghost use Rattle.std.specs.Prelude.{◌≡◌, ◌++◌, Some, codes, IfOk};
-ghost use Rattle.std.specs.List.{position};
 ghost use Rattle.cs_ast.specs.TypedProgram.{routine, typed_program};
 ghost use Rattle.cs_well_formed.specs.Programs.{IsWellFormed};
 ghost use Rattle.cs_cfg.specs.GraphView as view;
 ghost use Rattle.cs_cfg.specs.Lowered.{IsLowered};
 ghost use Rattle.cs_objects.specs.Prepared.{IsPrepared};
 ghost use Rattle.cs_report.specs.ReplayLines.{replay_line};
-ghost use Rattle.cs_app.specs.Functions.{is_entry, entry_of};
+ghost use Rattle.cs_entries.specs.Named.{entry_of};
 ghost use Rattle.cs_app.specs.Answers.{outcome_status, IsReplayOf, IsReplayAnswer};
 
-use crate::entries::number_of;
 use cs_answers::{Answer, Status};
-use cs_ast::typed::program::{Function, Program};
+use cs_ast::typed::program::Program;
 use cs_cfg::Code;
+use cs_entries::{entry_of, number_of};
 use cs_events::Outcome;
 use cs_lower::lower;
 use cs_names::Name;
@@ -23,23 +22,6 @@ use cs_replay::{ReplayRefusal, replay};
 use cs_report::append_replayed;
 use cs_words::ReplayWords;
 use std::alloc::{AllocError, Global};
-
-/// Whether the function has this name and a body.
-#[tactic(auto, using(crate::proofs::ReplayLemmas::is_some_mapped))]
-fn is_entry(function: &Function, name: &Name) -> bool
-    ensures { result ≡ is_entry name.now (routine function.now) }
-{
-    function.name == *name && function.body.is_some()
-}
-
-/// The index of the first function with this name and a body, if there is one.
-pub fn entry_of(functions: &[Function], name: &Name) -> Option<usize>
-    ensures { result ≡ position (λ f. is_entry name.now (routine f)) functions.now }
-{
-    functions
-        .iter()
-        .position(|function| is_entry(function, name))
-}
 
 /// Found where a run ends in a fault.
 fn outcome_status(outcome: Outcome) -> Status

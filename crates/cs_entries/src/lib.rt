@@ -1,0 +1,6 @@
+//! The function that the words of a command name.
+#![tactic(auto)]
+
+mod entry;
+
+pub use entry::{entry_of, number_of};
