@@ -1,8 +1,8 @@
 #!/usr/bin/env python3
 """Times `csa analyze` on files that grow in one respect each, and beside `clang --analyze` where that is a peer.
 
-usage: python3 bench/analyze.py, at the top of the repository; CSA names the program (crates/csa/out/csa), and BENCH_ANALYSIS that of
-crates/bench_analysis, which counts the rows of the graphs. Prints the least processor time of five runs, and the most memory.
+usage: python3 bench/analyze.py, at the top of the repository; CSA names the program (crates/csa/out/csa), and BENCH_FILES that of
+crates/bench_files, which counts the rows of the graphs. Prints the least processor time of five runs, and the most memory.
 """
 import os
 import shutil
@@ -11,7 +11,7 @@ import tempfile
 from timing import run
 
 CSA = os.environ.get("CSA", "crates/csa/out/csa")
-COUNTER = os.environ.get("BENCH_ANALYSIS", "crates/bench_analysis/out/bench_analysis")
+COUNTER = os.environ.get("BENCH_FILES", "crates/bench_files/out/bench_files")
 RUNS = 5
 
 
@@ -60,7 +60,7 @@ def row(what, text, words=()):
     seconds, memory = least([CSA, "analyze", *words], text)
     rows = "-"
     if os.path.isfile(COUNTER):
-        counted = dict(line.split() for line in run([COUNTER, "analyze", *words], text)[0].splitlines() if len(line.split()) == 2)
+        counted = dict(line.split() for line in run([COUNTER, "analysis", "analyze", *words], text)[0].splitlines() if len(line.split()) == 2)
         rows = counted.get("rows", "-")
     print(f"| {what} | {rows} | {seconds:.3f} s | {memory} MB |", flush=True)
 

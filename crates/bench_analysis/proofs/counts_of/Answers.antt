@@ -1,8 +1,0 @@
-use Rattle.bench_analysis.proofs.counts_of.Goals as goal
-
-pub analyze-requires-clause-runs : goal.analyze-requires-clause-runs
-analyze-requires-clause-runs g c = record {
-  laid_out = c.requires.laid_out;
-  prepared = c.requires.prepared;
-  lowered = c.requires.lowered;
-}
