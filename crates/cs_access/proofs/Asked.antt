@@ -124,6 +124,16 @@ module _ {C : Type 0} (kind : C → Kind) (count : C → ℕ) (subject : Subject
       olds_split : take (place + 1) olds ≡ take place olds ++ get_or news place d ∷ []
       olds_split = take_more olds place d within_olds ∙ ap (λ x. take place olds ++ x ∷ []) (sym here)
 
+  -- the same where the list came from several ways
+  pub asked_joined : (olds news : List C) (place : ℕ) (before after : Bool) (found more : List FaultyKind) (d new : C) (joined : List C)
+      → AreAsked kind count subject olds news place before found → place < length news → joined ≡ set news place new
+      → CountsOne (count (get_or news place d)) (count new) → kind new ≡ kind (get_or news place d)
+      → (after ≡ true → (before ≡ true) × IsNextKind subject (kind (get_or news place d)) found more)
+      → AreAsked kind count subject olds joined (place + 1) after more
+  asked_joined olds news place before after found more d new joined asked within is one same next =
+      subst (λ (ns : List C). AreAsked kind count subject olds ns (place + 1) after more) (sym is)
+      (asked_more olds news place before after found more d new asked within one same next)
+
 -- what the list of checkers is in the end
 all_new : {C : Type 0} (olds news : List C) (n : ℕ) → length news ≡ length olds → n ≡ length olds → take n (news ++ drop (length news) olds) ≡ news
 all_new olds news n many whole =

@@ -1,9 +1,8 @@
 //! What checkers say of an operation that is about to be done.
 ghost use Rattle.std.specs.Prelude.{◌≡◌, ◌⊎◌, ℤ, ◌&&◌, not, map, length, IfOk, OnOk, OnErr};
 ghost use Rattle.cs_ranges.specs.RangeSet.{contains};
-ghost use Rattle.cs_checker.specs.Asked.{CountsOne};
 ghost use Rattle.cs_access.specs.Checks.{IsKnown, CanCheck, AreFaults, IsRest, HaveCounted, IsTakenOut, IsRestIn};
-ghost use Rattle.cs_access.specs.Kinds.{AreFaultyKinds, IsNextKind, IsListed, HaveFaultyValues, kinds_of};
+ghost use Rattle.cs_access.specs.Kinds.{AreFaultyKinds, IsListed, HaveFaultyValues, kinds_of};
 
 use crate::faulty::{deciding_term, faulty_values};
 use cs_checker::{Answer, Checker, Subject};
@@ -91,34 +90,16 @@ fn faulty_kinds(
     let mut found = Vec::new(alloc);
     let mut complete = true;
     for checker in checkers.iter_mut() {
-        let added = ask_one(alloc, checker, subject, &mut found);
+        // An answer is large. Most have no condition, and aren't moved from where they were written.
+        let added = match checker.examine(subject) {
+            Answer {
+                conds: [None, None],
+            } => Ok(()),
+            answer => list_kind(alloc, checker.kind(), &answer, &mut found),
+        };
         complete = complete && added.is_ok();
     }
     if complete { Ok(found) } else { Err(AllocError) }
-}
-
-// Asks a checker, and adds its kind to others, if it gives a condition.
-fn ask_one(
-    alloc: Global,
-    checker: &mut Box<dyn Checker>,
-    subject: &Subject,
-    found: &mut Vec<FaultyKind>,
-) -> Result<(), AllocError>
-    ensures counted { CountsOne (count_of checker.old) (count_of checker.new) }
-    ensures kind { kind_of checker.new ≡ kind_of checker.old }
-    ensures found { OnOk result
-        (IsNextKind subject.now (kind_of checker.old) found.old.items found.new.items) }
-{
-    // An answer is large. Most have no condition, and aren't moved from where they were written.
-    match checker.examine(subject) {
-        Answer {
-            conds: [None, None],
-        } => Ok(()),
-        answer => {
-            let kind = checker.kind();
-            list_kind(alloc, kind, &answer, found)
-        }
-    }
 }
 
 // Adds a kind with the values of its conditions.

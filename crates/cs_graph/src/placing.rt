@@ -6,6 +6,9 @@ use indexmap::IndexMap;
 use std::alloc::AllocError;
 use std::hash::Hash;
 
+// Room for so many is made at first, so that few explorations make room twice.
+const FIRST: usize = 8;
+
 // The number under a key.
 pub(crate) fn number_of<K: Eq + Hash>(keys: &IndexMap<K, u32>, key: &K) -> Option<u32>
     ensures { result ≡ get K.eq keys.now key.now }
@@ -23,8 +26,9 @@ pub(crate) fn make_room<K: Eq + Hash, R>(
     ensures room { OnOk result (0 < spare keys.new) }
     ensures place { OnOk result (vec_len rows.new < vec_capacity rows.new) }
 {
-    keys.reserve(1)?;
-    rows.reserve(1)
+    let more = if rows.is_empty() { FIRST } else { 1 };
+    keys.reserve(more)?;
+    rows.reserve(more)
 }
 
 // Puts a row last, with its key and its number.
