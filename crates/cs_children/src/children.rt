@@ -3,7 +3,7 @@ ghost use Rattle.std.specs.Prelude.{◌≡◌, ◌≤◌, true, false, [], ◌�
 ghost use Rattle.cs_objects.specs.Prepared.{IsReady};
 ghost use Rattle.cs_constraints.specs.Constraints.{IsDeclared};
 ghost use Rattle.cs_state.specs.Naming.{naming, Extends};
-ghost use Rattle.cs_operators.specs.Asking.{HasEveryKind};
+ghost use Rattle.cs_operators.specs.Asking.{KeepKinds, HasEveryKind};
 ghost use Rattle.cs_children.specs.Adding.{Adds, AddsChildren, AddsPieces, AddsFaulty, KeepApart, HaveOthers, GoesOn};
 ghost use Rattle.cs_children.specs.Adding.{IsNextEvent, IsPassed, AreOfQuestion, AreOfSwitch};
 ghost use Rattle.cs_children.specs.Finding.{AreNone, FindsAll, code_of, model_of};
@@ -16,12 +16,14 @@ use cs_checker::Checker;
 use cs_eval::{Guessed, Piece, Question, answers, select};
 use cs_events::{Budget, Event, Label, Outcome};
 use cs_explored::{Child, constant, leads_on, phase_after};
+use cs_operators::Attempt;
 use cs_progress::Next;
 use cs_results::Cut;
 use cs_state::{Asked, Counters, State, Tables};
 use cs_steps::proceed;
 use cs_terms::{Lin, Sym, SymName};
 use std::alloc::{AllocError, Global};
+use std::mem;
 
 /// What comes of a state.
 #[derive(Drop)]
@@ -58,9 +60,35 @@ impl Children {
         ensures all { HasEveryKind (λ b. kind_of b) checkers.old.items → AreNone self.old
             → OnOk result (FindsAll exploration.now (naming tables.new) state.value self.new) }
     {
+        let alloc = exploration.context.alloc;
+        let mut attempt = Attempt::new(alloc, mem::replace(checkers, Vec::new(alloc)));
+        let found = self.find_with(exploration, state, tables, &mut attempt);
+        mem::swap(checkers, &mut attempt.checkers);
+        found
+    }
+
+    // Finds all that comes of a state, with an attempt that has the checkers.
+    fn find_with(
+        &mut self,
+        exploration: &Exploration,
+        state: Box<State>,
+        tables: &mut Tables,
+        attempt: &mut Attempt,
+    ) -> Result<(), AllocError>
+        requires { IsReady exploration.now.context.now.setting.now }
+        ensures kinds { KeepKinds (λ b. (⟦<dyn Checker as Checker>⟧ b.vtable).kind_of b.value)
+            attempt.old.checkers.items attempt.new.checkers.items }
+        ensures extends { Extends (naming tables.old) (naming tables.new) }
+        ensures all { HasEveryKind (λ b. (⟦<dyn Checker as Checker>⟧ b.vtable).kind_of b.value)
+            attempt.old.checkers.items → AreNone self.old
+            → OnOk result (FindsAll exploration.now (naming tables.new) state.value self.new) }
+    {
         let mut state = state;
         for _ in 0..u64::MAX {
-            match proceed(exploration.context, &mut *state, tables, checkers)? {
+            if proceed(exploration.context, &mut *state, tables, attempt)? {
+                continue;
+            }
+            match mem::replace(&mut attempt.progress.first, Next::Done) {
                 Next::Done => {}
                 Next::Checks(at, checked) => {
                     let alloc = exploration.context.alloc;
@@ -218,16 +246,51 @@ impl Children {
         ensures { OnOk result (AddsChildren exploration.now.rules.now before.value place guess
             pieces.items self.old self.new) }
     {
-        let alloc = exploration.context.alloc;
         let mut pieces = pieces;
         let Some(last) = pieces.pop() else {
             return Ok(());
         };
+        self.add_copies(exploration, &*before, place, pieces, guess)?;
+        self.add(exploration, before, place, last, guess)
+    }
+
+    // The states after pieces, each from a copy of the state before. Mostly there is none, and then the room that a piece takes isn't made.
+    #[inline]
+    fn add_copies(
+        &mut self,
+        exploration: &Exploration,
+        before: &State,
+        place: Place,
+        pieces: Vec<Piece>,
+        guess: Sym,
+    ) -> Result<(), AllocError>
+        ensures { OnOk result (AddsChildren exploration.now.rules.now before.now place guess
+            pieces.items self.old self.new) }
+    {
+        if pieces.is_empty() {
+            return Ok(());
+        }
+        self.add_each(exploration, before, place, pieces, guess)
+    }
+
+    #[inline(never)]
+    fn add_each(
+        &mut self,
+        exploration: &Exploration,
+        before: &State,
+        place: Place,
+        pieces: Vec<Piece>,
+        guess: Sym,
+    ) -> Result<(), AllocError>
+        ensures { OnOk result (AddsChildren exploration.now.rules.now before.now place guess
+            pieces.items self.old self.new) }
+    {
+        let alloc = exploration.context.alloc;
         for piece in pieces {
             let state = Box::new(alloc, before.copy()?)?;
             self.add(exploration, state, place, piece, guess)?;
         }
-        self.add(exploration, before, place, last, guess)
+        Ok(())
     }
 
     // The state after one piece. Its answer is over a declared symbol, so that want of memory is never answered for one that isn't: a symbol of

@@ -78,7 +78,8 @@ impl Findings {
         ensures plain { OnOk result (HasPlainKeys row.state.value.store) }
     {
         has_plain_keys(&row);
-        let row = listed(row)?;
+        let mut row = row;
+        list(&mut row)?;
         let key = key(alloc, &*row.state)?;
         let visits = visits_of(&*row.state);
         match self.graph.add(key, visits, row) {
@@ -168,13 +169,12 @@ fn has_plain_keys(row: &Row)
     row.state.store.has_plain_keys();
 }
 
-// The row with a state whose large tables are listed, so that the states after it share what was listed.
-fn listed(row: Row) -> Result<Row, AllocError>
-    ensures { IfOk result (λ listed. listed ≡ row) }
+// Lists the large tables of a row's state, so that the states after it share what was listed.
+fn list(row: &mut Row) -> Result<(), AllocError>
+    ensures { OnOk result (row.new ≡ row.old) }
 {
-    let mut listed = row;
-    listed.state.list_regions()?;
-    Ok(listed)
+    row.state.list_regions()?;
+    Ok(())
 }
 
 // The row of a child.

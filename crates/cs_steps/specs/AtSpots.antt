@@ -1,5 +1,5 @@
 -- What stands at the spot of a state, and what becomes of the state by a step there.
-use Rattle.std.specs.Prelude.{◌≡◌, ℕ, Bool, List, [], Result, OnOk, IfErr}
+use Rattle.std.specs.Prelude.{◌≡◌, ℕ, Bool, true, false, List, [], Result, OnOk, IfErr}
 use Rattle.cs_types.specs.declared.data_model.DataModel.{DataModel}
 use Rattle.cs_ast.specs.TypedProgram.{TypedProgram}
 use Rattle.cs_terms.specs.declared.term.Lin.{Lin}
@@ -15,6 +15,8 @@ use Rattle.cs_cfg.specs.CodeSteps.{way_of, do_end}
 use Rattle.cs_state.specs.declared.state.State.{State}
 use Rattle.cs_state.specs.Naming.{Naming, Extends}
 use Rattle.cs_state.specs.Writes.{with_answers}
+use Rattle.cs_progress.specs.declared.next.Next.{Next}
+use Rattle.cs_progress.specs.declared.next.Next.TheVariants as next
 use Rattle.cs_progress.specs.declared.pause.Pause.{Pause}
 use Rattle.cs_progress.specs.declared.pause.Pause.TheVariants as pause
 use Rattle.cs_progress.specs.declared.progress.Progress.{Progress}
@@ -39,6 +41,11 @@ abbrev pub LeavesBlock : {T : Type 0} → Code → Naming → State → State �
 LeavesBlock code given before after earlier later answer end =
     (names : Naming) (program : TypedProgram) (known : ℕ → Bool) → Extends given names → HasLocalsAlone program names.bases known before
     → Leaves code names program known before after earlier later answer (do_end code end)
+
+-- what stands first after a step: nothing where the operation is done
+abbrev pub came_to : Bool → Next → Next
+came_to true first = next.Done
+came_to false first = first
 
 -- what stands at the spot of a state is done, once the answers are dropped; or the state waits
 pub record TakesStep {T : Type 0} (code : Code) (names : Naming) (program : TypedProgram) (budgets : RunBudgets) (known : ℕ → Bool)

@@ -7,20 +7,19 @@ ghost use Rattle.cs_cfg.specs.GraphView as view;
 ghost use Rattle.cs_cfg.specs.Working.{takes};
 ghost use Rattle.cs_progress.specs.declared.pause.Pause.TheVariants as pause;
 ghost use Rattle.cs_progress.specs.Stepping.{StepsInLocals, IsCutTo, IsCutForEnd};
-ghost use Rattle.cs_steps.specs.AtSpots.{StandsAt, EndsAt, StepsAtSpot};
+ghost use Rattle.cs_steps.specs.AtSpots.{StandsAt, EndsAt, StepsAtSpot, came_to};
 
 use crate::ends::{end, reach_counted_point};
 use crate::work::work;
 use cs_cfg::{BlockEnd, CountedPoint, Instruction, Operation};
 use cs_checker::Checker;
 use cs_operators::Attempt;
-use cs_progress::{Context, Next, Pause, Progress};
+use cs_progress::{Context, Pause, Progress};
 use cs_state::{State, Tables};
 use std::alloc::AllocError;
-use std::mem;
 
-/// What the operation in progress does next, after its answers so far. The checkers are asked about each thing that it does after the last
-/// of them, until one is a fault.
+/// What the operation in progress does next, after its answers so far: true where it is done; else what stands first is left in the attempt.
+/// The checkers are asked about each thing that it does after the last of its answers, until one is a fault.
 ///
 /// The cells that it reads become known to the state, and names and numbers to the tables; else a state changes only where the operation
 /// is done.
@@ -28,31 +27,25 @@ pub fn proceed(
     context: &Context,
     state: &mut State,
     tables: &mut Tables,
-    checkers: &mut Vec<Box<dyn Checker>>,
-) -> Result<Next, AllocError>
+    attempt: &mut Attempt,
+) -> Result<bool, AllocError>
     requires { IsReady context.now.setting.now }
-    ensures kinds { KeepKinds (λ b. kind_of b) checkers.old.items checkers.new.items }
+    ensures kinds { KeepKinds (λ b. (⟦<dyn Checker as Checker>⟧ b.vtable).kind_of b.value)
+        attempt.old.checkers.items attempt.new.checkers.items }
     ensures extends { Extends (naming tables.old) (naming tables.new) }
-    ensures steps { HasEveryKind (λ b. kind_of b) checkers.old.items
-        → IfOk result (StepsInLocals (view.code context.now.code.now)
+    ensures steps { HasEveryKind (λ b. (⟦<dyn Checker as Checker>⟧ b.vtable).kind_of b.value)
+        attempt.old.checkers.items
+        → IfOk result (λ done. StepsInLocals (view.code context.now.code.now)
         context.now.setting.now.program.now.model context.now.setting.now.budgets
-        (naming tables.new) state.old state.new) }
+        (naming tables.new) state.old state.new (came_to done attempt.new.progress.first)) }
 {
-    let alloc = context.alloc;
-    let mut attempt = Attempt::new(alloc, mem::replace(checkers, Vec::new(alloc)));
-    let came = step(context, state, tables, &mut attempt);
-    let Attempt {
-        alloc: _,
-        progress,
-        checkers: asked,
-    } = attempt;
-    *checkers = asked;
-    match came {
+    attempt.progress.used = 0;
+    match step(context, state, tables, attempt) {
         Ok(()) => {
             state.finish_operation();
-            Ok(Next::Done)
+            Ok(true)
         }
-        Err(Pause::Waits) => Ok(progress.into_first()),
+        Err(Pause::Waits) => Ok(false),
         Err(Pause::Memory) => Err(AllocError),
     }
 }

@@ -1,48 +1,21 @@
-use Rattle.std.proofs.Common.{◌≡◌, List, [], ◌∷◌, ◌++◌, suc, length, rules, sym, ap, ◌∙◌, subst, arith}
-use Rattle.std.proofs.lemmas.List.{append_assoc, nil_from_length}
+use Rattle.std.proofs.Common.{List, [], ◌∷◌, ◌++◌, sym, subst}
 use Rattle.std.proofs.lemmas.Result.{on_ok_weaker}
-use Rattle.std.specs.Vec.Iter.{into_iter_items}
 use Rattle.cs_eval.specs.declared.piece.Piece.{Piece}
 use Rattle.cs_state.specs.declared.state.State.{State}
 use Rattle.cs_children.specs.Adding.{IsOfPiece, AreOfPieces}
 use Rattle.cs_children.proofs.Apart.{adds_on, matches_on}
 use Rattle.cs_children.proofs.children.Children.add_all.Goals as goal
 
-pub loop-piece-preserved : goal.loop-piece-preserved
-loop-piece-preserved c =
-    let (done, made, whole, adds, match) = c.loop-piece.invariant.so_far in
-    let (one, added, matched) = c.in_ok-add.ensures in
-    let piece = c.in-Some-piece.piece in
-    let left = into_iter_items c.next.new.self in
-    let last = c.in-Some.last in
-    let there : into_iter_items c.loop-piece.piece-iterator ≡ piece ∷ left = c.in-Some-piece.ensures.steps.0 in
-    let short : length (into_iter_items c.loop-piece.piece-iterator) ≡ suc (length left) = ap length there in
-    let same : c.in_ok-state.state.value ≡ c.args.before.value = search rules in
-    let rules = c.args.exploration.now.rules.now in
-    let is_made = IsOfPiece rules c.args.before.value c.args.place c.args.guess in
-    record {
-      lengths = omega (arith, short, c.loop-piece.invariant.lengths, c.in-Some-piece.ensures.steps.1);
-      so_far = (
-        done ++ piece ∷ [],
-        made ++ one,
-        whole ∙ ap (λ (rest : List Piece). done ++ (rest ++ last ∷ [])) there ∙ sym (append_assoc done (piece ∷ []) (left ++ last ∷ [])),
-        adds_on c.args.self.now c.loop-piece.self c.add.new.self made one [] [] adds added,
-        matches_on is_made done (piece ∷ []) made one match
-            (subst (λ (state : State). AreOfPieces rules state c.args.place c.args.guess (piece ∷ []) one) same matched),
-      );
-    }
-
 pub returns : goal.returns
 returns c =
-    let (done, made, whole, adds, match) = c.loop-piece.invariant.so_far in
+    let (made, adds, match) = c.in_ok-add_copies.ensures in
     let last = c.in-Some.last in
-    let none : into_iter_items c.loop-piece.piece-iterator ≡ [] =
-    nil_from_length (into_iter_items c.loop-piece.piece-iterator) (sym c.loop-piece.invariant.lengths ∙ c.in-None.ensures.steps.0) in
     let rules = c.args.exploration.now.rules.now in
-    let are : c.args.pieces.items ≡ done ++ last ∷ [] = whole ∙ ap (λ (rest : List Piece). done ++ (rest ++ last ∷ [])) none in
-    on_ok_weaker c.add-2.result (λ more. (
+    let copied : AreOfPieces rules c.args.before.value c.args.place c.args.guess c.pop.new.self.items made =
+    subst (λ (state : State). AreOfPieces rules state c.args.place c.args.guess c.pop.new.self.items made) c.deref.ensures match in
+    on_ok_weaker c.add.result (λ more. (
       made ++ more.0,
-      adds_on c.args.self.now c.loop-piece.self c.add-2.new.self made more.0 [] [] adds more.1,
-      subst (λ (pieces : List Piece). AreOfPieces rules c.args.before.value c.args.place c.args.guess pieces (made ++ more.0)) (sym are)
-          (matches_on (IsOfPiece rules c.args.before.value c.args.place c.args.guess) done (last ∷ []) made more.0 match more.2),
-    )) c.add-2.ensures
+      adds_on c.args.self.now c.add_copies.new.self c.add.new.self made more.0 [] [] adds more.1,
+      subst (λ (pieces : List Piece). AreOfPieces rules c.args.before.value c.args.place c.args.guess pieces (made ++ more.0)) (sym c.in-Some.ensures.items)
+          (matches_on (IsOfPiece rules c.args.before.value c.args.place c.args.guess) c.pop.new.self.items (last ∷ []) made more.0 copied more.2),
+    )) c.add.ensures

@@ -1,8 +1,0 @@
-use Rattle.std.proofs.Common.{ap, ◌∙◌}
-use Rattle.std.specs.Box.{with_value}
-use Rattle.cs_state.specs.declared.state.State.{State}
-use Rattle.cs_explored.proofs.findings.listed.Goals as goal
-
-pub returns : goal.returns
-returns c =
-    ap (λ (state : State). record c.args.row { state = with_value c.args.row.state state }) (c.list_regions.ensures ∙ c.deref_mut.ensures.value)
