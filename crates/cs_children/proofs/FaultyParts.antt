@@ -128,6 +128,7 @@ module _ (code : Code) (program : TypedProgram) (budgets : RunBudgets) (names : 
       -- a faulty part is an end
       part_is_end : IsEndOf code program budgets names state end
       part_is_end = record {
+        model = ap (λ (s : State). s.model) is_end.1 ∙ (part_integer test part.state is_part).model;
         possible = subst (λ (s : State). (v : Valuation) × Fits v s.constraints) (sym is_end.1) is_part.some;
         fits = λ v fits. part_fits test part.state is_part v (faulty_fits v fits);
         phase = ap (λ (s : State). s.phase) is_end.1 ∙ ap (λ (s : State). s.phase) is_part.rest;

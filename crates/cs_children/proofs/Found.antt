@@ -125,6 +125,7 @@ module _ (code : graph.Code) (program : TypedProgram) (budgets : RunBudgets) (na
   end_comes outcome first = record {
     children = All-nil (IsChildOf code program budgets names rules box.value);
     endings = All-cons (IsEndOf code program budgets names box.value) (outcome, box) [] (record {
+      model = is.model;
       possible = is.possible;
       fits = λ v fits. fits;
       phase = refl;

@@ -9,10 +9,10 @@ use Rattle.std.specs.declared.cmp.Ordering.TheVariants.{Less, Equal, Greater}
 use Rattle.std.proofs.lemmas.List.Elements.{All-nil, All-cons, All-head, All-tail, All-contains, Contains-get_or}
 use Rattle.cs_pmap.specs.Keys.{key_cmp, EntryList}
 use Rattle.cs_pmap.proofs.AtBranch.{key_cmp_total}
-use Rattle.cs_eval.specs.declared.piece.Guessed.{Guessed}
+use Rattle.cs_terms.specs.declared.symbol.Sym.{Sym}
 use Rattle.cs_state.specs.declared.asked.Asked.{Asked}
 use Rattle.cs_state.specs.Valuations.{Guessed as Guesses}
-use Rattle.cs_children.specs.Adding.{AreGuessesAfter}
+use Rattle.cs_successors.specs.Coming.{AreGuessesAfter}
 
 -- what holds of all values and of a new one holds of all values then
 values_put : {X : Type 0} (P : X → Type 0) (key : ℕ × ℕ) (new : X) (entries : EntryList X) → P new → All P (map (λ e. e.1) entries)
@@ -27,13 +27,13 @@ values_put P key new (entry ∷ entries) it all = by (key_cmp key entry.0) (valu
     by Greater rest = All-cons P entry.1 (map (λ e. e.1) (put key_cmp key new entries)) (All-head P entry.1 (map (λ e. e.1) entries) all) rest
 
 -- with one more guess, at the next event or none
-pub asked_before : (events : ℕ) (given : Option Guessed) (before after : Guesses)
+pub asked_before : (events : ℕ) (given : Option Sym) (before after : Guesses)
     → ((asked : Asked) → Contains (finite.values before) asked → asked.event ≤ events) → AreGuessesAfter (events + 1) given before after
     → (asked : Asked) → Contains (finite.values after) asked → asked.event ≤ events + 1
 asked_before events None before after all same asked among =
     let early = all asked (subst (λ (guesses : Guesses). Contains (finite.values guesses) asked) same among) in
     omega (arith, early)
-asked_before events (Some guessed) before after all (one, number, same) asked among =
+asked_before events (Some symbol) before after all (one, number, guess, same) asked among =
     All-contains (λ (a : Asked). a.event ≤ events + 1) (finite.values after) asked each among
   where
     earlier : All (λ (a : Asked). a.event ≤ events + 1) (finite.values before)

@@ -1,7 +1,6 @@
 mod StandingFirst
 mod IntegerActs
 mod OneMoreAnswer
-mod Agreeing
 mod Reaching
 mod SilentSteps
 mod DeclaredSymbols

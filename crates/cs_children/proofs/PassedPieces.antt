@@ -32,7 +32,7 @@ use Rattle.cs_state.specs.Naming.{Naming}
 use Rattle.cs_progress.specs.Stepping.{next_act, next_left}
 use Rattle.cs_successors.specs.EntryRuns.{now}
 use Rattle.cs_successors.specs.Coming.{is_declared, IsIntegerState, GoesBy, IsAt, PassesTo}
-use Rattle.cs_children.proofs.Agreeing.{values_agree, means_alike}
+use Rattle.cs_successors.proofs.Agreeing.{values_agree, means_alike}
 use Rattle.cs_children.proofs.OneMoreAnswer.{left_of_one}
 use Rattle.cs_children.proofs.StandingFirst.{StandsFirst, stands_first}
 

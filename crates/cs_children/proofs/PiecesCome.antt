@@ -42,7 +42,8 @@ use Rattle.cs_explored.specs.declared.watch.Rule.{Rule}
 use Rattle.cs_explored.specs.Answering.{leads_on}
 use Rattle.cs_children.specs.Adding.{IsOfPiece, AreOfPieces}
 use Rattle.cs_successors.specs.EntryRuns.{stays}
-use Rattle.cs_successors.specs.Coming.{is_declared, IsIntegerState, GoesBy, IsAt, PassesTo, GuessesAs, EndsIn, IsChildOf, IsEndOf, ComesToChild}
+use Rattle.cs_successors.specs.Coming.{is_declared, IsIntegerState, AreGuessesAfter, GoesBy, IsAt, PassesTo, GuessesAs, EndsIn, IsChildOf, IsEndOf}
+use Rattle.cs_successors.specs.Coming.{ComesToChild}
 use Rattle.cs_children.proofs.DeclaredSymbols.{stays_declared, over_declared, locals_more, answers_more}
 use Rattle.cs_children.proofs.GuessedAsked.{asked_before}
 use Rattle.cs_children.proofs.IntegerActs.{IsNoAllocation}
@@ -166,7 +167,7 @@ module _ (code : Code) (program : TypedProgram) (budgets : RunBudgets) (names : 
         possible = (is_piece.some.0, fits_after is_piece.some.0 is_piece.some.1);
         guessed = λ asked among.
             subst (λ (n : ℕ). asked.event ≤ n) (sym number_is)
-            (asked_before state.counters.events piece.guessed state.asked after.asked is.guessed of.asked asked among);
+            (asked_before state.counters.events child.guess state.asked after.asked is.guessed of.asked asked among);
       }
 
       -- runs pass its event to the child
@@ -275,6 +276,7 @@ module _ (code : Code) (program : TypedProgram) (budgets : RunBudgets) (names : 
         number = (let n = number_is in omega (arith, n));
         phase = of.phase;
         named = λ symbol has. by_guess symbol has piece.guessed refl is_piece.meaning;
+        asked = subst (λ (n : ℕ). AreGuessesAfter n child.guess state.asked after.asked) (sym number_is) of.asked;
         fits = fits_state;
         passes = λ setting v left log goes here fits agrees. child_passes setting v left log goes here fits agrees;
       }
@@ -394,6 +396,7 @@ module _ (code : Code) (program : TypedProgram) (budgets : RunBudgets) (names : 
   over_comes = record {
     children = All-nil (IsChildOf code program budgets names rules box.value);
     endings = All-cons (IsEndOf code program budgets names box.value) (Over Events at, box) [] (record {
+      model = is.model;
       possible = is.possible;
       fits = λ v fits. fits;
       phase = refl;

@@ -13,12 +13,13 @@ use Rattle.cs_cfg.specs.Working.{CodeState}
 use Rattle.cs_cfg.specs.CodeSteps.{code_step}
 use Rattle.cs_state.specs.declared.state.State.{State}
 use Rattle.cs_state.specs.Naming.{Naming}
+use Rattle.cs_state.specs.Valuations.{Guessed as Guesses}
 use Rattle.cs_explored.specs.declared.child.Child.{Child}
 use Rattle.cs_explored.specs.declared.watch.Rule.{Rule}
 use Rattle.cs_explored.specs.Watching.{IsPhaseAfter}
 use Rattle.cs_successors.specs.EntryRuns.{Proceeds, stays}
 use Rattle.cs_successors.specs.Coming.{IsIntegerState, StateEnd, OutcomesDiffer, GoesBy, IsAt, PassesTo, EndsIn, IsChildOf, IsEndOf}
-use Rattle.cs_successors.specs.Coming.{ComesToChild, ComesToEnd, ComesOfState, IsReachedFrom}
+use Rattle.cs_successors.specs.Coming.{AreGuessesAfter, ComesToChild, ComesToEnd, ComesOfState, IsReachedFrom}
 use Rattle.cs_successors.proofs.Proceeding.{proceeds_on, leaves_on}
 
 -- items of a list stay where others come after it, and are there where others come before it
@@ -119,6 +120,7 @@ module _ (code : Code) (program : TypedProgram) (budgets : RunBudgets) (names : 
     -- the ends of the state that was reached
     end_of_first : (end : StateEnd) → IsEndOf code program budgets names one end → IsEndOf code program budgets names before end
     end_of_first end is = record {
+      model = is.model;
       possible = is.possible;
       fits = λ valuation fits. reached.fits valuation (is.fits valuation fits);
       phase = is.phase ∙ reached.phase;
@@ -186,6 +188,8 @@ module _ (code : Code) (program : TypedProgram) (budgets : RunBudgets) (names : 
       number = is.number ∙ ap suc reached.events;
       phase = subst (λ (phase : ℕ). IsPhaseAfter rules phase child.event child.state.value.phase) reached.phase is.phase;
       named = is.named;
+      asked = subst (λ (guesses : Guesses). AreGuessesAfter child.state.value.counters.events child.guess guesses child.state.value.asked) reached.asked
+          is.asked;
       fits = λ valuation fits. reached.fits valuation (is.fits valuation fits);
       passes = λ setting valuation left log goes at fits guesses.
           let way = reached.comes setting valuation left log goes at (is.fits valuation fits) in

@@ -1,9 +1,8 @@
 -- What is added to what comes of a state: the children of the pieces of what shows first, and the ends of faulty parts.
-use Rattle.std.specs.Prelude.{◌≡◌, ◌≢◌, ℕ, ◌+◌, ◌<◌, ◌≤◌, Bool, true, false, List, [], ◌∷◌, ◌++◌, map, All, Option, None}
-use Rattle.std.specs.Prelude.{Some, option_map, slice_get}
+use Rattle.std.specs.Prelude.{◌≡◌, ◌≢◌, ℕ, ◌+◌, ◌<◌, ◌≤◌, Bool, true, false, List, [], ◌∷◌, ◌++◌, map, All, None, Some}
+use Rattle.std.specs.Prelude.{option_map, slice_get}
 use Rattle.std.specs.List.{AllZip}
 use Rattle.std.specs.Global.{Box}
-use Rattle.std.specs.FinMap as finite
 use Rattle.cs_types.specs.declared.data_model.DataModel.{DataModel}
 use Rattle.cs_ast.specs.declared.place.Place.{Place}
 use Rattle.cs_terms.specs.declared.symbol.Sym.{Sym}
@@ -21,21 +20,18 @@ use Rattle.cs_cfg.specs.Spots.{point_of}
 use Rattle.cs_access.specs.declared.checking.FaultyPart.{FaultyPart}
 use Rattle.cs_access.specs.declared.checking.Rest.{Rest}
 use Rattle.cs_access.specs.declared.checking.Rest.TheVariants.{Whole, Part, Nothing}
-use Rattle.cs_eval.specs.declared.piece.Guessed.{Guessed}
 use Rattle.cs_eval.specs.declared.piece.Piece.{Piece}
 use Rattle.cs_eval.specs.declared.question.Question.{Question}
 use Rattle.cs_eval.specs.Cases.{AreCases}
 use Rattle.cs_eval.specs.Followed.{AreAnswers}
-use Rattle.cs_state.specs.declared.asked.Asked.{Asked}
 use Rattle.cs_state.specs.declared.state.State.{State}
 use Rattle.cs_state.specs.Naming.{Naming}
-use Rattle.cs_state.specs.Valuations.{Guessed as Guesses}
 use Rattle.cs_explored.specs.declared.child.Child.{Child}
 use Rattle.cs_explored.specs.declared.watch.Rule.{Rule}
 use Rattle.cs_explored.specs.Answering.{leads_on}
 use Rattle.cs_explored.specs.Watching.{IsPhaseAfter}
 use Rattle.cs_children.specs.declared.children.Children.{Children}
-use Rattle.cs_successors.specs.Coming.{StateEnd, OutcomesDiffer}
+use Rattle.cs_successors.specs.Coming.{AreGuessesAfter, StateEnd, OutcomesDiffer}
 
 -- children and ends are added, and no cut
 pub record Adds (before after : Children) (made : List Child) (ends : List StateEnd) : Type 0 where
@@ -63,18 +59,13 @@ after_event answer phase state = record state {
 abbrev pub IsPassed : List Rule → Event → Lin → State → State → Type 0
 IsPassed rules event answer before after = IsPhaseAfter rules before.phase event after.phase × (after ≡ after_event answer after.phase before)
 
--- the guesses at an event and before it, by whether something was guessed there
-abbrev pub AreGuessesAfter : ℕ → Option Guessed → Guesses → Guesses → Type 0
-AreGuessesAfter event None before after = after ≡ before
-AreGuessesAfter event (Some guessed) before after = (one : Asked) × (one.event ≡ event) × (after ≡ finite.insert before (event, 0) one)
-
 -- the child that a piece makes of a state
 pub record IsOfPiece (rules : List Rule) (before : State) (place : Place) (guess : Sym) (piece : Piece) (child : Child) : Type 0 where
   pub event : child.event ≡ record { place = place; label = piece.label }
   pub guessed : child.guess ≡ option_map (λ guessed. guess) piece.guessed
   pub declared : IsDeclared piece.constraints (leads_on piece.label piece.answer).sym
   pub phase : IsPhaseAfter rules before.phase child.event child.state.value.phase
-  pub asked : AreGuessesAfter (before.counters.events + 1) piece.guessed before.asked child.state.value.asked
+  pub asked : AreGuessesAfter (before.counters.events + 1) child.guess before.asked child.state.value.asked
   pub state : child.state.value ≡ record (after_event (leads_on piece.label piece.answer) child.state.value.phase before) {
     constraints = piece.constraints;
     asked = child.state.value.asked;

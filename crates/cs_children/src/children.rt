@@ -470,7 +470,8 @@ fn is_declared(state: &State, term: Lin) -> bool
 
 // What a guess was asked for.
 fn asked(event: u64, guess: Sym, guessed: Guessed) -> Asked
-    ensures { result.event ≡ event }
+    ensures event { result.event ≡ event }
+    ensures guess { result.guess ≡ guess }
 {
     Asked {
         event,

@@ -1,9 +1,11 @@
 -- Children, ends and cuts that are added one after another: for the contracts of `Findings`.
-use Rattle.std.proofs.Common.{◌≡◌, ◌<◌, ℕ, Bool, true, false, List, [], ◌∷◌, ◌++◌, map, length, refl, sym, ap, ◌∙◌, subst, arith}
-use Rattle.std.proofs.lemmas.List.{append-nil, append_assoc, map-append}
-use Rattle.std.proofs.lemmas.List.Elements.{All-nil, All-push}
+use Rattle.std.proofs.Common.{◌≡◌, ◌<◌, ℕ, Bool, true, false, List, [], ◌∷◌, ◌++◌, map, length, take, refl, sym, ap, ◌∙◌, subst, arith}
+use Rattle.std.specs.Prelude.{drop, Contains}
+use Rattle.std.proofs.lemmas.List.{append-nil, append_assoc, map-append, map-id, take-append-drop}
+use Rattle.std.proofs.lemmas.List.Elements.{All-nil, All-push, Contains-push}
 use Rattle.std.specs.Global.{Box}
 use Rattle.cs_results.specs.declared.result.Cut.{Cut}
+use Rattle.cs_results.specs.declared.result.Cut.TheVariants.{Nodes}
 use Rattle.cs_events.specs.declared.outcome.Outcome.{Outcome}
 use Rattle.cs_state.specs.declared.state.State.{State}
 use Rattle.cs_explored.specs.declared.child.Child.{Child}
@@ -13,7 +15,8 @@ use Rattle.cs_explored.specs.declared.explored.Row.{Row}
 use Rattle.cs_explored.specs.Found.{Grows, IsPlaced}
 use Rattle.cs_keys.specs.Live.{live_part}
 use Rattle.cs_keys.specs.Words.{words_of}
-use Rattle.cs_explored.specs.Placing.{RowGraph, child_row, end_of_row, PlacesRow, PlacesAll, KeepsEnds, KeepsRows, AddsEnds, AddsCuts, HavePlainKeys}
+use Rattle.cs_explored.specs.Placing.{RowGraph, child_row, end_of_row, PlacesRow, PlacesAll, PlacesChildren, KeepsEnds, KeepsRows, AddsEnds, AddsCuts}
+use Rattle.cs_explored.specs.Placing.{HavePlainKeys}
 use Rattle.cs_store.specs.Held.{HasPlainKeys}
 use Rattle.cs_explored.proofs.Growing.{grows_not, grows_on, grows_same, grows_end}
 
@@ -104,6 +107,22 @@ place_next row made child before between after new true is there placed grows re
   plain = All-push (λ (child : Child). HasPlainKeys child.state.value.store) made child so_far.plain
       (subst (λ (r : Row). HasPlainKeys r.state.value.store) is plain);
 }
+
+-- the next child was refused, since the graph was full
+pub placed_first : (row : ℕ) (made taken : List Child) (before between after : Findings) (new : Row) (room : Bool) → room ≡ false
+    → IsPlaced (words_of (live_part new.state.value)) new room between after → PlacedSoFar row taken before between
+    → map (λ (child : Child). child) taken ≡ take (length taken) made → PlacesChildren row made false before after
+placed_first row made taken before between after new true full placed so_far are = cc
+placed_first row made taken before between after new false full placed so_far are = (
+  record {
+    some = taken;
+    left = drop (length taken) made;
+    all = sym (take-append-drop (length taken) made) ∙ ap (λ (l : List Child). l ++ drop (length taken) made) (sym are ∙ map-id taken);
+    placed = subst (λ (g : RowGraph). PlacesAll row taken before.graph g) (sym placed.0.2) so_far.placed;
+  },
+  subst (λ (n : ℕ). Contains after.cuts.items (Nodes n)) so_far.grows.nodes
+      (subst (λ (l : List Cut). Contains l (Nodes between.nodes)) (sym placed.1) (Contains-push between.cuts.items (Nodes between.nodes))),
+)
 
 -- one more end was added
 pub end_next : (row : ℕ) (new : List (Outcome × Box State)) (one : Outcome × Box State) (before between after : Findings) → after.nodes ≡ between.nodes

@@ -70,8 +70,15 @@ pub record AddsCuts (new : List Cut) (before after : Findings) : Type 0 where
 abbrev pub HavePlainKeys : List Child → Type 0
 HavePlainKeys made = All (λ (child : Child). HasPlainKeys child.state.value.store) made
 
--- all children of a row are placed, and nothing is cut; or the graph was full, which is a cut
+-- the first of a row's children are placed
+pub record PlacesFirst (parent : ℕ) (made : List Child) (before after : RowGraph) : Type 0 where
+  pub some : List Child
+  pub left : List Child
+  pub all : made ≡ some ++ left
+  pub placed : PlacesAll parent some before after
+
+-- all children of a row are placed, and nothing is cut; or the first of them, and then the graph was full, which is a cut
 abbrev pub PlacesChildren : ℕ → List Child → Bool → Findings → Findings → Type 0
 PlacesChildren parent made true before after =
     PlacesAll parent made before.graph after.graph × (after.cuts.items ≡ before.cuts.items) × HavePlainKeys made
-PlacesChildren parent made false before after = Contains after.cuts.items (Nodes before.nodes)
+PlacesChildren parent made false before after = PlacesFirst parent made before.graph after.graph × Contains after.cuts.items (Nodes before.nodes)

@@ -1,1 +1,2 @@
 pub mod Proceeding
+pub mod Agreeing

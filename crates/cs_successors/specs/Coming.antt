@@ -1,6 +1,6 @@
 -- What comes of a state: the states directly after its next events, and its ends, beside the runs that have come to the state.
-use Rattle.std.specs.Prelude.{◌≡◌, ◌≢◌, ◌⊎◌, ◌≤◌, ℕ, suc, Bool, List, [], ◌∷◌, All, length, None, Some, option_map, is_some}
-use Rattle.std.specs.Prelude.{slice_get, Contains}
+use Rattle.std.specs.Prelude.{◌≡◌, ◌≢◌, ◌⊎◌, ◌≤◌, ℕ, suc, Bool, List, [], ◌∷◌, All, length, Option, None, Some, option_map}
+use Rattle.std.specs.Prelude.{is_some, slice_get, Contains}
 use Rattle.std.specs.FinMap as finite
 use Rattle.std.specs.Global.{Box}
 use Rattle.cs_inputs.specs.declared.path.Path.{Path}
@@ -24,6 +24,7 @@ use Rattle.cs_state.specs.declared.asked.Asked.{Asked}
 use Rattle.cs_state.specs.declared.state.State.{State}
 use Rattle.cs_state.specs.Cells.{block_of}
 use Rattle.cs_state.specs.Naming.{Naming}
+use Rattle.cs_state.specs.Valuations.{Guessed as Guesses}
 use Rattle.cs_progress.specs.Locals.{HasLocalsAlone, HasIntegerCode}
 use Rattle.cs_progress.specs.Stepping.{end_of, result_in, HasReturned, next_left, UsesAnswers}
 use Rattle.cs_explored.specs.declared.child.Child.{Child}
@@ -46,6 +47,12 @@ pub record IsIntegerState (code : Code) (program : TypedProgram) (budgets : RunB
       → UsesAnswers code names program budgets cells state valuation
   pub possible : (valuation : Valuation) × Fits valuation state.constraints
   pub guessed : (asked : Asked) → Contains (finite.values state.asked) asked → asked.event ≤ state.counters.events
+
+-- the guesses before an event with a number and directly after it, where the symbol stands for what was guessed there, or nothing was guessed
+abbrev pub AreGuessesAfter : ℕ → Option Sym → Guesses → Guesses → Type 0
+AreGuessesAfter event None before after = after ≡ before
+AreGuessesAfter event (Some symbol) before after =
+    (one : Asked) × (one.event ≡ event) × (one.guess ≡ symbol) × (after ≡ finite.insert before (event, 0) one)
 
 -- an end of runs, with the state that stands for them
 abbrev pub StateEnd : Type 0
@@ -107,6 +114,7 @@ module _ (code : Code) (program : TypedProgram) (budgets : RunBudgets) (names : 
     pub phase : IsPhaseAfter rules before.phase child.event child.state.value.phase
     pub named : (symbol : Sym) → child.guess ≡ Some symbol
         → slice_get names.syms symbol.0 ≡ Some (GuessAt child.state.value.counters.events)
+    pub asked : AreGuessesAfter child.state.value.counters.events child.guess before.asked child.state.value.asked
     pub fits : (valuation : Valuation) → Fits valuation child.state.value.constraints → Fits valuation before.constraints
     pub passes : (setting : Setting) (valuation : Valuation) (left : Act CodeState) (log : Log) → GoesBy setting
         → IsAt before setting valuation left log → Fits valuation child.state.value.constraints → GuessesAs setting child valuation
@@ -114,6 +122,7 @@ module _ (code : Code) (program : TypedProgram) (budgets : RunBudgets) (names : 
 
   -- an end of a state: runs that have come to the state under one of its valuations end so
   pub record IsEndOf (before : State) (end : StateEnd) : Type 0 where
+    pub model : end.1.value.model ≡ program.model
     pub possible : (valuation : Valuation) × Fits valuation end.1.value.constraints
     pub fits : (valuation : Valuation) → Fits valuation end.1.value.constraints → Fits valuation before.constraints
     pub phase : end.1.value.phase ≡ before.phase

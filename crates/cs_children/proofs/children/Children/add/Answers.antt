@@ -1,8 +1,7 @@
-use Rattle.std.proofs.Common.{◌≡◌, ◌+◌, rules, ap, sym, ◌∙◌, subst}
+use Rattle.std.proofs.Common.{◌≡◌, ◌+◌, rules, ap, ◌∙◌}
 use Rattle.std.proofs.lemmas.Result.{on_ok_weaker}
 use Rattle.std.specs.FinMap as finite
 use Rattle.cs_state.specs.declared.state.State.{State}
-use Rattle.cs_children.specs.Adding.{AreGuessesAfter}
 use Rattle.cs_children.proofs.children.Children.add.Goals as goal
 
 pub returns-in-Some : goal.returns-in-Some
@@ -19,9 +18,10 @@ returns-in-Some c =
           guessed = search rules;
           declared = search rules;
           phase = search rules;
-          asked = subst (λ given. AreGuessesAfter (before.counters.events + 1) given before.asked c.guess.new.self.asked) (sym c.in-Some.is) (
+          asked = (
             c.asked.result,
             event,
+            c.asked.ensures.guess,
             ap (λ (s : State). s.asked) c.in_ok-guess.ensures.ok ∙ (λ i. finite.insert (guesses i) (event i, 0) c.asked.result),
           );
           state = search rules;

@@ -1,14 +1,22 @@
 use Rattle.std.proofs.Common.{List, ◌∙◌, sym, subst}
 use Rattle.std.proofs.lemmas.List.{map-id}
 use Rattle.std.proofs.lemmas.Iterator.Adapters.{YieldsList-from_vec}
-use Rattle.std.proofs.lemmas.Iterator.Consumers.{YieldsList-end}
+use Rattle.std.proofs.lemmas.Iterator.Consumers.{YieldsList-end, YieldsList-so_far}
 use Rattle.cs_explored.specs.declared.child.Child.{Child}
 use Rattle.cs_explored.specs.Placing.{PlacesAll, HavePlainKeys}
-use Rattle.cs_explored.proofs.Placed.{placed_none, place_next, keeps_on}
+use Rattle.cs_explored.proofs.Placed.{placed_none, placed_first, place_next, keeps_on}
 use Rattle.cs_explored.proofs.findings.Findings.add_all.Goals as goal
 
 pub loop-child-init : goal.loop-child-init
 loop-child-init c = placed_none c.args.row c.args.self.now
+
+pub returns-then-not-branch-clause-all : goal.returns-then-not-branch-clause-all
+returns-then-not-branch-clause-all c =
+    let yields = YieldsList-from_vec {s = c.into_iter-child-iterator.result} c.args.made.items c.into_iter-child-iterator.ensures.into_iter_gives.0
+    (c.into_iter-child-iterator.ensures.into_iter_gives.1 ∙ c.args.made.ok.0) in
+    placed_first c.args.row c.args.made.items c.loop-child.yielded c.args.self.now c.loop-child.self c.add.new.self c.row_of.result c.in_ok-add.field-0
+    c.if-not-branch.true c.in_ok-add.ensures.placed c.loop-child.invariant
+    (YieldsList-so_far yields c.loop-child.yielded c.loop-child.child-iterator c.loop-child.yielded_by)
 
 pub returns-then-not-branch-clause-rest : goal.returns-then-not-branch-clause-rest
 returns-then-not-branch-clause-rest c = keeps_on c.args.self.now c.loop-child.self c.add.new.self c.loop-child.invariant.rest c.in_ok-add.ensures.rest
