@@ -133,7 +133,7 @@ fn split(
         IsRest state.now subject.now (kinds_of found.now) checked.rest) }
 {
     let term = deciding_term(subject);
-    let mut faults = Vec::new(alloc);
+    let mut faults = Vec::with_capacity(alloc, found.len())?;
     let mut good = RangeSet::of(alloc, LEAST, GREATEST)?;
     for place in 0..found.len() {
         let FaultyKind { kind, values } = &found[place];

@@ -26,6 +26,7 @@ use cs_results::{Budgets, EntryResult, every_kind};
 use cs_witness::Entry;
 use cs_words::{AnalyzeWords, GenerateWords};
 use std::alloc::{AllocError, Global};
+use std::mem::forget;
 
 /// How many states an exploration can number. The words allow no more.
 const MOST_NODES: u64 = 200_000;
@@ -162,6 +163,8 @@ fn results_of(
             let results = results_with(
                 alloc, program, &prepared, &code, budgets, entries, checkers,
             )?;
+            // The program ends after this: the code isn't given back piece by piece.
+            forget(code);
             Ok(results)
         }
         Err(_) => Err(AllocError),

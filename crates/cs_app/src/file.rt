@@ -16,6 +16,7 @@ use cs_program::program_of;
 use cs_types::DataModel;
 use cs_words::Command;
 use std::alloc::{AllocError, Global};
+use std::mem::forget;
 
 /// The answer of a command to a file.
 pub fn answer_to(
@@ -33,6 +34,8 @@ pub fn answer_to(
     match program_of(alloc, model_of(command), file) {
         Ok(found) => {
             let answer = answer_of(alloc, command, &found.files, &found.program, checkers)?;
+            // The program ends after this answer: what the file became isn't given back piece by piece.
+            forget(found);
             Ok(answer)
         }
         Err(refusal) => {

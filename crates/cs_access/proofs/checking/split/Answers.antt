@@ -7,7 +7,7 @@ use Rattle.cs_access.proofs.checking.split.Goals as goal
 
 pub loop-place-init : goal.loop-place-init
 loop-place-init c =
-    split_none c.args.state.now c.args.subject.now c.in_ok-good.good c.new-faults.result.items c.requires.can c.new-faults.ensures.items
+    split_none c.args.state.now c.args.subject.now c.in_ok-good.good c.in_ok-faults.faults.items c.requires.can c.in_ok-faults.ensures.items
     c.in_ok-good.ensures.numbers
 
 pub take_out-requires : goal.take_out-requires
