@@ -123,7 +123,8 @@ module _ (code : Code) (program : TypedProgram) (entry : ℕ) (budgets : RunBudg
           → PlacesAll row todo before after → IsGraph after ends Waits
       place_all [] count before after each is same = subst (λ (g : RowGraph). IsGraph g ends Waits) (sym same) is.sources
       place_all (child ∷ todo) count before after each is (between, first, rest) =
-          let at = subst (λ (n : ℕ). slice_get made n ≡ Some child) (omega arith) (each 0 child refl) in
+          let none : count + 0 ≡ count = omega arith in
+          let at : slice_get made count ≡ Some child = subst (λ (n : ℕ). slice_get made n ≡ Some child) none (each 0 child refl) in
           place_all todo (suc count) between after
           (λ i other there. subst (λ (n : ℕ). slice_get made n ≡ Some other) (omega arith) (each (suc i) other there))
           (place_one count child at before is between first.0 first.1 first.2) rest

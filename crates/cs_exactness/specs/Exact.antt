@@ -1,5 +1,5 @@
 -- What the rows and ends of a graph say of runs: under each valuation that fits they stand for the run of that valuation, at the position to which the row's
--- events lead. No contract says this so far.
+-- events lead. `explore` of `cs_engine` ensures it of entries that work with integers alone.
 use Rattle.std.specs.Prelude.{◌≡◌, ℕ, List, [], Some, slice_get}
 use Rattle.cs_ast.specs.TypedProgram.{TypedProgram}
 use Rattle.cs_terms.specs.Term.{Valuation}
