@@ -181,7 +181,7 @@ module _ (code : Code) (program : TypedProgram) (entry : ℕ) (budgets : RunBudg
     cell = cell_of names.bases state.blocks own
 
     -- a parameter's symbol has the number of its input
-    own_is : (number : ℕ) (v : Variable) → slice_get parameters number ≡ Some v → (symbol : ℕ)
+    pub own_is : (number : ℕ) (v : Variable) → slice_get parameters number ≡ Some v → (symbol : ℕ)
         → slice_get given.syms symbol ≡ Some (Input (parameter_path v)) → own symbol ≡ input_number program.model (input_kind v.ty) (inputs (parameter_path v))
     own_is number v there symbol named =
         let found = first_at parameters [] v number there in
@@ -356,7 +356,7 @@ module _ (code : Code) (program : TypedProgram) (entry : ℕ) (budgets : RunBudg
         })
 
     -- the state means the beginning of the run
-    meaning_is : meaning code names program state own ≡ code_started code program inputs entry (routine_of program entry)
+    pub meaning_is : meaning code names program state own ≡ code_started code program inputs entry (routine_of program entry)
     meaning_is =
         let frame = frame_is in
         let callers = ap (map (frame_of code names state own)) start.callers in

@@ -14,5 +14,6 @@ pub mod Beginnings
 pub mod StartBlocks
 pub mod BeginningStates
 pub mod ClosedGraphs
+pub mod RowKeys
 pub mod PlacedRows
 pub mod ExpandedRows

@@ -1,8 +1,8 @@
 -- A closed graph in which all that comes of a row was placed stays closed, and has rows for all of it: for the exploration of a row.
-use Rattle.std.proofs.Common.{◌≡◌, inl, inr, ◌<◌, ◌+◌, ℕ, zero, suc, List, [], ◌∷◌, ◌++◌, length, Some, slice_get, refl, sym, ap, ◌∙◌, subst, arith}
+use Rattle.std.proofs.Common.{◌≡◌, inl, inr, ℕ, zero, suc, List, [], ◌∷◌, ◌++◌, length, Some, slice_get, refl, sym, ap, ◌∙◌, subst, arith}
 use Rattle.std.specs.Prelude.{nat_eq}
 use Rattle.std.specs.Cmp.Lexicographic.{pointwise, bytes_decides}
-use Rattle.std.proofs.lemmas.List.{append-nil, append_assoc, length-append}
+use Rattle.std.proofs.lemmas.List.{append-nil, append_assoc}
 use Rattle.std.proofs.lemmas.Option.{same_Some, slice_get_within}
 use Rattle.cs_ast.specs.TypedProgram.{TypedProgram}
 use Rattle.cs_events.specs.declared.outcome.RunBudgets.{RunBudgets}
@@ -11,22 +11,17 @@ use Rattle.cs_state.specs.Naming.{Naming}
 use Rattle.cs_keys.specs.Laws.{KeysAreExact}
 use Rattle.cs_keys.specs.Live.{live_part}
 use Rattle.cs_keys.specs.Words.{words_of}
-use Rattle.cs_graph.specs.Adding.{IsSeenAt, IsAdded, IsNew}
+use Rattle.cs_graph.specs.Adding.{IsSeenAt, IsAdded}
 use Rattle.cs_graph.specs.declared.adding.Added.{Added}
 use Rattle.cs_graph.specs.declared.adding.Added.TheVariants.{New, Old}
 use Rattle.cs_explored.specs.declared.child.Child.{Child}
 use Rattle.cs_explored.specs.declared.explored.End.{End}
 use Rattle.cs_explored.specs.declared.explored.Row.{Row}
 use Rattle.cs_explored.specs.declared.watch.Rule.{Rule}
-use Rattle.cs_coverage.specs.Closing.{IsOpen, HaveKeys, HasRowFor, IsRowState, IsClosed, IsClosedGraph}
+use Rattle.cs_coverage.specs.Closing.{IsOpen, HasRowFor, IsRowState, IsClosed, IsClosedGraph}
 use Rattle.cs_explored.specs.Placing.{RowGraph, child_row, PlacesAll}
-use Rattle.cs_coverage.proofs.ClosedGraphs.{kept_place, last_or_before, last_there, row_kept, closed_with_row}
-
--- an element of a list is at a place that the list has
-some_there : {A : Type 0} (xs : List A) (place : ℕ) → place < length xs → (x : A) × (slice_get xs place ≡ Some x)
-some_there [] place within = absurd (omega (arith, within))
-some_there (x ∷ xs) zero within = (x, refl)
-some_there (x ∷ xs) (suc place) within = some_there xs place (omega (arith, within))
+use Rattle.cs_coverage.proofs.ClosedGraphs.{last_there, row_kept, closed_with_row}
+use Rattle.cs_coverage.proofs.RowKeys.{some_there, keys_joined, long_joined}
 
 module _ (code : Code) (program : TypedProgram) (entry : ℕ) (budgets : RunBudgets) (rules : List Rule) (given : Naming) (ends : List End) (open_row : ℕ)
     (exact : KeysAreExact) where
@@ -48,25 +43,6 @@ module _ (code : Code) (program : TypedProgram) (entry : ℕ) (budgets : RunBudg
         same = (exact child.state.value there.0.state.value).0 (words ∙ key);
         plain = state.plain;
       }
-
-  -- a row that is new
-  new_keys : (before after : RowGraph) (row : Row) (visits number : ℕ) → IsGraph before
-      → IsNew (words_of (live_part row.state.value)) visits row number before after → HaveKeys after
-  new_keys before after row visits number is new place key found at there =
-      elim (last_or_before before.rows row found place (subst (λ (rows : List Row). slice_get rows place ≡ Some found) new.rows there)) [
-        | inl old ↦
-            let within = slice_get_within before.rows place found old in
-            let kept = some_there before.keys place (omega (arith, within, is.long)) in
-            let more = kept_place before.keys (words_of (live_part row.state.value) ∷ []) place kept.0 kept.1 in
-            let same = same_Some key kept.0 (sym (subst (λ (keys : List (List ℕ)). slice_get keys place ≡ Some key) new.keys at) ∙ more) in
-            same ∙ is.keys place kept.0 found kept.1 old
-        | inr last ↦
-            let place_is : place ≡ length before.keys = last.0 ∙ sym is.long in
-            let at_last = subst (λ n. slice_get (before.keys ++ words_of (live_part row.state.value) ∷ []) n ≡ Some key) place_is
-            (subst (λ (keys : List (List ℕ)). slice_get keys place ≡ Some key) new.keys at) in
-            same_Some key (words_of (live_part row.state.value)) (sym at_last ∙ last_there before.keys (words_of (live_part row.state.value)))
-            ∙ ap (λ (r : Row). words_of (live_part r.state.value)) (sym last.1)
-      ]
 
   -- rows that are added stand behind those that were there
   abbrev pub HasMore : RowGraph → RowGraph → Type 0
@@ -98,10 +74,8 @@ module _ (code : Code) (program : TypedProgram) (entry : ℕ) (budgets : RunBudg
           plain = state.plain;
         };
         graph = record {
-          keys = new_keys before after row visits number is new;
-          long =
-              ap length new.keys ∙ length-append before.keys (words_of (live_part child.state.value) ∷ []) ∙ ap (λ n. n + 1) is.long
-              ∙ sym (ap length new.rows ∙ length-append before.rows (row ∷ []));
+          keys = keys_joined before after row visits number is.keys is.long new;
+          long = long_joined before after row visits number is.keys is.long new;
           closed =
               subst (λ (rows : List Row). IsClosed code program entry budgets rules given rows ends (IsOpen open_row after.work)) (sym new.rows)
               (closed_with_row code program entry budgets rules given before.rows ends row (IsOpen open_row after.work) (IsOpen open_row before.work)

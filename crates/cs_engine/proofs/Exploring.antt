@@ -1,5 +1,5 @@
 -- What is found stays closed but for the rows that are open, as an exploration goes on: for the contracts of `begin`, `expand` and `expand_all`.
-use Rattle.std.proofs.Common.{◌≡◌, ℕ, Bool, true, false, List, [], ◌∷◌, ◌++◌, map, Some, slice_get, refl, sym, ap, ◌∙◌, subst}
+use Rattle.std.proofs.Common.{◌≡◌, ℕ, Bool, true, false, List, [], ◌++◌, map, Some, slice_get, refl, sym, ap, ◌∙◌, subst}
 use Rattle.std.specs.Prelude.{Contains}
 use Rattle.std.specs.Global.{Box}
 use Rattle.std.proofs.lemmas.List.Elements.{Contains-push, Contains-append_left}
@@ -33,7 +33,7 @@ use Rattle.cs_explored.specs.Placing.{RowGraph, first_row, end_of_row, PlacesAll
 use Rattle.cs_successors.specs.Coming.{StateEnd, IsIntegerState, ComesOfState}
 use Rattle.cs_children.specs.declared.exploration.Exploration.{Exploration}
 use Rattle.cs_children.specs.Finding.{code_of, limits_of, Explores}
-use Rattle.cs_coverage.specs.Closing.{Waits, IsOpen, AreNames, IsRowState, IsClosed, IsClosedGraph}
+use Rattle.cs_coverage.specs.Closing.{Waits, IsOpen, IsRowState, IsClosed, IsClosedGraph}
 use Rattle.cs_coverage.specs.Covering.{HasAllNodes}
 use Rattle.cs_coverage.specs.Positions.{CoversPositions}
 use Rattle.cs_coverage.proofs.Beginnings.{is_beginning}
@@ -42,7 +42,7 @@ use Rattle.cs_coverage.proofs.Coverage.{element}
 use Rattle.cs_coverage.proofs.ExpandedRows.{IsFound, graph_given, graph_later, graph_expanded, graph_done, graph_begun}
 use Rattle.cs_coverage.proofs.Positions.{covers_positions}
 use Rattle.cs_coverage.proofs.StartBlocks.{no_blocks}
-use Rattle.cs_engine.specs.Exploring.{program_of, ExploresIntegers, IsOpenGraph, IsDone}
+use Rattle.cs_engine.specs.Exploring.{program_of, ExploresIntegers, IsOpenGraph, IsClosedAtLast}
 
 -- these children and ends are all that comes of a state, if it is one of integer code
 abbrev pub ComesOf : Exploration → Naming → State → List Child → List StateEnd → Type 0
@@ -104,7 +104,7 @@ module _ (exploration : Exploration) (entry : ℕ) (explores : ExploresIntegers 
 
   -- no row waits
   pub done_graph : (findings : Findings) (graph : RowGraph) → findings.graph.work ≡ [] → graph ≡ with_work graph.work findings.graph
-      → IsOpenGraph exploration entry Waits findings → IsDone exploration entry (record findings { graph = graph })
+      → IsOpenGraph exploration entry Waits findings → IsClosedAtLast exploration entry (record findings { graph = graph })
   done_graph findings graph none rest open_graph all =
       subst (λ (rows : List Row). IsClosed code program entry budgets rules (naming findings.tables) rows findings.ends.items (λ number. ⊥))
       (sym (ap (λ (g : RowGraph). g.rows) rest))
@@ -149,7 +149,7 @@ module _ (exploration : Exploration) (entry : ℕ) (explores : ExploresIntegers 
 
     pub expanded_graph : (room : Bool) → PlacesChildren row made room cut after → IsOpenGraph exploration entry (IsOpen row) before
         → IsOpenGraph exploration entry Waits after
-    expanded_graph false places open_graph all = absurd (all cut.nodes places)
+    expanded_graph false places open_graph all = absurd (all cut.nodes places.1)
     expanded_graph true places open_graph all =
         let before_all = all_before before.cuts.items cuts (subst HasAllNodes (places.1 ∙ cuts_are) all) in
         subst (λ (later : Tables). IsGraph (naming later) after.graph after.ends.items Waits) (sym tables_are)
@@ -161,7 +161,7 @@ module _ (exploration : Exploration) (entry : ℕ) (explores : ExploresIntegers 
   -- a closed graph covers all positions
   pub covered : (findings : Findings) (explored : Explored) → IsNumbered (naming findings.tables).bases → explored.rows.items ≡ findings.graph.rows
       → explored.ends.items ≡ findings.ends.items → explored.cuts.items ≡ findings.cuts.items → explored.tables ≡ findings.tables
-      → IsDone exploration entry findings → CoversPositions code program entry budgets explored
+      → IsClosedAtLast exploration entry findings → CoversPositions code program entry budgets explored
   covered findings explored numbered rows ends cuts tables done =
       covers_positions code program entry budgets rules explored
       (subst (λ (t : Tables). IsNumbered (naming t).bases) (sym tables) numbered)

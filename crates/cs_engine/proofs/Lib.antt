@@ -1,5 +1,5 @@
 pub mod Parameters
-pub mod Chains
-pub mod FirstRow
+pub mod Moved
 pub mod OwnBeginnings
 pub mod Exploring
+pub mod Sourcing

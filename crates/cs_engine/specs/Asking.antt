@@ -27,7 +27,7 @@ use Rattle.cs_state.specs.Meaning.{setting_of}
 use Rattle.cs_eval.specs.declared.question.Question.{Question}
 use Rattle.cs_eval.specs.Questions.{operation_of}
 use Rattle.cs_explored.specs.declared.explored.Row.{Row}
-use Rattle.cs_engine.specs.Chains.{IsChain}
+use Rattle.cs_exactness.specs.Chains.{IsChain}
 use Rattle.cs_successors.specs.EntryRuns.{events_of, setting_with, HasLeft, PassesTo}
 use Rattle.cs_engine.specs.Inexact.{IsQuestionOf, HasFact, TellsResult, AreRanges, IsInexact}
 use Rattle.cs_coverage.specs.OwnNumbers.{own_valuation, ListsOwn}

@@ -24,7 +24,7 @@ use Rattle.cs_access.specs.Numbers.{IsAscending}
 use Rattle.cs_explored.specs.declared.explored.End.{End}
 use Rattle.cs_explored.specs.declared.explored.Row.{Row}
 use Rattle.cs_explored.specs.declared.watch.Rule.{Rule}
-use Rattle.cs_engine.specs.Chains.{IsChain}
+use Rattle.cs_exactness.specs.Chains.{IsChain}
 use Rattle.cs_successors.specs.EntryRuns.{events_of, setting_with, EndsAfter, PassesTo}
 use Rattle.cs_engine.specs.Graphs.{IsExactGraph}
 

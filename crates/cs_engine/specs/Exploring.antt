@@ -1,4 +1,5 @@
--- An exploration of an entry that works with integers alone, as it goes on: its graph is closed but for the rows that are open.
+-- An exploration of an entry that works with integers alone, as it goes on: its graph is closed but for the rows that are open, and its rows and ends come
+-- from rows.
 use Rattle.std.specs.Prelude.{◌≡◌, ℕ, List}
 use Rattle.cs_ast.specs.TypedProgram.{TypedProgram, typed_program}
 use Rattle.cs_state.specs.Naming.{naming}
@@ -10,6 +11,10 @@ use Rattle.cs_coverage.specs.IntegerEntries.{IsIntegerEntry}
 use Rattle.cs_coverage.specs.Closing.{IsClosed, IsClosedGraph}
 use Rattle.cs_coverage.specs.Covering.{HasAllNodes}
 use Rattle.cs_coverage.specs.Positions.{CoversPositions}
+use Rattle.cs_exactness.specs.Distinct.{AreDistinct}
+use Rattle.cs_exactness.specs.Exact.{IsExact}
+use Rattle.cs_exactness.specs.Noted.{EachNotesGuesses}
+use Rattle.cs_exactness.specs.Sources.{AreSourced, IsSourcedGraph, UnderNames}
 
 -- the program that is explored
 abbrev pub program_of : Exploration → TypedProgram
@@ -30,13 +35,42 @@ IsOpenGraph exploration entry Open findings = HasAllNodes findings.cuts.items
     → IsClosedGraph (code_of exploration) (program_of exploration) entry (limits_of exploration) exploration.rules.now (naming findings.tables) findings.graph
     findings.ends.items Open
 
+-- each row and end that is found comes from a row
+abbrev pub HasSources : Exploration → ℕ → (List (ℕ × ℕ) → ℕ → Type 0) → Findings → Type 0
+HasSources exploration entry Open findings = UnderNames (naming findings.tables) (λ names.
+    IsSourcedGraph (code_of exploration) (program_of exploration) entry (limits_of exploration) names exploration.rules.now findings.graph findings.ends.items
+    Open)
+
+-- both is so
+pub record IsKept (exploration : Exploration) (entry : ℕ) (Open : List (ℕ × ℕ) → ℕ → Type 0) (findings : Findings) : Type 0 where
+  pub closed : IsOpenGraph exploration entry Open findings
+  pub sources : HasSources exploration entry Open findings
+
 -- what is found is closed, unless something was left out for want of nodes
-abbrev pub IsDone : Exploration → ℕ → Findings → Type 0
-IsDone exploration entry findings = HasAllNodes findings.cuts.items
+abbrev pub IsClosedAtLast : Exploration → ℕ → Findings → Type 0
+IsClosedAtLast exploration entry findings = HasAllNodes findings.cuts.items
     → IsClosed (code_of exploration) (program_of exploration) entry (limits_of exploration) exploration.rules.now (naming findings.tables)
     findings.graph.rows findings.ends.items (λ number. ⊥)
+
+-- and comes from rows
+pub record IsDone (exploration : Exploration) (entry : ℕ) (findings : Findings) : Type 0 where
+  pub closed : IsClosedAtLast exploration entry findings
+  pub sources : UnderNames (naming findings.tables) (λ names.
+      AreSourced (code_of exploration) (program_of exploration) entry (limits_of exploration) names exploration.rules.now findings.graph.rows
+      findings.ends.items (λ number. ⊥))
 
 -- all positions and ends of the entry's runs are found, if it works with integers alone
 abbrev pub CoversIntegers : Exploration → ℕ → Explored → Type 0
 CoversIntegers exploration entry explored =
     ExploresIntegers exploration entry → CoversPositions (code_of exploration) (program_of exploration) entry (limits_of exploration) explored
+
+-- rows and ends stand for the runs of just their valuations
+abbrev pub IsExactFor : Exploration → ℕ → Explored → Type 0
+IsExactFor exploration entry explored =
+    IsExact (code_of exploration) (program_of exploration) entry (limits_of exploration) (naming explored.tables) explored.rows.items explored.ends.items
+
+-- they do, no two are alike, and each state has the guesses of the events that lead to it, if the entry works with integers alone
+abbrev pub IsExactOnIntegers : Exploration → ℕ → Explored → Type 0
+IsExactOnIntegers exploration entry explored =
+    ExploresIntegers exploration entry → IsExactFor exploration entry explored × AreDistinct explored.rows.items explored.ends.items
+    × EachNotesGuesses explored.rows.items explored.ends.items

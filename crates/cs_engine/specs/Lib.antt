@@ -1,11 +1,8 @@
 pub mod Parameters
 pub mod Exploring
-pub mod Chains
-pub mod Exact
 pub mod Inexact
 pub mod Asking
 pub mod OwnRuns
-pub mod Distinct
 pub mod Recorded
 pub mod Graphs
 pub mod Cuts

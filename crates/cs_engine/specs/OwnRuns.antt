@@ -16,7 +16,7 @@ use Rattle.cs_state.specs.declared.state.State.{State}
 use Rattle.cs_state.specs.Naming.{Naming}
 use Rattle.cs_explored.specs.declared.explored.End.{End}
 use Rattle.cs_explored.specs.declared.explored.Row.{Row}
-use Rattle.cs_engine.specs.Chains.{IsChain}
+use Rattle.cs_exactness.specs.Chains.{IsChain}
 use Rattle.cs_progress.specs.Stepping.{end_of}
 use Rattle.cs_successors.specs.EntryRuns.{events_of, setting_with, HasLeft, EndsAfter}
 use Rattle.cs_coverage.specs.OwnNumbers.{own_valuation, ListsOwn}

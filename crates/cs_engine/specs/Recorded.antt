@@ -1,8 +1,6 @@
 -- What a state records of the events that lead to it: its guesses, the phase of a watched protocol, and where its heap blocks were made.
-use Rattle.std.specs.Prelude.{◌≡◌, ◌↔◌, ℕ, suc, true, List, Some, slice_get, Contains}
-use Rattle.std.specs.FinMap as finite
+use Rattle.std.specs.Prelude.{◌≡◌, ℕ, suc, true, List, Some, slice_get}
 use Rattle.cs_ast.specs.TypedProgram.{TypedProgram}
-use Rattle.cs_terms.specs.declared.symbol.Sym.{Sym}
 use Rattle.cs_terms.specs.Term.{Valuation}
 use Rattle.cs_constraints.specs.Constraints.{Fits}
 use Rattle.cs_regions.specs.declared.base.Base.TheVariants.{Heap}
@@ -16,7 +14,6 @@ use Rattle.cs_event_runs.specs.First.{Step}
 use Rattle.cs_meaning.specs.Calls.{allocation_path}
 use Rattle.cs_cfg.specs.Graph.{Code}
 use Rattle.cs_cfg.specs.Working.{CodeState}
-use Rattle.cs_state.specs.declared.asked.Asked.{Asked}
 use Rattle.cs_state.specs.declared.block.Block.{Block}
 use Rattle.cs_state.specs.declared.state.State.{State}
 use Rattle.cs_state.specs.Cells.{block_of}
@@ -24,21 +21,9 @@ use Rattle.cs_state.specs.Meaning.{setting_of}
 use Rattle.cs_state.specs.Naming.{Naming}
 use Rattle.cs_explored.specs.declared.explored.Row.{Row}
 use Rattle.cs_explored.specs.declared.watch.Rule.{Rule}
-use Rattle.cs_engine.specs.Chains.{IsGuessedAlong}
+use Rattle.cs_exactness.specs.Noted.{IsInEventOrder, RecordsGuesses}
 use Rattle.cs_successors.specs.EntryRuns.{events_of, HasLeft}
 use Rattle.cs_coverage.specs.Phases.{IsPhaseAlong}
-
--- the state's guesses stand in order of their events, one for each
-abbrev pub IsInEventOrder : State → Type 0
-IsInEventOrder state = (key : ℕ × ℕ) (asked : Asked) → finite.get state.asked key ≡ Some asked → key ≡ (asked.event, 0)
-
--- the state has a guess at an event, for which this symbol stands
-abbrev pub HasGuess : State → ℕ → Sym → Type 0
-HasGuess state event sym = (asked : Asked) × Contains (finite.values state.asked) asked × (asked.event ≡ event) × (asked.guess ≡ sym)
-
--- the state has just the guesses of the events that lead to a row
-abbrev pub RecordsGuesses : List Row → ℕ → State → Type 0
-RecordsGuesses rows number state = (event : ℕ) (sym : Sym) → IsGuessedAlong rows number event sym ↔ HasGuess state event sym
 
 -- at the event with a number, one of these steps, an allocation with a number gave a block
 pub record IsMadeAt (steps : List Step) (event allocation : ℕ) : Type 0 where

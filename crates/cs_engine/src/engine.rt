@@ -4,7 +4,7 @@ ghost use Rattle.cs_objects.specs.Prepared.{IsReady};
 ghost use Rattle.cs_explored.specs.Found.{IsSound, Grows, AreLinked, AreOfRows};
 ghost use Rattle.cs_operators.specs.Asking.{HasEveryKind};
 ghost use Rattle.cs_coverage.specs.Closing.{Waits, IsOpen};
-ghost use Rattle.cs_engine.specs.Exploring.{ExploresIntegers, IsFull, IsOpenGraph, IsDone, CoversIntegers};
+ghost use Rattle.cs_engine.specs.Exploring.{ExploresIntegers, IsFull, IsKept, IsDone, CoversIntegers, IsExactOnIntegers};
 
 use crate::entry::start;
 use crate::numbering::have_each_once;
@@ -30,6 +30,9 @@ pub fn explore(
     ensures covers { IfOk result (λ explored.
         HasEveryKind (λ b. kind_of b) checkers.old.items
         → CoversIntegers exploration.now entry explored) }
+    ensures exact { IfOk result (λ explored.
+        HasEveryKind (λ b. kind_of b) checkers.old.items
+        → IsExactOnIntegers exploration.now entry explored) }
     ensures kinds { map (λ b. kind_of b) checkers.new.items
         ≡ map (λ b. kind_of b) checkers.old.items }
 {
@@ -48,7 +51,7 @@ fn begin(exploration: &Exploration, entry: u32) -> Result<Findings, AllocError>
         findings.nodes ≡ exploration.now.budgets.nodes) }
     ensures begins { IfOk result (λ findings.
         ExploresIntegers exploration.now entry
-        → IsOpenGraph exploration.now entry Waits findings) }
+        → IsKept exploration.now entry Waits findings) }
 {
     let alloc = exploration.context.alloc;
     let mut findings = Findings::new(alloc, exploration.budgets.nodes);
@@ -69,7 +72,7 @@ fn expand_all(
     ensures grows { OnOk result (Grows findings.old findings.new) }
     ensures done { OnOk result (HasEveryKind (λ b. kind_of b) checkers.old.items
         → (entry : ℕ) → ExploresIntegers exploration.now entry
-        → IsOpenGraph exploration.now entry Waits findings.old
+        → IsKept exploration.now entry Waits findings.old
         → IsDone exploration.now entry findings.new) }
     ensures kinds { map (λ b. kind_of b) checkers.new.items
         ≡ map (λ b. kind_of b) checkers.old.items }
@@ -96,8 +99,9 @@ fn expand(
     ensures grows { OnOk result (Grows findings.old findings.new) }
     ensures expands { OnOk result (HasEveryKind (λ b. kind_of b) checkers.old.items
         → (entry : ℕ) → ExploresIntegers exploration.now entry
-        → IsOpenGraph exploration.now entry (IsOpen row) findings.old
-        → IsOpenGraph exploration.now entry Waits findings.new) }
+        → ¬ Waits findings.old.graph.work row
+        → IsKept exploration.now entry (IsOpen row) findings.old
+        → IsKept exploration.now entry Waits findings.new) }
     ensures full { IfOk result (λ room. room ≡ false → IsFull findings.new) }
     ensures kinds { map (λ b. kind_of b) checkers.new.items
         ≡ map (λ b. kind_of b) checkers.old.items }

@@ -8,6 +8,7 @@ use Rattle.cs_explored.proofs.Growing.{grows_on, grows_same}
 use Rattle.cs_state.specs.declared.state.State.{State}
 use Rattle.cs_state.specs.Naming.{naming}
 use Rattle.cs_engine.proofs.Exploring.{ComesOf, expanded_graph}
+use Rattle.cs_engine.proofs.Sourcing.{expanded_sources}
 use Rattle.cs_engine.proofs.engine.expand.Goals as goal
 
 pub returns-clause-grows : goal.returns-clause-grows
@@ -18,7 +19,7 @@ returns-clause-grows g c =
     (grows_on c.add_ends.new.self c.add_cuts.new.self c.add_all.new.self c.in_ok-add_cuts.ensures.grows c.in_ok-room.ensures.grows))
 
 pub returns-clause-expands : goal.returns-clause-expands
-returns-clause-expands g c every entry explores open_graph =
+returns-clause-expands g c every entry explores gone kept =
     let from : Row = c.in-Some.from.now in
     let there : slice_get c.args.findings.now.graph.rows c.args.row ≡ Some from =
     ap (λ (rows : List Row). slice_get rows c.args.row) (sym c.rows.ensures)
@@ -30,11 +31,18 @@ returns-clause-expands g c every entry explores open_graph =
     (λ names program it integer. (c.in_ok-find.ensures.all every c.new-children.ensures names program it integer).0) in
     let cutting : AddsCuts c.find.new.self.cuts.items c.add_ends.new.self c.add_cuts.new.self =
     subst (λ (cuts : List Cut). AddsCuts cuts c.add_ends.new.self c.add_cuts.new.self) c.deref-2.ensures.value c.in_ok-add_cuts.ensures.adds in
-    expanded_graph c.args.exploration.now entry explores c.keys_are_exact.ensures c.args.findings.now c.add_ends.new.self c.add_cuts.new.self
-    c.add_all.new.self c.find.new.tables c.args.row from there c.find.new.self.made.items c.find.new.self.ends.items c.find.new.self.cuts.items
-    c.find.ensures.extends c.in_ok-add_ends.ensures.adds cutting c.in_ok-room.ensures.rest comes c.in_ok-room.room c.in_ok-room.ensures.all open_graph
+    record {
+      closed =
+          expanded_graph c.args.exploration.now entry explores c.keys_are_exact.ensures c.args.findings.now c.add_ends.new.self c.add_cuts.new.self
+          c.add_all.new.self c.find.new.tables c.args.row from there c.find.new.self.made.items c.find.new.self.ends.items c.find.new.self.cuts.items
+          c.find.ensures.extends c.in_ok-add_ends.ensures.adds cutting c.in_ok-room.ensures.rest comes c.in_ok-room.room c.in_ok-room.ensures.all kept.closed;
+      sources =
+          expanded_sources c.args.exploration.now entry explores c.args.findings.now c.add_ends.new.self c.add_cuts.new.self c.add_all.new.self
+          c.find.new.tables c.args.row from there c.find.new.self.made.items c.find.new.self.ends.items c.find.new.self.cuts.items c.find.ensures.extends
+          c.in_ok-add_ends.ensures.adds cutting c.in_ok-room.ensures.rest comes gone c.in_ok-room.room c.in_ok-room.ensures.all kept.sources;
+    }
 
 pub returns-clause-full : goal.returns-clause-full
 returns-clause-full g c none all =
     all c.add_cuts.new.self.nodes
-    (subst (λ room. PlacesChildren c.args.row c.find.new.self.made.items room c.add_cuts.new.self c.add_all.new.self) none c.in_ok-room.ensures.all)
+    (subst (λ room. PlacesChildren c.args.row c.find.new.self.made.items room c.add_cuts.new.self c.add_all.new.self) none c.in_ok-room.ensures.all).1

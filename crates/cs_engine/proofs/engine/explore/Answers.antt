@@ -1,10 +1,17 @@
 use Rattle.cs_engine.proofs.Exploring.{covered}
+use Rattle.cs_engine.proofs.Sourcing.{exact_at_last}
 use Rattle.cs_engine.proofs.engine.explore.Goals as goal
 
 pub returns-clause-covers : goal.returns-clause-covers
 returns-clause-covers g c every explores =
     covered c.args.exploration.now c.args.entry explores c.expand_all.new.findings c.explored.result c.have_each_once.ensures.bases
     c.explored.ensures.rows c.explored.ensures.all_ends c.explored.ensures.cuts c.explored.ensures.tables
+    (c.in_ok-expand_all.ensures.done every c.args.entry explores (c.in_ok-findings.ensures.begins explores)).closed
+
+pub returns-clause-exact : goal.returns-clause-exact
+returns-clause-exact g c every explores =
+    exact_at_last c.args.exploration.now c.args.entry explores c.expand_all.new.findings c.explored.result c.have_each_once.ensures.bases
+    c.have_each_once.ensures.syms c.explored.ensures.rows c.explored.ensures.all_ends c.explored.ensures.tables
     (c.in_ok-expand_all.ensures.done every c.args.entry explores (c.in_ok-findings.ensures.begins explores))
 
 pub explored-requires : goal.explored-requires

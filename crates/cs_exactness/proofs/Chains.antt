@@ -3,7 +3,7 @@ use Rattle.std.proofs.Common.{◌≡◌, ◌<◌, ℕ, List, [], ◌∷◌, ◌+
 use Rattle.std.proofs.lemmas.Option.{same_Some}
 use Rattle.cs_events.specs.declared.event.Event.{Event}
 use Rattle.cs_explored.specs.declared.explored.Row.{Row}
-use Rattle.cs_engine.specs.Chains.{IsChain, first, further}
+use Rattle.cs_exactness.specs.Chains.{IsChain, first, further}
 
 none_below : (number : ℕ) → number < 0 → ⊥
 none_below number below = omega (arith, below)

@@ -4,7 +4,7 @@ use Rattle.cs_events.specs.declared.event.Event.{Event}
 use Rattle.cs_keys.specs.Live.{live_part}
 use Rattle.cs_explored.specs.declared.explored.End.{End}
 use Rattle.cs_explored.specs.declared.explored.Row.{Row}
-use Rattle.cs_engine.specs.Chains.{IsChain}
+use Rattle.cs_exactness.specs.Chains.{IsChain}
 
 -- two rows with equal live parts, on which keys depend, are one
 abbrev pub KeysDiffer : List Row → Type 0

@@ -1,30 +1,24 @@
 -- What the rows and ends of a graph say of runs: under each valuation that fits they stand for the run of that valuation, at the position to which the row's
--- events lead. No contract says this so far.
-use Rattle.std.specs.Prelude.{◌≡◌, ℕ, List, [], Option, Some, None, slice_get}
+-- events lead. `explore` of `cs_engine` ensures it of entries that work with integers alone.
+use Rattle.std.specs.Prelude.{◌≡◌, ℕ, List, [], Some, slice_get}
 use Rattle.cs_ast.specs.TypedProgram.{TypedProgram}
 use Rattle.cs_terms.specs.Term.{Valuation}
 use Rattle.cs_constraints.specs.Constraints.{Fits}
-use Rattle.cs_regions.specs.declared.base.Base.{Base}
-use Rattle.cs_store.specs.declared.value.Value.{Value}
 use Rattle.cs_events.specs.declared.event.Event.{Event}
 use Rattle.cs_events.specs.declared.outcome.Outcome.{Outcome}
-use Rattle.cs_events.specs.declared.outcome.Outcome.TheVariants.{Done, Fault, Over}
 use Rattle.cs_events.specs.declared.outcome.RunBudgets.{RunBudgets}
 use Rattle.cs_events.specs.Acts.{Act}
 use Rattle.cs_events.specs.Runs.{Log, read_cell}
 use Rattle.cs_event_runs.specs.First.{Step}
 use Rattle.cs_event_runs.specs.Left.{left_of}
-use Rattle.cs_meaning.specs.Calls.{returned_of}
-use Rattle.cs_meaning.specs.Machine.{Operand, Scalar, Nothing}
 use Rattle.cs_cfg.specs.Graph.{Code}
 use Rattle.cs_cfg.specs.Working.{CodeState}
 use Rattle.cs_state.specs.declared.state.State.{State}
-use Rattle.cs_state.specs.Cells.{Blocks, cell_of}
 use Rattle.cs_state.specs.Naming.{Naming}
 use Rattle.cs_state.specs.Meaning.{StandsFor, setting_of}
 use Rattle.cs_explored.specs.declared.explored.End.{End}
 use Rattle.cs_explored.specs.declared.explored.Row.{Row}
-use Rattle.cs_engine.specs.Chains.{IsChain}
+use Rattle.cs_exactness.specs.Chains.{IsChain}
 use Rattle.cs_progress.specs.Stepping.{end_of, result_in, HasReturned}
 use Rattle.cs_successors.specs.EntryRuns.{events_of, HasLeft, EndsWith}
 

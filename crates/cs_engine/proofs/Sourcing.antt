@@ -1,0 +1,173 @@
+-- What is found comes from rows, as an exploration goes on: for the contracts of `explore`, `begin`, `expand` and `expand_all`.
+use Rattle.std.proofs.Common.{◌≡◌, ℕ, Bool, true, false, List, [], ◌++◌, map, Some, slice_get, refl, sym, ap, ◌∙◌, subst}
+use Rattle.std.specs.Global.{Box}
+use Rattle.std.proofs.lemmas.List.{append-nil}
+use Rattle.cs_ast.specs.TypedProgram.{TypedProgram}
+use Rattle.cs_events.specs.declared.outcome.RunBudgets.{RunBudgets}
+use Rattle.cs_cfg.specs.Graph.{Code}
+use Rattle.cs_terms.specs.Table.{HasEachOnce}
+use Rattle.cs_regions.specs.Numbering.{IsNumbered}
+use Rattle.cs_meaning.specs.Machine.{routine_of}
+use Rattle.cs_meaning.specs.Steps.{parameters_of}
+use Rattle.cs_results.specs.declared.result.Cut.{Cut}
+use Rattle.cs_state.specs.declared.state.State.{State}
+use Rattle.cs_state.specs.declared.tables.Tables.{Tables}
+use Rattle.cs_state.specs.Naming.{Naming, naming, Extends}
+use Rattle.cs_state.specs.Starting.{IsStart, DifferInName}
+use Rattle.cs_keys.specs.Live.{live_part}
+use Rattle.cs_keys.specs.Words.{words_of}
+use Rattle.cs_graph.specs.Adding.{with_work}
+use Rattle.cs_graph.specs.Waiting.{IsGiven}
+use Rattle.cs_explored.specs.declared.child.Child.{Child}
+use Rattle.cs_explored.specs.declared.explored.End.{End}
+use Rattle.cs_explored.specs.declared.explored.Explored.{Explored}
+use Rattle.cs_explored.specs.declared.explored.Row.{Row}
+use Rattle.cs_explored.specs.declared.findings.Findings.{Findings}
+use Rattle.cs_explored.specs.declared.watch.Rule.{Rule}
+use Rattle.cs_explored.specs.Found.{IsPlaced}
+use Rattle.cs_explored.specs.Placing.{RowGraph, first_row, end_of_row, PlacesFirst, PlacesChildren, KeepsEnds, AddsEnds, AddsCuts}
+use Rattle.cs_successors.specs.Coming.{StateEnd}
+use Rattle.cs_children.specs.declared.exploration.Exploration.{Exploration}
+use Rattle.cs_children.specs.Finding.{code_of, limits_of}
+use Rattle.cs_coverage.specs.Closing.{Waits, IsOpen, AreNames}
+use Rattle.cs_coverage.proofs.ClosedGraphs.{earlier_names}
+use Rattle.cs_coverage.proofs.Positions.{themselves}
+use Rattle.cs_coverage.proofs.StartBlocks.{no_blocks}
+use Rattle.cs_exactness.specs.Distinct.{AreDistinct}
+use Rattle.cs_exactness.specs.Noted.{EachNotesGuesses}
+use Rattle.cs_exactness.specs.Sources.{IsFirstRow, AreSourced, IsSourcedGraph, UnderNames}
+use Rattle.cs_exactness.proofs.DifferentRows.{are_distinct}
+use Rattle.cs_exactness.proofs.ExactRows.{is_exact}
+use Rattle.cs_exactness.proofs.FirstStates.{first_state}
+use Rattle.cs_exactness.proofs.NotedGuesses.{each_notes}
+use Rattle.cs_exactness.proofs.SourcedGraphs.{sources_given, sources_expanded, sources_nothing, sources_begun}
+use Rattle.cs_exactness.proofs.SourcedRows.{sourced_but}
+use Rattle.cs_exactness.proofs.Walking.{integer_row}
+use Rattle.cs_engine.specs.Exploring.{program_of, ExploresIntegers, IsFull, HasSources, IsKept, IsDone, IsExactFor}
+use Rattle.cs_engine.proofs.Exploring.{ComesOf, given_graph, done_graph}
+
+module _ (exploration : Exploration) (entry : ℕ) (explores : ExploresIntegers exploration entry) where
+  abbrev code : Code
+  code = code_of exploration
+
+  abbrev program : TypedProgram
+  program = program_of exploration
+
+  abbrev budgets : RunBudgets
+  budgets = limits_of exploration
+
+  abbrev rules : List Rule
+  rules = exploration.rules.now
+
+  abbrev IsGraph : Naming → RowGraph → List End → (List (ℕ × ℕ) → ℕ → Type 0) → Type 0
+  IsGraph names graph ends Open = IsSourcedGraph code program entry budgets names rules graph ends Open
+
+  -- the first row
+  module _ (before after : Findings) (state : Box State) (start : IsStart code program entry (naming before.tables) state.value)
+      (differ : DifferInName (parameters_of (routine_of program entry))) (once : HasEachOnce (naming before.tables).syms) where
+    first_is : (names : Naming) → AreNames (naming before.tables) names → HasEachOnce names.syms
+        → IsFirstRow code program entry budgets names rules (first_row state)
+    first_is names are each = record {
+      no_event = refl;
+      no_guess = refl;
+      first =
+          first_state code program entry budgets (naming before.tables) names state.value start are.extend are.numbered once each explores.works differ
+          (no_blocks code program entry (naming before.tables) state.value start explores.works.parameters) rules;
+    }
+
+    begun : (room : Bool) → before.graph.keys ≡ [] → before.graph.rows ≡ []
+        → IsPlaced (words_of (live_part state.value)) (first_row state) room before after → (names : Naming)
+        → AreNames (naming before.tables) names → HasEachOnce names.syms → IsGraph names after.graph [] Waits
+    begun false no_keys no_rows placed names are each =
+        subst (λ (graph : RowGraph). IsGraph names graph [] Waits) (sym placed.0.2)
+        (sources_nothing code program entry budgets names rules before.graph no_keys no_rows)
+    begun true no_keys no_rows placed names are each =
+        sources_begun code program entry budgets names rules before.graph after.graph (first_row state) no_keys no_rows placed.0 (first_is names are each)
+
+    pub begun_sources : (room : Bool) → before.graph.keys ≡ [] → before.graph.rows ≡ [] → before.ends.items ≡ [] → KeepsEnds before after
+        → IsPlaced (words_of (live_part state.value)) (first_row state) room before after → HasSources exploration entry Waits after
+    begun_sources room no_keys no_rows no_ends keeps placed names are each =
+        subst (λ (ends : List End). IsGraph names after.graph ends Waits) (sym (keeps.ends ∙ no_ends))
+        (begun room no_keys no_rows placed names (subst (λ (tables : Tables). AreNames (naming tables) names) keeps.tables are) each)
+
+  -- the next row is given
+  given_sources : (before : Findings) (graph : RowGraph) (row : ℕ) → IsGiven row before.graph.work graph.work → graph ≡ with_work graph.work before.graph
+      → HasSources exploration entry Waits before → HasSources exploration entry (IsOpen row) (record before { graph = graph })
+  given_sources before graph row given rest sources names are each =
+      sources_given code program entry budgets names rules before.graph graph before.ends.items row given rest (sources names are each)
+
+  -- what came of a row was added, as far as there was room
+  module _ (before ended cut after : Findings) (tables : Tables) (row : ℕ) (from : Row) (there : slice_get before.graph.rows row ≡ Some from)
+      (made : List Child) (endings : List StateEnd) (cuts : List Cut) (extends : Extends (naming before.tables) (naming tables))
+      (adds : AddsEnds row endings (record before { tables = tables }) ended) (cutting : AddsCuts cuts ended cut) (keeps : KeepsEnds cut after)
+      (comes : ComesOf exploration (naming tables) from.state.value made endings) (gone : ¬ Waits before.graph.work row) where
+    ends_are : after.ends.items ≡ before.ends.items ++ map (end_of_row row) endings
+    ends_are = keeps.ends ∙ cutting.ends ∙ adds.ends
+
+    tables_are : after.tables ≡ tables
+    tables_are = keeps.tables ∙ cutting.rows.tables ∙ adds.rows.tables
+
+    graph_is : cut.graph ≡ before.graph
+    graph_is = cutting.rows.graph ∙ adds.rows.graph
+
+    first_placed : (room : Bool) → PlacesChildren row made room cut after → PlacesFirst row made cut.graph after.graph
+    first_placed true places = record { some = made; left = []; all = sym (append-nil made); placed = places.0 }
+    first_placed false places = places.0
+
+    pub expanded_sources : (room : Bool) → PlacesChildren row made room cut after → HasSources exploration entry (IsOpen row) before
+        → HasSources exploration entry Waits after
+    expanded_sources room places sources names are each =
+        let known : AreNames (naming tables) names = subst (λ (t : Tables). AreNames (naming t) names) tables_are are in
+        let graph = sources names (earlier_names extends known) each in
+        let integer = integer_row code program entry budgets names rules before.graph.rows graph.sourced.rows_come row from there in
+        let all = comes names program (record { model = refl; limit = explores.limit; extends = known.extend; numbered = known.numbered }) integer in
+        subst (λ (ends : List End). IsGraph names after.graph ends Waits) (sym ends_are)
+        (sources_expanded code program entry budgets names rules row made endings before.graph after.graph before.ends.items
+        (record { row = from; there = there; all = all }) gone
+        (subst (λ (g : RowGraph). PlacesFirst row made g after.graph) graph_is (first_placed room places)) graph)
+
+  -- nothing more is added
+  done_sources : (findings : Findings) (graph : RowGraph) → graph.rows ≡ findings.graph.rows → HasSources exploration entry Waits findings
+      → UnderNames (naming findings.tables) (λ names.
+      AreSourced code program entry budgets names rules graph.rows findings.ends.items (λ number. ⊥))
+  done_sources findings graph same sources names are each =
+      subst (λ (rows : List Row). AreSourced code program entry budgets names rules rows findings.ends.items (λ number. ⊥)) (sym same)
+      (sourced_but code program entry budgets names rules findings.graph.rows findings.ends.items (λ number. ⊥) (Waits findings.graph.work)
+      (λ number never. absurd never) (sources names are each).sourced)
+
+  -- what is found stays closed but for the open rows too
+  pub kept_given : (before : Findings) (graph : RowGraph) (row : ℕ) → IsGiven row before.graph.work graph.work → graph ≡ with_work graph.work before.graph
+      → IsKept exploration entry Waits before → IsKept exploration entry (IsOpen row) (record before { graph = graph })
+  kept_given before graph row given rest kept = record {
+    closed = given_graph exploration entry explores before graph row given rest kept.closed;
+    sources = given_sources before graph row given rest kept.sources;
+  }
+
+  -- at last no row waits, or there was no room
+  pub done_empty : (findings : Findings) (graph : RowGraph) → findings.graph.work ≡ [] → graph ≡ with_work graph.work findings.graph
+      → IsKept exploration entry Waits findings → IsDone exploration entry (record findings { graph = graph })
+  done_empty findings graph none rest kept = record {
+    closed = done_graph exploration entry explores findings graph none rest kept.closed;
+    sources = done_sources findings graph (ap (λ (g : RowGraph). g.rows) rest) kept.sources;
+  }
+
+  pub done_full : (findings : Findings) → IsFull findings → IsKept exploration entry Waits findings → IsDone exploration entry findings
+  done_full findings full kept = record { closed = λ all. absurd (full all); sources = done_sources findings findings.graph refl kept.sources }
+
+  -- what was found in the end is exact
+  pub exact_at_last : (findings : Findings) (explored : Explored) → IsNumbered (naming findings.tables).bases → HasEachOnce (naming findings.tables).syms
+      → explored.rows.items ≡ findings.graph.rows → explored.ends.items ≡ findings.ends.items → explored.tables ≡ findings.tables
+      → IsDone exploration entry findings → IsExactFor exploration entry explored × AreDistinct explored.rows.items explored.ends.items
+      × EachNotesGuesses explored.rows.items explored.ends.items
+  exact_at_last findings explored numbered once rows ends tables done =
+      let names : Naming = naming explored.tables in
+      let sourced = done.sources (naming findings.tables) (themselves (naming findings.tables) numbered) once in
+      let all : AreSourced code program entry budgets names rules explored.rows.items explored.ends.items (λ number. ⊥)
+      = subst (λ (t : Tables). AreSourced code program entry budgets (naming t) rules explored.rows.items explored.ends.items (λ number. ⊥)) (sym tables)
+      (subst (λ (l : List Row). AreSourced code program entry budgets (naming findings.tables) rules l explored.ends.items (λ number. ⊥)) (sym rows)
+      (subst (λ (l : List End). AreSourced code program entry budgets (naming findings.tables) rules findings.graph.rows l (λ number. ⊥)) (sym ends)
+      sourced)) in (
+        is_exact code program entry budgets names rules explored.rows.items all.rows_come explored.ends.items (λ number. ⊥) all,
+        are_distinct code program entry budgets names rules explored.rows.items explored.ends.items (λ number. ⊥) all,
+        each_notes code program entry budgets names rules explored.rows.items all.rows_come explored.ends.items (λ number. ⊥) all,
+      )

@@ -1,0 +1,9 @@
+pub mod Chains
+pub mod Guesses
+pub mod Walking
+pub mod ExactRows
+pub mod DifferentRows
+pub mod SourcedRows
+pub mod SourcedGraphs
+pub mod FirstStates
+pub mod NotedGuesses

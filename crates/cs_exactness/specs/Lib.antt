@@ -1,0 +1,5 @@
+pub mod Chains
+pub mod Distinct
+pub mod Exact
+pub mod Noted
+pub mod Sources
