@@ -34,12 +34,12 @@ use Rattle.cs_coverage.proofs.ClosedGraphs.{earlier_names}
 use Rattle.cs_coverage.proofs.Positions.{themselves}
 use Rattle.cs_coverage.proofs.StartBlocks.{no_blocks}
 use Rattle.cs_exactness.specs.Distinct.{AreDistinct}
-use Rattle.cs_exactness.specs.Noted.{EachNotesGuesses}
+use Rattle.cs_exactness.specs.Noted.{EachNotesEvents}
 use Rattle.cs_exactness.specs.Sources.{IsFirstRow, AreSourced, IsSourcedGraph, UnderNames}
 use Rattle.cs_exactness.proofs.DifferentRows.{are_distinct}
 use Rattle.cs_exactness.proofs.ExactRows.{is_exact}
 use Rattle.cs_exactness.proofs.FirstStates.{first_state}
-use Rattle.cs_exactness.proofs.NotedGuesses.{each_notes}
+use Rattle.cs_exactness.proofs.NotedEvents.{each_notes}
 use Rattle.cs_exactness.proofs.SourcedGraphs.{sources_given, sources_expanded, sources_nothing, sources_begun}
 use Rattle.cs_exactness.proofs.SourcedRows.{sourced_but}
 use Rattle.cs_exactness.proofs.Walking.{integer_row}
@@ -64,7 +64,8 @@ module _ (exploration : Exploration) (entry : ℕ) (explores : ExploresIntegers 
 
   -- the first row
   module _ (before after : Findings) (state : Box State) (start : IsStart code program entry (naming before.tables) state.value)
-      (differ : DifferInName (parameters_of (routine_of program entry))) (once : HasEachOnce (naming before.tables).syms) where
+      (differ : DifferInName (parameters_of (routine_of program entry))) (once : HasEachOnce (naming before.tables).syms)
+      (phase : state.value.phase ≡ 0) where
     first_is : (names : Naming) → AreNames (naming before.tables) names → HasEachOnce names.syms
         → IsFirstRow code program entry budgets names rules (first_row state)
     first_is names are each = record {
@@ -72,7 +73,7 @@ module _ (exploration : Exploration) (entry : ℕ) (explores : ExploresIntegers 
       no_guess = refl;
       first =
           first_state code program entry budgets (naming before.tables) names state.value start are.extend are.numbered once each explores.works differ
-          (no_blocks code program entry (naming before.tables) state.value start explores.works.parameters) rules;
+          (no_blocks code program entry (naming before.tables) state.value start explores.works.parameters) rules phase;
     }
 
     begun : (room : Bool) → before.graph.keys ≡ [] → before.graph.rows ≡ []
@@ -158,7 +159,7 @@ module _ (exploration : Exploration) (entry : ℕ) (explores : ExploresIntegers 
   pub exact_at_last : (findings : Findings) (explored : Explored) → IsNumbered (naming findings.tables).bases → HasEachOnce (naming findings.tables).syms
       → explored.rows.items ≡ findings.graph.rows → explored.ends.items ≡ findings.ends.items → explored.tables ≡ findings.tables
       → IsDone exploration entry findings → IsExactFor exploration entry explored × AreDistinct explored.rows.items explored.ends.items
-      × EachNotesGuesses explored.rows.items explored.ends.items
+      × EachNotesEvents rules explored.rows.items explored.ends.items
   exact_at_last findings explored numbered once rows ends tables done =
       let names : Naming = naming explored.tables in
       let sourced = done.sources (naming findings.tables) (themselves (naming findings.tables) numbered) once in

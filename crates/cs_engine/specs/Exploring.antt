@@ -13,7 +13,7 @@ use Rattle.cs_coverage.specs.Covering.{HasAllNodes}
 use Rattle.cs_coverage.specs.Positions.{CoversPositions}
 use Rattle.cs_exactness.specs.Distinct.{AreDistinct}
 use Rattle.cs_exactness.specs.Exact.{IsExact}
-use Rattle.cs_exactness.specs.Noted.{EachNotesGuesses}
+use Rattle.cs_exactness.specs.Noted.{EachNotesEvents}
 use Rattle.cs_exactness.specs.Sources.{AreSourced, IsSourcedGraph, UnderNames}
 
 -- the program that is explored
@@ -69,8 +69,8 @@ abbrev pub IsExactFor : Exploration → ℕ → Explored → Type 0
 IsExactFor exploration entry explored =
     IsExact (code_of exploration) (program_of exploration) entry (limits_of exploration) (naming explored.tables) explored.rows.items explored.ends.items
 
--- they do, no two are alike, and each state has the guesses of the events that lead to it, if the entry works with integers alone
+-- they do, no two are alike, and each state has the guesses and the phase of the events that lead to it, if the entry works with integers alone
 abbrev pub IsExactOnIntegers : Exploration → ℕ → Explored → Type 0
 IsExactOnIntegers exploration entry explored =
     ExploresIntegers exploration entry → IsExactFor exploration entry explored × AreDistinct explored.rows.items explored.ends.items
-    × EachNotesGuesses explored.rows.items explored.ends.items
+    × EachNotesEvents exploration.rules.now explored.rows.items explored.ends.items

@@ -93,8 +93,8 @@ module _ (code : Code) (program : TypedProgram) (entry : ℕ) (budgets : RunBudg
       (λ symbol declared. same_number v fits symbol declared) code names program state integer.locals integer.blocks
       ∙ meaning_is code program entry budgets given names state start more numbered once works.parameters differ nothing (input_of names.syms v)
 
-  pub first_state : (rules : List Rule) → IsFirstState code program entry budgets names rules state
-  first_state rules =
+  pub first_state : (rules : List Rule) → state.phase ≡ 0 → IsFirstState code program entry budgets names rules state
+  first_state rules phase =
       let begins = is_beginning code program entry budgets given names state start more numbered once works.parameters differ nothing in
       record {
         integer = begins_integer code program entry budgets given names state start more numbered once works differ nothing;
@@ -105,4 +105,5 @@ module _ (code : Code) (program : TypedProgram) (entry : ℕ) (budgets : RunBudg
           means = means;
           covers = begins.covers;
         };
+        phase = phase;
       }

@@ -84,8 +84,8 @@ module _ (event : ℕ) where
       subst (λ (m : Guesses). AreNumbered (finite.entries m)) (sym (same ∙ key))
       (subst AreNumbered (sym (entries-insert key_cmp_total before (one.event, 0) one)) (numbered_put one (finite.entries before) are))
 
-  module _ (v : Valuation) (events : ℕ) (next : event ≡ suc events) (guess : Option Sym) (before after : Guesses) (is : AreGuessesAfter event guess before after)
-      (are : AreNumbered (finite.entries before)) where
+  module _ (v : Valuation) (events : ℕ) (next : event ≡ suc events) (guess : Option Sym) (before after : Guesses)
+      (is : AreGuessesAfter event guess before after) (are : AreNumbered (finite.entries before)) where
     -- what was guessed before is listed as before
     pub listed_before : (earlier : ℕ) → earlier ≤ events → guess_at (guesses_of v after) earlier ≡ guess_at (guesses_of v before) earlier
     listed_before earlier early = by guess refl is

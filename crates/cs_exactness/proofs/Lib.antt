@@ -6,4 +6,4 @@ pub mod DifferentRows
 pub mod SourcedRows
 pub mod SourcedGraphs
 pub mod FirstStates
-pub mod NotedGuesses
+pub mod NotedEvents

@@ -1,4 +1,4 @@
--- What a state notes of the events that lead to it: its guesses.
+-- What a state notes of the events that lead to it: its guesses, and the phase of a watched protocol.
 use Rattle.std.specs.Prelude.{◌≡◌, ◌↔◌, ℕ, List, Some, slice_get, Contains}
 use Rattle.std.specs.FinMap as finite
 use Rattle.cs_terms.specs.declared.symbol.Sym.{Sym}
@@ -7,6 +7,8 @@ use Rattle.cs_state.specs.declared.asked.Asked.{Asked}
 use Rattle.cs_state.specs.declared.state.State.{State}
 use Rattle.cs_explored.specs.declared.explored.End.{End}
 use Rattle.cs_explored.specs.declared.explored.Row.{Row}
+use Rattle.cs_explored.specs.declared.watch.Rule.{Rule}
+use Rattle.cs_coverage.specs.Phases.{IsPhaseAlong}
 use Rattle.cs_exactness.specs.Chains.{IsChain, IsGuessedAlong}
 
 -- the state's guesses stand in order of their events, one for each
@@ -21,10 +23,11 @@ HasGuess state event sym = (asked : Asked) × Contains (finite.values state.aske
 abbrev pub RecordsGuesses : List Row → ℕ → State → Type 0
 RecordsGuesses rows number state = (event : ℕ) (sym : Sym) → IsGuessedAlong rows number event sym ↔ HasGuess state event sym
 
--- it has these, in order
-pub record NotesGuesses (rows : List Row) (number : ℕ) (state : State) : Type 0 where
+-- it has these, in order, and the phase that the rules give the events
+pub record NotesEvents (rules : List Rule) (rows : List Row) (number : ℕ) (state : State) (chain : List Event) : Type 0 where
   pub in_order : IsInEventOrder state
   pub guesses : RecordsGuesses rows number state
+  pub phase : IsPhaseAlong rules chain state.phase
 
 -- a property that each row's state has with the row's number and the events that lead to it, and each end's state with those of its row
 pub record EachState (rows : List Row) (ends : List End) (Has : ℕ → State → List Event → Type 0) : Type 0 where
@@ -33,6 +36,6 @@ pub record EachState (rows : List Row) (ends : List End) (Has : ℕ → State �
   pub of_ends : (number : ℕ) (end : End) (chain : List Event) → slice_get ends number ≡ Some end → IsChain rows end.row chain
       → Has end.row end.state.value chain
 
--- each state notes its guesses
-abbrev pub EachNotesGuesses : List Row → List End → Type 0
-EachNotesGuesses rows ends = EachState rows ends (λ number state chain. NotesGuesses rows number state)
+-- each state notes this
+abbrev pub EachNotesEvents : List Rule → List Row → List End → Type 0
+EachNotesEvents rules rows ends = EachState rows ends (λ number state chain. NotesEvents rules rows number state chain)

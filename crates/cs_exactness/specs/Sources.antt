@@ -23,6 +23,7 @@ module _ (code : Code) (program : TypedProgram) (entry : ℕ) (budgets : RunBudg
   pub record IsFirstState (state : State) : Type 0 where
     pub integer : IsIntegerState code program budgets names state
     pub starts : StartsFrom code program entry names state
+    pub phase : state.phase ≡ 0
 
   -- the first row: no event leads to it, and nothing was guessed there
   pub record IsFirstRow (row : Row) : Type 0 where

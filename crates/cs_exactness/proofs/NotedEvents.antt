@@ -1,4 +1,4 @@
--- Each state has just the guesses of the events that lead to its row, in order: for `EachNotesGuesses`.
+-- Each state has just the guesses of the events that lead to its row, in order, and the phase that the rules give these: for `EachNotesEvents`.
 use Rattle.std.proofs.Common.{◌≡◌, ◌⊎◌, ◌<◌, inl, inr, ℕ, suc, Bool, true, false, cond, List, [], ◌∷◌, ◌++◌, length, map, None, Some, slice_get, refl}
 use Rattle.std.proofs.Common.{Option, sym, ap, ◌∙◌, subst, arith}
 use Rattle.std.specs.Prelude.{Contains}
@@ -31,7 +31,8 @@ use Rattle.cs_successors.specs.Coming.{AreGuessesAfter, IsEndOf}
 use Rattle.cs_coverage.proofs.Coverage.{element}
 use Rattle.cs_coverage.proofs.LiveMeaning.{none_there}
 use Rattle.cs_exactness.specs.Chains.{IsChain, first, further, IsGuessedAlong, here as guessed_here, before as guessed_before}
-use Rattle.cs_exactness.specs.Noted.{HasGuess, NotesGuesses, EachNotesGuesses}
+use Rattle.cs_coverage.specs.Phases.{IsPhaseAlong, begins, follows}
+use Rattle.cs_exactness.specs.Noted.{HasGuess, NotesEvents, EachNotesEvents}
 use Rattle.cs_exactness.specs.Sources.{HasSource, IsOfParent, AreSourced}
 use Rattle.cs_exactness.proofs.Guesses.{AreNumbered}
 use Rattle.cs_exactness.proofs.Walking.{child_is, first_is, next_is, integer_row, numbered}
@@ -234,10 +235,25 @@ module _ (code : Code) (program : TypedProgram) (entry : ℕ) (budgets : RunBudg
       let has = noted along earlier_chain of.parent.row (parent_there number found row same of) in
       subst (λ (s : State). HasGuess s when mark) (ap (λ (r : Row). r.state.value) (sym of.same)) (guess_kept number row of numbers when mark has)
 
+  -- the phase
+  phase_along : {number : ℕ} {chain : List Event} → IsChain rows number chain → (row : Row) → slice_get rows number ≡ Some row
+      → IsPhaseAlong rules chain row.state.value.phase
+  phase_along (first at none) row there =
+      subst (IsPhaseAlong rules []) (sym (first_is code program entry budgets names rules rows come row there).first.phase) begins
+  phase_along (further {number = number} {row = found} {event = event} {events = events} at before leads chain) row there =
+      let same : found ≡ row = same_Some found row (sym at ∙ there) in
+      let of = of_row number found row same there event leads in
+      let is = child_is code program entry budgets names rules rows come number row of in
+      let passes : of.child.event ≡ event
+      = same_Some of.child.event event (ap (λ (r : Row). r.event) (sym of.same) ∙ ap (λ (r : Row). r.event) (sym same) ∙ leads) in
+      let earlier = phase_along chain of.parent.row (parent_there number found row same of) in
+      subst (IsPhaseAlong rules (events ++ event ∷ [])) (ap (λ (r : Row). r.state.value.phase) (sym of.same))
+      (subst (λ (e : Event). IsPhaseAlong rules (events ++ e ∷ []) of.child.state.value.phase) passes (follows of.child.event earlier is.phase))
+
   -- all that a state notes
   notes : (number : ℕ) (row : Row) (chain : List Event) → slice_get rows number ≡ Some row → IsChain rows number chain
-      → (noting : State) → noting.asked ≡ row.state.value.asked → NotesGuesses rows number noting
-  notes number row chain there leads noting same = record {
+      → (noting : State) → noting.asked ≡ row.state.value.asked → noting.phase ≡ row.state.value.phase → NotesEvents rules rows number noting chain
+  notes number row chain there leads noting same phase_same = record {
     in_order = λ key asked found.
         found_under key asked (finite.entries row.state.value.asked)
         (numbered code program entry budgets names rules rows come leads row there)
@@ -246,16 +262,18 @@ module _ (code : Code) (program : TypedProgram) (entry : ℕ) (budgets : RunBudg
       λ along. subst (λ (m : Guesses). Holds m when mark) (sym same) (noted along leads row there),
       λ has. made_along leads row there when mark (subst (λ (m : Guesses). Holds m when mark) same has),
     );
+    phase = subst (IsPhaseAlong rules chain) (sym phase_same) (phase_along leads row there);
   }
     where
       Holds : Guesses → ℕ → Sym → Type 0
       Holds guesses when mark = (asked : Asked) × Contains (finite.values guesses) asked × (asked.event ≡ when) × (asked.guess ≡ mark)
 
-  pub each_notes : (ends : List End) (Are : ℕ → Type 0) → AreSourced code program entry budgets names rules rows ends Are → EachNotesGuesses rows ends
+  pub each_notes : (ends : List End) (Are : ℕ → Type 0) → AreSourced code program entry budgets names rules rows ends Are → EachNotesEvents rules rows ends
   each_notes ends Are sourced = record {
-    of_rows = λ number row chain there leads. notes number row chain there leads row.state.value refl;
+    of_rows = λ number row chain there leads. notes number row chain there leads row.state.value refl refl;
     of_ends = λ number end chain there leads.
         let of = sourced.ends_come number end there in
         let is = element (IsEndOf code program budgets names of.from.row.state.value) of.endings of.place of.one of.at of.from.all.endings in
-        notes end.row of.from.row chain of.from.there leads end.state.value (ap (λ (e : End). e.state.value.asked) of.same ∙ is.asked);
+        notes end.row of.from.row chain of.from.there leads end.state.value (ap (λ (e : End). e.state.value.asked) of.same ∙ is.asked)
+        (ap (λ (e : End). e.state.value.phase) of.same ∙ is.phase);
   }
