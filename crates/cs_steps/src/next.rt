@@ -18,8 +18,8 @@ use cs_progress::{Context, Pause, Progress};
 use cs_state::{State, Tables};
 use std::alloc::AllocError;
 
-/// What the operation in progress does next, after its answers so far: true where it is done; else what stands first is left in the attempt.
-/// The checkers are asked about each thing that it does after the last of its answers, until one is a fault.
+/// What the operation in progress does next, after its answers so far: true where it is done; else what stands first is left in the
+/// attempt. The checkers are asked about each thing that it does after the last of its answers, until one is a fault.
 ///
 /// The cells that it reads become known to the state, and names and numbers to the tables; else a state changes only where the operation
 /// is done.

@@ -107,49 +107,54 @@ loop-init g c = record {
 pub returns-then-not-branch-clause-all : goal.returns-then-not-branch-clause-all
 returns-then-not-branch-clause-all g c = λ every none.
     let first = came_eq c.in_ok-proceed.field-0 c.proceed.new.attempt.progress.first c.replace.result c.if-branch.false c.replace.ensures.value in
+    let came = came_to c.in_ok-proceed.field-0 c.proceed.new.attempt.progress.first in
     let steps = c.in_ok-proceed.ensures.steps (has_every_kind _ _ _ c.loop.invariant.kinds every) in
     let done = c.in_ok-checked-in-Checks in
     step_no_rest c.args.exploration.now (naming c.loop.tables) (naming c.proceed.new.tables) c.proceed.ensures.extends c.args.state.value c.loop.state.value
-    c.loop.self (c.loop.invariant.found every none) (c.loop.invariant.apart none) c.deref_mut.result.now c.proceed.new.state (came_to c.in_ok-proceed.field-0 c.proceed.new.attempt.progress.first) steps
+    c.loop.self (c.loop.invariant.found every none) (c.loop.invariant.apart none) c.deref_mut.result.now c.proceed.new.state came steps
     c.deref_mut.ensures.value c.in-Checks.at c.in-Checks.checked (first ∙ c.in-Checks.is) c.deref_mut-in-Checks.result.now c.checked.new.state
     c.deref_mut-in-Checks.ensures.value c.checked.new.self done.field-0 done.ensures.adds done.ensures.rest c.if-not-branch.true done.ensures.apart
 
 pub returns-in-Ends-clause-all : goal.returns-in-Ends-clause-all
 returns-in-Ends-clause-all g c = λ every none.
     let first = came_eq c.in_ok-proceed.field-0 c.proceed.new.attempt.progress.first c.replace.result c.if-branch.false c.replace.ensures.value in
+    let came = came_to c.in_ok-proceed.field-0 c.proceed.new.attempt.progress.first in
     let steps = c.in_ok-proceed.ensures.steps (has_every_kind _ _ _ c.loop.invariant.kinds every) in
     step_end c.args.exploration.now (naming c.loop.tables) (naming c.proceed.new.tables) c.proceed.ensures.extends c.args.state.value c.loop.state.value
-    c.loop.self (c.loop.invariant.found every none) (c.loop.invariant.apart none) c.deref_mut.result.now c.proceed.new.state (came_to c.in_ok-proceed.field-0 c.proceed.new.attempt.progress.first) steps
+    c.loop.self (c.loop.invariant.found every none) (c.loop.invariant.apart none) c.deref_mut.result.now c.proceed.new.state came steps
     c.deref_mut.ensures.value c.end.result _ refl c.end.new.self c.end.ensures.apart c.in-Ends.outcome (first ∙ c.in-Ends.is) c.end.ensures.adds
 
 pub returns-in-Asks-clause-all : goal.returns-in-Asks-clause-all
 returns-in-Asks-clause-all g c = λ every none.
     let first = came_eq c.in_ok-proceed.field-0 c.proceed.new.attempt.progress.first c.replace.result c.if-branch.false c.replace.ensures.value in
+    let came = came_to c.in_ok-proceed.field-0 c.proceed.new.attempt.progress.first in
     let steps = c.in_ok-proceed.ensures.steps (has_every_kind _ _ _ c.loop.invariant.kinds every) in
     step_answers c.args.exploration.now (naming c.loop.tables) (naming c.proceed.new.tables) c.proceed.ensures.extends c.args.state.value c.loop.state.value
-    c.loop.self (c.loop.invariant.found every none) (c.loop.invariant.apart none) c.deref_mut.result.now c.proceed.new.state (came_to c.in_ok-proceed.field-0 c.proceed.new.attempt.progress.first) steps
+    c.loop.self (c.loop.invariant.found every none) (c.loop.invariant.apart none) c.deref_mut.result.now c.proceed.new.state came steps
     c.deref_mut.ensures.value c.ask.result _ refl c.ask.new.self c.ask.ensures.apart c.in-Asks.at c.in-Asks.question (first ∙ c.in-Asks.is)
     (naming c.ask.new.tables) c.ask.ensures.extends c.ask.ensures.adds
 
 pub returns-in-Selects-clause-all : goal.returns-in-Selects-clause-all
 returns-in-Selects-clause-all g c = λ every none.
     let first = came_eq c.in_ok-proceed.field-0 c.proceed.new.attempt.progress.first c.replace.result c.if-branch.false c.replace.ensures.value in
+    let came = came_to c.in_ok-proceed.field-0 c.proceed.new.attempt.progress.first in
     let steps = c.in_ok-proceed.ensures.steps (has_every_kind _ _ _ c.loop.invariant.kinds every) in
     step_cases c.args.exploration.now (naming c.loop.tables) (naming c.proceed.new.tables) c.proceed.ensures.extends c.args.state.value c.loop.state.value
-    c.loop.self (c.loop.invariant.found every none) (c.loop.invariant.apart none) c.deref_mut.result.now c.proceed.new.state (came_to c.in_ok-proceed.field-0 c.proceed.new.attempt.progress.first) steps
+    c.loop.self (c.loop.invariant.found every none) (c.loop.invariant.apart none) c.deref_mut.result.now c.proceed.new.state came steps
     c.deref_mut.ensures.value c.select.result _ refl c.select.new.self c.select.ensures.apart c.in-Selects.at c.in-Selects.term (first ∙ c.in-Selects.is)
     c.select.ensures.adds
 
 pub returns-in-Reaches-clause-all : goal.returns-in-Reaches-clause-all
 returns-in-Reaches-clause-all g c = λ every none.
     let first = came_eq c.in_ok-proceed.field-0 c.proceed.new.attempt.progress.first c.replace.result c.if-branch.false c.replace.ensures.value in
+    let came = came_to c.in_ok-proceed.field-0 c.proceed.new.attempt.progress.first in
     let steps = c.in_ok-proceed.ensures.steps (has_every_kind _ _ _ c.loop.invariant.kinds every) in
     let reaches = c.in-Reaches in
     ok_given c.reach.result
     (finds_nowhere c.args.exploration.now (naming c.loop.tables) c.args.state.value c.loop.state.value c.loop.self (c.loop.invariant.found every none)
     (naming c.proceed.new.tables) c.proceed.ensures.extends c.proceed.new.state reaches.at reaches.field-1 reaches.offset
     (stepped c.args.exploration.now (naming c.loop.tables) (naming c.proceed.new.tables) c.proceed.ensures.extends c.args.state.value c.loop.state.value
-    c.loop.self (c.loop.invariant.found every none) (c.loop.invariant.apart none) c.deref_mut.result.now c.proceed.new.state (came_to c.in_ok-proceed.field-0 c.proceed.new.attempt.progress.first) steps
+    c.loop.self (c.loop.invariant.found every none) (c.loop.invariant.apart none) c.deref_mut.result.now c.proceed.new.state came steps
     c.deref_mut.ensures.value (next.Reaches reaches.at reaches.field-1 reaches.offset) (first ∙ reaches.is)) c.reach.new.self)
 
 pub loop-preserved : goal.loop-preserved
@@ -158,6 +163,7 @@ loop-preserved g c = record {
   extends = extends_on (naming c.args.tables.now) (naming c.loop.tables) (naming c.proceed.new.tables) c.loop.invariant.extends c.proceed.ensures.extends;
   found = λ every none.
       let first = came_eq c.in_ok-proceed.field-0 c.proceed.new.attempt.progress.first c.replace.result c.if-branch.false c.replace.ensures.value in
+      let came = came_to c.in_ok-proceed.field-0 c.proceed.new.attempt.progress.first in
       let steps = c.in_ok-proceed.ensures.steps (has_every_kind _ _ _ c.loop.invariant.kinds every) in
       let exploration = c.args.exploration.now in
       let later = naming c.proceed.new.tables in
@@ -167,14 +173,14 @@ loop-preserved g c = record {
             subst (λ (s : State). FindsSoFar exploration later before s c.match-replace.self) (ap (λ (b : Box State). b.value) (sym w.state-is))
             (subst (FindsSoFar exploration later before c.proceed.new.state) (sym w.self-is)
             (step_done exploration (naming c.loop.tables) later c.proceed.ensures.extends before c.loop.state.value c.loop.self
-            (c.loop.invariant.found every none) (c.loop.invariant.apart none) c.deref_mut.result.now c.proceed.new.state (came_to c.in_ok-proceed.field-0 c.proceed.new.attempt.progress.first) steps
+            (c.loop.invariant.found every none) (c.loop.invariant.apart none) c.deref_mut.result.now c.proceed.new.state came steps
             c.deref_mut.ensures.value (first ∙ w.in-Done.is)))
         | in-Checks+in_ok-checked-in-Checks+else-not-branch w ↦
             let done = w.in_ok-checked-in-Checks in
             subst (λ (s : State). FindsSoFar exploration later before s c.match-replace.self) (ap (λ (b : Box State). b.value) (sym w.state-is))
             (subst (FindsSoFar exploration later before w.checked.new.state) (sym w.self-is)
             (step_rest exploration (naming c.loop.tables) later c.proceed.ensures.extends before c.loop.state.value c.loop.self
-            (c.loop.invariant.found every none) (c.loop.invariant.apart none) c.deref_mut.result.now c.proceed.new.state (came_to c.in_ok-proceed.field-0 c.proceed.new.attempt.progress.first) steps
+            (c.loop.invariant.found every none) (c.loop.invariant.apart none) c.deref_mut.result.now c.proceed.new.state came steps
             c.deref_mut.ensures.value w.in-Checks.at w.in-Checks.checked (first ∙ w.in-Checks.is) w.deref_mut-in-Checks.result.now w.checked.new.state
             w.deref_mut-in-Checks.ensures.value w.checked.new.self done.field-0 done.ensures.adds done.ensures.rest w.if-not-branch.false))
       ];
@@ -190,10 +196,11 @@ loop-preserved-then-branch g c = record {
   kinds = c.proceed.ensures.kinds ∙ c.loop.invariant.kinds;
   extends = extends_on (naming c.args.tables.now) (naming c.loop.tables) (naming c.proceed.new.tables) c.loop.invariant.extends c.proceed.ensures.extends;
   found = λ every none.
+      let came = came_to c.in_ok-proceed.field-0 c.proceed.new.attempt.progress.first in
       let steps = c.in_ok-proceed.ensures.steps (has_every_kind _ _ _ c.loop.invariant.kinds every) in
       step_done c.args.exploration.now (naming c.loop.tables) (naming c.proceed.new.tables) c.proceed.ensures.extends c.args.state.value c.loop.state.value
       c.loop.self (c.loop.invariant.found every none) (c.loop.invariant.apart none) c.deref_mut.result.now c.proceed.new.state
-      (came_to c.in_ok-proceed.field-0 c.proceed.new.attempt.progress.first) steps c.deref_mut.ensures.value
+      came steps c.deref_mut.ensures.value
       (came_done c.in_ok-proceed.field-0 c.proceed.new.attempt.progress.first c.if-branch.true);
   apart = c.loop.invariant.apart;
 }
