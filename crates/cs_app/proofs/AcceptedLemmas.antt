@@ -29,6 +29,7 @@ use Rattle.cs_app.specs.Analyses.{LacksEntry, IsAnalysisAnswer, entries_named}
 use Rattle.cs_app.specs.Answers.{IsProgramAnswer, IsReplayAnswer, Accepts, IsAnswer, IsLeft, IsFileAnswer, IsAnswered, Suits, IsAcceptable, model_of}
 use Rattle.cs_app.specs.Answers.{outcome_status}
 use Rattle.cs_app.specs.Answers.{IsTypeRefused, refused_line, IsRefusedWith}
+use Rattle.cs_app.proofs.AnswerLemmas.{yields_answer, outcome_answers}
 use Rattle.cs_app.specs.Laws.{RefusedIsNotAccepted, TreesAreRefusedByTypes}
 use Rattle.cs_decl_parser.proofs.WholeFiles.{file_or_refused}
 use Rattle.cs_program.proofs.OneTyping.{one_typing}
@@ -45,16 +46,6 @@ one_program verdict one other is also = cc
 one_fault : (verdict : Verdict TypedProgram) (code code' : TypeCode) (place place' : Place) → verdict ≡ Fault code place
     → verdict ≡ Fault code' place' → (code' ≡ code) × (place' ≡ place)
 one_fault verdict code code' place place' is also = (cc, cc)
-
--- a status that says whether something was found is an answer
-yields_answer : (status : Status) (found : Bool) → status ≡ cond found Found Clean → IsAnswered status
-yields_answer status true is = subst IsAnswered (sym is) tt
-yields_answer status false is = subst IsAnswered (sym is) tt
-
-outcome_answers : (status : Status) (outcome : Outcome) → status ≡ outcome_status outcome → IsAnswered status
-outcome_answers status (ends.Done returned) is = subst IsAnswered (sym is) tt
-outcome_answers status (ends.Fault kind at) is = subst IsAnswered (sym is) tt
-outcome_answers status (ends.Over budget at) is = subst IsAnswered (sym is) tt
 
 -- the function that is asked for isn't both there and missing
 not_lacking : {A : Type 0} (entry : Option (List ℕ)) (program : TypedProgram) (text : List ℕ) (entries : List ℕ) → LacksEntry entry program text

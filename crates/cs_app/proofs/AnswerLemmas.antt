@@ -34,7 +34,7 @@ use Rattle.cs_answers.specs.declared.status.Status.TheVariants.{Clean, Found, Ba
 use Rattle.cs_answers.specs.declared.answer.Answer.{Answer}
 use Rattle.cs_answers.specs.declared.answer.Failure.{Failure}
 use Rattle.cs_results.specs.Selected.{every_kind, lists_report}
-use Rattle.cs_app.specs.Answers.{IsProgramAnswer, IsAnswer, IsLeft, IsFileAnswer, IsWhole, IsDone, Reads, file_of, model_of}
+use Rattle.cs_app.specs.Answers.{IsProgramAnswer, IsAnswer, IsLeft, IsFileAnswer, IsWhole, IsAnswered, IsDone, Reads, file_of, model_of}
 use Rattle.cs_app.specs.Answers.{IsReplayAnswer, outcome_status}
 use Rattle.cs_app.specs.Analyses.{IsAnalysisAnswer}
 use Rattle.cs_app.proofs.ReplayLemmas.{no_outcome}
@@ -181,25 +181,39 @@ none_meant other n refusal read is one (inl e) = absurd cc
 none_meant other n refusal read is one (inr e) = absurd cc
 
 -- ---- statuses
+-- a status that says whether something was found is an answer
+pub yields_answer : (status : Status) (found : Bool) → status ≡ cond found Found Clean → IsAnswered status
+yields_answer status true is = subst IsAnswered (sym is) tt
+yields_answer status false is = subst IsAnswered (sym is) tt
+
+pub outcome_answers : (status : Status) (outcome : Outcome) → status ≡ outcome_status outcome → IsAnswered status
+outcome_answers status (ends.Done returned) is = subst IsAnswered (sym is) tt
+outcome_answers status (ends.Fault kind at) is = subst IsAnswered (sym is) tt
+outcome_answers status (ends.Over budget at) is = subst IsAnswered (sym is) tt
+
+-- an answer is written whole
+answered_is_done : (status : Status) → IsAnswered status → IsDone status
+answered_is_done Clean answered = tt
+answered_is_done Found answered = tt
+answered_is_done BadWords answered = absurd answered
+answered_is_done BadFile answered = absurd answered
+answered_is_done ReadFault answered = absurd answered
+answered_is_done WriteFault answered = absurd answered
+answered_is_done Memory answered = absurd answered
+answered_is_done NoEntry answered = absurd answered
+
 -- a program has no answer that is a fault of a stream or want of memory
-yields_done : (status : Status) (found : Bool) → status ≡ cond found Found Clean → IsDone status
-yields_done status true is = subst IsDone (sym is) tt
-yields_done status false is = subst IsDone (sym is) tt
-
-outcome_done : (status : Status) (outcome : Outcome) → status ≡ outcome_status outcome → IsDone status
-outcome_done status (ends.Done returned) is = subst IsDone (sym is) tt
-outcome_done status (ends.Fault kind at) is = subst IsDone (sym is) tt
-outcome_done status (ends.Over budget at) is = subst IsDone (sym is) tt
-
 analysis_is_done : (checked : List Kind) (words : AnalyzeWords) (program : TypedProgram) (status : Status) (text : List ℕ)
     → IsAnalysisAnswer checked words program status text → IsDone status
 analysis_is_done checked words program NoEntry text lacks = tt
-analysis_is_done checked words program status text answer = yields_done status (lists_report words.kinds answer.results) answer.answer.yields
+analysis_is_done checked words program status text answer =
+    answered_is_done status (yields_answer status (lists_report words.kinds answer.results) answer.answer.yields)
 
 replay_is_done : (files : List (List ℕ)) (program : TypedProgram) (words : ReplayWords) (status : Status) (text : List ℕ)
     → IsReplayAnswer files program words status text → IsDone status
 replay_is_done files program words NoEntry text answer = tt
-replay_is_done files program words status text answer = outcome_done status answer.2.outcome answer.2.yields
+replay_is_done files program words status text answer =
+    answered_is_done status (outcome_answers status answer.2.outcome answer.2.yields)
 
 program_is_done : (checked : List Kind) (command : Command) (files : List (List ℕ)) (program : TypedProgram) (status : Status) (text : List ℕ)
     → IsProgramAnswer checked command files program status text → IsDone status
@@ -207,7 +221,7 @@ program_is_done checked (Analyze words) files program status text answer = analy
 program_is_done checked (Flow words) files program status text answer = subst IsDone (sym answer.0) tt
 program_is_done checked (Replay words) files program status text answer = replay_is_done files program words status text answer
 program_is_done checked (Generate words) files program status text answer =
-    yields_done status (lists_report every_kind answer.results) answer.yields
+    answered_is_done status (yields_answer status (lists_report every_kind answer.results) answer.yields)
 
 -- neither have words: the status of a whole text is one of those with which the text is written
 pub whole_is_done : (checked : List Kind) (words : List (List ℕ)) (left : Option (List ℕ)) (status : Status) (text : List ℕ)
