@@ -1,6 +1,6 @@
 -- What is accepted has no other whole text than that of an answer: for the clause of the top call that says which files are
 -- answered.
-use Rattle.std.proofs.Common.{◌≡◌, ℕ, Bool, true, false, cond, List, [], ◌∷◌, Option, Some, None, inl, inr, sym, ap, ◌∙◌, subst, arith}
+use Rattle.std.proofs.Common.{◌≡◌, ℕ, Bool, true, false, List, [], ◌∷◌, Option, Some, None, inl, inr, sym, ap, ◌∙◌, subst, arith}
 use Rattle.std.specs.Prelude.{option_map}
 use Rattle.std.specs.Io.KnownBytes.{Appends}
 use Rattle.cs_types.specs.declared.data_model.DataModel.{DataModel}
@@ -13,8 +13,6 @@ use Rattle.cs_lexer.proofs.OneLexing.{lexed_once, lexed_or_refused}
 use Rattle.cs_decl_parser.specs.Files.{parts_of, IsTheFile}
 use Rattle.cs_scopes.specs.declared.refusal.TypeCode.{TypeCode}
 use Rattle.cs_scopes.specs.Verdicts.{Verdict, Fine, Fault}
-use Rattle.cs_events.specs.declared.outcome.Outcome.{Outcome}
-use Rattle.cs_events.specs.declared.outcome.Outcome.TheVariants as ends
 use Rattle.cs_results.specs.Selected.{every_kind, lists_report}
 use Rattle.cs_words.specs.declared.command.Command.{Command}
 use Rattle.cs_words.specs.declared.command.AnalyzeWords.{AnalyzeWords}
@@ -27,7 +25,6 @@ use Rattle.cs_answers.specs.declared.status.Status.{Status}
 use Rattle.cs_answers.specs.declared.status.Status.TheVariants.{Clean, Found, BadWords, BadFile, ReadFault, WriteFault, Memory, NoEntry}
 use Rattle.cs_app.specs.Analyses.{LacksEntry, IsAnalysisAnswer, entries_named}
 use Rattle.cs_app.specs.Answers.{IsProgramAnswer, IsReplayAnswer, Accepts, IsAnswer, IsLeft, IsFileAnswer, IsAnswered, Suits, IsAcceptable, model_of}
-use Rattle.cs_app.specs.Answers.{outcome_status}
 use Rattle.cs_app.specs.Answers.{IsTypeRefused, refused_line, IsRefusedWith}
 use Rattle.cs_app.proofs.AnswerLemmas.{yields_answer, outcome_answers}
 use Rattle.cs_app.specs.Laws.{RefusedIsNotAccepted, TreesAreRefusedByTypes}
