@@ -25,7 +25,7 @@ use Rattle.cs_progress.specs.Stepping.{end_of}
 use Rattle.cs_coverage.specs.Covering.{PassesNone, IsElsewhere, IsCutAt, HasAllNodes}
 use Rattle.cs_coverage.specs.IntegerEntries.{IsIntegerEntry}
 use Rattle.cs_coverage.specs.Positions.{CoversPositions}
-use Rattle.cs_progress.specs.Locals.{HasIntegerCode}
+use Rattle.cs_cfg.specs.IntegerCode.{HasIntegerCode}
 use Rattle.cs_integer_functions.specs.IntegerFunctions.{IsIntegerFunction}
 use Rattle.cs_integer_functions.proofs.Parameters.{integer_parameters, has_body}
 use Rattle.cs_findings.specs.Runs.{run_budgets}

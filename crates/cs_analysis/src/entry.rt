@@ -10,7 +10,7 @@ ghost use Rattle.cs_findings.specs.GoodEntries.{IsGoodEntry};
 ghost use Rattle.cs_findings.specs.Runs.{run_budgets};
 ghost use Rattle.cs_integer_functions.specs.IntegerFunctions.{IsIntegerFunction};
 ghost use Rattle.cs_operators.specs.Asking.{HasEveryKind};
-ghost use Rattle.cs_progress.specs.Locals.{HasIntegerCode};
+ghost use Rattle.cs_cfg.specs.IntegerCode.{HasIntegerCode};
 ghost use Rattle.cs_analysis.specs.Whole.{IsAllOf};
 ghost use Rattle.cs_witness.specs.Entries.{CanRun};
 

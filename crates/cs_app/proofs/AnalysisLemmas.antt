@@ -18,7 +18,8 @@ use Rattle.cs_results.specs.declared.budgets.Budgets.{Budgets}
 use Rattle.cs_results.specs.declared.result.EntryResult.{EntryResult}
 use Rattle.cs_results.specs.Selected.{lists_report}
 use Rattle.cs_words.specs.declared.command.AnalyzeWords.{AnalyzeWords}
-use Rattle.cs_app.specs.Analyses.{has_body, bodies, entries_named, LacksEntry, AreAllKinds, AreGoodResults}
+use Rattle.cs_app.specs.Analyses.{has_body, bodies, entries_named, LacksEntry, AreGoodResults}
+use Rattle.cs_checker.specs.Kinds.{AreAllKinds}
 use Rattle.cs_app.specs.Analyses.{IsAnalysis, IsAnalysisAnswer}
 use Rattle.cs_entries.specs.Named.{entry_of}
 use Rattle.cs_answers.specs.declared.status.Status.{Status}

@@ -1,8 +1,9 @@
 -- The answers to analyses: which functions are analyzed, and what is said of each.
 use Rattle.std.specs.Prelude.{◌≡◌, ℕ, is_some, Bool, List, [], ◌∷◌, ◌++◌, map, length, filter, All}
 use Rattle.std.specs.Prelude.{Option, None, Some, option_map, codes}
-use Rattle.std.specs.List.{Any, range_with_len}
+use Rattle.std.specs.List.{range_with_len}
 use Rattle.cs_ast.specs.TypedProgram.{TypedProgram}
+use Rattle.cs_checker.specs.Kinds.{AreAllKinds}
 use Rattle.cs_findings.specs.EveryRun.{MissesNothing}
 use Rattle.cs_findings.specs.GoodEntries.{IsGoodEntry}
 use Rattle.cs_meaning.specs.Machine.{routine_of}
@@ -37,10 +38,6 @@ entries_named (Some name) program = option_map (λ (entry : ℕ). entry ∷ []) 
 abbrev pub LacksEntry : Option (List ℕ) → TypedProgram → List ℕ → Type 0
 LacksEntry None program text = ⊥
 LacksEntry (Some name) program text = (entry_of name program ≡ None) × (text ≡ codes "refused entry " ++ (name ++ codes "\n"))
-
--- each kind of fault is among these kinds of checkers
-abbrev pub AreAllKinds : List Kind → Type 0
-AreAllKinds checked = (fault : Kind) → Any (λ one. one ≡ fault) checked
 
 -- what an analysis answers that asks checkers of these kinds
 module _ (checked : List Kind) where

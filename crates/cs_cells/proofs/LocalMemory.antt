@@ -25,7 +25,8 @@ use Rattle.cs_state.specs.Cells.{Blocks, cell_of}
 use Rattle.cs_state.specs.Naming.{Naming}
 use Rattle.cs_state.specs.Objects.{Owner, owner, owner_numbered, local_of, contents_in, written_over, fill_over}
 use Rattle.cs_state.proofs.Numbers.{number_here}
-use Rattle.cs_progress.specs.Locals.{IsUnfilled, value_held, count_of_locals}
+use Rattle.cs_cfg.specs.IntegerCode.{count_of_locals}
+use Rattle.cs_progress.specs.Locals.{IsUnfilled, value_held}
 use Rattle.cs_cells.specs.InMemory.{memory_in}
 
 -- the first owner has its number

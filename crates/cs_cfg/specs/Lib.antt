@@ -19,3 +19,4 @@ pub mod Placed
 pub mod RunLaws
 pub mod FollowingFlow
 pub mod Laws
+pub mod IntegerCode

@@ -19,7 +19,8 @@ use Rattle.cs_store.specs.declared.value.Value.TheVariants as value
 use Rattle.cs_state.specs.declared.state.State.{State}
 use Rattle.cs_state.specs.declared.temporary.Temporary.{Temporary}
 use Rattle.cs_state.specs.declared.temporary.Temporary.TheVariants as temporary
-use Rattle.cs_progress.specs.Locals.{IsOver, PointsToLocal, PointToLocals, HasLocalsAlone, AreIn, count_of_locals}
+use Rattle.cs_cfg.specs.IntegerCode.{count_of_locals}
+use Rattle.cs_progress.specs.Locals.{IsOver, PointsToLocal, PointToLocals, HasLocalsAlone, AreIn}
 use Rattle.cs_successors.specs.Coming.{is_declared}
 
 -- no set has all numbers: none above these

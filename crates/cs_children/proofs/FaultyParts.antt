@@ -29,7 +29,8 @@ use Rattle.cs_state.specs.Cells.{block_of}
 use Rattle.cs_state.specs.Naming.{Naming}
 use Rattle.cs_state.specs.Writes.{with_constraints}
 use Rattle.cs_progress.specs.Acting.{BeginsWithCheck, ComesOf}
-use Rattle.cs_progress.specs.Locals.{HasLocalsAlone, HasIntegerCode}
+use Rattle.cs_cfg.specs.IntegerCode.{HasIntegerCode}
+use Rattle.cs_progress.specs.Locals.{HasLocalsAlone}
 use Rattle.cs_progress.specs.Stepping.{next_left, UsesAnswers}
 use Rattle.cs_explored.specs.declared.watch.Rule.{Rule}
 use Rattle.cs_children.specs.Adding.{IsFaultyEnd, AreFaultyEnds, GoesOn}

@@ -41,7 +41,7 @@ use Rattle.cs_cfg.specs.Graph.{Meet, Close, Operation as Step, BlockEnd, Jump, B
 use Rattle.cs_cfg.specs.Working.{CodeState, if_local, do_work}
 use Rattle.cs_cfg.specs.CodeSteps.{step_at, do_end, code_step}
 use Rattle.cs_cfg.specs.Spots.{rest_from, point_in, point_of}
-use Rattle.cs_progress.specs.Locals.{IsOfInteger, IsIntegerWork, IsIntegerOperation, IsIntegerPoint, HasIntegerCode, count_of_locals}
+use Rattle.cs_cfg.specs.IntegerCode.{IsOfInteger, IsIntegerWork, IsIntegerOperation, IsIntegerPoint, HasIntegerCode, count_of_locals}
 
 -- an operation isn't what an allocation shows
 abbrev pub IsNoAllocation : Operation → Type 0

@@ -35,7 +35,8 @@ use Rattle.cs_state.specs.Cells.{block_of}
 use Rattle.cs_state.specs.Meaning.{meaning}
 use Rattle.cs_state.specs.Naming.{Naming}
 use Rattle.cs_progress.specs.Acting.{UsesAll}
-use Rattle.cs_progress.specs.Locals.{IsOver, HasIntegerCode}
+use Rattle.cs_cfg.specs.IntegerCode.{HasIntegerCode}
+use Rattle.cs_progress.specs.Locals.{IsOver}
 use Rattle.cs_progress.specs.Stepping.{next_act, next_left, UsesAnswers}
 use Rattle.cs_explored.specs.declared.child.Child.{Child}
 use Rattle.cs_explored.specs.declared.watch.Rule.{Rule}

@@ -31,7 +31,8 @@ use Rattle.cs_state.specs.Objects.{Owner, owner, memory_of}
 use Rattle.cs_state.specs.Writes.{at_spot}
 use Rattle.cs_progress.specs.declared.next.Next.{Next}
 use Rattle.cs_progress.specs.Acting.{UsesAll}
-use Rattle.cs_progress.specs.Locals.{HasLocalsAlone, HasIntegerCode}
+use Rattle.cs_cfg.specs.IntegerCode.{HasIntegerCode}
+use Rattle.cs_progress.specs.Locals.{HasLocalsAlone}
 use Rattle.cs_progress.specs.Stepping.{IsDone, Waits, KeepsKnown, BeginsIn, next_act, next_left, UsesAnswers}
 use Rattle.cs_successors.specs.EntryRuns.{Proceeds, silently, stays}
 use Rattle.cs_successors.specs.Coming.{is_declared, IsIntegerState, GoesBy, IsAt, ComesSilently, IsEndOf, IsReachedFrom}

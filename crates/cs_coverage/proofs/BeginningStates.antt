@@ -35,7 +35,8 @@ use Rattle.cs_state.specs.Cells.{block_of}
 use Rattle.cs_state.specs.Naming.{Naming, Extends}
 use Rattle.cs_state.specs.Starting.{IsStart, IsParameter, HoldsNumber, HoldsValue, DifferInName}
 use Rattle.cs_progress.specs.Acting.{UsesAll}
-use Rattle.cs_progress.specs.Locals.{HasLocalsAlone, HasIntegerCode, IsOver, AreIn, IsIn, count_of_locals}
+use Rattle.cs_cfg.specs.IntegerCode.{HasIntegerCode, count_of_locals}
+use Rattle.cs_progress.specs.Locals.{HasLocalsAlone, IsOver, AreIn, IsIn}
 use Rattle.cs_progress.specs.Stepping.{next_act}
 use Rattle.cs_successors.specs.Coming.{is_declared, IsIntegerState}
 use Rattle.cs_coverage.specs.IntegerEntries.{HasIntegerParameters, IsIntegerEntry}

@@ -31,7 +31,8 @@ use Rattle.cs_state.specs.Cells.{pointer_to, cell_of, operand_of}
 use Rattle.cs_state.specs.Meaning.{meaning}
 use Rattle.cs_state.specs.Naming.{Naming}
 use Rattle.cs_state.specs.Objects.{Owner, owner, owner_numbered, local_of, fill_over, written_over, contents_in, number_of, memory_of}
-use Rattle.cs_progress.specs.Locals.{PointsToLocal, PointToLocals, HasLocalsAlone, HasIntegerCode, count_of_locals}
+use Rattle.cs_cfg.specs.IntegerCode.{HasIntegerCode, count_of_locals}
+use Rattle.cs_progress.specs.Locals.{PointsToLocal, PointToLocals, HasLocalsAlone}
 use Rattle.cs_progress.specs.Stepping.{next_act, next_left}
 use Rattle.cs_steps.proofs.Going.{integer_at}
 use Rattle.cs_coverage.proofs.ReadingNothing.{ReadsNothing, same_left, PointsTo, IsKnown, IsKnownOperand, step_reads}

@@ -16,7 +16,8 @@ use Rattle.cs_state.specs.Naming.{Naming, naming}
 use Rattle.cs_state.specs.Valuations.{cell_read}
 use Rattle.cs_explored.specs.declared.explored.Explored.{Explored}
 use Rattle.cs_explored.specs.declared.watch.Rule.{Rule}
-use Rattle.cs_progress.specs.Locals.{HasLocalsAlone, HasIntegerCode}
+use Rattle.cs_cfg.specs.IntegerCode.{HasIntegerCode}
+use Rattle.cs_progress.specs.Locals.{HasLocalsAlone}
 use Rattle.cs_successors.specs.EntryRuns.{setting_with}
 use Rattle.cs_successors.specs.Coming.{IsAt}
 use Rattle.cs_coverage.specs.Closing.{AreNames, IsClosed}

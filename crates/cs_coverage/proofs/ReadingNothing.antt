@@ -40,7 +40,7 @@ use Rattle.cs_cfg.specs.Graph.{Judge, Store, FetchNumber, Update, Drop, Clear, S
 use Rattle.cs_cfg.specs.Graph.{Meet, Close, Operation as CodeOperation, Point, BlockEnd, Jump, Branch, Switch, Return, Finish, Code}
 use Rattle.cs_cfg.specs.Working.{CodeState, if_local, do_work}
 use Rattle.cs_cfg.specs.CodeSteps.{step_at, do_end}
-use Rattle.cs_progress.specs.Locals.{IsOfInteger, IsIntegerWork}
+use Rattle.cs_cfg.specs.IntegerCode.{IsOfInteger, IsIntegerWork}
 
 -- a value, if it is a pointer, points to such an object
 abbrev pub PointsTo : (Object → Type 0) → Cell → Type 0

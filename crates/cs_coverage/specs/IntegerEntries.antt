@@ -6,7 +6,7 @@ use Rattle.cs_ast.specs.TypedProgram.{TypedProgram, Variable}
 use Rattle.cs_meaning.specs.Machine.{routine_of}
 use Rattle.cs_meaning.specs.Steps.{parameters_of}
 use Rattle.cs_cfg.specs.Graph.{Code}
-use Rattle.cs_progress.specs.Locals.{HasIntegerCode}
+use Rattle.cs_cfg.specs.IntegerCode.{HasIntegerCode}
 
 -- each parameter of a function is an integer
 abbrev pub HasIntegerParameters : TypedProgram → ℕ → Type 0

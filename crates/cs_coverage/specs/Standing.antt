@@ -12,7 +12,8 @@ use Rattle.cs_cfg.specs.Working.{CodeState}
 use Rattle.cs_state.specs.Naming.{Naming}
 use Rattle.cs_explored.specs.declared.explored.End.{End}
 use Rattle.cs_explored.specs.declared.explored.Row.{Row}
-use Rattle.cs_progress.specs.Locals.{HasLocalsAlone, HasIntegerCode}
+use Rattle.cs_cfg.specs.IntegerCode.{HasIntegerCode}
+use Rattle.cs_progress.specs.Locals.{HasLocalsAlone}
 use Rattle.cs_progress.specs.Stepping.{end_of, result_in, HasReturned}
 use Rattle.cs_successors.specs.EntryRuns.{EndsWith}
 use Rattle.cs_successors.specs.Coming.{is_declared, IsAt}

@@ -64,8 +64,7 @@ module _ (exploration : Exploration) (entry : ℕ) (explores : ExploresIntegers 
 
   -- the first row
   module _ (before after : Findings) (state : Box State) (start : IsStart code program entry (naming before.tables) state.value)
-      (differ : DifferInName (parameters_of (routine_of program entry))) (once : HasEachOnce (naming before.tables).syms)
-      (phase : state.value.phase ≡ 0) where
+      (differ : DifferInName (parameters_of (routine_of program entry))) (once : HasEachOnce (naming before.tables).syms) where
     first_is : (names : Naming) → AreNames (naming before.tables) names → HasEachOnce names.syms
         → IsFirstRow code program entry budgets names rules (first_row state)
     first_is names are each = record {
@@ -73,7 +72,7 @@ module _ (exploration : Exploration) (entry : ℕ) (explores : ExploresIntegers 
       no_guess = refl;
       first =
           first_state code program entry budgets (naming before.tables) names state.value start are.extend are.numbered once each explores.works differ
-          (no_blocks code program entry (naming before.tables) state.value start explores.works.parameters) rules phase;
+          (no_blocks code program entry (naming before.tables) state.value start explores.works.parameters) rules start.phase;
     }
 
     begun : (room : Bool) → before.graph.keys ≡ [] → before.graph.rows ≡ []

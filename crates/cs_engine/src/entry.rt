@@ -18,24 +18,19 @@ use cs_types::CType;
 use cs_values::types::is_small;
 use std::alloc::AllocError;
 
-/// The state in which an entry begins. An entry that can't begin is want of memory. So would be a phase other than 0, with which no state starts.
+/// The state in which an entry begins. An entry that can't begin is want of memory.
 pub(crate) fn start(context: &Context, entry: u32, tables: &mut Tables) -> Result<State, AllocError>
     requires { IsReady context.now.setting.now }
     ensures start { IfOk result (IsStart (view.code context.now.code.now)
         (typed_program context.now.setting.now.program.now) entry (naming tables.new)) }
     ensures names { OnOk result (DifferInName (meaning.parameters_of
         (routine_of (typed_program context.now.setting.now.program.now) entry))) }
-    ensures phase { IfOk result (λ state. state.phase ≡ 0) }
 {
     let program = context.setting.program;
     if !can_start(program, entry) {
         return Err(AllocError);
     }
-    let state = State::start(context.alloc, context.code, program, entry, tables)?;
-    if state.phase != 0 {
-        return Err(AllocError);
-    }
-    Ok(state)
+    State::start(context.alloc, context.code, program, entry, tables)
 }
 
 // Whether an entry can begin: no two of its parameters have one name (C11 6.7, paragraph 3), and no size passes the bounds in what they

@@ -2,7 +2,7 @@
 ghost use Rattle.std.specs.Prelude.{◌≡◌, ◌<◌, true, map, All};
 ghost use Rattle.cs_ast.specs.TypedProgram.{typed_program};
 ghost use Rattle.cs_cfg.specs.GraphView as view;
-ghost use Rattle.cs_progress.specs.Locals.{HasIntegerCode, IsIntegerPoint, IsIntegerOperation, IsIntegerWork, IsOfInteger};
+ghost use Rattle.cs_cfg.specs.IntegerCode.{HasIntegerCode, IsIntegerPoint, IsIntegerOperation, IsIntegerWork, IsOfInteger};
 
 use cs_ast::typed::program::Program;
 use cs_cfg::{Access, Block, Code, Operation, Work};

@@ -1,12 +1,12 @@
 -- The checkers that an operation asks, and what their silence shows of its act.
 use Rattle.std.specs.Prelude.{◌≡◌, true, false, List, map}
-use Rattle.std.specs.List.{Any}
 use Rattle.cs_model.specs.declared.kind.Kind.{Kind}
 use Rattle.cs_ast.specs.declared.place.Place.{Place}
 use Rattle.cs_terms.specs.Term.{Valuation}
 use Rattle.cs_constraints.specs.Constraints.{Fits}
 use Rattle.cs_checker.specs.declared.subject.Subject.{Subject}
 use Rattle.cs_checker.specs.Faults.{is_faulty_for}
+use Rattle.cs_checker.specs.Kinds.{AreAllKinds}
 use Rattle.cs_events.specs.declared.outcome.Outcome.TheVariants.{Fault}
 use Rattle.cs_events.specs.Acts.{Act, Stops}
 use Rattle.cs_cfg.specs.Working.{CodeState}
@@ -23,7 +23,7 @@ IsNoFault state subject kinds = (valuation : Valuation) → Fits valuation state
 
 -- each kind of faults has a checker
 abbrev pub HasEveryKind : {Checker : Type 0} → (Checker → Kind) → List Checker → Type 0
-HasEveryKind kind checkers = (fault : Kind) → Any (λ one. one ≡ fault) (map kind checkers)
+HasEveryKind kind checkers = AreAllKinds (map kind checkers)
 
 -- an act begins with a check of the subject: it stops in a fault of each kind that the subject is faulty for, and goes on if there is none
 pub record IsCheckOf (subject : Subject) (at : Place) (valuation : Valuation) (checked : Act CodeState → Act CodeState) : Type 0 where

@@ -41,7 +41,8 @@ use Rattle.cs_progress.specs.declared.progress.Progress.{Progress}
 use Rattle.cs_progress.specs.Acting.{UsesAll, Leads, BeginsWith}
 use Rattle.cs_progress.specs.Answering.{answers_left}
 use Rattle.cs_progress.specs.Computing.{Computes}
-use Rattle.cs_progress.specs.Locals.{HasLocalsAlone, IsIntegerWork, HasIntegerCode, count_of_locals}
+use Rattle.cs_cfg.specs.IntegerCode.{IsIntegerWork, HasIntegerCode, count_of_locals}
+use Rattle.cs_progress.specs.Locals.{HasLocalsAlone}
 
 -- an end's outcome says nothing of what the entry has returned
 abbrev pub end_of : Outcome → Outcome

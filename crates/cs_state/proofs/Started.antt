@@ -66,5 +66,6 @@ started code program entry names variables fresh state f known parameters receiv
   answers = ap (λ (s : State). s.answers) known ∙ f.answers;
   counters = ap (λ (s : State). s.counters) known ∙ f.counters;
   asked = ap (λ (s : State). s.asked) known ∙ f.asked;
+  phase = ap (λ (s : State). s.phase) known ∙ f.phase;
   received = subst (λ (vs : List Variable). HasReceived program names vs (length vs) state) parameters received;
 }

@@ -86,6 +86,7 @@ pub record IsFresh (code : Code) (model : DataModel) (entry : ℕ) (state : Stat
   pub answers : state.answers ≡ []
   pub counters : state.counters ≡ record { frames = 1; allocations = 0; calls = 0; events = 0 }
   pub asked : state.asked ≡ finite.empty
+  pub phase : state.phase ≡ 0
 
 -- a symbol as a term, and a number as one
 abbrev pub own : Sym → Lin
@@ -210,6 +211,7 @@ pub record IsStart (code : Code) (program : TypedProgram) (entry : ℕ) (names :
   pub answers : state.answers ≡ []
   pub counters : state.counters ≡ record { frames = 1; allocations = 0; calls = 0; events = 0 }
   pub asked : state.asked ≡ finite.empty
+  pub phase : state.phase ≡ 0
   pub received : HasReceived program names (parameters_of (routine_of program entry)) (length (parameters_of (routine_of program entry))) state
 
 -- the state stands for the beginning of all runs of an entry: under each valuation that fits for the beginning of its run, and each run's

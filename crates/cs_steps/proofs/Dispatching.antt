@@ -26,7 +26,8 @@ use Rattle.cs_progress.specs.declared.pause.Pause.TheVariants as pause
 use Rattle.cs_progress.specs.declared.progress.Progress.{Progress}
 use Rattle.cs_progress.specs.Acting.{UsesAll, Leads}
 use Rattle.cs_progress.specs.Computing.{Computes}
-use Rattle.cs_progress.specs.Locals.{AreIn, HasLocalsAlone, count_of_locals}
+use Rattle.cs_cfg.specs.IntegerCode.{count_of_locals}
+use Rattle.cs_progress.specs.Locals.{AreIn, HasLocalsAlone}
 use Rattle.cs_progress.specs.Operands.{IsPushed, IsPlacePushed}
 use Rattle.cs_progress.specs.Stepping.{StaysInFrame, KeepsLocals, WaitsUnchanged, Works, WorksOn, IsMovedOn}
 use Rattle.cs_progress.proofs.Looks.{leads_same}

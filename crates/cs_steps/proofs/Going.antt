@@ -10,7 +10,7 @@ use Rattle.cs_cfg.specs.Graph.{Operation, Point, Flow, Code, before, no_point, f
 use Rattle.cs_cfg.specs.Spots as spots
 use Rattle.cs_cfg.specs.Spots.{rest_from, point_in, point_of, begins}
 use Rattle.cs_cfg.specs.Instructions.{jump_from, JumpsTo, here, jumps, leads_first, IsNext}
-use Rattle.cs_progress.specs.Locals.{IsIntegerWork, IsIntegerOperation, IsIntegerPoint, HasIntegerCode, count_of_locals}
+use Rattle.cs_cfg.specs.IntegerCode.{IsIntegerWork, IsIntegerOperation, IsIntegerPoint, HasIntegerCode, count_of_locals}
 use Rattle.cs_steps.specs.AtSpots.{StandsAt}
 
 module _ (code : Code) where

@@ -11,7 +11,8 @@ use Rattle.cs_state.specs.declared.state.State.{State}
 use Rattle.cs_state.specs.declared.temporary.Temporary.{Temporary}
 use Rattle.cs_state.specs.Writes.{at_spot, with_answers, with_result, with_temporaries}
 use Rattle.cs_store.specs.declared.value.Value.{Value}
-use Rattle.cs_progress.specs.Locals.{PointToLocals, AreIn, IsOver, HasLocalsAlone, count_of_locals, PointsToLocal}
+use Rattle.cs_cfg.specs.IntegerCode.{count_of_locals}
+use Rattle.cs_progress.specs.Locals.{PointToLocals, AreIn, IsOver, HasLocalsAlone, PointsToLocal}
 use Rattle.cs_progress.specs.Stepping.{KeepsKnown, IsCutTo, IsCutForEnd}
 use Rattle.cs_progress.proofs.KeptLocals.{locals_kept}
 

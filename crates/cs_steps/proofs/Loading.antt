@@ -34,7 +34,8 @@ use Rattle.cs_progress.specs.declared.pause.Pause.{Pause}
 use Rattle.cs_progress.specs.declared.pause.Pause.TheVariants as pause
 use Rattle.cs_progress.specs.declared.progress.Progress.{Progress}
 use Rattle.cs_progress.specs.Acting.{UsesAll, Leads, Gives, GetsThrough, Passes, WaitsFor}
-use Rattle.cs_progress.specs.Locals.{IsLocalOf, IsIn, MayBeIn, HasLocalsAlone, IsOfInteger, count_of_locals, value_held}
+use Rattle.cs_cfg.specs.IntegerCode.{IsOfInteger, count_of_locals}
+use Rattle.cs_progress.specs.Locals.{IsLocalOf, IsIn, MayBeIn, HasLocalsAlone, value_held}
 use Rattle.cs_progress.proofs.Looks.{leads_same}
 use Rattle.cs_progress.proofs.Composing.{leads_on, waits_on}
 use Rattle.cs_progress.proofs.Carrying.{handed, carries_on, LeadsTo}

@@ -38,7 +38,8 @@ use Rattle.cs_progress.specs.declared.pause.Pause.TheVariants as pause
 use Rattle.cs_progress.specs.declared.progress.Progress.{Progress}
 use Rattle.cs_progress.specs.Acting.{Leads, Gives, GetsThrough, CarriesOut, WaitsFor}
 use Rattle.cs_progress.specs.Answering.{answers_left}
-use Rattle.cs_progress.specs.Locals.{AreIn, HasLocalsAlone, IsLocalOf, IsOfInteger}
+use Rattle.cs_cfg.specs.IntegerCode.{IsOfInteger}
+use Rattle.cs_progress.specs.Locals.{AreIn, HasLocalsAlone, IsLocalOf}
 use Rattle.cs_progress.proofs.Looks.{leads_same}
 use Rattle.cs_progress.proofs.Composing.{leads_on, waits_on}
 use Rattle.cs_progress.proofs.Carrying.{no_wait}

@@ -26,7 +26,8 @@ use Rattle.cs_state.specs.Cells.{Blocks, block_of, is_there, cell_of, operand_of
 use Rattle.cs_state.specs.Meaning.{meaning, frame_of}
 use Rattle.cs_state.specs.Naming.{Naming}
 use Rattle.cs_state.specs.Objects.{Owner, owner, number_of, contents_in, written_over, fill_over, block_there, unwritten, made_block, memory_of}
-use Rattle.cs_progress.specs.Locals.{IsOver, PointsToLocal, PointToLocals, HasLocalsAlone, count_of_locals}
+use Rattle.cs_cfg.specs.IntegerCode.{count_of_locals}
+use Rattle.cs_progress.specs.Locals.{IsOver, PointsToLocal, PointToLocals, HasLocalsAlone}
 
 module _ (known : ℕ → Bool) (one other : Valuation) (agree : (symbol : ℕ) → known symbol ≡ true → other symbol ≡ one symbol) where
   value_agrees : (term : Lin) → IsOver known term → value_of other term ≡ value_of one term

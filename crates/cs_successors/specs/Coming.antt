@@ -25,7 +25,8 @@ use Rattle.cs_state.specs.declared.state.State.{State}
 use Rattle.cs_state.specs.Cells.{block_of}
 use Rattle.cs_state.specs.Naming.{Naming}
 use Rattle.cs_state.specs.Valuations.{Guessed as Guesses}
-use Rattle.cs_progress.specs.Locals.{HasLocalsAlone, HasIntegerCode}
+use Rattle.cs_cfg.specs.IntegerCode.{HasIntegerCode}
+use Rattle.cs_progress.specs.Locals.{HasLocalsAlone}
 use Rattle.cs_progress.specs.Stepping.{end_of, result_in, HasReturned, next_left, UsesAnswers}
 use Rattle.cs_explored.specs.declared.child.Child.{Child}
 use Rattle.cs_explored.specs.declared.watch.Rule.{Rule}

@@ -35,6 +35,6 @@ returns-clause-begins c explores =
           c.in_ok-add_first.ensures.rest c.in_ok-add_first.ensures.placed;
       sources =
           begun_sources c.args.exploration.now c.args.entry explores fresh c.add_first.new.self c.in_ok-state-2.state begins c.in_ok-state.ensures.names
-          c.have_each_once.ensures.syms (ap (λ (s : State). s.phase) boxed ∙ c.in_ok-state.ensures.phase) c.in_ok-add_first.field-0 no_keys no_rows
+          c.have_each_once.ensures.syms c.in_ok-add_first.field-0 no_keys no_rows
           c.new-findings.ensures.no_ends c.in_ok-add_first.ensures.rest c.in_ok-add_first.ensures.placed;
     }

@@ -3,7 +3,7 @@ use Rattle.std.proofs.lemmas.List.{drop_more}
 use Rattle.std.proofs.lemmas.List.Elements.{All-cons}
 use Rattle.cs_cfg.specs.declared.code.Block.{Block}
 use Rattle.cs_cfg.specs.GraphView as view
-use Rattle.cs_progress.specs.Locals.{IsIntegerPoint}
+use Rattle.cs_cfg.specs.IntegerCode.{IsIntegerPoint}
 use Rattle.cs_integer_code.proofs.code.are_integer_blocks.Goals as goal
 
 pub loop-block-preserved : goal.loop-block-preserved

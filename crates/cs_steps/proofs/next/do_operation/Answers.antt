@@ -3,7 +3,7 @@ use Rattle.cs_cfg.specs.declared.code.Spot.{Spot}
 use Rattle.cs_cfg.specs.GraphView as view
 use Rattle.cs_cfg.specs.Spots.{point_of, after}
 use Rattle.cs_state.specs.declared.state.State.{State}
-use Rattle.cs_progress.specs.Locals.{IsIntegerWork, count_of_locals}
+use Rattle.cs_cfg.specs.IntegerCode.{IsIntegerWork, count_of_locals}
 use Rattle.cs_steps.proofs.Going.{integer_at}
 use Rattle.cs_steps.proofs.KeptStates.{locals_cut}
 use Rattle.cs_steps.proofs.Stepped.{works_step}
