@@ -52,6 +52,7 @@ use Rattle.cs_successors.specs.EntryRuns.{stays}
 use Rattle.cs_children.specs.Finding.{code_of, model_of, limits_of, AreNone, Explores, FindsAll, FindsSoFar}
 use Rattle.cs_children.proofs.FaultyParts.{rest_reached, nothing_left}
 use Rattle.cs_children.proofs.IntegerActs.{IsNoAllocation, ShowsNumbers, asks, left_shows, code_shows}
+use Rattle.cs_children.proofs.OwnLabels.{question_tells, cases_tell}
 use Rattle.cs_children.proofs.PiecesCome.{Shows, pieces_come, over_comes}
 use Rattle.cs_children.proofs.Reaching.{Comes, comes_of, reached_on, reached_itself}
 use Rattle.cs_children.proofs.SilentSteps.{done_reached, waits_reached, begins_in}
@@ -168,7 +169,7 @@ module _ (code : graph.Code) (program : TypedProgram) (budgets : RunBudgets) (na
         fresh = are.fresh;
         named = extends.syms guess.0 _ are.named;
       })
-      (subst (λ (n : ℕ). box.value.counters.events < n) same room) pieces made
+      (subst (λ (n : ℕ). box.value.counters.events < n) same room) (question_tells program.model box.value.constraints asked) pieces made
       (subst (λ (m : DataModel). AreAnswers m box.value.constraints guess.0 asked pieces) (sym models) are.answers) match
   answers_come at asked limit model given same models extends first made ends (over full) =
       over_comes code program budgets names rules box is at (asking_of program.model box.value.constraints asked) first
@@ -204,8 +205,8 @@ module _ (code : graph.Code) (program : TypedProgram) (budgets : RunBudgets) (na
         let case : (way_of (map view.switch_case are.cases) are.otherwise (value_of v term) 0).number ≡ case_of are.cases (value_of v term) =
         omega (arith, number) in
         (tt, (shown.0, shown.1 ∙ ap (λ (n : ℕ). Asks at (operation.Show (label.Case n)) shown.0) case)))
-        (λ v number fits may. absurd may) (subst (λ (n : ℕ). box.value.counters.events < n) same room) pieces made
-        (are.selects program.model guess.0) match
+        (λ v number fits may. absurd may) (subst (λ (n : ℕ). box.value.counters.events < n) same room)
+        (cases_tell program.model term are.cases) pieces made (are.selects program.model guess.0) match
     cases_come limit same made ends (over full) =
         let one = first (λ path kind. UnsetCell) is.possible.0 is.possible.1 in
         over_comes code program budgets names rules box is at (record {

@@ -6,6 +6,7 @@ mod SilentSteps
 mod DeclaredSymbols
 mod FaultyParts
 mod UsedGuesses
+mod OwnLabels
 mod PassedPieces
 mod GuessedAsked
 mod PiecesCome

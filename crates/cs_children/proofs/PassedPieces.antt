@@ -30,9 +30,10 @@ use Rattle.cs_state.specs.declared.state.State.{State}
 use Rattle.cs_state.specs.Meaning.{meaning}
 use Rattle.cs_state.specs.Naming.{Naming}
 use Rattle.cs_progress.specs.Stepping.{next_act, next_left}
-use Rattle.cs_successors.specs.EntryRuns.{now}
+use Rattle.cs_successors.specs.EntryRuns.{LeavesAfter, now}
 use Rattle.cs_successors.specs.Coming.{is_declared, IsIntegerState, GoesBy, IsAt, PassesTo}
 use Rattle.cs_successors.proofs.Agreeing.{values_agree, means_alike}
+use Rattle.cs_successors.proofs.Passing.{one_alone}
 use Rattle.cs_children.proofs.OneMoreAnswer.{left_of_one}
 use Rattle.cs_children.proofs.StandingFirst.{StandsFirst, stands_first}
 
@@ -95,6 +96,12 @@ module _ (code : Code) (program : TypedProgram) (budgets : RunBudgets) (names : 
           used_is =
               (λ i. used (guess_range (goes.model i) operation) (guess_at setting.guesses (suc (many i))))
               ∙ uses
+
+      -- and no other step can come next
+      pub only_step : (one : Step) (rest : Act CodeState) (end : Log)
+          → LeavesAfter (code_step code program budgets) setting (first_of setting log left) (one ∷ []) rest end
+          → step_with program.model at operation given ≡ one
+      only_step one rest end leaves = (one_alone (code_step code program budgets) setting (now asks_shows) leaves).0
 
       -- the state directly after the event, under a valuation that gives what the state mentions the same numbers
       module _ (after : State) (answer : Lin) (other : Valuation)

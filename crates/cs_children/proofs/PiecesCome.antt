@@ -1,7 +1,7 @@
 -- What comes of a state in which something shows first: for the contract of `find`.
-use Rattle.std.proofs.Common.{◌≡◌, ◌≢◌, ℕ, zero, suc, ◌+◌, ◌<◌, ◌≤◌, ℤ, true, false, List, [], ◌∷◌, ◌++◌, Option, None}
+use Rattle.std.proofs.Common.{◌≡◌, ◌≢◌, ℕ, zero, suc, ◌+◌, ◌<◌, ◌≤◌, ℤ, Bool, true, false, List, [], ◌∷◌, ◌++◌, Option, None}
 use Rattle.std.proofs.Common.{Some, All, map, inl, inr, refl, sym, ap, ◌∙◌, subst, arith}
-use Rattle.std.specs.Prelude.{slice_get, option_map, is_some}
+use Rattle.std.specs.Prelude.{slice_get, option_map, unwrap_or, is_some}
 use Rattle.std.specs.Global.{Box}
 use Rattle.std.proofs.lemmas.List.{map-append}
 use Rattle.std.proofs.lemmas.List.Elements.{All-nil, All-cons, All-push}
@@ -20,16 +20,18 @@ use Rattle.cs_events.specs.declared.outcome.Outcome.TheVariants.{Over}
 use Rattle.cs_events.specs.declared.outcome.Budget.TheVariants.{Events}
 use Rattle.cs_events.specs.declared.outcome.RunBudgets.{RunBudgets}
 use Rattle.cs_events.specs.Objects.{Cell, UnsetCell}
-use Rattle.cs_events.specs.Operations.{guess_range, own_result, result_with, shows}
+use Rattle.cs_events.specs.Operations.{guess_range, own_result, result_with, truth_number, shows}
 use Rattle.cs_events.specs.Acts.{Act, Asks}
 use Rattle.cs_events.specs.Runs.{Setting, Log, guess_at, read_cell, used}
+use Rattle.cs_event_runs.specs.First.{Step, first_of}
 use Rattle.cs_cfg.specs.Graph.{Code}
 use Rattle.cs_cfg.specs.Working.{CodeState}
+use Rattle.cs_cfg.specs.CodeSteps.{code_step}
 use Rattle.cs_eval.specs.declared.piece.Guessed.{Guessed}
 use Rattle.cs_eval.specs.declared.piece.Piece.{Piece}
 use Rattle.cs_eval.specs.Parts.{with_number}
 use Rattle.cs_eval.specs.Splits.{Asking, IsExact, IsOfGuess, IsPieceWith, IsPieceOf, Each, HaveOwnLabels, IsIn, IsCovered, IsSplit}
-use Rattle.cs_eval.proofs.OperandValues.{with_number-same, with_number-other}
+use Rattle.cs_eval.proofs.OperandValues.{decide, with_number-same, with_number-other}
 use Rattle.cs_state.specs.declared.state.State.{State}
 use Rattle.cs_state.specs.Cells.{block_of}
 use Rattle.cs_state.specs.Meaning.{meaning}
@@ -41,17 +43,30 @@ use Rattle.cs_progress.specs.Stepping.{next_act, next_left, UsesAnswers}
 use Rattle.cs_explored.specs.declared.child.Child.{Child}
 use Rattle.cs_explored.specs.declared.watch.Rule.{Rule}
 use Rattle.cs_explored.specs.Answering.{leads_on}
+use Rattle.cs_explored.specs.Watching.{IsPhaseAfter, IsPhaseAfterLabel}
 use Rattle.cs_children.specs.Adding.{IsOfPiece, AreOfPieces}
-use Rattle.cs_successors.specs.EntryRuns.{stays}
-use Rattle.cs_successors.specs.Coming.{is_declared, IsIntegerState, AreGuessesAfter, GoesBy, IsAt, PassesTo, GuessesAs, EndsIn, IsChildOf, IsEndOf}
-use Rattle.cs_successors.specs.Coming.{ComesToChild}
+use Rattle.cs_successors.specs.EntryRuns.{LeavesAfter, stays}
+use Rattle.cs_successors.specs.Coming.{is_declared, IsIntegerState, AreGuessesAfter, IsTruth, GoesBy, IsAt, PassesTo, GuessesAs, EndsIn, IsChildOf, IsEndOf}
+use Rattle.cs_successors.specs.Coming.{ListsNoneOrTruth, GivesOwn, ComesToChild}
+use Rattle.cs_successors.proofs.Passing.{one_alone}
 use Rattle.cs_children.proofs.DeclaredSymbols.{stays_declared, over_declared, locals_more, answers_more}
 use Rattle.cs_children.proofs.GuessedAsked.{asked_before}
 use Rattle.cs_children.proofs.IntegerActs.{IsNoAllocation}
 use Rattle.cs_children.proofs.OneMoreAnswer.{uses_one}
-use Rattle.cs_children.proofs.PassedPieces.{event_with, asks_over, passes_piece}
+use Rattle.cs_children.proofs.OwnLabels.{TellsFollowed}
+use Rattle.cs_children.proofs.PassedPieces.{event_with, step_with, asks_over, only_step, passes_piece}
 use Rattle.cs_children.proofs.Reaching.{Comes}
 use Rattle.cs_children.proofs.UsedGuesses.{used_none, own_leads_on}
+
+-- a valuation that gives a symbol the number already
+with_own : (symbol : ℕ) (number : ℤ) (v : Valuation) → v symbol ≡ number → with_number symbol number v ≡ v
+with_own symbol number v own_number = λ i other. same other i
+  where
+    same : (other : ℕ) → with_number symbol number v other ≡ v other
+    same other = elim (decide other symbol) [
+      | inl one ↦ with_number-same symbol number v other one ∙ sym own_number ∙ ap v (sym one)
+      | inr differs ↦ with_number-other symbol number v other differs
+    ]
 
 module _ (code : Code) (program : TypedProgram) (budgets : RunBudgets) (names : Naming) (rules : List Rule) (state : State)
     (is : IsIntegerState code program budgets names state) (at : Place) where
@@ -69,7 +84,7 @@ module _ (code : Code) (program : TypedProgram) (budgets : RunBudgets) (names : 
 
   module _ (guess : Sym) (asking : Asking) (first : Shows asking)
       (may : (v : Valuation) (number : ℤ) → Fits v state.constraints → asking.IsGuess v number → IsUsed guess asking v number)
-      (room : state.counters.events < budgets.events) where
+      (room : state.counters.events < budgets.events) (tells : TellsFollowed program.model asking) where
     abbrev Exact : Piece → Type 0
     Exact piece = IsExact program.model state.constraints asking piece
 
@@ -228,15 +243,15 @@ module _ (code : Code) (program : TypedProgram) (budgets : RunBudgets) (names : 
             → ComesToChild code program budgets names made setting v left log
         covers_piece made place there without within = by piece.guessed refl is_piece.meaning within
           where
-            not_used : used (guess_range program.model (asking.operation v)) (guess_at setting.guesses (suc state.counters.events)) ≡ None
-            not_used = ap (used (guess_range program.model (asking.operation v))) without ∙ used_none _
+            unused : used (guess_range program.model (asking.operation v)) (guess_at setting.guesses (suc state.counters.events)) ≡ None
+            unused = ap (used (guess_range program.model (asking.operation v))) without ∙ used_none _
 
             by : (guessed : Option Guessed) → piece.guessed ≡ guessed → IsPieceWith program.model state.constraints guess.0 asking guessed piece
                 → IsIn program.model guess.0 asking v guessed piece → ComesToChild code program budgets names made setting v left log
             by None none exact fits =
                 let from = exact.from v fits in
                 let no_guess : child.guess ≡ None = of.guessed ∙ ap (option_map (λ what. guess)) none in
-                let to = passes_with None not_used v (fits_after v fits) (λ symbol declared. refl)
+                let to = passes_with None unused v (fits_after v fits) (λ symbol declared. refl)
                 (ap (value_of v) (answer_is v here.fits None from.2) ∙ exact.answer v fits) in
                 record {
                   place = place;
@@ -247,6 +262,8 @@ module _ (code : Code) (program : TypedProgram) (budgets : RunBudgets) (names : 
                   others = λ symbol differs. refl;
                   guess = λ symbol some. let wrong : None ≡ Some symbol = sym no_guess ∙ some in cc;
                   shown = λ none. to.1 ∙ labelled None from.2;
+                  phases = λ watched phase next is.
+                      subst (λ (event : Event). IsPhaseAfter watched phase event next) (sym (to.1 ∙ labelled None from.2)) is;
                 }
             by (Some what) some inexact fits =
                 let other : Valuation = with_number guess.0 own v in
@@ -254,7 +271,7 @@ module _ (code : Code) (program : TypedProgram) (budgets : RunBudgets) (names : 
                 let is_used = may other (other guess.0) from.0 from.2 in
                 let has_guess : child.guess ≡ Some guess = of.guessed ∙ ap (option_map (λ what. guess)) some in
                 let own_is : other guess.0 ≡ own = with_number-same guess.0 own v guess.0 refl in
-                let to = passes_with None not_used other (fits_after other fits) (beside_guess own v is_used.fresh)
+                let to = passes_with None unused other (fits_after other fits) (beside_guess own v is_used.fresh)
                 (ap (value_of other) (answer_is other from.0 (Some (other guess.0)) from.3) ∙ inexact.answer other fits ∙ own_is) in
                 record {
                   place = place;
@@ -268,7 +285,107 @@ module _ (code : Code) (program : TypedProgram) (budgets : RunBudgets) (names : 
                       let same : guess ≡ symbol = cc in
                       ap (λ (s : Sym). other s.0) (sym same) ∙ own_is ∙ sym to.2;
                   shown = λ none. let wrong : Some guess ≡ None = sym has_guess ∙ none in cc;
+                  phases = λ watched phase next is.
+                      subst (λ (event : Event). IsPhaseAfter watched phase event next) (sym to.1)
+                      (tells.phases v other (other guess.0) from.2 watched phase at next
+                      (subst (λ (l : Label). IsPhaseAfterLabel watched phase at l next) (sym from.3)
+                      (subst (λ (event : Event). IsPhaseAfter watched phase event next) of.event is)));
                 }
+
+        not_used : guess_at setting.guesses (suc state.counters.events) ≡ None
+            → used (guess_range program.model (asking.operation v)) (guess_at setting.guesses (suc state.counters.events)) ≡ None
+        not_used without = ap (used (guess_range program.model (asking.operation v))) without ∙ used_none _
+
+        -- a run that passes the child's event next
+        module _ (one : Step) (rest : Act CodeState) (later : Log)
+            (leaves : LeavesAfter (code_step code program budgets) setting (first_of setting log left) (one ∷ []) rest later)
+            (same : one.event ≡ child.event) where
+          abbrev Uses : Option ℤ → Type 0
+          Uses given = used (guess_range program.model (asking.operation v)) (guess_at setting.guesses (suc state.counters.events)) ≡ given
+
+          step_is : (given : Option ℤ) → Uses given → step_with program.model at (asking.operation v) given ≡ one
+          step_is given uses =
+              let (onward, asks) = (first (read_cell setting) v here.fits).1 in
+              only_step code program budgets names state is at setting v left log goes here (asking.operation v) onward asks room given uses one rest later
+              leaves
+
+          own_label : (given : Option ℤ) → Uses given → shows program.model (asking.operation v) given ≡ piece.label
+          own_label given uses = ap (λ (s : Step). s.event.label) (step_is given uses) ∙ ap (λ (event : Event). event.label) (same ∙ of.event)
+
+          -- has come to the child, if its valuation is one of the piece
+          at_child : (given : Option ℤ) → Uses given → Fits v piece.constraints
+              → value_of v piece.answer ≡ result_with program.model (asking.operation v) given → IsAt code program budgets names after setting v rest later
+          at_child given uses fits value =
+              let to = passes_with given uses v (fits_after v fits) (λ symbol declared. refl)
+              (ap (value_of v) (answer_is v here.fits given (own_label given uses)) ∙ value) in
+              let that = one_alone (code_step code program budgets) setting to.0.leaves leaves in
+              subst (λ (act : Act CodeState). IsAt code program budgets names after setting v act later) that.1
+              (subst (λ (l : Log). IsAt code program budgets names after setting v to.0.rest l) that.2 to.0.comes)
+
+          -- an exact piece keeps all valuations under which its label shows
+          by_exact : Exact piece → guess_at setting.guesses (suc state.counters.events) ≡ None → IsAt code program budgets names after setting v rest later
+          by_exact exact without =
+              let some = exact.from is_piece.some.0 is_piece.some.1 in
+              let label = own_label None (not_used without) in
+              let fits = exact.back v here.fits (tells.alike is_piece.some.0 v some.1 (some.2 ∙ sym label)) label in
+              at_child None (not_used without) fits (exact.answer v fits)
+
+          -- and one with the guess of a test those that give its symbol the truth that leads on
+          by_test : OfGuess piece → (given : Option ℤ) → Uses given → IsTruth piece.label
+              → (truth : Bool) → result_with program.model (asking.operation v) given ≡ truth_number truth
+              → v guess.0 ≡ result_with program.model (asking.operation v) given → IsAt code program budgets names after setting v rest later
+          by_test inexact given uses shown truth number own_number =
+              let other : Valuation = is_piece.some.0 in
+              let some = inexact.from other is_piece.some.1 in
+              let test = tells.test v other (other guess.0) some.2 (subst IsTruth (sym some.3) shown) in
+              let result : ℤ = result_with program.model (asking.operation v) given in
+              let label : shows program.model (asking.operation v) (Some result) ≡ piece.label
+              = test.shown (Some result) ∙ sym (test.shown given) ∙ own_label given uses in
+              let kept = inexact.back v result here.fits (λ followed. some.1 (test.followed followed))
+              (subst (asking.IsGuess v) (sym number) (test.may truth)) label in
+              let fits = subst (λ (u : Valuation). Fits u piece.constraints) (with_own guess.0 result v own_number) kept in
+              at_child given uses fits (inexact.answer v fits ∙ own_number)
+
+          comes_back : ListsNoneOrTruth setting child → GivesOwn setting child one.answer v → IsAt code program budgets names after setting v rest later
+          comes_back lists gives = by piece.guessed refl is_piece.meaning lists
+            where
+              next : suc state.counters.events ≡ after.counters.events
+              next = let n = number_is in omega (arith, n)
+
+              guess_is : (guessed : Option Guessed) → piece.guessed ≡ guessed → child.guess ≡ option_map (λ what. guess) guessed
+              guess_is guessed are = of.guessed ∙ ap (option_map (λ what. guess)) are
+
+              by : (guessed : Option Guessed) → piece.guessed ≡ guessed → IsPieceWith program.model state.constraints guess.0 asking guessed piece
+                  → ListsNoneOrTruth setting child → IsAt code program budgets names after setting v rest later
+              by None none exact (inl without) = by_exact exact (ap (guess_at setting.guesses) next ∙ without)
+              by None none exact (inr (some, shown, listed)) =
+                  let wrong : false ≡ true = sym (ap is_some (guess_is None none)) ∙ some in
+                  cc
+              by (Some what) some inexact (inl without) =
+                  let uses = not_used (ap (guess_at setting.guesses) next ∙ without) in
+                  let other : Valuation = is_piece.some.0 in
+                  let from = inexact.from other is_piece.some.1 in
+                  let shown = tells.truth v other (other guess.0) from.2 (from.3 ∙ sym (own_label None uses)) in
+                  let test = tells.test v other (other guess.0) from.2 shown in
+                  by_test inexact None uses (subst IsTruth from.3 shown) test.own.0 test.own.1
+                  (gives guess (guess_is (Some what) some) ∙ ap (λ o. unwrap_or o one.answer) without
+                  ∙ ap (λ (s : Step). s.answer) (sym (step_is None uses)))
+              by (Some what) some inexact (inr (there, shown, listed)) = elim listed [
+                | inl zero_listed ↦ truth_listed false zero_listed
+                | inr one_listed ↦ truth_listed true one_listed
+              ]
+                where
+                  truth_listed : (truth : Bool) → guess_at setting.guesses after.counters.events ≡ Some (truth_number truth)
+                      → IsAt code program budgets names after setting v rest later
+                  truth_listed truth is_listed =
+                      let label : IsTruth piece.label = subst IsTruth (ap (λ (event : Event). event.label) of.event) shown in
+                      let other : Valuation = is_piece.some.0 in
+                      let from = inexact.from other is_piece.some.1 in
+                      let test = tells.test v other (other guess.0) from.2 (subst IsTruth (sym from.3) label) in
+                      let uses = ap (used (guess_range program.model (asking.operation v))) (ap (guess_at setting.guesses) next ∙ is_listed)
+                      ∙ (may v (truth_number truth) here.fits (test.may truth)).used_is in
+                      by_test inexact (Some (truth_number truth)) uses label truth refl
+                      (gives guess (guess_is (Some what) some) ∙ ap (λ o. unwrap_or o one.answer) is_listed)
 
       -- the piece makes a child
       is_child : IsChildOf code program budgets names rules state child
@@ -280,6 +397,7 @@ module _ (code : Code) (program : TypedProgram) (budgets : RunBudgets) (names : 
         asked = subst (λ (n : ℕ). AreGuessesAfter n child.guess state.asked after.asked) (sym number_is) of.asked;
         fits = fits_state;
         passes = λ setting v left log goes here fits agrees. child_passes setting v left log goes here fits agrees;
+        back = λ setting v left rest log later one goes here leaves same lists gives. comes_back setting v left log goes here one rest later leaves same lists gives;
       }
         where
           by_guess : (symbol : Sym) → child.guess ≡ Some symbol → (guessed : Option Guessed) → piece.guessed ≡ guessed
@@ -327,6 +445,7 @@ module _ (code : Code) (program : TypedProgram) (budgets : RunBudgets) (names : 
             others = later.others;
             guess = later.guess;
             shown = later.shown;
+            phases = later.phases;
           }
 
     label_is : (piece : Piece) (child : Child) → IsOfPiece rules state at guess piece child → child.event.label ≡ piece.label

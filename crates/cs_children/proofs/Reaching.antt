@@ -8,6 +8,7 @@ use Rattle.cs_events.specs.declared.outcome.Outcome.{Outcome}
 use Rattle.cs_events.specs.declared.outcome.RunBudgets.{RunBudgets}
 use Rattle.cs_events.specs.Acts.{Act}
 use Rattle.cs_events.specs.Runs.{Setting, Log, guess_at}
+use Rattle.cs_event_runs.specs.First.{Step, first_of}
 use Rattle.cs_cfg.specs.Graph.{Code}
 use Rattle.cs_cfg.specs.Working.{CodeState}
 use Rattle.cs_cfg.specs.CodeSteps.{code_step}
@@ -17,9 +18,10 @@ use Rattle.cs_state.specs.Valuations.{Guessed as Guesses}
 use Rattle.cs_explored.specs.declared.child.Child.{Child}
 use Rattle.cs_explored.specs.declared.watch.Rule.{Rule}
 use Rattle.cs_explored.specs.Watching.{IsPhaseAfter}
-use Rattle.cs_successors.specs.EntryRuns.{Proceeds, stays}
+use Rattle.cs_successors.specs.EntryRuns.{LeavesAfter, Proceeds, stays}
 use Rattle.cs_successors.specs.Coming.{IsIntegerState, StateEnd, OutcomesDiffer, GoesBy, IsAt, PassesTo, EndsIn, IsChildOf, IsEndOf}
-use Rattle.cs_successors.specs.Coming.{AreGuessesAfter, ComesToChild, ComesToEnd, ComesOfState, IsReachedFrom}
+use Rattle.cs_successors.specs.Coming.{AreGuessesAfter, ListsNoneOrTruth, GivesOwn, ComesToChild, ComesToEnd, ComesOfState, IsReachedFrom}
+use Rattle.cs_successors.proofs.Passing.{after_silent_steps, leaves_no_end}
 use Rattle.cs_successors.proofs.Proceeding.{proceeds_on, leaves_on}
 
 -- items of a list stay where others come after it, and are there where others come before it
@@ -79,6 +81,7 @@ module _ (code : Code) (program : TypedProgram) (budgets : RunBudgets) (names : 
       others = comes.others;
       guess = comes.guess;
       shown = comes.shown;
+      phases = comes.phases;
     }
 
     end_after : (ends : List StateEnd) → ComesToEnd code program budgets names ends setting valuation rest later
@@ -181,6 +184,21 @@ module _ (code : Code) (program : TypedProgram) (budgets : RunBudgets) (names : 
         → first.event.label ≡ second.event.label → one ≡ other
 
   module _ (rules : List Rule) (before one : State) (ends : List StateEnd) (reached : IsReachedFrom code program budgets names before one ends) where
+    -- a run that passes the event of a child comes to the state that was reached first
+    came_back : (child : Child) → IsChildOf code program budgets names rules one child → (setting : Setting) (valuation : Valuation)
+        (left rest : Act CodeState) (log later : Log) (shown : Step) → GoesBy code program budgets names setting
+        → IsAt code program budgets names before setting valuation left log
+        → LeavesAfter step setting (first_of setting log left) (shown ∷ []) rest later → shown.event ≡ child.event
+        → ListsNoneOrTruth setting child → GivesOwn setting child shown.answer valuation
+        → IsAt code program budgets names child.state.value setting valuation rest later
+    came_back child is setting valuation left rest log later shown goes at leaves same lists gives =
+        elim (reached.covers setting valuation left log goes at) [
+          | inl fits ↦
+              let way = reached.comes setting valuation left log goes at fits in
+              is.back setting valuation way.rest rest way.later later shown goes way.comes (after_silent_steps step setting way.proceeds leaves) same lists gives
+          | inr end ↦ absurd (leaves_no_end step setting end.ending.proceeds end.ending.ends leaves)
+        ]
+
     child_of_first : (child : Child) → IsChildOf code program budgets names rules one child → IsChildOf code program budgets names rules before child
     unfolding passes_after
     child_of_first child is = record {
@@ -195,6 +213,7 @@ module _ (code : Code) (program : TypedProgram) (budgets : RunBudgets) (names : 
           let way = reached.comes setting valuation left log goes at (is.fits valuation fits) in
           let there = is.passes setting valuation way.rest way.later goes way.comes fits guesses in
           (passes_after setting valuation left way.rest log way.later way.proceeds child.state.value there.0, there.1);
+      back = came_back child is;
     }
 
     -- all that comes of the state that was reached, and the ends on the way to it

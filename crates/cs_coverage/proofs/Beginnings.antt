@@ -55,7 +55,7 @@ use Rattle.cs_successors.specs.EntryRuns.{setting_with}
 use Rattle.cs_coverage.specs.IntegerEntries.{HasIntegerParameters}
 use Rattle.cs_coverage.specs.OwnNumbers.{input_number, kind_in, number_of as number_for, own_valuation, received_by}
 use Rattle.cs_coverage.specs.Closing.{IsBeginning}
-use Rattle.cs_coverage.proofs.OwnBeginnings.{IsScalar, first_at, own_fits}
+use Rattle.cs_coverage.proofs.OwnBeginnings.{IsScalar, parameter_number, own_fits}
 
 -- what is found where nothing is
 nothing_found : {V : Type 0} (o : ℕ) (x : V) → finite.get (finite.empty {X = V} {R = key_cmp}) (o, 0) ≡ Some x → ⊥
@@ -183,12 +183,7 @@ module _ (code : Code) (program : TypedProgram) (entry : ℕ) (budgets : RunBudg
     -- a parameter's symbol has the number of its input
     pub own_is : (number : ℕ) (v : Variable) → slice_get parameters number ≡ Some v → (symbol : ℕ)
         → slice_get given.syms symbol ≡ Some (Input (parameter_path v)) → own symbol ≡ input_number program.model (input_kind v.ty) (inputs (parameter_path v))
-    own_is number v there symbol named =
-        let found = first_at parameters [] v number there in
-        let one : found.place ≡ number = differ found.place number found.v v found.there there (same_name found.v v found.same) in
-        let same : found.v ≡ v = same_Some found.v v (sym found.there ∙ subst (λ n. slice_get parameters n ≡ Some v) (sym one) there) in
-        ap (λ o. unwrap_or (option_map (number_for (setting_with program budgets inputs []) (received_by program entry ++ []) []) o) (pos 0)) named
-        ∙ ap (λ k. input_number program.model k (inputs (parameter_path v))) (found.kind ∙ ap (λ (w : Variable). input_kind w.ty) same)
+    own_is number v there symbol named = parameter_number program entry budgets given differ number v there symbol named inputs [] [] empty
 
     holds_number : (v : Variable) (number : ℕ) → slice_get parameters number ≡ Some v → (value : Value) (shape : Shape) (ty : IntType)
         → v.ty ≡ shape → shape ≡ integer ty → HoldsValue program given shape (parameter_path v) v.block value state
@@ -381,5 +376,6 @@ module _ (code : Code) (program : TypedProgram) (entry : ℕ) (budgets : RunBudg
   is_beginning = record {
     answers = start.answers;
     events = ap (λ (c : Counters). c.events) start.counters;
+    phase = start.phase;
     covers = λ inputs. (own inputs, fits_own inputs, meaning_is inputs);
   }

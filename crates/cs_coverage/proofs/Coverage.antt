@@ -1,12 +1,13 @@
 -- In a closed graph in which no row waits, each run without guesses stands at a row at its beginning and directly after each of its events, and at an
 -- end at its end.
 use Rattle.std.proofs.Common.{◌≡◌, ◌⊎◌, inl, inr, ℕ, ℤ, List, [], ◌∷◌, ◌++◌, map, length, refl, sym, ap, ◌∙◌, subst}
-use Rattle.std.proofs.lemmas.List.{append_assoc}
+use Rattle.std.proofs.lemmas.List.{append-nil, append_assoc, map-append}
 use Rattle.std.proofs.lemmas.List.Elements.{All-get_or}
 use Rattle.std.proofs.lemmas.Option.{slice_get_within, get_or_from_slice_get}
 use Rattle.std.specs.Prelude.{slice_get, Some, All}
 use Rattle.cs_inputs.specs.declared.path.Path.{Path}
 use Rattle.cs_ast.specs.TypedProgram.{TypedProgram}
+use Rattle.cs_events.specs.declared.event.Event.{Event}
 use Rattle.cs_events.specs.declared.outcome.Outcome.{Outcome}
 use Rattle.cs_events.specs.declared.outcome.RunBudgets.{RunBudgets}
 use Rattle.cs_events.specs.Acts.{Act}
@@ -22,12 +23,14 @@ use Rattle.cs_explored.specs.declared.explored.End.{End}
 use Rattle.cs_explored.specs.declared.explored.Row.{Row}
 use Rattle.cs_explored.specs.declared.watch.Rule.{Rule}
 use Rattle.cs_progress.specs.Stepping.{end_of, result_in, HasReturned}
-use Rattle.cs_successors.specs.EntryRuns.{setting_with, step_of, start_of, LeavesAfter, now, later, unseen, Proceeds, stays, HasLeft, begins, passes, EndsAfter}
+use Rattle.cs_successors.specs.EntryRuns.{events_of, setting_with, step_of, start_of, LeavesAfter, now, later, unseen, Proceeds, stays, HasLeft, begins, passes, EndsAfter}
 use Rattle.cs_successors.specs.Coming.{IsChildOf, IsEndOf, ComesToChild, ComesToEnd}
+use Rattle.cs_keys.specs.Live.{LivePart}
 use Rattle.cs_coverage.specs.Closing.{AreNames, IsClosed}
+use Rattle.cs_coverage.specs.Phases.{IsPhaseAlong, begins as phase_begins, follows}
 use Rattle.cs_coverage.specs.Standing.{StandsAtRow, StandsAtEnd}
 use Rattle.cs_coverage.proofs.Merging.{merged}
-use Rattle.cs_coverage.proofs.Passing.{passes_some, as_proceeds, after_one, ends_after_one, leaves_no_end, ends_alone}
+use Rattle.cs_successors.proofs.Passing.{passes_some, as_proceeds, after_one, ends_after_one, leaves_no_end, ends_alone}
 use Rattle.cs_successors.proofs.Proceeding.{proceeds_on}
 
 tail_is : (one other : Step) (steps more : List Step) → one ∷ steps ≡ other ∷ more → more ≡ steps
@@ -50,14 +53,14 @@ module _ (code : Code) (program : TypedProgram) (entry : ℕ) (budgets : RunBudg
   abbrev here : Setting
   here = setting_with program budgets inputs []
 
-  abbrev AtRow : Act CodeState → Log → Type 0
-  AtRow left log = StandsAtRow code program entry budgets names rows here left log
+  abbrev AtRow : List Event → Act CodeState → Log → Type 0
+  AtRow events left log = StandsAtRow code program entry budgets names rules rows here events left log
 
   abbrev step : CodeState → Act CodeState
   step = step_of code program entry budgets
 
   -- at its beginning a run stands at the first row
-  at_first : (left : Act CodeState) (log : Log) → left ≡ step (start_of code program entry budgets here) → log ≡ empty → AtRow left log
+  at_first : (left : Act CodeState) (log : Log) → left ≡ step (start_of code program entry budgets here) → log ≡ empty → AtRow [] left log
   at_first left log is none =
       let begins = closed.first.begins names are in
       let own = begins.covers inputs in
@@ -73,10 +76,11 @@ module _ (code : Code) (program : TypedProgram) (entry : ℕ) (budgets : RunBudg
               ∙ (λ i. left_of (read_cell here) (map (value_of own.0) (sym begins.answers i)) (step (sym own.2 i)));
           passed = ap (λ (l : Log). length l.events) none ∙ sym begins.events;
         };
+        phase = subst (IsPhaseAlong rules []) (sym begins.phase) phase_begins;
       }
 
   -- from a row a run comes to a child, or to an end
-  comes : (left : Act CodeState) (log : Log) (at : AtRow left log)
+  comes : {events : List Event} (left : Act CodeState) (log : Log) (at : AtRow events left log)
       → let parts = closed.expanded at.number at.row at.there (λ waits. waits) in
       ComesToChild code program budgets names parts.made here at.valuation left log
       ⊎ ComesToEnd code program budgets names parts.endings here at.valuation left log
@@ -85,10 +89,10 @@ module _ (code : Code) (program : TypedProgram) (entry : ℕ) (budgets : RunBudg
       (record { model = refl; limits = refl }) at.at refl
 
   -- a run that comes to a child stands at a row then
-  at_child : (left : Act CodeState) (log : Log) (at : AtRow left log)
+  at_child : {events : List Event} (left : Act CodeState) (log : Log) (at : AtRow events left log)
       (child : ComesToChild code program budgets names (closed.expanded at.number at.row at.there (λ waits. waits)).made here at.valuation left log)
-      → AtRow child.to.rest child.to.later
-  at_child left log at child =
+      → AtRow (events ++ child.to.one.event ∷ []) child.to.rest child.to.later
+  at_child {events = events} left log at child =
       let parts = closed.expanded at.number at.row at.there (λ waits. waits) in
       let found = parts.children child.place child.child child.there in
       let state = closed.states found.number found.row found.there in
@@ -104,37 +108,51 @@ module _ (code : Code) (program : TypedProgram) (entry : ℕ) (budgets : RunBudg
         at = merged code program budgets names child.child.state.value found.row.state.value found.same
             (record { plain = found.plain; blocks = own.integer.blocks }) (record { plain = state.plain; blocks = integer.blocks }) child.after
             possible.0 possible.1 here child.to.rest child.to.later child.to.comes;
+        phase =
+            subst (IsPhaseAlong rules (events ++ child.to.one.event ∷ [])) (ap (λ (l : LivePart). l.phase) found.same)
+            (follows child.to.one.event at.phase (child.phases rules at.row.state.value.phase child.child.state.value.phase own.phase));
       }
 
   -- directly after each event
-  positions : (steps : List Step) (between left : Act CodeState) (before log : Log) → AtRow between before
-      → LeavesAfter step here (first_of here before between) steps left log → AtRow left log
-  positions [] between left before log at leaves = absurd (passes_some step here leaves refl)
-  positions (one ∷ steps) between left before log at leaves =
+  positions : (events : List Event) (steps : List Step) (between left : Act CodeState) (before log : Log) → AtRow events between before
+      → LeavesAfter step here (first_of here before between) steps left log → AtRow (events ++ events_of steps) left log
+  positions events [] between left before log at leaves = absurd (passes_some step here leaves refl)
+  positions events (one ∷ steps) between left before log at leaves =
       elim (comes between before at) [
-        | inl child ↦ elim (after_one step here child.to.leaves leaves) [
-          | inl last ↦ subst (λ act. AtRow act log) last.1 (subst (λ l. AtRow child.to.rest l) last.2 (at_child between before at child))
-          | inr more ↦ positions steps child.to.rest left child.to.later log (at_child between before at child)
-              (subst (λ s. LeavesAfter step here (first_of here child.to.later child.to.rest) s left log)
-              (tail_is one child.to.one steps more.0 more.1) more.2)
-        ]
+        | inl child ↦
+            let next : AtRow (events ++ child.to.one.event ∷ []) child.to.rest child.to.later = at_child between before at child in
+            elim (after_one step here child.to.leaves leaves) [
+              | inl last ↦
+                  let all_are : events_of (child.to.one ∷ []) ≡ events_of (one ∷ steps) = ap events_of (sym last.0) in
+                  subst (λ (all : List Event). AtRow (events ++ all) left log) all_are
+                  (subst (λ act. AtRow (events ++ child.to.one.event ∷ []) act log) last.1
+                  (subst (λ l. AtRow (events ++ child.to.one.event ∷ []) child.to.rest l) last.2 next))
+              | inr more ↦
+                  let rest = positions (events ++ child.to.one.event ∷ []) steps child.to.rest left child.to.later log next
+                  (subst (λ s. LeavesAfter step here (first_of here child.to.later child.to.rest) s left log)
+                  (tail_is one child.to.one steps more.0 more.1) more.2) in
+                  subst (λ (all : List Event). AtRow all left log)
+                  (append_assoc events (child.to.one.event ∷ []) (events_of steps)
+                  ∙ (λ i. events ++ (head_is one child.to.one steps more.0 more.1 i).event ∷ events_of steps)) rest
+            ]
         | inr end ↦ absurd (leaves_no_end step here end.ending.proceeds end.ending.ends leaves)
       ]
 
-  pub stands_at_row : (steps : List Step) (left : Act CodeState) (log : Log) → HasLeft code program entry budgets here steps left log → AtRow left log
+  pub stands_at_row : (steps : List Step) (left : Act CodeState) (log : Log) → HasLeft code program entry budgets here steps left log
+      → AtRow (events_of steps) left log
   stands_at_row steps left log (begins is none) = at_first left log is none
   stands_at_row steps left log (passes (now e)) = cc
   stands_at_row steps left log (passes (later e rest)) = cc
   stands_at_row steps left log (passes (unseen {next = next} {before = before} e rest)) =
       let nexts : next ≡ start_of code program entry budgets here = cc in
       let logs : before ≡ empty = cc in
-      positions steps (step next) left before log (at_first (step next) before (ap step nexts) logs) rest
+      positions [] steps (step next) left before log (at_first (step next) before (ap step nexts) logs) rest
 
   -- at its end, after the steps that it has passed so far and those that it passes then
-  endings : (passed steps : List Step) (between : Act CodeState) (before : Log) (outcome : Outcome) (log : Log) → AtRow between before
+  endings : (passed steps : List Step) (between : Act CodeState) (before : Log) (outcome : Outcome) (log : Log) → AtRow (events_of passed) between before
       → Proceeds step here (step (start_of code program entry budgets here)) empty passed between before
       → RunsTo step here (first_of here before between) steps outcome log
-      → StandsAtEnd code program entry budgets names ends here (passed ++ steps) outcome log
+      → StandsAtEnd code program entry budgets names rules ends here (passed ++ steps) outcome log
   endings passed [] between before outcome log at way runs =
       elim (comes between before at) [
         | inl child ↦
@@ -161,6 +179,9 @@ module _ (code : Code) (program : TypedProgram) (entry : ℕ) (budgets : RunBudg
               };
               valuation = at.valuation;
               at = end.ending.comes;
+              phase =
+                  subst (λ (all : List Step). IsPhaseAlong rules (events_of all) end.end.1.value.phase) (sym (append-nil passed))
+                  (subst (IsPhaseAlong rules (events_of passed)) (sym one.phase) at.phase);
               locals = one.locals;
               integers = one.integers;
               returned =
@@ -173,9 +194,11 @@ module _ (code : Code) (program : TypedProgram) (entry : ℕ) (budgets : RunBudg
         | inl child ↦
             let more = ends_after_one step here child.to.leaves runs in
             let same = head_is one child.to.one steps more.0 more.1 in
-            subst (λ all. StandsAtEnd code program entry budgets names ends here all outcome log)
+            subst (λ all. StandsAtEnd code program entry budgets names rules ends here all outcome log)
             (append_assoc passed (child.to.one ∷ []) steps ∙ (λ i. passed ++ same i ∷ steps))
-            (endings (passed ++ child.to.one ∷ []) steps child.to.rest child.to.later outcome log (at_child between before at child)
+            (endings (passed ++ child.to.one ∷ []) steps child.to.rest child.to.later outcome log
+            (subst (λ (all : List Event). AtRow all child.to.rest child.to.later)
+            (sym (map-append (λ (it : Step). it.event) passed (child.to.one ∷ []))) (at_child between before at child))
             (proceeds_on step here way (as_proceeds step here child.to.leaves))
             (subst (λ s. RunsTo step here (first_of here child.to.later child.to.rest) s outcome log) (tail_is one child.to.one steps more.0 more.1) more.2))
         | inr end ↦
@@ -184,7 +207,7 @@ module _ (code : Code) (program : TypedProgram) (entry : ℕ) (budgets : RunBudg
       ]
 
   pub stands_at_end : (steps : List Step) (outcome : Outcome) (log : Log) → EndsAfter code program entry budgets here steps outcome log
-      → StandsAtEnd code program entry budgets names ends here steps outcome log
+      → StandsAtEnd code program entry budgets names rules ends here steps outcome log
   stands_at_end steps outcome log (run_ends e) = cc
   stands_at_end steps outcome log (run_shows e rest) = cc
   stands_at_end steps outcome log (run_silently {next = next} {log = before} e rest) =

@@ -4,7 +4,6 @@ pub mod AlikeEntries
 pub mod LiveTerms
 pub mod LiveMeaning
 pub mod Merging
-pub mod Passing
 pub mod Coverage
 pub mod ReadingNothing
 pub mod LocalsRead

@@ -36,8 +36,9 @@ use Rattle.cs_cfg.specs.Graph.{Code}
 use Rattle.cs_constraints.specs.Constraints.{Fits}
 use Rattle.cs_state.specs.declared.state.State.{State}
 use Rattle.cs_state.specs.Naming.{Naming}
-use Rattle.cs_state.specs.Starting.{IsStart, HoldsValue, Ranges}
+use Rattle.cs_state.specs.Starting.{IsStart, HoldsValue, Ranges, DifferInName}
 use Rattle.cs_state.proofs.Inhabited.{zero_held}
+use Rattle.cs_state.proofs.Received.{same_name}
 use Rattle.cs_successors.specs.EntryRuns.{setting_with}
 use Rattle.cs_coverage.specs.OwnNumbers.{input_number, kind_in, number_of, own_valuation, received_by}
 
@@ -111,6 +112,20 @@ in_range model ty number = by (lies_in (numbers_of model ty) number) refl
 is_truth : (b : Bool) → IsTrue (lies_in TRUTHS (truth_number b))
 is_truth true = refl
 is_truth false = refl
+
+-- a parameter's symbol has the number of its input, in each run and whatever it reads later
+pub parameter_number : (program : TypedProgram) (entry : ℕ) (budgets : RunBudgets) (names : Naming) → DifferInName (parameters_of (routine_of program entry))
+    → (number : ℕ) (v : Variable) → slice_get (parameters_of (routine_of program entry)) number ≡ Some v → (symbol : ℕ)
+    → slice_get names.syms symbol ≡ Some (Input (parameter_path v)) → (inputs : Path → ℤ) (guesses : List Guess) (steps : List Step) (log : Log)
+    → own_valuation program entry names (setting_with program budgets inputs guesses) steps log symbol
+    ≡ input_number program.model (input_kind v.ty) (inputs (parameter_path v))
+parameter_number program entry budgets names differ number v there symbol named inputs guesses steps log =
+    let parameters : List Variable = parameters_of (routine_of program entry) in
+    let found = first_at parameters log.read v number there in
+    let one : found.place ≡ number = differ found.place number found.v v found.there there (same_name found.v v found.same) in
+    let same : found.v ≡ v = same_Some found.v v (sym found.there ∙ subst (λ n. slice_get parameters n ≡ Some v) (sym one) there) in
+    ap (λ o. unwrap_or (option_map (number_of (setting_with program budgets inputs guesses) (received_by program entry ++ log.read) steps) o) (pos 0)) named
+    ∙ ap (λ k. input_number program.model k (inputs (parameter_path v))) (found.kind ∙ ap (λ (w : Variable). input_kind w.ty) same)
 
 module _ (program : TypedProgram) (names : Naming) (state : State) (once : HasEachOnce names.syms) where
   -- a symbol may have each number of the range that the state has for its name

@@ -1,4 +1,4 @@
--- A closed graph covers all positions of runs without guesses: for `CoversPositions`.
+-- A closed graph covers all positions of runs without guesses, with the phases of their events: for `CoversPositions` and `CoversPhases`.
 use Rattle.std.proofs.Common.{ℕ, List, [], ◌∙◌}
 use Rattle.std.specs.Prelude.{Bool}
 use Rattle.cs_ast.specs.TypedProgram.{TypedProgram}
@@ -22,7 +22,7 @@ use Rattle.cs_successors.specs.EntryRuns.{setting_with}
 use Rattle.cs_successors.specs.Coming.{IsAt}
 use Rattle.cs_coverage.specs.Closing.{AreNames, IsClosed}
 use Rattle.cs_coverage.specs.Covering.{HasAllNodes}
-use Rattle.cs_coverage.specs.Positions.{CoversPositions}
+use Rattle.cs_coverage.specs.Positions.{CoversPositions, CoversPhases}
 use Rattle.cs_coverage.proofs.Coverage.{stands_at_row, stands_at_end}
 use Rattle.cs_coverage.proofs.LocalsRead.{any_cells}
 
@@ -59,33 +59,46 @@ module _ (code : Code) (program : TypedProgram) (entry : ℕ) (budgets : RunBudg
   are = themselves names numbered
 
   -- the rows' and the ends' states are states of integer code, in which no cells of inputs matter
-  pub covers_positions : CoversPositions code program entry budgets explored
-  covers_positions = record {
+  pub covers_phases : CoversPhases code program entry budgets rules explored
+  covers_phases = record {
     positions = λ all inputs steps left log has none.
         let at = stands_at_row code program entry budgets rules names explored.rows.items explored.ends.items (closed all) names are inputs steps left log has in
         let state = ((closed all).states at.number at.row at.there).integer names are in
         record {
-          number = at.number;
-          row = at.row;
-          there = at.there;
-          valuation = at.valuation;
-          stands = stands_for code program budgets names at.row.state.value state.locals state.integers (setting_with program budgets inputs []) at.valuation left
-              log at.at;
+          position = record {
+            number = at.number;
+            row = at.row;
+            there = at.there;
+            valuation = at.valuation;
+            stands = stands_for code program budgets names at.row.state.value state.locals state.integers (setting_with program budgets inputs []) at.valuation
+                left log at.at;
+          };
+          phase = at.phase;
         };
     endings = λ all inputs steps outcome log runs none.
         let at = stands_at_end code program entry budgets rules names explored.rows.items explored.ends.items (closed all) names are inputs steps outcome log
         runs in
         record {
-          number = at.number;
-          end = at.end;
-          there = at.there;
-          ended = at.ended;
-          last = at.last;
-          before = at.before;
-          ends_with = at.ends_with;
-          valuation = at.valuation;
-          stands = stands_for code program budgets names at.end.state.value at.locals at.integers (setting_with program budgets inputs []) at.valuation at.last
-              at.before at.at;
-          returned = at.returned;
+          ending = record {
+            number = at.number;
+            end = at.end;
+            there = at.there;
+            ended = at.ended;
+            last = at.last;
+            before = at.before;
+            ends_with = at.ends_with;
+            valuation = at.valuation;
+            stands = stands_for code program budgets names at.end.state.value at.locals at.integers (setting_with program budgets inputs []) at.valuation
+                at.last at.before at.at;
+            returned = at.returned;
+          };
+          phase = at.phase;
         };
+  }
+
+  -- so all positions are covered
+  pub covers_positions : CoversPositions code program entry budgets explored
+  covers_positions = record {
+    positions = λ all inputs steps left log has none. (covers_phases.positions all inputs steps left log has none).position;
+    endings = λ all inputs steps outcome log runs none. (covers_phases.endings all inputs steps outcome log runs none).ending;
   }

@@ -60,6 +60,7 @@ HaveKeys graph = (number : ℕ) (key : List ℕ) (row : Row) → slice_get graph
 pub record IsBeginning (code : Code) (program : TypedProgram) (entry : ℕ) (names : Naming) (state : State) : Type 0 where
   pub answers : state.answers ≡ []
   pub events : state.counters.events ≡ 0
+  pub phase : state.phase ≡ 0
   pub covers : (inputs : Path → ℤ) → (valuation : Valuation) × Fits valuation state.constraints
       × (meaning code names program state valuation ≡ code_started code program inputs entry (routine_of program entry))
 

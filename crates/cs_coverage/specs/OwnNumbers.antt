@@ -11,6 +11,7 @@ use Rattle.cs_ast.specs.TypedProgram.{TypedProgram, Variable}
 use Rattle.cs_terms.specs.declared.symbol.SymName.{SymName}
 use Rattle.cs_terms.specs.declared.symbol.SymName.TheVariants.{Input, Guess as GuessAt}
 use Rattle.cs_terms.specs.Term.{Valuation}
+use Rattle.cs_events.specs.declared.event.Event.{Event}
 use Rattle.cs_events.specs.declared.guess.Guess.{Guess}
 use Rattle.cs_events.specs.declared.input.InputKind.{InputKind}
 use Rattle.cs_events.specs.declared.input.InputKind.TheVariants.{Integer, Pointer, Allocation, Nothing}
@@ -23,10 +24,9 @@ use Rattle.cs_event_runs.specs.First.{Step}
 use Rattle.cs_meaning.specs.Machine.{routine_of}
 use Rattle.cs_meaning.specs.Steps.{parameter_path, parameters_of}
 use Rattle.cs_state.specs.declared.asked.Asked.{Asked}
-use Rattle.cs_state.specs.declared.asked.Asks.{Asks}
-use Rattle.cs_state.specs.declared.asked.Asks.TheVariants as asks
 use Rattle.cs_state.specs.declared.state.State.{State}
 use Rattle.cs_state.specs.Naming.{Naming}
+use Rattle.cs_successors.specs.Coming.{IsTruth, ListsTruth}
 
 -- what the number of an input is where a scalar is read from it: itself, or 0 where the type doesn't hold it; 0 for null or no block, and 1 for a block
 abbrev pub input_number : DataModel → InputKind → ℤ → ℤ
@@ -69,26 +69,14 @@ own_valuation program entry names setting steps log sym =
 abbrev pub IsGuessedAt : State → ℕ → Type 0
 IsGuessedAt state event = (asked : Asked) × Contains (finite.values state.asked) asked × (asked.event ≡ event)
 
--- a comparison or an order test
-abbrev pub IsTest : Asks → Type 0
-IsTest (asks.Compare op) = Unit {0}
-IsTest asks.Order = Unit {0}
-IsTest asks.Product = Unit {0}
-IsTest (asks.Binary op ty) = ⊥
-IsTest (asks.Convert ty) = ⊥
-IsTest asks.Sum = ⊥
-IsTest asks.Difference = ⊥
-
--- 0 or 1 is listed for an event
-abbrev pub ListsTruth : List Guess → ℕ → Type 0
-ListsTruth guesses event = (guess_at guesses event ≡ Some (pos 0)) ⊎ (guess_at guesses event ≡ Some (pos 1))
-
--- of the events that are meant, each one at which the state has guessed is that of a comparison or an order test, and just for these 0 or 1 is listed
-pub record ListsTruths (state : State) (IsMeant : ℕ → Type 0) (guesses : List Guess) : Type 0 where
-  pub tests : (asked : Asked) → Contains (finite.values state.asked) asked → IsMeant asked.event → IsTest asked.asks
+-- of the events that lead to a state and are meant, each one at which the state has guessed shows the truth of a comparison or of an order test, and just for
+-- these 0 or 1 is listed
+pub record ListsTruths (state : State) (chain : List Event) (IsMeant : ℕ → Type 0) (guesses : List Guess) : Type 0 where
+  pub truths : (passed : ℕ) (event : Event) → slice_get chain passed ≡ Some event → IsMeant (suc passed) → IsGuessedAt state (suc passed)
+      → IsTruth event.label
   pub listed : (event : ℕ) → IsMeant event → IsGuessedAt state event → ListsTruth guesses event
   pub elsewhere : (event : ℕ) → IsMeant event → ¬ IsGuessedAt state event → guess_at guesses event ≡ None
 
 -- no guess is listed, or a 0 or a 1 at just the events of the state's guesses
-abbrev pub ListsOwn : State → (ℕ → Type 0) → List Guess → Type 0
-ListsOwn state IsMeant guesses = (guesses ≡ []) ⊎ ListsTruths state IsMeant guesses
+abbrev pub ListsOwn : State → List Event → (ℕ → Type 0) → List Guess → Type 0
+ListsOwn state chain IsMeant guesses = (guesses ≡ []) ⊎ ListsTruths state chain IsMeant guesses

@@ -35,12 +35,12 @@ use Rattle.cs_children.specs.declared.exploration.Exploration.{Exploration}
 use Rattle.cs_children.specs.Finding.{code_of, limits_of, Explores}
 use Rattle.cs_coverage.specs.Closing.{Waits, IsOpen, IsRowState, IsClosed, IsClosedGraph}
 use Rattle.cs_coverage.specs.Covering.{HasAllNodes}
-use Rattle.cs_coverage.specs.Positions.{CoversPositions}
+use Rattle.cs_coverage.specs.Positions.{CoversPositions, CoversPhases}
 use Rattle.cs_coverage.proofs.Beginnings.{is_beginning}
 use Rattle.cs_coverage.proofs.BeginningStates.{begins_integer}
 use Rattle.cs_coverage.proofs.Coverage.{element}
 use Rattle.cs_coverage.proofs.ExpandedRows.{IsFound, graph_given, graph_later, graph_expanded, graph_done, graph_begun}
-use Rattle.cs_coverage.proofs.Positions.{covers_positions}
+use Rattle.cs_coverage.proofs.Positions.{covers_positions, covers_phases}
 use Rattle.cs_coverage.proofs.StartBlocks.{no_blocks}
 use Rattle.cs_engine.specs.Exploring.{program_of, ExploresIntegers, IsOpenGraph, IsClosedAtLast}
 
@@ -159,14 +159,23 @@ module _ (exploration : Exploration) (entry : ℕ) (explores : ExploresIntegers 
         (subst (λ (graph : RowGraph). PlacesAll row made graph after.graph) graph_is places.0) (open_graph before_all)))
 
   -- a closed graph covers all positions
-  pub covered : (findings : Findings) (explored : Explored) → IsNumbered (naming findings.tables).bases → explored.rows.items ≡ findings.graph.rows
-      → explored.ends.items ≡ findings.ends.items → explored.cuts.items ≡ findings.cuts.items → explored.tables ≡ findings.tables
-      → IsClosedAtLast exploration entry findings → CoversPositions code program entry budgets explored
-  covered findings explored numbered rows ends cuts tables done =
-      covers_positions code program entry budgets rules explored
-      (subst (λ (t : Tables). IsNumbered (naming t).bases) (sym tables) numbered)
-      (λ all.
-      subst (λ (t : Tables). IsClosed code program entry budgets rules (naming t) explored.rows.items explored.ends.items (λ number. ⊥)) (sym tables)
-      (subst (λ (l : List Row). IsClosed code program entry budgets rules (naming findings.tables) l explored.ends.items (λ number. ⊥)) (sym rows)
-      (subst (λ (l : List End). IsClosed code program entry budgets rules (naming findings.tables) findings.graph.rows l (λ number. ⊥)) (sym ends)
-      (done (subst HasAllNodes cuts all)))))
+  module _ (findings : Findings) (explored : Explored) (numbered : IsNumbered (naming findings.tables).bases)
+      (rows : explored.rows.items ≡ findings.graph.rows) (ends : explored.ends.items ≡ findings.ends.items)
+      (cuts : explored.cuts.items ≡ findings.cuts.items) (tables : explored.tables ≡ findings.tables) (done : IsClosedAtLast exploration entry findings) where
+    last_numbered : IsNumbered (naming explored.tables).bases
+    last_numbered = subst (λ (t : Tables). IsNumbered (naming t).bases) (sym tables) numbered
+
+    closed_at_last : HasAllNodes explored.cuts.items
+        → IsClosed code program entry budgets rules (naming explored.tables) explored.rows.items explored.ends.items (λ number. ⊥)
+    closed_at_last all =
+        subst (λ (t : Tables). IsClosed code program entry budgets rules (naming t) explored.rows.items explored.ends.items (λ number. ⊥)) (sym tables)
+        (subst (λ (l : List Row). IsClosed code program entry budgets rules (naming findings.tables) l explored.ends.items (λ number. ⊥)) (sym rows)
+        (subst (λ (l : List End). IsClosed code program entry budgets rules (naming findings.tables) findings.graph.rows l (λ number. ⊥)) (sym ends)
+        (done (subst HasAllNodes cuts all))))
+
+    pub covered : CoversPositions code program entry budgets explored
+    covered = covers_positions code program entry budgets rules explored last_numbered closed_at_last
+
+    -- with the phases of their events
+    pub phased : CoversPhases code program entry budgets rules explored
+    phased = covers_phases code program entry budgets rules explored last_numbered closed_at_last

@@ -35,11 +35,13 @@ use Rattle.cs_coverage.proofs.Positions.{themselves}
 use Rattle.cs_coverage.proofs.StartBlocks.{no_blocks}
 use Rattle.cs_exactness.specs.Distinct.{AreDistinct}
 use Rattle.cs_exactness.specs.Noted.{EachNotesEvents}
+use Rattle.cs_exactness.specs.OwnRuns.{HasOwnRuns}
 use Rattle.cs_exactness.specs.Sources.{IsFirstRow, AreSourced, IsSourcedGraph, UnderNames}
 use Rattle.cs_exactness.proofs.DifferentRows.{are_distinct}
 use Rattle.cs_exactness.proofs.ExactRows.{is_exact}
 use Rattle.cs_exactness.proofs.FirstStates.{first_state}
 use Rattle.cs_exactness.proofs.NotedEvents.{each_notes}
+use Rattle.cs_exactness.proofs.OwnRuns.{has_own_runs}
 use Rattle.cs_exactness.proofs.SourcedGraphs.{sources_given, sources_expanded, sources_nothing, sources_begun}
 use Rattle.cs_exactness.proofs.SourcedRows.{sourced_but}
 use Rattle.cs_exactness.proofs.Walking.{integer_row}
@@ -154,20 +156,33 @@ module _ (exploration : Exploration) (entry : ℕ) (explores : ExploresIntegers 
   pub done_full : (findings : Findings) → IsFull findings → IsKept exploration entry Waits findings → IsDone exploration entry findings
   done_full findings full kept = record { closed = λ all. absurd (full all); sources = done_sources findings findings.graph refl kept.sources }
 
-  -- what was found in the end is exact
-  pub exact_at_last : (findings : Findings) (explored : Explored) → IsNumbered (naming findings.tables).bases → HasEachOnce (naming findings.tables).syms
-      → explored.rows.items ≡ findings.graph.rows → explored.ends.items ≡ findings.ends.items → explored.tables ≡ findings.tables
-      → IsDone exploration entry findings → IsExactFor exploration entry explored × AreDistinct explored.rows.items explored.ends.items
-      × EachNotesEvents rules explored.rows.items explored.ends.items
-  exact_at_last findings explored numbered once rows ends tables done =
-      let names : Naming = naming explored.tables in
-      let sourced = done.sources (naming findings.tables) (themselves (naming findings.tables) numbered) once in
-      let all : AreSourced code program entry budgets names rules explored.rows.items explored.ends.items (λ number. ⊥)
-      = subst (λ (t : Tables). AreSourced code program entry budgets (naming t) rules explored.rows.items explored.ends.items (λ number. ⊥)) (sym tables)
-      (subst (λ (l : List Row). AreSourced code program entry budgets (naming findings.tables) rules l explored.ends.items (λ number. ⊥)) (sym rows)
-      (subst (λ (l : List End). AreSourced code program entry budgets (naming findings.tables) rules findings.graph.rows l (λ number. ⊥)) (sym ends)
-      sourced)) in (
-        is_exact code program entry budgets names rules explored.rows.items all.rows_come explored.ends.items (λ number. ⊥) all,
-        are_distinct code program entry budgets names rules explored.rows.items explored.ends.items (λ number. ⊥) all,
-        each_notes code program entry budgets names rules explored.rows.items all.rows_come explored.ends.items (λ number. ⊥) all,
-      )
+  -- what was found in the end comes from rows
+  module _ (findings : Findings) (explored : Explored) (numbered : IsNumbered (naming findings.tables).bases)
+      (once : HasEachOnce (naming findings.tables).syms) (rows : explored.rows.items ≡ findings.graph.rows)
+      (ends : explored.ends.items ≡ findings.ends.items) (tables : explored.tables ≡ findings.tables) (done : IsDone exploration entry findings) where
+    abbrev last_names : Naming
+    last_names = naming explored.tables
+
+    sourced_at_last : AreSourced code program entry budgets last_names rules explored.rows.items explored.ends.items (λ number. ⊥)
+    sourced_at_last =
+        let sourced = done.sources (naming findings.tables) (themselves (naming findings.tables) numbered) once in
+        subst (λ (t : Tables). AreSourced code program entry budgets (naming t) rules explored.rows.items explored.ends.items (λ number. ⊥)) (sym tables)
+        (subst (λ (l : List Row). AreSourced code program entry budgets (naming findings.tables) rules l explored.ends.items (λ number. ⊥)) (sym rows)
+        (subst (λ (l : List End). AreSourced code program entry budgets (naming findings.tables) rules findings.graph.rows l (λ number. ⊥)) (sym ends)
+        sourced))
+
+    -- so it is exact
+    pub exact_at_last : IsExactFor exploration entry explored × AreDistinct explored.rows.items explored.ends.items
+        × EachNotesEvents rules explored.rows.items explored.ends.items
+    exact_at_last = (
+      is_exact code program entry budgets last_names rules explored.rows.items sourced_at_last.rows_come explored.ends.items (λ number. ⊥) sourced_at_last,
+      are_distinct code program entry budgets last_names rules explored.rows.items explored.ends.items (λ number. ⊥) sourced_at_last,
+      each_notes code program entry budgets last_names rules explored.rows.items sourced_at_last.rows_come explored.ends.items (λ number. ⊥)
+          sourced_at_last,
+    )
+
+    -- and its runs fit it
+    pub own_at_last : HasOwnRuns code program entry budgets last_names explored.rows.items explored.ends.items
+    own_at_last =
+        has_own_runs code program entry budgets last_names rules explored.rows.items sourced_at_last.rows_come explored.ends.items (λ number. ⊥)
+        sourced_at_last

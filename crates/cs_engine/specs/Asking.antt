@@ -77,7 +77,7 @@ module _ (code : Code) (program : TypedProgram) (entry : ℕ) (budgets : RunBudg
   abbrev pub ComeOwn : State → Asked → Question → List Event → Event → Type 0
   ComeOwn state asked meant before event =
       (inputs : Path → ℤ) (guesses : List Guess) (steps : List Step) (one : Step) (left : Act CodeState) (log : Log)
-      → ListsOwn state (λ earlier. earlier < asked.event) guesses
+      → ListsOwn state before (λ earlier. earlier < asked.event) guesses
       → HasLeft code program entry budgets (setting_with program budgets inputs guesses) (steps ++ one ∷ []) left log → events_of steps ≡ before
       → IsStepOf program.model asked meant event one (own_valuation program entry names (setting_with program budgets inputs guesses) steps log)
 

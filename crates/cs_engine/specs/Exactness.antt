@@ -10,7 +10,7 @@ use Rattle.cs_explored.specs.declared.explored.Explored.{Explored}
 use Rattle.cs_explored.specs.declared.watch.Rule.{Rule}
 use Rattle.cs_engine.specs.Cuts.{IsCutFor}
 use Rattle.cs_engine.specs.Graphs.{IsExactGraph}
-use Rattle.cs_engine.specs.OwnRuns.{HasOwnRuns}
+use Rattle.cs_exactness.specs.OwnRuns.{HasOwnRuns}
 
 -- rows and ends say just what is so of runs, the runs of their events fit them, and each cut has its reason
 pub record IsExactExploration (code : Code) (program : TypedProgram) (entry : ℕ) (limits : Budgets) (rules : List Rule) (explored : Explored)

@@ -10,10 +10,11 @@ use Rattle.cs_children.specs.Finding.{code_of, limits_of}
 use Rattle.cs_coverage.specs.IntegerEntries.{IsIntegerEntry}
 use Rattle.cs_coverage.specs.Closing.{IsClosed, IsClosedGraph}
 use Rattle.cs_coverage.specs.Covering.{HasAllNodes}
-use Rattle.cs_coverage.specs.Positions.{CoversPositions}
+use Rattle.cs_coverage.specs.Positions.{CoversPositions, CoversPhases}
 use Rattle.cs_exactness.specs.Distinct.{AreDistinct}
 use Rattle.cs_exactness.specs.Exact.{IsExact}
 use Rattle.cs_exactness.specs.Noted.{EachNotesEvents}
+use Rattle.cs_exactness.specs.OwnRuns.{HasOwnRuns}
 use Rattle.cs_exactness.specs.Sources.{AreSourced, IsSourcedGraph, UnderNames}
 
 -- the program that is explored
@@ -64,10 +65,22 @@ abbrev pub CoversIntegers : Exploration → ℕ → Explored → Type 0
 CoversIntegers exploration entry explored =
     ExploresIntegers exploration entry → CoversPositions (code_of exploration) (program_of exploration) entry (limits_of exploration) explored
 
+-- and that with the phases that the watched rules give the runs' events
+abbrev pub CoversPhasesOnIntegers : Exploration → ℕ → Explored → Type 0
+CoversPhasesOnIntegers exploration entry explored =
+    ExploresIntegers exploration entry
+    → CoversPhases (code_of exploration) (program_of exploration) entry (limits_of exploration) exploration.rules.now explored
+
 -- rows and ends stand for the runs of just their valuations
 abbrev pub IsExactFor : Exploration → ℕ → Explored → Type 0
 IsExactFor exploration entry explored =
     IsExact (code_of exploration) (program_of exploration) entry (limits_of exploration) (naming explored.tables) explored.rows.items explored.ends.items
+
+-- the runs of their events fit them under the runs' own numbers, if the entry works with integers alone
+abbrev pub HasOwnOnIntegers : Exploration → ℕ → Explored → Type 0
+HasOwnOnIntegers exploration entry explored =
+    ExploresIntegers exploration entry
+    → HasOwnRuns (code_of exploration) (program_of exploration) entry (limits_of exploration) (naming explored.tables) explored.rows.items explored.ends.items
 
 -- they do, no two are alike, and each state has the guesses and the phase of the events that lead to it, if the entry works with integers alone
 abbrev pub IsExactOnIntegers : Exploration → ℕ → Explored → Type 0

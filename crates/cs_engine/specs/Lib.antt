@@ -2,7 +2,6 @@ pub mod Parameters
 pub mod Exploring
 pub mod Inexact
 pub mod Asking
-pub mod OwnRuns
 pub mod Recorded
 pub mod Graphs
 pub mod Cuts

@@ -7,3 +7,4 @@ pub mod SourcedRows
 pub mod SourcedGraphs
 pub mod FirstStates
 pub mod NotedEvents
+pub mod OwnRuns

@@ -105,7 +105,7 @@ module _ (code : Code) (program : TypedProgram) (entry : ℕ) (budgets : RunBudg
   OfParent number row = IsOfParent code program entry budgets names rules rows number row
 
   -- a state has passed as many events as lead to it
-  passed : {number : ℕ} {chain : List Event} → IsChain rows number chain → (row : Row) → slice_get rows number ≡ Some row
+  pub passed : {number : ℕ} {chain : List Event} → IsChain rows number chain → (row : Row) → slice_get rows number ≡ Some row
       → row.state.value.counters.events ≡ length chain
   passed (first at none) row there = (first_is code program entry budgets names rules rows come row there).first.starts.events
   passed (further {number = number} {row = found} {event = event} {events = events} at before leads chain) row there =
@@ -125,7 +125,7 @@ module _ (code : Code) (program : TypedProgram) (entry : ℕ) (budgets : RunBudg
     state = of.child.state.value
 
     -- what was guessed before comes before
-    early : (asked : Asked) → Contains (finite.values parent.asked) asked → asked.event < state.counters.events
+    pub early : (asked : Asked) → Contains (finite.values parent.asked) asked → asked.event < state.counters.events
     early asked among =
         let integer = integer_row code program entry budgets names rules rows come row.parent of.parent.row of.parent.there in
         let le = integer.guessed asked among in
@@ -135,7 +135,7 @@ module _ (code : Code) (program : TypedProgram) (entry : ℕ) (budgets : RunBudg
     after : AreGuessesAfter state.counters.events of.child.guess parent.asked state.asked
     after = (child_is code program entry budgets names rules rows come number row of).asked
 
-    guess_kept : (event : ℕ) (mark : Sym) → HasGuess parent event mark → HasGuess state event mark
+    pub guess_kept : (event : ℕ) (mark : Sym) → HasGuess parent event mark → HasGuess state event mark
     guess_kept event mark (asked, among, at, stands) = by of.child.guess after
       where
         by : (guess : Option Sym) → AreGuessesAfter state.counters.events guess parent.asked state.asked → HasGuess state event mark
@@ -145,7 +145,7 @@ module _ (code : Code) (program : TypedProgram) (entry : ℕ) (budgets : RunBudg
             let kept = Contains-append_left (finite.values parent.asked) (one ∷ []) asked among in
             (asked, subst (λ (l : List Asked). Contains l asked) (sym values) kept, at, stands)
 
-    guess_new : (mark : Sym) → of.child.guess ≡ Some mark → HasGuess state state.counters.events mark
+    pub guess_new : (mark : Sym) → of.child.guess ≡ Some mark → HasGuess state state.counters.events mark
     guess_new mark is = by of.child.guess is after
       where
         by : (guess : Option Sym) → guess ≡ Some mark → AreGuessesAfter state.counters.events guess parent.asked state.asked
@@ -156,7 +156,7 @@ module _ (code : Code) (program : TypedProgram) (entry : ℕ) (budgets : RunBudg
             let last = subst (λ (l : List Asked). Contains l one) (sym values) (Contains-push (finite.values parent.asked) one) in
             (one, last, number, guess ∙ same_Some symbol mark e)
 
-    guess_split : (event : ℕ) (mark : Sym) → HasGuess state event mark
+    pub guess_split : (event : ℕ) (mark : Sym) → HasGuess state event mark
         → HasGuess parent event mark ⊎ ((event ≡ state.counters.events) × (of.child.guess ≡ Some mark))
     guess_split event mark (asked, among, at, stands) = by of.child.guess refl after
       where
@@ -175,12 +175,12 @@ module _ (code : Code) (program : TypedProgram) (entry : ℕ) (budgets : RunBudg
             ]
 
   -- a row with its parent
-  of_row : (number : ℕ) (found row : Row) → found ≡ row → slice_get rows number ≡ Some row → (event : Event) → found.event ≡ Some event
+  pub of_row : (number : ℕ) (found row : Row) → found ≡ row → slice_get rows number ≡ Some row → (event : Event) → found.event ≡ Some event
       → OfParent number row
   of_row number found row same there event leads =
       next_is code program entry budgets names rules rows come number row there event (ap (λ (r : Row). r.event) (sym same) ∙ leads)
 
-  parent_there : (number : ℕ) (found row : Row) → found ≡ row → (of : OfParent number row) → slice_get rows found.parent ≡ Some of.parent.row
+  pub parent_there : (number : ℕ) (found row : Row) → found ≡ row → (of : OfParent number row) → slice_get rows found.parent ≡ Some of.parent.row
   parent_there number found row same of = subst (λ (r : Row). slice_get rows r.parent ≡ Some of.parent.row) (sym same) of.parent.there
 
   -- a guess of a state was made on the way

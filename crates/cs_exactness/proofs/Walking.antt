@@ -31,7 +31,7 @@ use Rattle.cs_successors.specs.Coming.{IsIntegerState, GoesBy, IsAt, GuessesAs, 
 use Rattle.cs_successors.proofs.Proceeding.{proceeds_on}
 use Rattle.cs_coverage.proofs.Coverage.{element}
 use Rattle.cs_coverage.proofs.LiveMeaning.{none_there}
-use Rattle.cs_coverage.proofs.Passing.{as_proceeds}
+use Rattle.cs_successors.proofs.Passing.{as_proceeds}
 use Rattle.cs_exactness.specs.Chains.{IsChain, first, further}
 use Rattle.cs_exactness.specs.Sources.{HasSource, IsFirstRow, IsOfParent}
 use Rattle.cs_exactness.proofs.Guesses.{AreNumbered, numbered_after, listed_before, listed_here}

@@ -3,3 +3,4 @@ pub mod Distinct
 pub mod Exact
 pub mod Noted
 pub mod Sources
+pub mod OwnRuns

@@ -1,2 +1,3 @@
 pub mod Proceeding
 pub mod Agreeing
+pub mod Passing

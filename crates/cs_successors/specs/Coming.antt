@@ -1,6 +1,6 @@
 -- What comes of a state: the states directly after its next events, and its ends, beside the runs that have come to the state.
-use Rattle.std.specs.Prelude.{◌≡◌, ◌≢◌, ◌⊎◌, ◌≤◌, ℕ, suc, Bool, List, [], ◌∷◌, All, length, Option, None, Some, option_map}
-use Rattle.std.specs.Prelude.{is_some, slice_get, Contains}
+use Rattle.std.specs.Prelude.{◌≡◌, ◌≢◌, ◌⊎◌, ◌≤◌, ℕ, suc, ℤ, pos, Bool, List, [], ◌∷◌, All, length, Option, None, Some, option_map, unwrap_or}
+use Rattle.std.specs.Prelude.{is_some, IsSome, slice_get, Contains}
 use Rattle.std.specs.FinMap as finite
 use Rattle.std.specs.Global.{Box}
 use Rattle.cs_inputs.specs.declared.path.Path.{Path}
@@ -9,6 +9,9 @@ use Rattle.cs_terms.specs.declared.symbol.Sym.{Sym}
 use Rattle.cs_terms.specs.declared.symbol.SymName.TheVariants.{Guess as GuessAt}
 use Rattle.cs_terms.specs.Term.{Valuation}
 use Rattle.cs_constraints.specs.Constraints.{Sets, set_of, Fits}
+use Rattle.cs_events.specs.declared.event.Label.{Label}
+use Rattle.cs_events.specs.declared.event.Label.TheVariants.{Truth}
+use Rattle.cs_events.specs.declared.guess.Guess.{Guess}
 use Rattle.cs_events.specs.declared.input.InputKind.{InputKind}
 use Rattle.cs_events.specs.declared.outcome.Outcome.{Outcome}
 use Rattle.cs_events.specs.declared.outcome.RunBudgets.{RunBudgets}
@@ -54,6 +57,15 @@ abbrev pub AreGuessesAfter : ℕ → Option Sym → Guesses → Guesses → Type
 AreGuessesAfter event None before after = after ≡ before
 AreGuessesAfter event (Some symbol) before after =
     (one : Asked) × (one.event ≡ event) × (one.guess ≡ symbol) × (after ≡ finite.insert before (event, 0) one)
+
+-- a comparison or an order test shows its truth so
+abbrev pub IsTruth : Label → Type 0
+IsTruth (Truth holds) = Unit {0}
+IsTruth other = ⊥
+
+-- 0 or 1 is listed for an event
+abbrev pub ListsTruth : List Guess → ℕ → Type 0
+ListsTruth guesses event = (guess_at guesses event ≡ Some (pos 0)) ⊎ (guess_at guesses event ≡ Some (pos 1))
 
 -- an end of runs, with the state that stands for them
 abbrev pub StateEnd : Type 0
@@ -108,7 +120,19 @@ module _ (code : Code) (program : TypedProgram) (budgets : RunBudgets) (names : 
   GuessesAs setting child valuation =
       guess_at setting.guesses child.state.value.counters.events ≡ option_map (λ (symbol : Sym). valuation symbol.0) child.guess
 
-  -- a child of a state: its valuations are some of the state's, and runs that have come to the state under one of them pass its event to the child
+  -- a run lists no guess at the event of a child; or the child's guess is that of a comparison or an order test, and the run lists 0 or 1 there
+  abbrev pub ListsNoneOrTruth : Setting → Child → Type 0
+  ListsNoneOrTruth setting child =
+      (guess_at setting.guesses child.state.value.counters.events ≡ None)
+      ⊎ (IsSome child.guess × IsTruth child.event.label × ListsTruth setting.guesses child.state.value.counters.events)
+
+  -- a valuation gives the symbol of a child's guess the number that a run lists there, or where it lists none the operation's own result, which leads on
+  abbrev pub GivesOwn : Setting → Child → ℤ → Valuation → Type 0
+  GivesOwn setting child answer valuation = (symbol : Sym) → child.guess ≡ Some symbol
+      → valuation symbol.0 ≡ unwrap_or (guess_at setting.guesses child.state.value.counters.events) answer
+
+  -- a child of a state: its valuations are some of the state's, and runs that have come to the state under one of them pass its event to the child. A run
+  -- without a guess there that passes the child's event has come to the child, and so has one that lists a truth for the child's guess
   pub record IsChildOf (rules : List Rule) (before : State) (child : Child) : Type 0 where
     pub integer : IsIntegerState code program budgets names child.state.value
     pub number : child.state.value.counters.events ≡ suc before.counters.events
@@ -120,6 +144,11 @@ module _ (code : Code) (program : TypedProgram) (budgets : RunBudgets) (names : 
     pub passes : (setting : Setting) (valuation : Valuation) (left : Act CodeState) (log : Log) → GoesBy setting
         → IsAt before setting valuation left log → Fits valuation child.state.value.constraints → GuessesAs setting child valuation
         → (to : PassesTo child.state.value setting valuation left log) × (to.one.event ≡ child.event)
+    pub back : (setting : Setting) (valuation : Valuation) (left rest : Act CodeState) (log later : Log) (one : Step) → GoesBy setting
+        → IsAt before setting valuation left log
+        → LeavesAfter (code_step code program budgets) setting (first_of setting log left) (one ∷ []) rest later → one.event ≡ child.event
+        → ListsNoneOrTruth setting child → GivesOwn setting child one.answer valuation
+        → IsAt child.state.value setting valuation rest later
 
   -- an end of a state: runs that have come to the state under one of its valuations end so
   pub record IsEndOf (before : State) (end : StateEnd) : Type 0 where
@@ -145,6 +174,7 @@ module _ (code : Code) (program : TypedProgram) (budgets : RunBudgets) (names : 
     pub others : (symbol : Sym) → child.guess ≢ Some symbol → after symbol.0 ≡ valuation symbol.0
     pub guess : (symbol : Sym) → child.guess ≡ Some symbol → after symbol.0 ≡ to.one.answer
     pub shown : child.guess ≡ None → to.one.event ≡ child.event
+    pub phases : (rules : List Rule) (phase next : ℕ) → IsPhaseAfter rules phase child.event next → IsPhaseAfter rules phase to.one.event next
 
   -- a run ends as one of the ends
   pub record ComesToEnd (ends : List StateEnd) (setting : Setting) (valuation : Valuation) (left : Act CodeState) (log : Log)

@@ -1,5 +1,5 @@
-use Rattle.cs_engine.proofs.Exploring.{covered}
-use Rattle.cs_engine.proofs.Sourcing.{exact_at_last}
+use Rattle.cs_engine.proofs.Exploring.{covered, phased}
+use Rattle.cs_engine.proofs.Sourcing.{exact_at_last, own_at_last}
 use Rattle.cs_engine.proofs.engine.explore.Goals as goal
 
 pub returns-clause-covers : goal.returns-clause-covers
@@ -8,9 +8,21 @@ returns-clause-covers g c every explores =
     c.explored.ensures.rows c.explored.ensures.all_ends c.explored.ensures.cuts c.explored.ensures.tables
     (c.in_ok-expand_all.ensures.done every c.args.entry explores (c.in_ok-findings.ensures.begins explores)).closed
 
+pub returns-clause-phases : goal.returns-clause-phases
+returns-clause-phases g c every explores =
+    phased c.args.exploration.now c.args.entry explores c.expand_all.new.findings c.explored.result c.have_each_once.ensures.bases
+    c.explored.ensures.rows c.explored.ensures.all_ends c.explored.ensures.cuts c.explored.ensures.tables
+    (c.in_ok-expand_all.ensures.done every c.args.entry explores (c.in_ok-findings.ensures.begins explores)).closed
+
 pub returns-clause-exact : goal.returns-clause-exact
 returns-clause-exact g c every explores =
     exact_at_last c.args.exploration.now c.args.entry explores c.expand_all.new.findings c.explored.result c.have_each_once.ensures.bases
+    c.have_each_once.ensures.syms c.explored.ensures.rows c.explored.ensures.all_ends c.explored.ensures.tables
+    (c.in_ok-expand_all.ensures.done every c.args.entry explores (c.in_ok-findings.ensures.begins explores))
+
+pub returns-clause-own : goal.returns-clause-own
+returns-clause-own g c every explores =
+    own_at_last c.args.exploration.now c.args.entry explores c.expand_all.new.findings c.explored.result c.have_each_once.ensures.bases
     c.have_each_once.ensures.syms c.explored.ensures.rows c.explored.ensures.all_ends c.explored.ensures.tables
     (c.in_ok-expand_all.ensures.done every c.args.entry explores (c.in_ok-findings.ensures.begins explores))
 

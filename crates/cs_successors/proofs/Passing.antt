@@ -1,4 +1,4 @@
--- Runs go on in one way: what comes directly after an event, and that nothing comes after the end. For the coverage of runs.
+-- Runs go on in one way: what comes directly after an event, and that nothing comes after the end. For `back` of `IsChildOf`, and for the coverage of runs.
 use Rattle.std.proofs.Common.{◌≡◌, ◌⊎◌, inl, inr, List, [], ◌∷◌, refl, sym, ◌∙◌, subst}
 use Rattle.cs_events.specs.declared.outcome.Outcome.{Outcome}
 use Rattle.cs_events.specs.Acts.{Act}
@@ -6,6 +6,12 @@ use Rattle.cs_events.specs.Runs.{Setting, Log}
 use Rattle.cs_event_runs.specs.First.{Step, First, Silent, Shown, Ended, first_of}
 use Rattle.cs_event_runs.specs.ByEvents.{RunsTo, ends, shows, silently}
 use Rattle.cs_successors.specs.EntryRuns.{LeavesAfter, now, later, unseen, Proceeds, stays, silently as quietly, shows as passes}
+
+same_head : (one other : Step) (steps more : List Step) → one ∷ steps ≡ other ∷ more → one ≡ other
+same_head one other steps more e = cc
+
+same_tail : (one other : Step) (more : List Step) → other ∷ [] ≡ one ∷ more → more ≡ []
+same_tail one other more e = cc
 
 module _ {M : Type 0} (step : M → Act M) (setting : Setting) where
   -- some step is passed
@@ -97,6 +103,38 @@ module _ {M : Type 0} (step : M → Act M) (setting : Setting) where
   pub after_one : {first : First M} {rest left : Act M} {end log : Log} {steps : List Step} {one : Step}
       → LeavesAfter step setting first (one ∷ []) rest end → LeavesAfter step setting first steps left log → GoesOn one rest end steps left log
   after_one {one = one} first all = after_step one first refl all
+
+  -- one step that is passed next is all that can come next
+  pub one_alone : {first : First M} {rest left : Act M} {end log : Log} {one other : Step} → LeavesAfter step setting first (one ∷ []) rest end
+      → LeavesAfter step setting first (other ∷ []) left log → (one ≡ other) × (rest ≡ left) × (end ≡ log)
+  one_alone {one = one} {other = other} this that = elim (after_one this that) [
+    | inl last ↦ (sym (same_head other one [] [] last.0), last.1, last.2)
+    | inr more ↦ absurd (passes_some more.2 (same_tail one other more.0 more.1))
+  ]
+
+  -- where the next step is silent, what is passed is passed after it
+  past_silent : {Goal : Type 0} {steps : List Step} {rest : Act M} {end : Log} (next : M) (between : Log) (first : First M) → first ≡ Silent next between
+      → (LeavesAfter step setting (first_of setting between (step next)) steps rest end → Goal) → LeavesAfter step setting first steps rest end → Goal
+  past_silent next between first e onward (now {one = one} {left = left} {log = log} f) = not_both first next one left between log e f
+  past_silent next between first e onward (later {one = one} {between = left} {before = log} f more) = not_both first next one left between log e f
+  past_silent {steps = steps} {rest = rest} {end = end} next between first e onward (unseen {next = other} {before = log} f more) =
+      let same = same_silent first next other between log e f in
+      onward (subst (λ m. LeavesAfter step setting (first_of setting between (step m)) steps rest end) (sym same.0)
+      (subst (λ l. LeavesAfter step setting (first_of setting l (step other)) steps rest end) (sym same.1) more))
+
+  past_silence : {left middle rest : Act M} {log between end : Log} {steps none : List Step} → Proceeds step setting left log none middle between
+      → none ≡ [] → LeavesAfter step setting (first_of setting log left) steps rest end → LeavesAfter step setting (first_of setting between middle) steps rest end
+  past_silence {rest = rest} {between = between} {end = end} {steps = steps} (stays {left = left} {last = last} {log = log} is same) empty leaves =
+      subst (λ act. LeavesAfter step setting (first_of setting between act) steps rest end) is
+      (subst (λ l. LeavesAfter step setting (first_of setting l left) steps rest end) same leaves)
+  past_silence {left = left} {log = log} (quietly {next = next} {between = between} is onward) empty leaves =
+      past_silent next between (first_of setting log left) is (λ more. past_silence onward empty more) leaves
+  past_silence (passes is onward) empty leaves = cc
+
+  -- and what is passed after silent steps
+  pub after_silent_steps : {left middle rest : Act M} {log between end : Log} {steps : List Step} → Proceeds step setting left log [] middle between
+      → LeavesAfter step setting (first_of setting log left) steps rest end → LeavesAfter step setting (first_of setting between middle) steps rest end
+  after_silent_steps way leaves = past_silence way refl leaves
 
   -- a run that ends goes on so after one step
   ends_step : {first : First M} {rest : Act M} {later_log end : Log} {passed steps : List Step} {outcome : Outcome} (one : Step)

@@ -33,14 +33,14 @@ module _ (code : Code) (program : TypedProgram) (entry : ℕ) (budgets : RunBudg
   -- a run that passes just these events first fits the state, if it lists no guess, or just the truths that the state has guessed
   abbrev pub FitsAfter : State → List Event → Type 0
   FitsAfter state chain =
-      (inputs : Path → ℤ) (guesses : List Guess) (steps : List Step) (left : Act CodeState) (log : Log) → ListsOwn state IsAny guesses
+      (inputs : Path → ℤ) (guesses : List Guess) (steps : List Step) (left : Act CodeState) (log : Log) → ListsOwn state chain IsAny guesses
       → HasLeft code program entry budgets (setting_with program budgets inputs guesses) steps left log → events_of steps ≡ chain
       → FitsOwn state (setting_with program budgets inputs guesses) steps log
 
   -- so does a run that passes just these events and ends as an end says
   abbrev pub FitsAtEnd : End → List Event → Type 0
   FitsAtEnd end chain =
-      (inputs : Path → ℤ) (guesses : List Guess) (steps : List Step) (outcome : Outcome) (log : Log) → ListsOwn end.state.value IsAny guesses
+      (inputs : Path → ℤ) (guesses : List Guess) (steps : List Step) (outcome : Outcome) (log : Log) → ListsOwn end.state.value chain IsAny guesses
       → EndsAfter code program entry budgets (setting_with program budgets inputs guesses) steps outcome log → events_of steps ≡ chain
       → end.outcome ≡ end_of outcome
       → FitsOwn end.state.value (setting_with program budgets inputs guesses) steps log
