@@ -76,14 +76,14 @@ abbrev pub IsExactFor : Exploration → ℕ → Explored → Type 0
 IsExactFor exploration entry explored =
     IsExact (code_of exploration) (program_of exploration) entry (limits_of exploration) (naming explored.tables) explored.rows.items explored.ends.items
 
--- the runs of their events fit them under the runs' own numbers, if the entry works with integers alone
-abbrev pub HasOwnOnIntegers : Exploration → ℕ → Explored → Type 0
-HasOwnOnIntegers exploration entry explored =
-    ExploresIntegers exploration entry
-    → HasOwnRuns (code_of exploration) (program_of exploration) entry (limits_of exploration) (naming explored.tables) explored.rows.items explored.ends.items
-
 -- they do, no two are alike, and each state has the guesses and the phase of the events that lead to it, if the entry works with integers alone
 abbrev pub IsExactOnIntegers : Exploration → ℕ → Explored → Type 0
 IsExactOnIntegers exploration entry explored =
     ExploresIntegers exploration entry → IsExactFor exploration entry explored × AreDistinct explored.rows.items explored.ends.items
     × EachNotesEvents exploration.rules.now explored.rows.items explored.ends.items
+
+-- the runs whose events lead to rows and ends fit them under their own numbers, if the entry works with integers alone
+abbrev pub HasOwnOnIntegers : Exploration → ℕ → Explored → Type 0
+HasOwnOnIntegers exploration entry explored =
+    ExploresIntegers exploration entry
+    → HasOwnRuns (code_of exploration) (program_of exploration) entry (limits_of exploration) (naming explored.tables) explored.rows.items explored.ends.items

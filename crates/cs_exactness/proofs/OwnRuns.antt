@@ -37,6 +37,7 @@ use Rattle.cs_successors.specs.Coming.{StateEnd, IsTruth, ListsTruth, IsAt, IsEn
 use Rattle.cs_successors.proofs.Passing.{passes_some, ends_after_one, ends_alone}
 use Rattle.cs_coverage.specs.OwnNumbers.{received_by, own_valuation, number_of, answer_at, IsGuessedAt, ListsTruths, ListsOwn}
 use Rattle.cs_coverage.proofs.Coverage.{element}
+use Rattle.cs_coverage.proofs.Positions.{stands_for}
 use Rattle.cs_exactness.specs.Chains.{IsChain, first, further}
 use Rattle.cs_exactness.specs.OwnRuns.{IsAny, FitsAfter, FitsAtEnd, HasOwnRuns}
 use Rattle.cs_exactness.specs.Sources.{HasSource, IsOfParent, IsOfRow, AreSourced}
@@ -379,11 +380,15 @@ module _ (code : Code) (program : TypedProgram) (entry : ℕ) (budgets : RunBudg
         (parts.event_is ∙ sym event_is) (lists_here guesses row of parents_chain event event_is setting refl lists_child)
         (λ symbol guess. gives_own of.child symbol (is_child.named symbol guess) parts.earlier more parts.one all_are count))
 
-  -- so it fits each row
+  -- so it fits each row, which stands for it
   own_row : (number : ℕ) (row : Row) (chain : List Event) → slice_get rows number ≡ Some row → IsChain rows number chain
       → FitsAfter code program entry budgets names row.state.value chain
   own_row number row chain there leads inputs guesses steps left log lists has shown =
-      (along inputs guesses steps log leads row there (so_far row.state.value chain guesses lists) steps [] left log (sym (append-nil steps)) has shown).fits
+      let setting : Setting = setting_with program budgets inputs guesses in
+      let integer = integer_row code program entry budgets names rules rows come number row there in
+      stands_for code program budgets names row.state.value integer.locals integer.integers setting
+      (own_valuation program entry names setting steps log) left log
+      (along inputs guesses steps log leads row there (so_far row.state.value chain guesses lists) steps [] left log (sym (append-nil steps)) has shown)
 
   -- and the end that it comes to
   module _ (end : End) (chain : List Event) (of : IsOfRow code program entry budgets names rules rows end) (leads : IsChain rows end.row chain)

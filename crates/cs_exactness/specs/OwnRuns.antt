@@ -1,5 +1,5 @@
 -- Runs without guesses, and those that guess truths alone, fit the states to which their events lead.
-use Rattle.std.specs.Prelude.{◌≡◌, ℕ, ℤ, List, Some, slice_get}
+use Rattle.std.specs.Prelude.{◌≡◌, ℕ, ℤ, List, [], Some, slice_get}
 use Rattle.cs_inputs.specs.declared.path.Path.{Path}
 use Rattle.cs_ast.specs.TypedProgram.{TypedProgram}
 use Rattle.cs_constraints.specs.Constraints.{Fits}
@@ -8,11 +8,13 @@ use Rattle.cs_events.specs.declared.guess.Guess.{Guess}
 use Rattle.cs_events.specs.declared.outcome.Outcome.{Outcome}
 use Rattle.cs_events.specs.declared.outcome.RunBudgets.{RunBudgets}
 use Rattle.cs_events.specs.Acts.{Act}
-use Rattle.cs_events.specs.Runs.{Setting, Log}
+use Rattle.cs_events.specs.Runs.{Setting, Log, read_cell}
 use Rattle.cs_event_runs.specs.First.{Step}
+use Rattle.cs_event_runs.specs.Left.{left_of}
 use Rattle.cs_cfg.specs.Graph.{Code}
 use Rattle.cs_cfg.specs.Working.{CodeState}
 use Rattle.cs_state.specs.declared.state.State.{State}
+use Rattle.cs_state.specs.Meaning.{StandsFor}
 use Rattle.cs_state.specs.Naming.{Naming}
 use Rattle.cs_explored.specs.declared.explored.End.{End}
 use Rattle.cs_explored.specs.declared.explored.Row.{Row}
@@ -30,14 +32,20 @@ module _ (code : Code) (program : TypedProgram) (entry : ℕ) (budgets : RunBudg
   abbrev pub FitsOwn : State → Setting → List Step → Log → Type 0
   FitsOwn state setting steps log = Fits (own_valuation program entry names setting steps log) state.constraints
 
-  -- a run that passes just these events first fits the state, if it lists no guess, or just the truths that the state has guessed
+  -- a state stands for a run under the run's own numbers, which so fit the state
+  abbrev pub StandsForOwn : State → Setting → List Step → Act CodeState → Log → Type 0
+  StandsForOwn state setting steps left log =
+      StandsFor code program budgets names state (own_valuation program entry names setting steps log) (left_of (read_cell setting) [] left) log
+
+  -- each run that passes just these events first fits the state, if it lists no guess, or just the truths that the state has guessed; and the state stands
+  -- for it then
   abbrev pub FitsAfter : State → List Event → Type 0
   FitsAfter state chain =
       (inputs : Path → ℤ) (guesses : List Guess) (steps : List Step) (left : Act CodeState) (log : Log) → ListsOwn state chain IsAny guesses
       → HasLeft code program entry budgets (setting_with program budgets inputs guesses) steps left log → events_of steps ≡ chain
-      → FitsOwn state (setting_with program budgets inputs guesses) steps log
+      → StandsForOwn state (setting_with program budgets inputs guesses) steps left log
 
-  -- so does a run that passes just these events and ends as an end says
+  -- each such run that passes just these events and ends as an end says fits the end's state
   abbrev pub FitsAtEnd : End → List Event → Type 0
   FitsAtEnd end chain =
       (inputs : Path → ℤ) (guesses : List Guess) (steps : List Step) (outcome : Outcome) (log : Log) → ListsOwn end.state.value chain IsAny guesses

@@ -67,6 +67,17 @@ IsTruth other = ⊥
 abbrev pub ListsTruth : List Guess → ℕ → Type 0
 ListsTruth guesses event = (guess_at guesses event ≡ Some (pos 0)) ⊎ (guess_at guesses event ≡ Some (pos 1))
 
+-- a run lists no guess at the event of a child; or the child's guess is that of a comparison or an order test, and the run lists 0 or 1 there
+abbrev pub ListsNoneOrTruth : Setting → Child → Type 0
+ListsNoneOrTruth setting child =
+    (guess_at setting.guesses child.state.value.counters.events ≡ None)
+    ⊎ (IsSome child.guess × IsTruth child.event.label × ListsTruth setting.guesses child.state.value.counters.events)
+
+-- a valuation gives the symbol of a child's guess the number that a run lists there, or where it lists none the operation's own result, which leads on
+abbrev pub GivesOwn : Setting → Child → ℤ → Valuation → Type 0
+GivesOwn setting child answer valuation = (symbol : Sym) → child.guess ≡ Some symbol
+    → valuation symbol.0 ≡ unwrap_or (guess_at setting.guesses child.state.value.counters.events) answer
+
 -- an end of runs, with the state that stands for them
 abbrev pub StateEnd : Type 0
 StateEnd = Outcome × Box State
@@ -119,17 +130,6 @@ module _ (code : Code) (program : TypedProgram) (budgets : RunBudgets) (names : 
   abbrev pub GuessesAs : Setting → Child → Valuation → Type 0
   GuessesAs setting child valuation =
       guess_at setting.guesses child.state.value.counters.events ≡ option_map (λ (symbol : Sym). valuation symbol.0) child.guess
-
-  -- a run lists no guess at the event of a child; or the child's guess is that of a comparison or an order test, and the run lists 0 or 1 there
-  abbrev pub ListsNoneOrTruth : Setting → Child → Type 0
-  ListsNoneOrTruth setting child =
-      (guess_at setting.guesses child.state.value.counters.events ≡ None)
-      ⊎ (IsSome child.guess × IsTruth child.event.label × ListsTruth setting.guesses child.state.value.counters.events)
-
-  -- a valuation gives the symbol of a child's guess the number that a run lists there, or where it lists none the operation's own result, which leads on
-  abbrev pub GivesOwn : Setting → Child → ℤ → Valuation → Type 0
-  GivesOwn setting child answer valuation = (symbol : Sym) → child.guess ≡ Some symbol
-      → valuation symbol.0 ≡ unwrap_or (guess_at setting.guesses child.state.value.counters.events) answer
 
   -- a child of a state: its valuations are some of the state's, and runs that have come to the state under one of them pass its event to the child. A run
   -- without a guess there that passes the child's event has come to the child, and so has one that lists a truth for the child's guess
