@@ -69,8 +69,8 @@ own_valuation program entry names setting steps log sym =
 abbrev pub IsGuessedAt : State → ℕ → Type 0
 IsGuessedAt state event = (asked : Asked) × Contains (finite.values state.asked) asked × (asked.event ≡ event)
 
--- of the events that lead to a state and are meant, each one at which the state has guessed shows the truth of a comparison or of an order test, and just for
--- these 0 or 1 is listed
+-- of the events that lead to a state and are meant, each one at which the state has guessed shows a truth, so that of a comparison or of an order test, and
+-- just for these 0 or 1 is listed
 pub record ListsTruths (state : State) (chain : List Event) (IsMeant : ℕ → Type 0) (guesses : List Guess) : Type 0 where
   pub truths : (passed : ℕ) (event : Event) → slice_get chain passed ≡ Some event → IsMeant (suc passed) → IsGuessedAt state (suc passed)
       → IsTruth event.label

@@ -11,15 +11,14 @@ use Rattle.cs_ast.specs.TypedProgram.{TypedProgram}
 use Rattle.cs_terms.specs.declared.symbol.Sym.{Sym}
 use Rattle.cs_terms.specs.declared.symbol.SymName.TheVariants.{Guess as GuessAt}
 use Rattle.cs_terms.specs.Term.{Valuation, value_of}
-use Rattle.cs_constraints.specs.Constraints.{Fits}
 use Rattle.cs_events.specs.declared.event.Event.{Event}
 use Rattle.cs_events.specs.declared.guess.Guess.{Guess}
 use Rattle.cs_events.specs.declared.outcome.Outcome.{Outcome}
 use Rattle.cs_events.specs.declared.outcome.RunBudgets.{RunBudgets}
 use Rattle.cs_events.specs.Acts.{Act}
 use Rattle.cs_events.specs.Runs.{Setting, Log, empty, guess_at, read_cell}
-use Rattle.cs_event_runs.specs.First.{Step, First, first_of}
-use Rattle.cs_event_runs.specs.ByEvents.{RunsTo, ends, shows, silently}
+use Rattle.cs_event_runs.specs.First.{Step, First, Ended, first_of}
+use Rattle.cs_event_runs.specs.ByEvents.{RunsTo, ends as run_ends, shows as run_shows, silently as run_silently}
 use Rattle.cs_event_runs.specs.Left.{left_of}
 use Rattle.cs_cfg.specs.Graph.{Code}
 use Rattle.cs_cfg.specs.Working.{CodeState}
@@ -31,15 +30,17 @@ use Rattle.cs_explored.specs.declared.child.Child.{Child}
 use Rattle.cs_explored.specs.declared.explored.End.{End}
 use Rattle.cs_explored.specs.declared.explored.Row.{Row}
 use Rattle.cs_explored.specs.declared.watch.Rule.{Rule}
-use Rattle.cs_progress.specs.Stepping.{end_of}
-use Rattle.cs_successors.specs.EntryRuns.{events_of, setting_with, step_of, start_of, first_in, LeavesAfter, now, later, unseen, HasLeft, begins, passes, EndsAfter}
+use Rattle.cs_progress.specs.Stepping.{end_of, result_in, HasReturned}
+use Rattle.cs_successors.specs.EntryRuns.{events_of, setting_with, step_of, start_of, first_in, LeavesAfter, now, later, unseen, Proceeds, stays, HasLeft}
+use Rattle.cs_successors.specs.EntryRuns.{begins, passes, EndsAfter}
 use Rattle.cs_successors.specs.Coming.{StateEnd, IsTruth, ListsTruth, IsAt, IsEndOf, ListsNoneOrTruth}
-use Rattle.cs_successors.proofs.Passing.{passes_some, ends_after_one, ends_alone}
+use Rattle.cs_successors.proofs.Passing.{passes_some, as_proceeds, ends_after_one, ends_alone}
+use Rattle.cs_successors.proofs.Proceeding.{proceeds_on}
 use Rattle.cs_coverage.specs.OwnNumbers.{received_by, own_valuation, number_of, answer_at, IsGuessedAt, ListsTruths, ListsOwn}
 use Rattle.cs_coverage.proofs.Coverage.{element}
 use Rattle.cs_coverage.proofs.Positions.{stands_for}
 use Rattle.cs_exactness.specs.Chains.{IsChain, first, further}
-use Rattle.cs_exactness.specs.OwnRuns.{IsAny, FitsAfter, FitsAtEnd, HasOwnRuns}
+use Rattle.cs_exactness.specs.OwnRuns.{IsAny, EndsOwn, FitsAfter, HasOwnRuns}
 use Rattle.cs_exactness.specs.Sources.{HasSource, IsOfParent, IsOfRow, AreSourced}
 use Rattle.cs_exactness.proofs.Guesses.{AreNumbered}
 use Rattle.cs_exactness.proofs.NotedEvents.{passed, early, guess_kept, guess_new, guess_split, of_row, parent_there}
@@ -141,8 +142,8 @@ module _ {M : Type 0} (step : M → Act M) (setting : Setting) where
 
   split_runs : {begin : First M} {all : List Step} {outcome : Outcome} {end : Log} (x : Step) (steps : List Step) → RunsTo step setting begin all outcome end
       → all ≡ x ∷ steps → LeavesLast begin (x ∷ steps) outcome end
-  split_runs x steps (ends e) is = cc
-  split_runs {begin = begin} {outcome = outcome} {end = end} x [] (shows {shown = it} {left = left} {log = log} {steps = more} e rest) is =
+  split_runs x steps (run_ends e) is = cc
+  split_runs {begin = begin} {outcome = outcome} {end = end} x [] (run_shows {shown = it} {left = left} {log = log} {steps = more} e rest) is =
       let head : it ≡ x = cc in
       let tail : more ≡ [] = cc in
       subst (λ (s : Step). LeavesLast begin (s ∷ []) outcome end) head (record {
@@ -151,13 +152,13 @@ module _ {M : Type 0} (step : M → Act M) (setting : Setting) where
         leaves = now e;
         rest = subst (λ (l : List Step). RunsTo step setting (first_of setting log left) l outcome end) tail rest;
       })
-  split_runs {begin = begin} {outcome = outcome} {end = end} x (y ∷ steps) (shows {shown = it} {steps = more} e rest) is =
+  split_runs {begin = begin} {outcome = outcome} {end = end} x (y ∷ steps) (run_shows {shown = it} {steps = more} e rest) is =
       let head : it ≡ x = cc in
       let tail : more ≡ y ∷ steps = cc in
       let further_on = split_runs y steps rest tail in
       subst (λ (s : Step). LeavesLast begin (s ∷ y ∷ steps) outcome end) head
       (record { left = further_on.left; log = further_on.log; leaves = later e further_on.leaves; rest = further_on.rest })
-  split_runs x steps (silently e rest) is =
+  split_runs x steps (run_silently e rest) is =
       let further_on = split_runs x steps rest is in
       record { left = further_on.left; log = further_on.log; leaves = unseen e further_on.leaves; rest = further_on.rest }
 
@@ -214,9 +215,9 @@ module _ (code : Code) (program : TypedProgram) (entry : ℕ) (budgets : RunBudg
     where
       by : {steps : List Step} → RunsTo step setting (first_in code program entry budgets setting) steps outcome end → steps ≡ []
           → HasLeftLast setting [] outcome end
-      by (ends e) is = cc
-      by (shows e rest) is = cc
-      by (silently {next = next} {log = before} {steps = steps} e rest) is =
+      by (run_ends e) is = cc
+      by (run_shows e rest) is = cc
+      by (run_silently {next = next} {log = before} {steps = steps} e rest) is =
           let nexts : next ≡ start_of code program entry budgets setting = cc in
           let logs : before ≡ empty = cc in
           record {
@@ -231,6 +232,19 @@ module _ (code : Code) (program : TypedProgram) (entry : ℕ) (budgets : RunBudg
   left_last setting (x ∷ steps) outcome end runs =
       let parts = split_runs step setting x steps runs refl in
       record { left = parts.left; log = parts.log; has_left = passes parts.leaves; rest = parts.rest }
+
+  -- the way of a run from its beginning
+  leads_there : (setting : Setting) (steps : List Step) (left : Act CodeState) (log : Log) → HasLeft code program entry budgets setting steps left log
+      → Proceeds step setting (step (start_of code program entry budgets setting)) empty steps left log
+  leads_there setting steps left log (begins is none) = stays (sym is) (sym none)
+  leads_there setting steps left log (passes (now e)) = cc
+  leads_there setting steps left log (passes (later e rest)) = cc
+  leads_there setting steps left log (passes (unseen {next = next} {before = before} e rest)) =
+      let nexts : next ≡ start_of code program entry budgets setting = cc in
+      let logs : before ≡ empty = cc in
+      as_proceeds step setting
+      (subst (λ (m : CodeState). LeavesAfter step setting (first_of setting empty (step m)) steps left log) nexts
+      (subst (λ (l : Log). LeavesAfter step setting (first_of setting l (step next)) steps left log) logs rest))
 
 -- a run lists no guess, or truths at just the guesses of a state so far
 abbrev pub ListsSoFar : State → List Event → List Guess → Type 0
@@ -436,7 +450,7 @@ module _ (code : Code) (program : TypedProgram) (entry : ℕ) (budgets : RunBudg
     own_end : (inputs : Path → ℤ) (steps : List Step) (outcome : Outcome) (log : Log)
         → EndsAfter code program entry budgets (setting_with program budgets inputs guesses) steps outcome log → events_of steps ≡ chain
         → end.outcome ≡ end_of outcome
-        → Fits (own_valuation program entry names (setting_with program budgets inputs guesses) steps log) end.state.value.constraints
+        → EndsOwn code program entry budgets names end.state.value (setting_with program budgets inputs guesses) steps outcome log
     own_end inputs steps outcome log runs shown ended =
         let setting : Setting = setting_with program budgets inputs guesses in
         let numbers : Valuation = own_valuation program entry names setting steps log in
@@ -453,7 +467,28 @@ module _ (code : Code) (program : TypedProgram) (entry : ℕ) (budgets : RunBudg
               = comes.ending.same ∙ ap end_of (sym that.outcome_is) ∙ sym ended ∙ ap (λ (e : End). e.outcome) of.same in
               let place = of.from.all.outcomes_differ comes.place of.place comes.end of.one comes.there of.at outcome_is in
               let one_is : comes.end ≡ of.one = same_Some comes.end of.one (sym comes.there ∙ ap (slice_get of.endings) place ∙ of.at) in
-              subst (λ (s : State). Fits numbers s.constraints) (ap (λ (e : StateEnd). e.1.value) one_is ∙ sym state_is) comes.ending.comes.fits
+              let way = leads_there code program entry budgets setting steps parts.left parts.log parts.has_left in
+              let state = comes.end.1.value in
+              let end_state : state ≡ end.state.value = ap (λ (e : StateEnd). e.1.value) one_is ∙ sym state_is in
+              let is : IsEndOf code program budgets names last_row.state.value comes.end
+              = subst (IsEndOf code program budgets names last_row.state.value) (sym one_is) end_is in
+              subst (λ (s : State). EndsOwn code program entry budgets names s setting steps outcome log) end_state (record {
+                last = comes.ending.last;
+                before = comes.ending.before;
+                ends_with = record {
+                  proceeds =
+                      subst (λ (l : List Step). Proceeds (step_of code program entry budgets) setting
+                      (step_of code program entry budgets (start_of code program entry budgets setting)) empty l comes.ending.last comes.ending.before)
+                      (append-nil steps) (proceeds_on (step_of code program entry budgets) setting way comes.ending.proceeds);
+                  ends =
+                      subst (λ o. first_of setting comes.ending.before comes.ending.last ≡ Ended o log) (sym that.outcome_is)
+                      (subst (λ l. first_of setting comes.ending.before comes.ending.last ≡ Ended comes.ending.ended l) (sym that.log_is) comes.ending.ends);
+                };
+                stands = stands_for code program budgets names state is.locals is.integers setting numbers comes.ending.last comes.ending.before
+                    comes.ending.comes;
+                returned =
+                    subst (λ o. HasReturned o (result_in names.bases state.blocks numbers state.result)) (sym that.outcome_is) comes.ending.returned;
+              })
         ]
       where
         nothing : (one : Step) (more : List Step) → [] ≡ one ∷ more → ⊥

@@ -2,7 +2,6 @@
 use Rattle.std.specs.Prelude.{◌≡◌, ℕ, ℤ, List, [], Some, slice_get}
 use Rattle.cs_inputs.specs.declared.path.Path.{Path}
 use Rattle.cs_ast.specs.TypedProgram.{TypedProgram}
-use Rattle.cs_constraints.specs.Constraints.{Fits}
 use Rattle.cs_events.specs.declared.event.Event.{Event}
 use Rattle.cs_events.specs.declared.guess.Guess.{Guess}
 use Rattle.cs_events.specs.declared.outcome.Outcome.{Outcome}
@@ -19,8 +18,8 @@ use Rattle.cs_state.specs.Naming.{Naming}
 use Rattle.cs_explored.specs.declared.explored.End.{End}
 use Rattle.cs_explored.specs.declared.explored.Row.{Row}
 use Rattle.cs_exactness.specs.Chains.{IsChain}
-use Rattle.cs_progress.specs.Stepping.{end_of}
-use Rattle.cs_successors.specs.EntryRuns.{events_of, setting_with, HasLeft, EndsAfter}
+use Rattle.cs_progress.specs.Stepping.{end_of, result_in, HasReturned}
+use Rattle.cs_successors.specs.EntryRuns.{events_of, setting_with, HasLeft, EndsAfter, EndsWith}
 use Rattle.cs_coverage.specs.OwnNumbers.{own_valuation, ListsOwn}
 
 -- all events of a run
@@ -28,10 +27,6 @@ abbrev pub IsAny : ℕ → Type 0
 IsAny event = Unit {0}
 
 module _ (code : Code) (program : TypedProgram) (entry : ℕ) (budgets : RunBudgets) (names : Naming) where
-  -- the numbers that a run gives symbols fit a state
-  abbrev pub FitsOwn : State → Setting → List Step → Log → Type 0
-  FitsOwn state setting steps log = Fits (own_valuation program entry names setting steps log) state.constraints
-
   -- a state stands for a run under the run's own numbers, which so fit the state
   abbrev pub StandsForOwn : State → Setting → List Step → Act CodeState → Log → Type 0
   StandsForOwn state setting steps left log =
@@ -45,13 +40,21 @@ module _ (code : Code) (program : TypedProgram) (entry : ℕ) (budgets : RunBudg
       → HasLeft code program entry budgets (setting_with program budgets inputs guesses) steps left log → events_of steps ≡ chain
       → StandsForOwn state (setting_with program budgets inputs guesses) steps left log
 
+  -- an end's state stands for a run under the run's own numbers before the run ends so, and has what it returns
+  pub record EndsOwn (state : State) (setting : Setting) (steps : List Step) (outcome : Outcome) (log : Log) : Type 0 where
+    pub last : Act CodeState
+    pub before : Log
+    pub ends_with : EndsWith code program entry budgets setting steps last before outcome log
+    pub stands : StandsFor code program budgets names state (own_valuation program entry names setting steps log) (left_of (read_cell setting) [] last) before
+    pub returned : HasReturned outcome (result_in names.bases state.blocks (own_valuation program entry names setting steps log) state.result)
+
   -- each such run that passes just these events and ends as an end says fits the end's state
   abbrev pub FitsAtEnd : End → List Event → Type 0
   FitsAtEnd end chain =
       (inputs : Path → ℤ) (guesses : List Guess) (steps : List Step) (outcome : Outcome) (log : Log) → ListsOwn end.state.value chain IsAny guesses
       → EndsAfter code program entry budgets (setting_with program budgets inputs guesses) steps outcome log → events_of steps ≡ chain
       → end.outcome ≡ end_of outcome
-      → FitsOwn end.state.value (setting_with program budgets inputs guesses) steps log
+      → EndsOwn end.state.value (setting_with program budgets inputs guesses) steps outcome log
 
   -- the runs of each row's chain fit the row's state, and those that end as an end does fit the end's
   pub record HasOwnRuns (rows : List Row) (ends : List End) : Type 0 where

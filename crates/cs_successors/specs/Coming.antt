@@ -58,7 +58,7 @@ AreGuessesAfter event None before after = after ≡ before
 AreGuessesAfter event (Some symbol) before after =
     (one : Asked) × (one.event ≡ event) × (one.guess ≡ symbol) × (after ≡ finite.insert before (event, 0) one)
 
--- a comparison or an order test shows its truth so
+-- what shows is a truth, as that of a comparison or of an order test
 abbrev pub IsTruth : Label → Type 0
 IsTruth (Truth holds) = Unit {0}
 IsTruth other = ⊥
@@ -67,7 +67,7 @@ IsTruth other = ⊥
 abbrev pub ListsTruth : List Guess → ℕ → Type 0
 ListsTruth guesses event = (guess_at guesses event ≡ Some (pos 0)) ⊎ (guess_at guesses event ≡ Some (pos 1))
 
--- a run lists no guess at the event of a child; or the child's guess is that of a comparison or an order test, and the run lists 0 or 1 there
+-- a run lists no guess at the event of a child; or the child has guessed a truth there, so that of a comparison or of an order test, and the run lists 0 or 1
 abbrev pub ListsNoneOrTruth : Setting → Child → Type 0
 ListsNoneOrTruth setting child =
     (guess_at setting.guesses child.state.value.counters.events ≡ None)
