@@ -10,7 +10,7 @@ use Rattle.cs_run_log.specs.declared.logs.Stop.{Stop}
 use Rattle.cs_run_log.specs.declared.logs.Stop.TheVariants as stop
 use Rattle.cs_run_log.specs.LogView.{setting_of, log_of}
 use Rattle.cs_run_state.specs.MachineView.{frame_of}
-use Rattle.cs_reference.specs.RunnerView as runner
+use Rattle.cs_runner.specs.RunnerView as runner
 use Rattle.cs_cfg.specs.declared.code.Code.{Code}
 use Rattle.cs_cfg.specs.Graph as graph
 use Rattle.cs_cfg.specs.Graph.{Point}
@@ -20,7 +20,7 @@ use Rattle.cs_cfg.specs.Working.{CodeState}
 use Rattle.cs_replay.specs.declared.replayer.Caller.{Caller}
 use Rattle.cs_replay.specs.declared.replayer.Replayer.{Replayer}
 use Rattle.cs_replay.specs.CodeStates.{at_point, code_state}
-use Rattle.cs_replay.specs.Points.{point_of}
+use Rattle.cs_positions.specs.Points.{point_of}
 
 -- a frame that waits
 abbrev pub caller_of : Code → Caller → CallFrame Point

@@ -1,0 +1,35 @@
+-- What comes next at a point.
+use Rattle.std.specs.Prelude.{◌≡◌, [], Option, Some, None, map}
+use Rattle.std.specs.Borrow.{Bor}
+use Rattle.cs_cfg.specs.declared.code.Block as b
+use Rattle.cs_cfg.specs.declared.code.Flow as f
+use Rattle.cs_cfg.specs.declared.code.CountedPoint.{CountedPoint}
+use Rattle.cs_cfg.specs.Graph.{Operation, Reach, Point, Flow, before, no_point}
+use Rattle.cs_cfg.specs.GraphView as view
+use Rattle.cs_positions.specs.declared.nexts.Next.{Next}
+use Rattle.cs_positions.specs.declared.nexts.Next.TheVariants as next
+
+-- a graph that was found
+abbrev pub flow_found : Option (Bor f.Flow) → Option Flow
+flow_found None = None
+flow_found (Some flow) = Some (view.flow flow.now)
+
+-- a block that was found, or one that isn't there
+abbrev pub found_block : Option (Bor b.Block) → Point
+found_block None = no_point
+found_block (Some block) = view.block block.now
+
+-- a block without its counted point
+abbrev pub without_counted_point : b.Block → Point
+without_counted_point block = record { operations = map view.operation block.operations.items; end = view.block_end block.end }
+
+-- the operation by which a counted point is reached
+abbrev pub reaching : CountedPoint → Operation
+reaching counted_point = record { at = counted_point.place; temporary = 0; work = Reach counted_point.kind counted_point.number }
+
+-- this comes next at a point, and after it the other point
+abbrev pub IsNext : Next → Point → Point → Type 0
+IsNext (next.CountedPoint counted_point) here following = here ≡ before (reaching counted_point.now) following
+IsNext (next.Operation operation) here following = here ≡ before (view.operation operation.now) following
+IsNext (next.End end) here following = here ≡ record { operations = []; end = view.block_end end.now }
+IsNext next.Nowhere here following = here ≡ no_point
