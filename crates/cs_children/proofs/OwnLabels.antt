@@ -1,5 +1,6 @@
 -- What shows at an operation says whether the operation is followed there, and a guess that shows a truth is that of a test: for `back` of `IsChildOf`.
-use Rattle.std.proofs.Common.{◌≡◌, inl, inr, ℕ, zero, suc, ℤ, pos, negsuc, Bool, true, false, List, Option, None, Some, refl, sym, ap, ◌∙◌, arith}
+use Rattle.std.proofs.Common.{◌≡◌, inl, inr, ℕ, zero, suc, ℤ, pos, negsuc, Bool, true, false, List, Option, None, Some, refl, sym, ap, ◌∙◌}
+use Rattle.std.proofs.Common.{arith}
 use Rattle.std.proofs.lemmas.Int.{ints}
 use Rattle.cs_types.specs.declared.data_model.DataModel.{DataModel}
 use Rattle.cs_ast.specs.declared.place.Place.{Place}
@@ -142,7 +143,8 @@ module _ (model : DataModel) (sets : Sets) where
   test (question.Test tested term) v w number may shown = absurd may
   test (question.Callee function) v w number may shown = absurd may
 
-  phases : (asked : Question) (v w : Valuation) (number : ℤ) → IsGuess model sets asked w number → (rules : List Rule) (phase : ℕ) (place : Place) (after : ℕ)
+  phases : (asked : Question) (v w : Valuation) (number : ℤ) → IsGuess model sets asked w number
+      → (rules : List Rule) (phase : ℕ) (place : Place) (after : ℕ)
       → IsPhaseAfterLabel rules phase place (shows model (operation_of w asked) (Some number)) after
       → IsPhaseAfterLabel rules phase place (shows model (operation_of v asked) None) after
   phases (question.Binary op ty left right) v w number may rules phase place after is = is

@@ -1,5 +1,6 @@
 -- What comes of a state in which something shows first: for the contract of `find`.
-use Rattle.std.proofs.Common.{◌≡◌, ◌≢◌, ℕ, zero, suc, ◌+◌, ◌<◌, ◌≤◌, ℤ, Bool, true, false, List, [], ◌∷◌, ◌++◌, Option, None}
+use Rattle.std.proofs.Common.{◌≡◌, ◌≢◌, ℕ, zero, suc, ◌+◌, ◌<◌, ◌≤◌, ℤ, Bool, true, false, List, [], ◌∷◌, ◌++◌, Option}
+use Rattle.std.proofs.Common.{None}
 use Rattle.std.proofs.Common.{Some, All, map, inl, inr, refl, sym, ap, ◌∙◌, subst, arith}
 use Rattle.std.specs.Prelude.{slice_get, option_map, unwrap_or, is_some}
 use Rattle.std.specs.Global.{Box}
@@ -314,7 +315,8 @@ module _ (code : Code) (program : TypedProgram) (budgets : RunBudgets) (names : 
 
           -- has come to the child, if its valuation is one of the piece
           at_child : (given : Option ℤ) → Uses given → Fits v piece.constraints
-              → value_of v piece.answer ≡ result_with program.model (asking.operation v) given → IsAt code program budgets names after setting v rest later
+              → value_of v piece.answer ≡ result_with program.model (asking.operation v) given
+              → IsAt code program budgets names after setting v rest later
           at_child given uses fits value =
               let to = passes_with given uses v (fits_after v fits) (λ symbol declared. refl)
               (ap (value_of v) (answer_is v here.fits given (own_label given uses)) ∙ value) in
@@ -323,7 +325,8 @@ module _ (code : Code) (program : TypedProgram) (budgets : RunBudgets) (names : 
               (subst (λ (l : Log). IsAt code program budgets names after setting v to.0.rest l) that.2 to.0.comes)
 
           -- an exact piece keeps all valuations under which its label shows
-          by_exact : Exact piece → guess_at setting.guesses (suc state.counters.events) ≡ None → IsAt code program budgets names after setting v rest later
+          by_exact : Exact piece → guess_at setting.guesses (suc state.counters.events) ≡ None
+              → IsAt code program budgets names after setting v rest later
           by_exact exact without =
               let some = exact.from is_piece.some.0 is_piece.some.1 in
               let label = own_label None (not_used without) in
@@ -397,7 +400,8 @@ module _ (code : Code) (program : TypedProgram) (budgets : RunBudgets) (names : 
         asked = subst (λ (n : ℕ). AreGuessesAfter n child.guess state.asked after.asked) (sym number_is) of.asked;
         fits = fits_state;
         passes = λ setting v left log goes here fits agrees. child_passes setting v left log goes here fits agrees;
-        back = λ setting v left rest log later one goes here leaves same lists gives. comes_back setting v left log goes here one rest later leaves same lists gives;
+        back = λ setting v left rest log later one goes here leaves same lists gives. comes_back setting v left log goes here one rest later leaves same lists
+            gives;
       }
         where
           by_guess : (symbol : Sym) → child.guess ≡ Some symbol → (guessed : Option Guessed) → piece.guessed ≡ guessed

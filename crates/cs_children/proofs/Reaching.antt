@@ -195,7 +195,8 @@ module _ (code : Code) (program : TypedProgram) (budgets : RunBudgets) (names : 
         elim (reached.covers setting valuation left log goes at) [
           | inl fits ↦
               let way = reached.comes setting valuation left log goes at fits in
-              is.back setting valuation way.rest rest way.later later shown goes way.comes (after_silent_steps step setting way.proceeds leaves) same lists gives
+              is.back setting valuation way.rest rest way.later later shown goes way.comes (after_silent_steps step setting way.proceeds leaves) same lists
+              gives
           | inr end ↦ absurd (leaves_no_end step setting end.ending.proceeds end.ending.ends leaves)
         ]
 

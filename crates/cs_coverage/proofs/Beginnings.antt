@@ -1,5 +1,6 @@
 -- The state in which the exploration of an integer entry begins stands for the beginning of each run: for `IsBeginning`.
-use Rattle.std.proofs.Common.{◌≡◌, ◌≢◌, ◌<◌, ℕ, zero, suc, ℤ, pos, Bool, true, List, [], ◌∷◌, ◌++◌, map, length, Option, None, Some, slice_get}
+use Rattle.std.proofs.Common.{◌≡◌, ◌≢◌, ◌<◌, ℕ, zero, suc, ℤ, pos, Bool, true, List, [], ◌∷◌, ◌++◌, map, length, Option, None}
+use Rattle.std.proofs.Common.{Some, slice_get}
 use Rattle.std.proofs.Common.{◌⊎◌, inl, inr, false, refl, sym, ap, ◌∙◌, subst, arith}
 use Rattle.std.specs.Prelude.{◌==◌, option_map, unwrap_or, if◌then◌else◌}
 use Rattle.std.specs.Option.{option_and_then, option_map_or}
@@ -182,7 +183,8 @@ module _ (code : Code) (program : TypedProgram) (entry : ℕ) (budgets : RunBudg
 
     -- a parameter's symbol has the number of its input
     pub own_is : (number : ℕ) (v : Variable) → slice_get parameters number ≡ Some v → (symbol : ℕ)
-        → slice_get given.syms symbol ≡ Some (Input (parameter_path v)) → own symbol ≡ input_number program.model (input_kind v.ty) (inputs (parameter_path v))
+        → slice_get given.syms symbol ≡ Some (Input (parameter_path v))
+        → own symbol ≡ input_number program.model (input_kind v.ty) (inputs (parameter_path v))
     own_is number v there symbol named = parameter_number program entry budgets given differ number v there symbol named inputs [] [] empty
 
     holds_number : (v : Variable) (number : ℕ) → slice_get parameters number ≡ Some v → (value : Value) (shape : Shape) (ty : IntType)
@@ -203,7 +205,8 @@ module _ (code : Code) (program : TypedProgram) (entry : ℕ) (budgets : RunBudg
         holds_number v number there it.value v.ty ty.0 refl ty.1 it.holds
 
     -- an object that is no parameter is as it was
-    as_it_was : (object : Object) → ((number : ℕ) → object ≢ LocalObject 0 number) → (block : Known) → ((offset : ℕ) → block.written offset ≡ None)
+    as_it_was : (object : Object) → ((number : ℕ) → object ≢ LocalObject 0 number)
+        → (block : Known) → ((offset : ℕ) → block.written offset ≡ None)
         → written_over cell (contents_in state.store (number_of names.bases object)) block ≡ block
     as_it_was object other block unset =
         let fills = fill_in object in
@@ -305,7 +308,8 @@ module _ (code : Code) (program : TypedProgram) (entry : ℕ) (budgets : RunBudg
         statics (GlobalObject global) (λ number e. cc) (static_memory program (GlobalObject global)) (global_unset global)
         ∙ ap (λ (m : Memory). m (GlobalObject global)) (sym opened_none)
       where
-        global_unset : (global : ℕ) (block : Known) → static_memory program (GlobalObject global) ≡ Some block → (offset : ℕ) → block.written offset ≡ None
+        global_unset : (global : ℕ) (block : Known) → static_memory program (GlobalObject global) ≡ Some block
+            → (offset : ℕ) → block.written offset ≡ None
         global_unset global block is offset = by (slice_get program.globals global) is
           where
             by : (found : Option _) → option_map (global_block program) found ≡ Some block → block.written offset ≡ None

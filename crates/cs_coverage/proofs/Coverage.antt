@@ -23,7 +23,8 @@ use Rattle.cs_explored.specs.declared.explored.End.{End}
 use Rattle.cs_explored.specs.declared.explored.Row.{Row}
 use Rattle.cs_explored.specs.declared.watch.Rule.{Rule}
 use Rattle.cs_progress.specs.Stepping.{end_of, result_in, HasReturned}
-use Rattle.cs_successors.specs.EntryRuns.{events_of, setting_with, step_of, start_of, LeavesAfter, now, later, unseen, Proceeds, stays, HasLeft, begins, passes, EndsAfter}
+use Rattle.cs_successors.specs.EntryRuns.{events_of, setting_with, step_of, start_of, LeavesAfter, now, later, unseen, Proceeds, stays, HasLeft, begins, passes}
+use Rattle.cs_successors.specs.EntryRuns.{EndsAfter}
 use Rattle.cs_successors.specs.Coming.{IsChildOf, IsEndOf, ComesToChild, ComesToEnd}
 use Rattle.cs_keys.specs.Live.{LivePart}
 use Rattle.cs_coverage.specs.Closing.{AreNames, IsClosed}

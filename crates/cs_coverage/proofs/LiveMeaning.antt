@@ -132,7 +132,8 @@ module _ (sets others : Sets) (valuation other : Valuation)
         let fused_one = map-map (live_binding sets) (λ (e : (ℕ × ℕ) × Value). (e.0.0, e.1)) (finite.entries c.direct) in
         let fused_two = map-map (live_binding others) (λ (e : (ℕ × ℕ) × Value). (e.0.0, e.1)) (finite.entries d.direct) in
         let alike : AreAlike (SameValue sets others) (finite.entries c.direct) (finite.entries d.direct) =
-        said_alike (λ (e : (ℕ × ℕ) × Value). live_binding sets (e.0.0, e.1)) (λ (e : (ℕ × ℕ) × Value). live_binding others (e.0.0, e.1)) (λ b. b.0)
+        said_alike (λ (e : (ℕ × ℕ) × Value). live_binding sets (e.0.0, e.1)) (λ (e : (ℕ × ℕ) × Value). live_binding others (e.0.0, e.1))
+        (λ b. b.0)
         (SameValue sets others) (λ e. refl) (λ e. refl) (λ e f is. ap (λ b. b.1) is) (finite.entries c.direct) (finite.entries d.direct)
         (map_keyed c.direct plain) (map_keyed d.direct bare) (sym fused_one ∙ same.1 ∙ fused_two) in
         let fills = same.0 in

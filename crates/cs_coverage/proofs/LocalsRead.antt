@@ -94,7 +94,8 @@ module _ (program : TypedProgram) (names : Naming) (known : ℕ → Bool) (state
   value_known frame count (value.Number term) points = tt
   value_known frame count value.Null points = tt
   value_known frame count (value.At number offset) points =
-      subst (λ (b : Option Base). PointsTo (IsKnown program memory) (pointer_to b (value_of valuation offset))) (sym points.0.named) (local_known frame points.0.declaration)
+      subst (λ (b : Option Base). PointsTo (IsKnown program memory) (pointer_to b (value_of valuation offset))) (sym points.0.named)
+      (local_known frame points.0.declaration)
   value_known frame count (value.Start number offset) points = absurd points
   value_known frame count value.Unset points = tt
 

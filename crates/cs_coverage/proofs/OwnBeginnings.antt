@@ -114,7 +114,8 @@ is_truth true = refl
 is_truth false = refl
 
 -- a parameter's symbol has the number of its input, in each run and whatever it reads later
-pub parameter_number : (program : TypedProgram) (entry : ℕ) (budgets : RunBudgets) (names : Naming) → DifferInName (parameters_of (routine_of program entry))
+pub parameter_number : (program : TypedProgram) (entry : ℕ) (budgets : RunBudgets) (names : Naming)
+    → DifferInName (parameters_of (routine_of program entry))
     → (number : ℕ) (v : Variable) → slice_get (parameters_of (routine_of program entry)) number ≡ Some v → (symbol : ℕ)
     → slice_get names.syms symbol ≡ Some (Input (parameter_path v)) → (inputs : Path → ℤ) (guesses : List Guess) (steps : List Step) (log : Log)
     → own_valuation program entry names (setting_with program budgets inputs guesses) steps log symbol

@@ -1,5 +1,6 @@
 -- A closed graph in which all that comes of a row was placed stays closed, and has rows for all of it: for the exploration of a row.
-use Rattle.std.proofs.Common.{◌≡◌, inl, inr, ℕ, zero, suc, List, [], ◌∷◌, ◌++◌, length, Some, slice_get, refl, sym, ap, ◌∙◌, subst, arith}
+use Rattle.std.proofs.Common.{◌≡◌, inl, inr, ℕ, zero, suc, List, [], ◌∷◌, ◌++◌, length, Some, slice_get, refl, sym, ap, ◌∙◌, subst}
+use Rattle.std.proofs.Common.{arith}
 use Rattle.std.specs.Prelude.{nat_eq}
 use Rattle.std.specs.Cmp.Lexicographic.{pointwise, bytes_decides}
 use Rattle.std.proofs.lemmas.List.{append-nil, append_assoc}
@@ -93,7 +94,8 @@ module _ (code : Code) (program : TypedProgram) (entry : ℕ) (budgets : RunBudg
   HaveRows made rows = (place : ℕ) (child : Child) → slice_get made place ≡ Some child → HasRowFor rows child
 
   abbrev pub AreRowStates : List Child → Type 0
-  AreRowStates made = (place : ℕ) (child : Child) → slice_get made place ≡ Some child → IsRowState code program entry budgets rules given child.state.value
+  AreRowStates made = (place : ℕ) (child : Child) → slice_get made place ≡ Some child
+      → IsRowState code program entry budgets rules given child.state.value
 
   pub record PlacedAll (made : List Child) (before after : RowGraph) : Type 0 where
     pub have : HaveRows made after.rows

@@ -62,7 +62,8 @@ module _ (code : Code) (program : TypedProgram) (entry : ℕ) (budgets : RunBudg
   pub covers_phases : CoversPhases code program entry budgets rules explored
   covers_phases = record {
     positions = λ all inputs steps left log has none.
-        let at = stands_at_row code program entry budgets rules names explored.rows.items explored.ends.items (closed all) names are inputs steps left log has in
+        let at = stands_at_row code program entry budgets rules names explored.rows.items explored.ends.items (closed all) names are inputs steps left log
+        has in
         let state = ((closed all).states at.number at.row at.there).integer names are in
         record {
           position = record {

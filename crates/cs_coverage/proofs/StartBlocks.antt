@@ -21,7 +21,8 @@ module _ (code : Code) (program : TypedProgram) (entry : ℕ) (names : Naming) (
   IsOfPointer block = (number : ℕ) × (v : Variable)
       × IsParameter (parameters_of (routine_of program entry)) (length (parameters_of (routine_of program entry))) v number × IsPointer v.ty
 
-  none_there : HasIntegerParameters program entry → (found : Option Block) → ((block : Block) → found ≡ Some block → IsOfPointer block) → found ≡ None
+  none_there : HasIntegerParameters program entry → (found : Option Block) → ((block : Block) → found ≡ Some block → IsOfPointer block)
+      → found ≡ None
   none_there integers None comes = refl
   none_there integers (Some block) comes =
       let from = comes block refl in

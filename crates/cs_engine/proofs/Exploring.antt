@@ -97,7 +97,8 @@ module _ (exploration : Exploration) (entry : ℕ) (explores : ExploresIntegers 
         (no_blocks code program entry (naming before.tables) state.value start explores.works.parameters))))
 
   -- the next row is given
-  pub given_graph : (before : Findings) (graph : RowGraph) (row : ℕ) → IsGiven row before.graph.work graph.work → graph ≡ with_work graph.work before.graph
+  pub given_graph : (before : Findings) (graph : RowGraph) (row : ℕ) → IsGiven row before.graph.work graph.work
+      → graph ≡ with_work graph.work before.graph
       → IsOpenGraph exploration entry Waits before → IsOpenGraph exploration entry (IsOpen row) (record before { graph = graph })
   given_graph before graph row given rest open_graph all =
       graph_given code program entry budgets rules (naming before.tables) before.graph graph before.ends.items row given rest (open_graph all)
@@ -161,21 +162,22 @@ module _ (exploration : Exploration) (entry : ℕ) (explores : ExploresIntegers 
   -- a closed graph covers all positions
   module _ (findings : Findings) (explored : Explored) (numbered : IsNumbered (naming findings.tables).bases)
       (rows : explored.rows.items ≡ findings.graph.rows) (ends : explored.ends.items ≡ findings.ends.items)
-      (cuts : explored.cuts.items ≡ findings.cuts.items) (tables : explored.tables ≡ findings.tables) (done : IsClosedAtLast exploration entry findings) where
-    last_numbered : IsNumbered (naming explored.tables).bases
-    last_numbered = subst (λ (t : Tables). IsNumbered (naming t).bases) (sym tables) numbered
+      (cuts : explored.cuts.items ≡ findings.cuts.items) (tables : explored.tables ≡ findings.tables) (done : IsClosedAtLast exploration entry findings)
+    where
+      last_numbered : IsNumbered (naming explored.tables).bases
+      last_numbered = subst (λ (t : Tables). IsNumbered (naming t).bases) (sym tables) numbered
 
-    closed_at_last : HasAllNodes explored.cuts.items
-        → IsClosed code program entry budgets rules (naming explored.tables) explored.rows.items explored.ends.items (λ number. ⊥)
-    closed_at_last all =
-        subst (λ (t : Tables). IsClosed code program entry budgets rules (naming t) explored.rows.items explored.ends.items (λ number. ⊥)) (sym tables)
-        (subst (λ (l : List Row). IsClosed code program entry budgets rules (naming findings.tables) l explored.ends.items (λ number. ⊥)) (sym rows)
-        (subst (λ (l : List End). IsClosed code program entry budgets rules (naming findings.tables) findings.graph.rows l (λ number. ⊥)) (sym ends)
-        (done (subst HasAllNodes cuts all))))
+      closed_at_last : HasAllNodes explored.cuts.items
+          → IsClosed code program entry budgets rules (naming explored.tables) explored.rows.items explored.ends.items (λ number. ⊥)
+      closed_at_last all =
+          subst (λ (t : Tables). IsClosed code program entry budgets rules (naming t) explored.rows.items explored.ends.items (λ number. ⊥)) (sym tables)
+          (subst (λ (l : List Row). IsClosed code program entry budgets rules (naming findings.tables) l explored.ends.items (λ number. ⊥)) (sym rows)
+          (subst (λ (l : List End). IsClosed code program entry budgets rules (naming findings.tables) findings.graph.rows l (λ number. ⊥)) (sym ends)
+          (done (subst HasAllNodes cuts all))))
 
-    pub covered : CoversPositions code program entry budgets explored
-    covered = covers_positions code program entry budgets rules explored last_numbered closed_at_last
+      pub covered : CoversPositions code program entry budgets explored
+      covered = covers_positions code program entry budgets rules explored last_numbered closed_at_last
 
-    -- with the phases of their events
-    pub phased : CoversPhases code program entry budgets rules explored
-    phased = covers_phases code program entry budgets rules explored last_numbered closed_at_last
+      -- with the phases of their events
+      pub phased : CoversPhases code program entry budgets rules explored
+      phased = covers_phases code program entry budgets rules explored last_numbered closed_at_last

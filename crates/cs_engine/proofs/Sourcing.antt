@@ -93,7 +93,8 @@ module _ (exploration : Exploration) (entry : ℕ) (explores : ExploresIntegers 
         (begun room no_keys no_rows placed names (subst (λ (tables : Tables). AreNames (naming tables) names) keeps.tables are) each)
 
   -- the next row is given
-  given_sources : (before : Findings) (graph : RowGraph) (row : ℕ) → IsGiven row before.graph.work graph.work → graph ≡ with_work graph.work before.graph
+  given_sources : (before : Findings) (graph : RowGraph) (row : ℕ) → IsGiven row before.graph.work graph.work
+      → graph ≡ with_work graph.work before.graph
       → HasSources exploration entry Waits before → HasSources exploration entry (IsOpen row) (record before { graph = graph })
   given_sources before graph row given rest sources names are each =
       sources_given code program entry budgets names rules before.graph graph before.ends.items row given rest (sources names are each)
@@ -138,7 +139,8 @@ module _ (exploration : Exploration) (entry : ℕ) (explores : ExploresIntegers 
       (λ number never. absurd never) (sources names are each).sourced)
 
   -- what is found stays closed but for the open rows too
-  pub kept_given : (before : Findings) (graph : RowGraph) (row : ℕ) → IsGiven row before.graph.work graph.work → graph ≡ with_work graph.work before.graph
+  pub kept_given : (before : Findings) (graph : RowGraph) (row : ℕ) → IsGiven row before.graph.work graph.work
+      → graph ≡ with_work graph.work before.graph
       → IsKept exploration entry Waits before → IsKept exploration entry (IsOpen row) (record before { graph = graph })
   kept_given before graph row given rest kept = record {
     closed = given_graph exploration entry explores before graph row given rest kept.closed;

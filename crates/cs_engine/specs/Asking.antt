@@ -1,6 +1,7 @@
 -- What is said of each guess of a state: the operation whose result it stands for comes at its event, with the operands that were noted, and isn't followed
 -- exactly.
-use Rattle.std.specs.Prelude.{◌≡◌, ◌≢◌, ◌⊎◌, ◌<◌, ℕ, suc, nat_lt, ℤ, pos, List, [], ◌∷◌, ◌++◌, length, filter, Option, Some, None}
+use Rattle.std.specs.Prelude.{◌≡◌, ◌≢◌, ◌⊎◌, ◌<◌, ℕ, suc, nat_lt, ℤ, pos, List, [], ◌∷◌, ◌++◌, length, filter, Option, Some}
+use Rattle.std.specs.Prelude.{None}
 use Rattle.std.specs.Prelude.{slice_get, Contains}
 use Rattle.std.specs.FinMap as finite
 use Rattle.cs_types.specs.declared.data_model.DataModel.{DataModel}

@@ -69,7 +69,8 @@ fn can_receive(program: &Program, parameters: &[Local]) -> bool
 // Whether no size passes the bounds in what the parameters point to.
 fn have_sizes(program: &Program, parameters: &[Local]) -> bool
     requires { IsLaidOut program.now.model program.now.table.list }
-    ensures { result ≡ true → HaveSizes (typed_program program.now) (map variable parameters.now) }
+    ensures { result ≡ true
+        → HaveSizes (typed_program program.now) (map variable parameters.now) }
 {
     for parameter in parameters {
         if !has_sizes(program, &parameter.ty) {

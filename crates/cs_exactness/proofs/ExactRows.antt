@@ -31,7 +31,8 @@ use Rattle.cs_exactness.proofs.Walking.{IsAlong, integer_row, walk}
 module _ (code : Code) (program : TypedProgram) (entry : ℕ) (budgets : RunBudgets) (names : Naming) (rules : List Rule) (rows : List Row)
     (come : (number : ℕ) (row : Row) → slice_get rows number ≡ Some row → HasSource code program entry budgets names rules rows number row) where
   -- each row has a chain
-  chain_under : (bound number : ℕ) → number < bound → (row : Row) → slice_get rows number ≡ Some row → (chain : List Event) × IsChain rows number chain
+  chain_under : (bound number : ℕ) → number < bound → (row : Row) → slice_get rows number ≡ Some row
+      → (chain : List Event) × IsChain rows number chain
   chain_under zero number under row there = absurd (omega (arith, under))
   chain_under (suc bound) number under row there = elim (come number row there) [
     | inl first_row ↦ (

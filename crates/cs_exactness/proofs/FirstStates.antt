@@ -75,7 +75,8 @@ module _ (code : Code) (program : TypedProgram) (entry : ℕ) (budgets : RunBudg
 
     -- the run's own number of a declared symbol is the one that fits
     same_number : is_declared state.constraints symbol ≡ true
-        → v symbol ≡ own code program entry budgets given names state start more numbered once works.parameters differ nothing (input_of names.syms v) symbol
+        → v symbol ≡ own code program entry budgets given names state start more numbered once works.parameters differ nothing (input_of names.syms v)
+        symbol
     same_number declared =
         let found = some_found (set_of state.constraints symbol) declared in
         let known = start.received.symbols symbol found.0 found.1 in

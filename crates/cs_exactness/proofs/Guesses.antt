@@ -1,5 +1,6 @@
 -- What the run of a valuation lists by a state's guesses, once one more was guessed: for the runs of rows.
-use Rattle.std.proofs.Common.{◌≡◌, ◌≢◌, ◌<◌, ◌≤◌, inl, inr, ℕ, ℤ, suc, Bool, true, cond, List, [], ◌∷◌, map, Option, None, Some, refl, sym, ap, ◌∙◌, subst}
+use Rattle.std.proofs.Common.{◌≡◌, ◌≢◌, ◌<◌, ◌≤◌, inl, inr, ℕ, ℤ, suc, Bool, true, cond, List, [], ◌∷◌, map, Option, None, Some}
+use Rattle.std.proofs.Common.{refl, sym, ap, ◌∙◌, subst}
 use Rattle.std.proofs.Common.{All, arith}
 use Rattle.std.specs.Prelude.{option_map, if◌then◌else◌, Contains}
 use Rattle.std.specs.FinMap as finite

@@ -1,5 +1,6 @@
 -- Each state has just the guesses of the events that lead to its row, in order, and the phase that the rules give these: for `EachNotesEvents`.
-use Rattle.std.proofs.Common.{◌≡◌, ◌⊎◌, ◌<◌, inl, inr, ℕ, suc, Bool, true, false, cond, List, [], ◌∷◌, ◌++◌, length, map, None, Some, slice_get, refl}
+use Rattle.std.proofs.Common.{◌≡◌, ◌⊎◌, ◌<◌, inl, inr, ℕ, suc, Bool, true, false, cond, List, [], ◌∷◌, ◌++◌, length, map, None}
+use Rattle.std.proofs.Common.{Some, slice_get, refl}
 use Rattle.std.proofs.Common.{Option, sym, ap, ◌∙◌, subst, arith}
 use Rattle.std.specs.Prelude.{Contains}
 use Rattle.std.specs.FinMap as finite
@@ -62,7 +63,8 @@ put_last : (event : ℕ) (one : Asked) (entries : EntryList Asked) → AreNumber
 put_last event one [] are below = refl
 put_last event one (entry ∷ entries) are below =
     let greater : key_cmp (event, 0) entry.0 ≡ Greater = ap (key_cmp (event, 0)) are.0 ∙ later_key entry.1.event event below.0 in
-    ap (λ (o : Ordering). by_order o (((event, 0), one) ∷ entry ∷ entries) ((entry.0, one) ∷ entries) (entry ∷ put key_cmp (event, 0) one entries)) greater
+    ap (λ (o : Ordering). by_order o (((event, 0), one) ∷ entry ∷ entries) ((entry.0, one) ∷ entries) (entry ∷ put key_cmp (event, 0) one entries))
+    greater
     ∙ ap (λ (rest : EntryList Asked). entry ∷ rest) (put_last event one entries are.1 below.1)
 
 below_all : (event : ℕ) (entries : EntryList Asked)
@@ -268,7 +270,8 @@ module _ (code : Code) (program : TypedProgram) (entry : ℕ) (budgets : RunBudg
       Holds : Guesses → ℕ → Sym → Type 0
       Holds guesses when mark = (asked : Asked) × Contains (finite.values guesses) asked × (asked.event ≡ when) × (asked.guess ≡ mark)
 
-  pub each_notes : (ends : List End) (Are : ℕ → Type 0) → AreSourced code program entry budgets names rules rows ends Are → EachNotesEvents rules rows ends
+  pub each_notes : (ends : List End) (Are : ℕ → Type 0) → AreSourced code program entry budgets names rules rows ends Are
+      → EachNotesEvents rules rows ends
   each_notes ends Are sourced = record {
     of_rows = λ number row chain there leads. notes number row chain there leads row.state.value refl refl;
     of_ends = λ number end chain there leads.

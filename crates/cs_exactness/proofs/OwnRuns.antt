@@ -1,6 +1,7 @@
 -- Runs without guesses, and those that guess truths alone, fit the rows to whose chains their events belong, under their own numbers: by induction over the
 -- chain, from what a run that passes a child's event has come to. For `HasOwnRuns`.
-use Rattle.std.proofs.Common.{◌≡◌, ◌<◌, ◌≤◌, inl, inr, ℕ, zero, suc, ℤ, pos, List, [], ◌∷◌, ◌++◌, map, length, Option, None, Some, slice_get}
+use Rattle.std.proofs.Common.{◌≡◌, ◌<◌, ◌≤◌, inl, inr, ℕ, zero, suc, ℤ, pos, List, [], ◌∷◌, ◌++◌, map, length, Option, None, Some}
+use Rattle.std.proofs.Common.{slice_get}
 use Rattle.std.proofs.Common.{refl, sym, ap, ◌∙◌, subst, arith}
 use Rattle.std.specs.Prelude.{is_some, option_map, unwrap_or, Contains}
 use Rattle.std.specs.FinMap as finite
@@ -305,7 +306,8 @@ module _ (code : Code) (program : TypedProgram) (entry : ℕ) (budgets : RunBudg
     -- nothing was guessed at the child's event, if the child has no guess
     none_guessed : of.child.guess ≡ None → ¬ IsGuessedAt state state.counters.events
     none_guessed none (asked, among, there) =
-        elim (guess_split code program entry budgets names rules rows come number row of numbers state.counters.events asked.guess (asked, among, there, refl)) [
+        elim (guess_split code program entry budgets names rules rows come number row of numbers state.counters.events asked.guess
+        (asked, among, there, refl)) [
           | inl has ↦
               let before = early code program entry budgets names rules rows come number row of numbers has.0 has.1 in
               let at = has.2 in
@@ -388,7 +390,8 @@ module _ (code : Code) (program : TypedProgram) (entry : ℕ) (budgets : RunBudg
         let is_child = child_is code program entry budgets names rules rows come number row of in
         let count : of.child.state.value.counters.events ≡ suc (length parts.earlier)
         = next guesses row of parents_chain event event_is
-        ∙ ap suc (many guesses row of parents_chain event event_is ∙ ap length (sym parts.events_are) ∙ length-map parts.earlier (λ (s : Step). s.event)) in
+        ∙ ap suc (many guesses row of parents_chain event event_is ∙ ap length (sym parts.events_are)
+        ∙ length-map parts.earlier (λ (s : Step). s.event)) in
         subst (λ (s : State). IsAt code program budgets names s setting own left log) (sym state)
         (is_child.back setting own split.between left split.before log parts.one (record { model = refl; limits = refl }) here split.leaves
         (parts.event_is ∙ sym event_is) (lists_here guesses row of parents_chain event event_is setting refl lists_child)

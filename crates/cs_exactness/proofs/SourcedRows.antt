@@ -1,5 +1,6 @@
 -- Rows and ends come from rows also once a child or the ends of a row were added: for what is kept as an exploration goes on.
-use Rattle.std.proofs.Common.{◌≡◌, ◌≢◌, ◌⊎◌, inl, inr, ◌<◌, ◌+◌, ℕ, zero, suc, List, [], ◌∷◌, ◌++◌, map, length, Some, slice_get, refl, sym, ap, ◌∙◌, subst}
+use Rattle.std.proofs.Common.{◌≡◌, ◌≢◌, ◌⊎◌, inl, inr, ◌<◌, ◌+◌, ℕ, zero, suc, List, [], ◌∷◌, ◌++◌, map, length, Some}
+use Rattle.std.proofs.Common.{slice_get, refl, sym, ap, ◌∙◌, subst}
 use Rattle.std.proofs.Common.{arith}
 use Rattle.std.specs.Prelude.{nat_eq}
 use Rattle.std.specs.Cmp.Lexicographic.{pointwise, bytes_decides}
@@ -50,7 +51,8 @@ module _ (code : Code) (program : TypedProgram) (entry : ℕ) (budgets : RunBudg
   Sourced rows ends Are = AreSourced code program entry budgets names rules rows ends Are
 
   -- fewer rows are open
-  pub sourced_but : (rows : List Row) (ends : List End) (Are Were : ℕ → Type 0) → ((number : ℕ) → Are number → Were number) → Sourced rows ends Were
+  pub sourced_but : (rows : List Row) (ends : List End) (Are Were : ℕ → Type 0) → ((number : ℕ) → Are number → Were number)
+      → Sourced rows ends Were
       → Sourced rows ends Are
   sourced_but rows ends Are Were fewer is = record {
     rows_come = is.rows_come;
@@ -159,7 +161,8 @@ module _ (code : Code) (program : TypedProgram) (entry : ℕ) (budgets : RunBudg
       first_none number found event there leads same = absurd (sourced.no_children number found event there leads (subst Were (sym same) open_row))
 
     -- the next of its children is added
-    module _ (ends : List End) (Are Were : ℕ → Type 0) (sourced : Sourced rows ends Were) (count : ℕ) (child : Child) (at : slice_get made count ≡ Some child)
+    module _ (ends : List End) (Are Were : ℕ → Type 0) (sourced : Sourced rows ends Were) (count : ℕ) (child : Child)
+        (at : slice_get made count ≡ Some child)
         (firsts : AreFirst rows row made count) (gone : ¬ Are row) (fewer : (number : ℕ) → number < length rows → Are number → Were number)
         (unlike : (number : ℕ) (found : Row) → slice_get rows number ≡ Some found
         → live_part found.state.value ≢ live_part child.state.value) where
@@ -198,7 +201,8 @@ module _ (code : Code) (program : TypedProgram) (entry : ℕ) (budgets : RunBudg
       ]
 
       -- a child that was there has another label
-      of_others : (number : ℕ) (first second : Row) (here there : Event) → slice_get rows number ≡ Some first → first.event ≡ Some here → second ≡ new
+      of_others : (number : ℕ) (first second : Row) (here there : Event) → slice_get rows number ≡ Some first → first.event ≡ Some here
+          → second ≡ new
           → second.event ≡ Some there → first.parent ≡ second.parent → here.label ≡ there.label → ⊥
       of_others number first second here there found leads is too parents labels =
           let one = firsts number first here found leads (parents ∙ ap (λ (r : Row). r.parent) is) in
@@ -221,13 +225,15 @@ module _ (code : Code) (program : TypedProgram) (entry : ℕ) (budgets : RunBudg
       ]
 
       -- the parent of a row that was there is there
-      parent_there : (number : ℕ) (found : Row) (event : Event) → slice_get rows number ≡ Some found → found.event ≡ Some event → found.parent < length rows
+      parent_there : (number : ℕ) (found : Row) (event : Event) → slice_get rows number ≡ Some found → found.event ≡ Some event
+          → found.parent < length rows
       parent_there number found event there leads = elim (sourced.rows_come number found there) [
         | inl first ↦ let none = first.1.no_event in cc
         | inr of ↦ slice_get_within rows found.parent of.parent.row of.parent.there
       ]
 
-      no_children : (number : ℕ) (found : Row) (event : Event) → slice_get all_rows number ≡ Some found → found.event ≡ Some event → ¬ Are found.parent
+      no_children : (number : ℕ) (found : Row) (event : Event) → slice_get all_rows number ≡ Some found → found.event ≡ Some event
+          → ¬ Are found.parent
       no_children number found event there leads is_open = elim (last_or_before rows new found number there) [
         | inl before ↦
             sourced.no_children number found event before leads (fewer found.parent (parent_there number found event before leads) is_open)

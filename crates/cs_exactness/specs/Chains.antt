@@ -13,7 +13,8 @@ module _ (rows : List Row) where
 
   -- at the event with a number, of those that lead to a row, a number was guessed, for which this symbol stands
   pub data IsGuessedAlong : ℕ → ℕ → Sym → Type 0 where
-    here : {number : ℕ} {row : Row} {sym : Sym} {events : List Event} → slice_get rows number ≡ Some row → row.guess ≡ Some sym → IsChain number events
+    here : {number : ℕ} {row : Row} {sym : Sym} {events : List Event} → slice_get rows number ≡ Some row → row.guess ≡ Some sym
+        → IsChain number events
         → IsGuessedAlong number (length events) sym
     before : {number : ℕ} {row : Row} {event : ℕ} {sym : Sym} → slice_get rows number ≡ Some row → row.parent < number
         → IsGuessedAlong row.parent event sym

@@ -40,7 +40,8 @@ module _ {M : Type 0} (step : M → Act M) (setting : Setting) where
   as_proceeds {left = left} {log = log} leaves = as_way left log refl leaves
 
   -- two things that stand first
-  same_silent : (first : First M) (next other : M) (log end : Log) → first ≡ Silent next log → first ≡ Silent other end → (next ≡ other) × (log ≡ end)
+  same_silent : (first : First M) (next other : M) (log end : Log) → first ≡ Silent next log → first ≡ Silent other end
+      → (next ≡ other) × (log ≡ end)
   same_silent first next other log end e f =
       let nexts : next ≡ other = cc in
       let logs : log ≡ end = cc in
@@ -54,7 +55,8 @@ module _ {M : Type 0} (step : M → Act M) (setting : Setting) where
       let logs : log ≡ end = cc in
       (ones, acts, logs)
 
-  not_both : {A : Type 0} (first : First M) (next : M) (one : Step) (left : Act M) (log end : Log) → first ≡ Silent next log → first ≡ Shown one left end → A
+  not_both : {A : Type 0} (first : First M) (next : M) (one : Step) (left : Act M) (log end : Log) → first ≡ Silent next log
+      → first ≡ Shown one left end → A
   not_both first next one left log end e f = cc
 
   not_ended : {A : Type 0} (first : First M) (one : Step) (left : Act M) (outcome : Outcome) (log end : Log) → first ≡ Shown one left log
@@ -70,7 +72,8 @@ module _ {M : Type 0} (step : M → Act M) (setting : Setting) where
       ⊎ ((more : List Step) × (steps ≡ one ∷ more) × LeavesAfter step setting (first_of setting end rest) more left log)
 
   after_step : {first : First M} {rest left : Act M} {end log : Log} {passed steps : List Step} (one : Step)
-      → LeavesAfter step setting first passed rest end → passed ≡ one ∷ [] → LeavesAfter step setting first steps left log → GoesOn one rest end steps left log
+      → LeavesAfter step setting first passed rest end → passed ≡ one ∷ [] → LeavesAfter step setting first steps left log
+      → GoesOn one rest end steps left log
   after_step {first = first} {end = end} one (now {one = it} {left = rest} e) is (now {one = other} {left = left} {log = log} f) =
       let same = same_shown first it other rest left end log e f in
       let here : it ≡ one = cc in
@@ -123,7 +126,8 @@ module _ {M : Type 0} (step : M → Act M) (setting : Setting) where
       (subst (λ l. LeavesAfter step setting (first_of setting l (step other)) steps rest end) (sym same.1) more))
 
   past_silence : {left middle rest : Act M} {log between end : Log} {steps none : List Step} → Proceeds step setting left log none middle between
-      → none ≡ [] → LeavesAfter step setting (first_of setting log left) steps rest end → LeavesAfter step setting (first_of setting between middle) steps rest end
+      → none ≡ [] → LeavesAfter step setting (first_of setting log left) steps rest end
+      → LeavesAfter step setting (first_of setting between middle) steps rest end
   past_silence {rest = rest} {between = between} {end = end} {steps = steps} (stays {left = left} {last = last} {log = log} is same) empty leaves =
       subst (λ act. LeavesAfter step setting (first_of setting between act) steps rest end) is
       (subst (λ l. LeavesAfter step setting (first_of setting l left) steps rest end) same leaves)
@@ -175,12 +179,14 @@ module _ {M : Type 0} (step : M → Act M) (setting : Setting) where
   at_end : {left last : Act M} {log before end : Log} {steps none : List Step} {rest : Act M} {after : Log} {outcome : Outcome}
       → Proceeds step setting left log none last before → none ≡ [] → first_of setting before last ≡ Ended outcome end
       → LeavesAfter step setting (first_of setting log left) steps rest after → ⊥
-  at_end {last = last} {before = before} {end = end} {steps = steps} {rest = rest} {after = after} {outcome = outcome} (stays {left = left} {log = log} is same) empty ended
+  at_end {last = last} {before = before} {end = end} {steps = steps} {rest = rest} {after = after} {outcome = outcome} (stays {left = left} {log = log} is same)
+      empty ended
       leaves =
       past (first_of setting before last) ended (subst (λ act. LeavesAfter step setting (first_of setting before act) steps rest after) is
       (subst (λ l. LeavesAfter step setting (first_of setting l left) steps rest after) same leaves))
     where
-      past : {steps : List Step} {rest : Act M} {after : Log} (first : First M) → first ≡ Ended outcome end → LeavesAfter step setting first steps rest after → ⊥
+      past : {steps : List Step} {rest : Act M} {after : Log} (first : First M) → first ≡ Ended outcome end
+          → LeavesAfter step setting first steps rest after → ⊥
       past first e (now {one = one} {left = left} {log = log} f) = not_ended first one left outcome log end f e
       past first e (later {one = one} {between = left} {before = log} f more) = not_ended first one left outcome log end f e
       past first e (unseen {next = next} {before = log} f more) = not_silent first next outcome log end f e
@@ -217,7 +223,8 @@ module _ {M : Type 0} (step : M → Act M) (setting : Setting) where
       past (first_of setting before last) ended (subst (λ act. RunsTo step setting (first_of setting before act) steps other after) is
       (subst (λ l. RunsTo step setting (first_of setting l left) steps other after) same runs))
     where
-      past : {steps : List Step} {other : Outcome} {after : Log} (first : First M) → first ≡ Ended outcome end → RunsTo step setting first steps other after
+      past : {steps : List Step} {other : Outcome} {after : Log} (first : First M) → first ≡ Ended outcome end
+          → RunsTo step setting first steps other after
           → IsThatEnd steps outcome other end after
       past first e (ends {outcome = it} {end = log} f) =
           let outcomes : it ≡ outcome = cc in
