@@ -35,7 +35,7 @@ use Rattle.cs_progress.specs.Stepping.{next_left, UsesAnswers}
 use Rattle.cs_explored.specs.declared.watch.Rule.{Rule}
 use Rattle.cs_children.specs.Adding.{IsFaultyEnd, AreFaultyEnds, GoesOn}
 use Rattle.cs_successors.specs.EntryRuns.{stays}
-use Rattle.cs_successors.specs.Coming.{is_declared, IsIntegerState, StateEnd, IsAt, EndsIn, IsChildOf, IsEndOf, ComesToEnd, IsReachedFrom}
+use Rattle.cs_successors.specs.Coming.{is_declared, IsIntegerState, MentionsNoOthers, StateEnd, IsAt, EndsIn, IsChildOf, IsEndOf, ComesToEnd, IsReachedFrom}
 use Rattle.cs_children.proofs.DeclaredSymbols.{stays_declared, locals_more, answers_more}
 use Rattle.cs_children.proofs.Reaching.{Comes}
 use Rattle.cs_children.proofs.StandingFirst.{stands_first}
@@ -63,6 +63,16 @@ module _ (code : Code) (program : TypedProgram) (budgets : RunBudgets) (names : 
       same = at.same ∙ sym (part_left (read_cell setting) v);
       passed = at.passed ∙ sym (ap (λ (s : State). s.counters.events) is_part.rest);
     }
+
+    -- which mentions no more
+    part_mentions : MentionsNoOthers code program budgets names state part
+    part_mentions known mentioned = subst (HasLocalsAlone program names.bases known) (sym is_part.rest) (record {
+      callers = mentioned.callers;
+      answers = mentioned.answers;
+      temporaries = mentioned.temporaries;
+      stored = mentioned.stored;
+      filled = mentioned.filled;
+    })
 
     -- and is a state of integers alone
     part_integer : IsIntegerState code program budgets names part
@@ -134,6 +144,8 @@ module _ (code : Code) (program : TypedProgram) (budgets : RunBudgets) (names : 
         fits = λ v fits. part_fits test part.state is_part v (faulty_fits v fits);
         phase = ap (λ (s : State). s.phase) is_end.1 ∙ ap (λ (s : State). s.phase) is_part.rest;
         asked = ap (λ (s : State). s.asked) is_end.1 ∙ ap (λ (s : State). s.asked) is_part.rest;
+        mentions = λ known mentioned.
+            subst (HasLocalsAlone program names.bases known) (sym is_end.1) (part_mentions test part.state is_part known mentioned);
         locals = subst (λ (s : State). HasLocalsAlone program names.bases (is_declared s.constraints) s) (sym is_end.1)
             (part_integer test part.state is_part).locals;
         integers = subst (λ (s : State). HasIntegerCode code program s.frame.spot.function) (sym is_end.1)
@@ -234,6 +246,7 @@ module _ (code : Code) (program : TypedProgram) (budgets : RunBudgets) (names : 
                 events = refl;
                 phase = refl;
                 asked = refl;
+                mentions = λ known mentioned. mentioned;
                 fits = λ v fits. fits;
                 endings = end_each;
                 comes = λ setting v left log goes here fits. record { rest = left; later = log; proceeds = stays refl refl; comes = here };
@@ -246,6 +259,7 @@ module _ (code : Code) (program : TypedProgram) (budgets : RunBudgets) (names : 
                 events = ap (λ (s : State). s.counters.events) is_part.rest;
                 phase = ap (λ (s : State). s.phase) is_part.rest;
                 asked = ap (λ (s : State). s.asked) is_part.rest;
+                mentions = part_mentions test part is_part;
                 fits = part_fits test part is_part;
                 endings = end_each;
                 comes = λ setting v left log goes here fits.

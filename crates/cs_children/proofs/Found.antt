@@ -47,7 +47,7 @@ use Rattle.cs_children.specs.declared.children.Children.{Children}
 use Rattle.cs_children.specs.declared.exploration.Exploration.{Exploration}
 use Rattle.cs_children.specs.Adding.{ComesOfPieces, over, shows}
 use Rattle.cs_children.specs.Adding.{Adds, AddsPieces, AddsFaulty, AreOfQuestion, AreOfSwitch, GoesOn}
-use Rattle.cs_successors.specs.Coming.{is_declared, IsIntegerState, StateEnd, OutcomesDiffer, IsAt, EndsIn, IsChildOf, IsEndOf, ComesOfState, IsReachedFrom}
+use Rattle.cs_successors.specs.Coming.{is_declared, IsIntegerState, MentionsNoOthers, StateEnd, OutcomesDiffer, IsAt, EndsIn, IsChildOf, IsEndOf, ComesOfState, IsReachedFrom}
 use Rattle.cs_successors.specs.EntryRuns.{stays}
 use Rattle.cs_children.specs.Finding.{code_of, model_of, limits_of, AreNone, Explores, FindsAll, FindsSoFar}
 use Rattle.cs_children.proofs.FaultyParts.{rest_reached, nothing_left}
@@ -131,6 +131,7 @@ module _ (code : graph.Code) (program : TypedProgram) (budgets : RunBudgets) (na
       fits = λ v fits. fits;
       phase = refl;
       asked = refl;
+      mentions = λ known mentioned. mentioned;
       locals = is.locals;
       integers = is.integers;
       ends = λ setting v left log goes here fits. ends_so setting v left log here;
@@ -238,10 +239,17 @@ module _ (exploration : Exploration) (given : Naming) (before state : State) (fo
     reached = so_far.reached names program (explores_before exploration given later names program more explores) is
 
     stepped : (after : State) (what : Next) → Stepped after what
-        → Steps code names program limits state after what × HasLocalsAlone program names.bases (is_declared state.constraints) after
-    stepped after what steps =
-        steps.steps names program (is_declared state.constraints) explores.model explores.extends explores.numbered reached.integer.locals
-        reached.integer.integers reached.integer.possible reached.integer.uses
+        → Steps code names program limits state after what × MentionsNoOthers code program limits names state after
+    stepped after what steps = (
+      (by_known (is_declared state.constraints) reached.integer.locals).0,
+      λ known mentioned. (by_known known mentioned).1,
+    )
+      where
+        by_known : (known : ℕ → Bool) → HasLocalsAlone program names.bases known state
+            → Steps code names program limits state after what × HasLocalsAlone program names.bases known after
+        by_known known mentioned =
+            steps.steps names program known explores.model explores.extends explores.numbered mentioned reached.integer.integers
+            reached.integer.possible reached.integer.uses
 
     further : (after : State) → IsReachedFrom code program limits names state after []
         → IsReachedFrom code program limits names before after found.ends.items
@@ -251,13 +259,13 @@ module _ (exploration : Exploration) (given : Naming) (before state : State) (fo
 
     -- an operation that waits
     module _ (after : State) (what : Next) (waits : Waits code names program limits state after what)
-        (locals : HasLocalsAlone program names.bases (is_declared state.constraints) after) where
+        (mentions : MentionsNoOthers code program limits names state after) where
       waiting : IsReachedFrom code program limits names state after []
-      waiting = waits_reached code program limits names state after reached.integer locals what waits
+      waiting = waits_reached code program limits names state after reached.integer mentions what waits
 
       first_in : (cells : Path → InputKind → Cell) (v : Valuation) → Fits v after.constraints
           → BeginsIn code names.bases after v what (next_left code names program limits cells after v)
-      first_in = begins_in code program limits names state after reached.integer locals what waits
+      first_in = begins_in code program limits names state after reached.integer mentions what waits
 
       shows_numbers : (cells : Path → InputKind → Cell) (v : Valuation) → ShowsNumbers (next_left code names program limits cells after v)
       shows_numbers cells v =
@@ -283,9 +291,9 @@ module _ (exploration : Exploration) (given : Naming) (before state : State) (fo
     made = so_far.made;
     cuts = so_far.cuts;
     reached = λ names program explores is.
-        let (done, locals) = stepped names program explores is after next.Done steps in
+        let (done, mentions) = stepped names program explores is after next.Done steps in
         further names program explores is after
-        (done_reached code program limits names state after (reached names program explores is).integer locals done);
+        (done_reached code program limits names state after (reached names program explores is).integer mentions done);
   }
 
   module _ (middle : State) (at : Place) (checked : Box Checked) (steps : Stepped middle (next.Checks at checked)) where
@@ -296,32 +304,32 @@ module _ (exploration : Exploration) (given : Naming) (before state : State) (fo
       made = adds.children ∙ append-nil found.made.items ∙ so_far.made;
       cuts = adds.cuts ∙ so_far.cuts;
       reached = λ names program explores is.
-          let (waits, locals) = stepped names program explores is middle (next.Checks at checked) steps in
-          let here = waiting names program explores is middle (next.Checks at checked) waits locals in
+          let (waits, mentions) = stepped names program explores is middle (next.Checks at checked) steps in
+          let here = waiting names program explores is middle (next.Checks at checked) waits mentions in
           subst (IsReachedFrom code program limits names before after) (sym adds.endings)
           (reached_on code program limits names before middle found.ends.items (further names program explores is middle here) after ends
           (rest_reached code program limits names middle here.integer at checked.value ends
-          (first_in names program explores is middle (next.Checks at checked) waits locals) match goes after on is_true));
+          (first_in names program explores is middle (next.Checks at checked) waits mentions) match goes after on is_true));
     }
 
     -- or all have ended
     pub finds_no_rest : (all : Children) (after : State) (goes : Bool) → AddsFaulty at checked.value.faults.items found all
         → GoesOn checked.value.rest goes middle after → goes ≡ false → OutcomesDiffer all.ends.items → FindsAll exploration later before all
     finds_no_rest all after goes (ends, adds, match) on is_false differ = λ names program explores is.
-        let (waits, locals) = stepped names program explores is middle (next.Checks at checked) steps in
-        let here = waiting names program explores is middle (next.Checks at checked) waits locals in
-        finished names program explores is middle (next.Checks at checked) waits locals [] ends all
+        let (waits, mentions) = stepped names program explores is middle (next.Checks at checked) steps in
+        let here = waiting names program explores is middle (next.Checks at checked) waits mentions in
+        finished names program explores is middle (next.Checks at checked) waits mentions [] ends all
         (nothing_left code program limits names middle here.integer at checked.value ends
-        (first_in names program explores is middle (next.Checks at checked) waits locals) match rules goes after on is_false) adds differ
+        (first_in names program explores is middle (next.Checks at checked) waits mentions) match rules goes after on is_false) adds differ
 
   -- the run ends
   pub finds_end : (box : Box State) (outcome : Outcome) → Stepped box.value (next.Ends outcome) → (all : Children)
       → Adds found all [] ((outcome, box) ∷ []) → OutcomesDiffer all.ends.items → FindsAll exploration later before all
   finds_end box outcome steps all adds differ = λ names program explores is.
-      let (waits, locals) = stepped names program explores is box.value (next.Ends outcome) steps in
-      let here = waiting names program explores is box.value (next.Ends outcome) waits locals in
-      let first = first_in names program explores is box.value (next.Ends outcome) waits locals in
-      finished names program explores is box.value (next.Ends outcome) waits locals [] ((outcome, box) ∷ []) all
+      let (waits, mentions) = stepped names program explores is box.value (next.Ends outcome) steps in
+      let here = waiting names program explores is box.value (next.Ends outcome) waits mentions in
+      let first = first_in names program explores is box.value (next.Ends outcome) waits mentions in
+      finished names program explores is box.value (next.Ends outcome) waits mentions [] ((outcome, box) ∷ []) all
       (end_comes code program limits names rules box here.integer outcome first) adds differ
 
   -- a question shows
@@ -331,11 +339,11 @@ module _ (exploration : Exploration) (given : Naming) (before state : State) (fo
       → OutcomesDiffer all.ends.items → FindsAll exploration last before all
   finds_answers box at asked steps last extends all (made, ends, adds, comes) differ = λ names program explores is.
       let early = explores_before exploration later last names program extends explores in
-      let (waits, locals) = stepped names program early is box.value (next.Asks at asked) steps in
-      let here = waiting names program early is box.value (next.Asks at asked) waits locals in
-      let first = first_in names program early is box.value (next.Asks at asked) waits locals in
-      let numbers = shows_numbers names program early is box.value (next.Asks at asked) waits locals in
-      finished names program early is box.value (next.Asks at asked) waits locals made ends all
+      let (waits, mentions) = stepped names program early is box.value (next.Asks at asked) steps in
+      let here = waiting names program early is box.value (next.Asks at asked) waits mentions in
+      let first = first_in names program early is box.value (next.Asks at asked) waits mentions in
+      let numbers = shows_numbers names program early is box.value (next.Asks at asked) waits mentions in
+      finished names program early is box.value (next.Asks at asked) waits mentions made ends all
       (answers_come code program limits names rules box here.integer at asked exploration.budgets.events (model_of exploration) last explores.limit
       explores.model explores.extends
       (λ cells v fits. (shown_plain (subst ShowsNumbers (first cells v fits).1 (numbers cells v)), first cells v fits)) made ends comes) adds differ
@@ -345,19 +353,19 @@ module _ (exploration : Exploration) (given : Naming) (before state : State) (fo
       → AddsPieces exploration.budgets.events rules box at (AreOfSwitch code box.value term) found all
       → OutcomesDiffer all.ends.items → FindsAll exploration later before all
   finds_cases box at term steps all (made, ends, adds, comes) differ = λ names program explores is.
-      let (waits, locals) = stepped names program explores is box.value (next.Selects at term) steps in
-      let here = waiting names program explores is box.value (next.Selects at term) waits locals in
-      let first = first_in names program explores is box.value (next.Selects at term) waits locals in
-      finished names program explores is box.value (next.Selects at term) waits locals made ends all
+      let (waits, mentions) = stepped names program explores is box.value (next.Selects at term) steps in
+      let here = waiting names program explores is box.value (next.Selects at term) waits mentions in
+      let first = first_in names program explores is box.value (next.Selects at term) waits mentions in
+      finished names program explores is box.value (next.Selects at term) waits mentions made ends all
       (cases_come code program limits names rules box here.integer at term first exploration.budgets.events explores.limit made ends comes) adds differ
 
   -- no access shows its offset
   pub finds_nowhere : (after : State) (at : Place) (base : ℕ) (offset : Lin) → Stepped after (next.Reaches at base offset) → (all : Children)
       → FindsAll exploration later before all
   finds_nowhere after at base offset steps all = λ names program explores is.
-      let (waits, locals) = stepped names program explores is after (next.Reaches at base offset) steps in
-      let here = waiting names program explores is after (next.Reaches at base offset) waits locals in
-      let first = first_in names program explores is after (next.Reaches at base offset) waits locals in
-      let numbers = shows_numbers names program explores is after (next.Reaches at base offset) waits locals in
+      let (waits, mentions) = stepped names program explores is after (next.Reaches at base offset) steps in
+      let here = waiting names program explores is after (next.Reaches at base offset) waits mentions in
+      let first = first_in names program explores is after (next.Reaches at base offset) waits mentions in
+      let numbers = shows_numbers names program explores is after (next.Reaches at base offset) waits mentions in
       let there = first (λ path kind. UnsetCell) here.integer.possible.0 here.integer.possible.1 in
       absurd (never_reaches (subst ShowsNumbers there.3 (numbers (λ path kind. UnsetCell) here.integer.possible.0)))

@@ -13,3 +13,4 @@ mod PiecesCome
 mod Apart
 mod AddedPieces
 mod Found
+mod SettledAnswers

@@ -1,23 +1,27 @@
 -- What shows at an operation says whether the operation is followed there, and a guess that shows a truth is that of a test: for `back` of `IsChildOf`.
 use Rattle.std.proofs.Common.{◌≡◌, inl, inr, ℕ, zero, suc, ℤ, pos, negsuc, Bool, true, false, List, Option, None, Some, refl, sym, ap, ◌∙◌}
-use Rattle.std.proofs.Common.{arith}
+use Rattle.std.proofs.Common.{◌≤ℤ◌, subst, arith}
 use Rattle.std.proofs.lemmas.Int.{ints}
 use Rattle.cs_types.specs.declared.data_model.DataModel.{DataModel}
+use Rattle.cs_types.specs.declared.int_type.IntType.{IntType}
 use Rattle.cs_ast.specs.declared.place.Place.{Place}
+use Rattle.cs_ast.specs.declared.typed.operator.BinOp.{BinOp}
+use Rattle.cs_ast.specs.declared.typed.operator.BinOp.TheVariants.{Add, Sub, Mul, Div, Rem, Shl, Shr, And, Xor, Or}
 use Rattle.cs_terms.specs.declared.term.Lin.{Lin}
 use Rattle.cs_terms.specs.Pieces.{IsFar}
-use Rattle.cs_terms.specs.Term.{Valuation}
+use Rattle.cs_terms.specs.Term.{Valuation, value_of}
 use Rattle.cs_constraints.specs.Constraints.{Sets}
 use Rattle.cs_events.specs.declared.event.Label.{Label}
 use Rattle.cs_events.specs.declared.event.Label.TheVariants as label
 use Rattle.cs_events.specs.declared.event.Wrap.{Wrap}
 use Rattle.cs_events.specs.declared.event.Wrap.TheVariants.{Under, Same, Past, Far, Guessed}
+use Rattle.cs_events.specs.declared.operation.Operation.TheVariants as operation
 use Rattle.cs_events.specs.Operations.{own_quotient, own_result, result_with, is_true, truth_number, shows, wrap_of}
 use Rattle.cs_cfg.specs.declared.code.SwitchCase.{SwitchCase}
 use Rattle.cs_eval.specs.declared.question.Question.{Question}
 use Rattle.cs_eval.specs.declared.question.Question.TheVariants as question
 use Rattle.cs_eval.specs.Cases.{asking_of_cases}
-use Rattle.cs_eval.specs.Followed.{IsFollowed, IsGuess, asking_of}
+use Rattle.cs_eval.specs.Followed.{IsFollowed, IsGuess, IsBinaryGuess, IsRemainder, asking_of}
 use Rattle.cs_eval.specs.Operands.{IsBetween}
 use Rattle.cs_eval.specs.Questions.{operation_of}
 use Rattle.cs_eval.specs.Splits.{Asking}
@@ -44,6 +48,7 @@ module _ (model : DataModel) (asking : Asking) where
         → shows model (asking.operation w) (Some number) ≡ shows model (asking.operation v) None
         → IsTruth (shows model (asking.operation w) (Some number))
     pub test : (v w : Valuation) (number : ℤ) → asking.IsGuess w number → IsTruth (shows model (asking.operation w) (Some number)) → IsTest v w
+    pub may : (v w : Valuation) (number : ℤ) → asking.operation v ≡ asking.operation w → asking.IsGuess v number → asking.IsGuess w number
     pub phases : (v w : Valuation) (number : ℤ) → asking.IsGuess w number → (rules : List Rule) (phase : ℕ) (place : Place) (after : ℕ)
         → IsPhaseAfterLabel rules phase place (shows model (asking.operation w) (Some number)) after
         → IsPhaseAfterLabel rules phase place (shows model (asking.operation v) None) after
@@ -158,9 +163,51 @@ module _ (model : DataModel) (sets : Sets) where
   phases (question.Test tested term) v w number may rules phase place after is = absurd may
   phases (question.Callee function) v w number may rules phase place after is = absurd may
 
+  -- which numbers may be guessed depends on the operation's operands
+  same_binary : (op : BinOp) (ty : IntType) (left right : Lin) (v w : Valuation)
+      → operation.Binary op ty (value_of v left) (value_of v right) ≡ operation.Binary op ty (value_of w left) (value_of w right)
+      → (value_of v left ≡ value_of w left) × (value_of v right ≡ value_of w right)
+  same_binary op ty left right v w same =
+      let first : value_of v left ≡ value_of w left = cc in
+      let second : value_of v right ≡ value_of w right = cc in
+      (first, second)
+
+  may_binary : (op : BinOp) (ty : IntType) (left right : Lin) (v w : Valuation) (number : ℤ) → value_of v left ≡ value_of w left
+      → value_of v right ≡ value_of w right → IsBinaryGuess model sets op ty left right v number → IsBinaryGuess model sets op ty left right w number
+  may_binary Add ty left right v w number first second may = may
+  may_binary Sub ty left right v w number first second may = may
+  may_binary Mul ty left right v w number first second may = may
+  may_binary Div ty left right v w number first second may = may
+  may_binary Rem ty left right v w number first second may =
+      (may.0, λ fixed. subst (λ (divisor : ℤ). IsRemainder ty divisor number) second (may.1 fixed))
+  may_binary Shl ty left right v w number first second may = may
+  may_binary Shr ty left right v w number first second may = may
+  may_binary And ty left right v w number first second may = (
+    may.0,
+    λ fixed. subst (λ (mask : ℤ). pos 0 ≤ℤ mask → IsBetween (pos 0) mask number) first (may.1 fixed),
+    λ fixed. subst (λ (mask : ℤ). pos 0 ≤ℤ mask → IsBetween (pos 0) mask number) second (may.2 fixed),
+  )
+  may_binary Xor ty left right v w number first second may = may
+  may_binary Or ty left right v w number first second may = may
+
+  may : (asked : Question) (v w : Valuation) (number : ℤ) → operation_of v asked ≡ operation_of w asked → IsGuess model sets asked v number
+      → IsGuess model sets asked w number
+  may (question.Binary op ty left right) v w number same allowed =
+      let values = same_binary op ty left right v w same in
+      may_binary op ty left right v w number values.0 values.1 allowed
+  may (question.Convert ty term) v w number same allowed = allowed
+  may (question.Compare op left right) v w number same allowed = allowed
+  may (question.Order first second) v w number same allowed = allowed
+  may (question.Product count size) v w number same allowed = allowed
+  may (question.Sum offset amount size) v w number same allowed = allowed
+  may (question.Difference left right size) v w number same allowed = allowed
+  may (question.Unary op ty term) v w number same allowed = absurd allowed
+  may (question.Test tested term) v w number same allowed = absurd allowed
+  may (question.Callee function) v w number same allowed = absurd allowed
+
   -- so it is with each question
   pub question_tells : (asked : Question) → TellsFollowed model (asking_of model sets asked)
-  question_tells asked = record { alike = alike asked; truth = truth asked; test = test asked; phases = phases asked }
+  question_tells asked = record { alike = alike asked; truth = truth asked; test = test asked; may = may asked; phases = phases asked }
 
 -- and with a `switch`, which is always followed
 pub cases_tell : (model : DataModel) (term : Lin) (cases : List SwitchCase) → TellsFollowed model (asking_of_cases term cases)
@@ -168,5 +215,6 @@ cases_tell model term cases = record {
   alike = λ v w followed shown. tt;
   truth = λ v w number may shown. absurd may;
   test = λ v w number may shown. absurd may;
+  may = λ v w number same allowed. absurd allowed;
   phases = λ v w number may watched phase place after is. absurd may;
 }

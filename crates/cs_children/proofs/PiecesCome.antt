@@ -2,7 +2,7 @@
 use Rattle.std.proofs.Common.{◌≡◌, ◌≢◌, ℕ, zero, suc, ◌+◌, ◌<◌, ◌≤◌, ℤ, Bool, true, false, List, [], ◌∷◌, ◌++◌, Option}
 use Rattle.std.proofs.Common.{None}
 use Rattle.std.proofs.Common.{Some, All, map, inl, inr, refl, sym, ap, ◌∙◌, subst, arith}
-use Rattle.std.specs.Prelude.{slice_get, option_map, unwrap_or, is_some}
+use Rattle.std.specs.Prelude.{slice_get, option_map, unwrap_or, is_some, IsTrue}
 use Rattle.std.specs.Global.{Box}
 use Rattle.std.proofs.lemmas.List.{map-append}
 use Rattle.std.proofs.lemmas.List.Elements.{All-nil, All-cons, All-push}
@@ -12,7 +12,12 @@ use Rattle.cs_ast.specs.TypedProgram.{TypedProgram}
 use Rattle.cs_terms.specs.declared.symbol.Sym.{Sym}
 use Rattle.cs_terms.specs.declared.symbol.SymName.TheVariants.{Guess as GuessAt}
 use Rattle.cs_terms.specs.declared.term.Lin.{Lin}
-use Rattle.cs_terms.specs.Term.{Valuation, value_of}
+use Rattle.cs_terms.specs.Term.{Valuation, value_of, value_at, value_with}
+use Rattle.cs_ranges.specs.Affine.{affine}
+use Rattle.cs_ranges.specs.RangeSet.{contains}
+use Rattle.cs_events.specs.declared.operation.Operation.{Operation}
+use Rattle.cs_event_runs.specs.Left.{left_of}
+use Rattle.cs_successors.proofs.Agreeing.{values_agree, means_alike}
 use Rattle.cs_constraints.specs.Constraints.{Sets, set_of, Fits}
 use Rattle.cs_events.specs.declared.event.Event.{Event}
 use Rattle.cs_events.specs.declared.event.Label.{Label}
@@ -32,23 +37,24 @@ use Rattle.cs_eval.specs.declared.piece.Guessed.{Guessed}
 use Rattle.cs_eval.specs.declared.piece.Piece.{Piece}
 use Rattle.cs_eval.specs.Parts.{with_number}
 use Rattle.cs_eval.specs.Splits.{Asking, IsExact, IsOfGuess, IsPieceWith, IsPieceOf, Each, HaveOwnLabels, IsIn, IsCovered, IsSplit}
-use Rattle.cs_eval.proofs.OperandValues.{decide, with_number-same, with_number-other}
+use Rattle.cs_eval.proofs.OperandValues.{decide, with_number-same, with_number-other, fits_with}
 use Rattle.cs_state.specs.declared.state.State.{State}
 use Rattle.cs_state.specs.Cells.{block_of}
 use Rattle.cs_state.specs.Meaning.{meaning}
 use Rattle.cs_state.specs.Naming.{Naming}
 use Rattle.cs_progress.specs.Acting.{UsesAll}
 use Rattle.cs_cfg.specs.IntegerCode.{HasIntegerCode}
-use Rattle.cs_progress.specs.Locals.{IsOver}
+use Rattle.cs_progress.specs.Locals.{IsOver, HasLocalsAlone}
 use Rattle.cs_progress.specs.Stepping.{next_act, next_left, UsesAnswers}
 use Rattle.cs_explored.specs.declared.child.Child.{Child}
 use Rattle.cs_explored.specs.declared.watch.Rule.{Rule}
 use Rattle.cs_explored.specs.Answering.{leads_on}
 use Rattle.cs_explored.specs.Watching.{IsPhaseAfter, IsPhaseAfterLabel}
 use Rattle.cs_children.specs.Adding.{IsOfPiece, AreOfPieces}
+use Rattle.cs_children.specs.Settled.{DependsOn}
 use Rattle.cs_successors.specs.EntryRuns.{LeavesAfter, stays}
 use Rattle.cs_successors.specs.Coming.{is_declared, IsIntegerState, AreGuessesAfter, IsTruth, GoesBy, IsAt, PassesTo, GuessesAs, EndsIn, IsChildOf, IsEndOf}
-use Rattle.cs_successors.specs.Coming.{ListsNoneOrTruth, GivesOwn, ComesToChild}
+use Rattle.cs_successors.specs.Coming.{ListsNoneOrTruth, GivesOwn, MentionsGuess, ComesToChild}
 use Rattle.cs_successors.proofs.Passing.{one_alone}
 use Rattle.cs_children.proofs.DeclaredSymbols.{stays_declared, over_declared, locals_more, answers_more}
 use Rattle.cs_children.proofs.GuessedAsked.{asked_before}
@@ -58,6 +64,9 @@ use Rattle.cs_children.proofs.OwnLabels.{TellsFollowed}
 use Rattle.cs_children.proofs.PassedPieces.{event_with, step_with, asks_over, only_step, passes_piece}
 use Rattle.cs_children.proofs.Reaching.{Comes}
 use Rattle.cs_children.proofs.UsedGuesses.{used_none, own_leads_on}
+
+abbrev no_cells : Path → InputKind → Cell
+no_cells path kind = UnsetCell
 
 -- a valuation that gives a symbol the number already
 with_own : (symbol : ℕ) (number : ℤ) (v : Valuation) → v symbol ≡ number → with_number symbol number v ≡ v
@@ -106,13 +115,27 @@ module _ (code : Code) (program : TypedProgram) (budgets : RunBudgets) (names : 
         let wrong : true ≡ false = sym declared ∙ none in
         cc)
 
+    -- what shows is the same under valuations that agree on the symbols that the state mentions
+    same_operation : (known : ℕ → Bool) → HasLocalsAlone program names.bases known state → (v w : Valuation) → Fits v state.constraints
+        → Fits w state.constraints → ((symbol : ℕ) → known symbol ≡ true → w symbol ≡ v symbol) → asking.operation v ≡ asking.operation w
+    same_operation known mentioned v w fits others agree =
+        let (onward, one) = (first no_cells v fits).1 in
+        let (further, other) = (first no_cells w others).1 in
+        let left : next_left code names program budgets no_cells state w ≡ next_left code names program budgets no_cells state v
+        = (λ i. left_of no_cells (values_agree known v w agree state.answers mentioned.answers i)
+        (code_step code program budgets (means_alike known v w agree code names program state mentioned is.blocks i))) in
+        operations (asking.operation v) (asking.operation w) onward further (sym one ∙ sym left ∙ other)
+      where
+        operations : (o p : Operation) (f g : ℤ → Act CodeState) → Asks at o f ≡ Asks at p g → o ≡ p
+        operations o p f g e = cc
+
     module _ (piece : Piece) (child : Child) (is_piece : IsPieceOf program.model state.constraints guess.0 asking piece)
         (of : IsOfPiece rules state at guess piece child) where
       abbrev after : State
       after = child.state.value
 
       abbrev answer : Lin
-      answer = leads_on piece.label piece.answer
+      answer = of.answer
 
       sets_are : after.constraints ≡ piece.constraints
       sets_are = ap (λ (s : State). s.constraints) of.state
@@ -130,11 +153,26 @@ module _ (code : Code) (program : TypedProgram) (budgets : RunBudgets) (names : 
       number_is = ap (λ (s : State). s.counters.events) of.state
 
       -- the piece's own answer leads on
-      answer_is : (v : Valuation) → Fits v state.constraints → (given : Option ℤ) → shows program.model (asking.operation v) given ≡ piece.label
-          → answer ≡ piece.answer
-      answer_is v fits given label =
-          ap (λ l. leads_on l piece.answer) (sym label)
-          ∙ own_leads_on program.model (asking.operation v) given piece.answer (first (λ path kind. UnsetCell) v fits).0
+      own_leads : leads_on piece.label piece.answer ≡ piece.answer
+      own_leads = by piece.guessed is_piece.meaning
+        where
+          some : Valuation
+          some = is_piece.some.0
+
+          of_label : (given : Option ℤ) → Fits some state.constraints → shows program.model (asking.operation some) given ≡ piece.label
+              → leads_on piece.label piece.answer ≡ piece.answer
+          of_label given fits label =
+              ap (λ l. leads_on l piece.answer) (sym label)
+              ∙ own_leads_on program.model (asking.operation some) given piece.answer (first no_cells some fits).0
+
+          by : (guessed : Option Guessed) → IsPieceWith program.model state.constraints guess.0 asking guessed piece
+              → leads_on piece.label piece.answer ≡ piece.answer
+          by None exact = let from = exact.from some is_piece.some.1 in of_label None from.0 from.2
+          by (Some what) inexact = let from = inexact.from some is_piece.some.1 in of_label (Some (some guess.0)) from.0 from.3
+
+      -- with its values
+      answer_is : (v : Valuation) → Fits v state.constraints → value_of v answer ≡ value_of v piece.answer
+      answer_is v fits = of.settled.values v fits ∙ ap (value_of v) own_leads
 
       -- the state of the child is one of integers alone
       more : (symbol : ℕ) → is_declared state.constraints symbol ≡ true → is_declared after.constraints symbol ≡ true
@@ -187,6 +225,80 @@ module _ (code : Code) (program : TypedProgram) (budgets : RunBudgets) (names : 
             (asked_before state.counters.events child.guess state.asked after.asked is.guessed of.asked asked among);
       }
 
+      -- the answer depends on no symbol but those that the state mentions and that of the guess
+      module _ (known : ℕ → Bool) (mentioned : HasLocalsAlone program names.bases known state) (symbol : Sym) (over : answer.sym ≡ Some symbol)
+          (depends : DependsOn state.constraints answer symbol) (unknown : known symbol.0 ≡ false) where
+        abbrev base : Valuation
+        base = is_piece.some.0
+
+        base_fits : Fits base state.constraints
+        base_fits = with_fits piece.guessed piece is_piece.meaning base is_piece.some.1
+
+        -- with another number for the symbol
+        abbrev with_other : ℤ → Valuation
+        with_other number = with_number symbol.0 number base
+
+        other_fits : (number : ℤ) → IsTrue (contains depends.set number) → Fits (with_other number) state.constraints
+        other_fits number has = fits_with state.constraints symbol.0 depends.set number base depends.there has base_fits
+
+        other_shows : (number : ℤ) → IsTrue (contains depends.set number) → asking.operation base ≡ asking.operation (with_other number)
+        other_shows number has = same_operation known mentioned base (with_other number) base_fits (other_fits number has) (λ one is_known.
+            with_number-other symbol.0 number base one (λ same.
+            let wrong : true ≡ false = sym is_known ∙ ap known same ∙ unknown in
+            cc))
+
+        own_answer : (number : ℤ) → IsTrue (contains depends.set number) → value_of (with_other number) piece.answer ≡ value_of base piece.answer
+        own_answer number has = by piece.guessed refl is_piece.meaning
+          where
+            same : asking.operation base ≡ asking.operation (with_other number)
+            same = other_shows number has
+
+            by : (guessed : Option Guessed) → piece.guessed ≡ guessed → IsPieceWith program.model state.constraints guess.0 asking guessed piece
+                → value_of (with_other number) piece.answer ≡ value_of base piece.answer
+            by None none exact =
+                let from = exact.from base is_piece.some.1 in
+                let fits = exact.back (with_other number) (other_fits number has)
+                (tells.alike base (with_other number) from.1 (ap (λ o. shows program.model o None) same))
+                (ap (λ o. shows program.model o None) (sym same) ∙ from.2) in
+                exact.answer (with_other number) fits ∙ ap (own_result program.model) (sym same) ∙ sym (exact.answer base is_piece.some.1)
+            by (Some what) some inexact =
+                let from = inexact.from base is_piece.some.1 in
+                let guessed : ℤ = base guess.0 in
+                let fresh = (may base guessed from.0 from.2).fresh in
+                let same_guess : with_other number guess.0 ≡ guessed = with_number-other symbol.0 number base guess.0 (λ one.
+                let wrong : None ≡ Some depends.set = sym fresh ∙ ap (set_of state.constraints) one ∙ depends.there in
+                cc) in
+                let kept = inexact.back (with_other number) guessed (other_fits number has) (λ followed.
+                from.1 (tells.alike (with_other number) base followed (ap (λ o. shows program.model o None) (sym same))))
+                (tells.may base (with_other number) guessed same from.2) (ap (λ o. shows program.model o (Some guessed)) (sym same) ∙ from.3) in
+                let fits = subst (λ (u : Valuation). Fits u piece.constraints) (with_own guess.0 guessed (with_other number) same_guess) kept in
+                inexact.answer (with_other number) fits ∙ same_guess ∙ sym (inexact.answer base is_piece.some.1)
+
+        value_then : (number : ℤ) → IsTrue (contains depends.set number) → value_at answer number ≡ value_of base piece.answer
+        value_then number has =
+            ap (λ (o : Option Sym). value_with (λ s. number) o answer.slope answer.at answer.value) over
+            ∙ ap (affine answer.slope answer.at answer.value) (sym (with_number-same symbol.0 number base symbol.0 refl))
+            ∙ sym (ap (λ (o : Option Sym). value_with (with_other number) o answer.slope answer.at answer.value) over)
+            ∙ of.settled.values (with_other number) (other_fits number has) ∙ ap (value_of (with_other number)) own_leads ∙ own_answer number has
+
+        depends_not : ⊥
+        depends_not = depends.differ (value_then depends.one depends.has_one ∙ sym (value_then depends.other depends.has_other))
+
+      child_mentions : MentionsGuess code program budgets names state child
+      child_mentions known more mentioned includes with_guess =
+          locals_more known more includes program names.bases state after (state.answers ++ answer ∷ []) mentioned as_after
+          (All-push (IsOver more) state.answers answer (answers_more known more includes state.answers mentioned.answers) over)
+        where
+          over : IsOver more answer
+          over symbol is = elim (of.settled.over symbol is) [
+            | inl guessed ↦ with_guess symbol guessed
+            | inr depends ↦ by (known symbol.0) refl depends
+          ]
+            where
+              by : (b : Bool) → known symbol.0 ≡ b → DependsOn state.constraints answer symbol → more symbol.0 ≡ true
+              by true is_known depends = includes symbol.0 is_known
+              by false unknown depends = absurd (depends_not known mentioned symbol is depends unknown)
+
       -- runs pass its event to the child
       module _ (setting : Setting) (v : Valuation) (left : Act CodeState) (log : Log) (goes : GoesBy code program budgets names setting)
           (here : IsAt code program budgets names state setting v left log) where
@@ -227,7 +339,7 @@ module _ (code : Code) (program : TypedProgram) (budgets : RunBudgets) (names : 
             by None none exact =
                 let from = exact.from v (fits_piece v fits) in
                 let to = passes_with None (ap (used (guess_range program.model (asking.operation v))) (given None none) ∙ used_none _) v fits
-                (λ symbol declared. refl) (ap (value_of v) (answer_is v here.fits None from.2) ∙ exact.answer v (fits_piece v fits)) in
+                (λ symbol declared. refl) (answer_is v here.fits ∙ exact.answer v (fits_piece v fits)) in
                 (to.0, to.1 ∙ labelled None from.2)
             by (Some what) some inexact =
                 let from = inexact.from v (fits_piece v fits) in
@@ -235,7 +347,7 @@ module _ (code : Code) (program : TypedProgram) (budgets : RunBudgets) (names : 
                 let to = passes_with (Some (v guess.0)) (ap (used (guess_range program.model (asking.operation v))) (given (Some what) some)
                 ∙ is_used.used_is)
                 v fits (λ symbol declared. refl)
-                (ap (value_of v) (answer_is v here.fits (Some (v guess.0)) from.3) ∙ inexact.answer v (fits_piece v fits)) in
+                (answer_is v here.fits ∙ inexact.answer v (fits_piece v fits)) in
                 (to.0, to.1 ∙ labelled (Some (v guess.0)) from.3)
 
         -- under a valuation of the piece, with no guess
@@ -253,7 +365,7 @@ module _ (code : Code) (program : TypedProgram) (budgets : RunBudgets) (names : 
                 let from = exact.from v fits in
                 let no_guess : child.guess ≡ None = of.guessed ∙ ap (option_map (λ what. guess)) none in
                 let to = passes_with None unused v (fits_after v fits) (λ symbol declared. refl)
-                (ap (value_of v) (answer_is v here.fits None from.2) ∙ exact.answer v fits) in
+                (answer_is v here.fits ∙ exact.answer v fits) in
                 record {
                   place = place;
                   child = child;
@@ -273,7 +385,7 @@ module _ (code : Code) (program : TypedProgram) (budgets : RunBudgets) (names : 
                 let has_guess : child.guess ≡ Some guess = of.guessed ∙ ap (option_map (λ what. guess)) some in
                 let own_is : other guess.0 ≡ own = with_number-same guess.0 own v guess.0 refl in
                 let to = passes_with None unused other (fits_after other fits) (beside_guess own v is_used.fresh)
-                (ap (value_of other) (answer_is other from.0 (Some (other guess.0)) from.3) ∙ inexact.answer other fits ∙ own_is) in
+                (answer_is other from.0 ∙ inexact.answer other fits ∙ own_is) in
                 record {
                   place = place;
                   child = child;
@@ -319,7 +431,7 @@ module _ (code : Code) (program : TypedProgram) (budgets : RunBudgets) (names : 
               → IsAt code program budgets names after setting v rest later
           at_child given uses fits value =
               let to = passes_with given uses v (fits_after v fits) (λ symbol declared. refl)
-              (ap (value_of v) (answer_is v here.fits given (own_label given uses)) ∙ value) in
+              (answer_is v here.fits ∙ value) in
               let that = one_alone (code_step code program budgets) setting to.0.leaves leaves in
               subst (λ (act : Act CodeState). IsAt code program budgets names after setting v act later) that.1
               (subst (λ (l : Log). IsAt code program budgets names after setting v to.0.rest l) that.2 to.0.comes)
@@ -400,6 +512,7 @@ module _ (code : Code) (program : TypedProgram) (budgets : RunBudgets) (names : 
         asked = subst (λ (n : ℕ). AreGuessesAfter n child.guess state.asked after.asked) (sym number_is) of.asked;
         fits = fits_state;
         passes = λ setting v left log goes here fits agrees. child_passes setting v left log goes here fits agrees;
+        mentions = child_mentions;
         back = λ setting v left rest log later one goes here leaves same lists gives. comes_back setting v left log goes here one rest later leaves same lists
             gives;
       }
@@ -525,6 +638,7 @@ module _ (code : Code) (program : TypedProgram) (budgets : RunBudgets) (names : 
       fits = λ v fits. fits;
       phase = refl;
       asked = refl;
+      mentions = λ known mentioned. mentioned;
       locals = is.locals;
       integers = is.integers;
       ends = λ setting v left log goes here fits. ends_over setting v left log goes here;

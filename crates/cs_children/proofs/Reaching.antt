@@ -113,6 +113,7 @@ module _ (code : Code) (program : TypedProgram) (budgets : RunBudgets) (names : 
     events = refl;
     phase = refl;
     asked = refl;
+    mentions = λ known mentioned. mentioned;
     fits = λ valuation fits. fits;
     endings = All-nil (IsEndOf code program budgets names state);
     comes = λ setting valuation left log goes at fits. record { rest = left; later = log; proceeds = stays refl refl; comes = at };
@@ -128,6 +129,7 @@ module _ (code : Code) (program : TypedProgram) (budgets : RunBudgets) (names : 
       fits = λ valuation fits. reached.fits valuation (is.fits valuation fits);
       phase = is.phase ∙ reached.phase;
       asked = is.asked ∙ reached.asked;
+      mentions = λ known mentioned. is.mentions known (reached.mentions known mentioned);
       locals = is.locals;
       integers = is.integers;
       ends = λ setting valuation left log goes at fits.
@@ -150,6 +152,7 @@ module _ (code : Code) (program : TypedProgram) (budgets : RunBudgets) (names : 
       events = next.events ∙ reached.events;
       phase = next.phase ∙ reached.phase;
       asked = next.asked ∙ reached.asked;
+      mentions = λ known mentioned. next.mentions known (reached.mentions known mentioned);
       fits = λ valuation fits. reached.fits valuation (next.fits valuation fits);
       endings = ends_of_first more next.endings;
       comes = λ setting valuation left log goes at fits.
@@ -215,6 +218,7 @@ module _ (code : Code) (program : TypedProgram) (budgets : RunBudgets) (names : 
           let there = is.passes setting valuation way.rest way.later goes way.comes fits guesses in
           (passes_after setting valuation left way.rest log way.later way.proceeds child.state.value there.0, there.1);
       back = came_back child is;
+      mentions = λ known more mentioned includes with_guess. is.mentions known more (reached.mentions known mentioned) includes with_guess;
     }
 
     -- all that comes of the state that was reached, and the ends on the way to it

@@ -35,7 +35,7 @@ use Rattle.cs_cfg.specs.IntegerCode.{HasIntegerCode}
 use Rattle.cs_progress.specs.Locals.{HasLocalsAlone}
 use Rattle.cs_progress.specs.Stepping.{IsDone, Waits, KeepsKnown, BeginsIn, next_act, next_left, UsesAnswers}
 use Rattle.cs_successors.specs.EntryRuns.{Proceeds, silently, stays}
-use Rattle.cs_successors.specs.Coming.{is_declared, IsIntegerState, GoesBy, IsAt, ComesSilently, IsEndOf, IsReachedFrom}
+use Rattle.cs_successors.specs.Coming.{is_declared, IsIntegerState, MentionsNoOthers, GoesBy, IsAt, ComesSilently, IsEndOf, IsReachedFrom}
 use Rattle.cs_children.proofs.OneMoreAnswer.{uses_none}
 use Rattle.cs_successors.proofs.Proceeding.{leads_silently}
 use Rattle.cs_children.proofs.StandingFirst.{stands_first}
@@ -101,7 +101,7 @@ module _ (code : Code) (program : TypedProgram) (budgets : RunBudgets) (names : 
 
   module _ (before after : State) (is : IsIntegerState code program budgets names before) (known : KeepsKnown before after)
       (function : after.frame.spot.function ≡ before.frame.spot.function)
-      (locals : HasLocalsAlone program names.bases (is_declared before.constraints) after)
+      (mentions : MentionsNoOthers code program budgets names before after)
       (uses : (cells : Path → InputKind → Cell) (v : Valuation) → Fits v before.constraints
       → UsesAnswers code names program budgets cells after v) where
     fits_before : (v : Valuation) → Fits v after.constraints → Fits v before.constraints
@@ -115,7 +115,8 @@ module _ (code : Code) (program : TypedProgram) (budgets : RunBudgets) (names : 
     stays_integer = record {
       model = known.model ∙ is.model;
       integers = subst (λ (f : ℕ). HasIntegerCode code program f) (sym function) is.integers;
-      locals = subst (λ (sets : Sets). HasLocalsAlone program names.bases (is_declared sets) after) (sym known.constraints) locals;
+      locals = subst (λ (sets : Sets). HasLocalsAlone program names.bases (is_declared sets) after) (sym known.constraints)
+          (mentions (is_declared before.constraints) is.locals);
       blocks = λ base. ap (λ (blocks : Blocks). block_of blocks base) known.blocks ∙ is.blocks base;
       uses = λ cells v fits. uses cells v (fits_before v fits);
       possible = (is.possible.0, fits_after is.possible.0 is.possible.1);
@@ -133,6 +134,7 @@ module _ (code : Code) (program : TypedProgram) (budgets : RunBudgets) (names : 
       events = ap (λ (counters : Counters). counters.events) known.counters;
       phase = known.phase;
       asked = known.asked;
+      mentions = mentions;
       fits = fits_before;
       endings = All-nil (IsEndOf code program budgets names before);
       comes = λ setting v left log goes at fits. comes setting v left log goes at;
@@ -140,11 +142,11 @@ module _ (code : Code) (program : TypedProgram) (budgets : RunBudgets) (names : 
     }
 
   module _ (before after : State) (is : IsIntegerState code program budgets names before)
-      (locals : HasLocalsAlone program names.bases (is_declared before.constraints) after) where
+      (mentions : MentionsNoOthers code program budgets names before after) where
     -- an operation that is done
     pub done_reached : IsDone code names program budgets before after → IsReachedFrom code program budgets names before after []
     done_reached done =
-        silently_reached before after is done.known done.function locals
+        silently_reached before after is done.known done.function mentions
         (λ cells v fits.
         subst (λ answers. UsesAll cells (map (value_of v) answers) (next_act code names program budgets after v)) (sym done.answers)
         (uses_none cells (next_act code names program budgets after v)))
@@ -154,7 +156,7 @@ module _ (code : Code) (program : TypedProgram) (budgets : RunBudgets) (names : 
         record {
           rest = next_act code names program budgets after v;
           later = first.0;
-          proceeds = silently first.2 (jumped setting first.0 after v done.spot locals.callers done.jumps);
+          proceeds = silently first.2 (jumped setting first.0 after v done.spot (mentions (is_declared before.constraints) is.locals).callers done.jumps);
           comes = record {
             fits = subst (λ (sets : Sets). Fits v sets) (sym done.known.constraints) at.fits;
             same = ap (λ answers. left_of (read_cell setting) (map (value_of v) answers) (next_act code names program budgets after v)) (sym done.answers);
@@ -176,7 +178,7 @@ module _ (code : Code) (program : TypedProgram) (budgets : RunBudgets) (names : 
       -- an operation that waits
       pub waits_reached : IsReachedFrom code program budgets names before after []
       waits_reached =
-          silently_reached before after is waits.known waits.function locals (λ cells v fits. same_uses cells v (is.uses cells v fits))
+          silently_reached before after is waits.known waits.function mentions (λ cells v fits. same_uses cells v (is.uses cells v fits))
           (λ setting v left log goes at. record {
             rest = left;
             later = log;

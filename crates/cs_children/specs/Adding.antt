@@ -31,6 +31,7 @@ use Rattle.cs_explored.specs.declared.watch.Rule.{Rule}
 use Rattle.cs_explored.specs.Answering.{leads_on}
 use Rattle.cs_explored.specs.Watching.{IsPhaseAfter}
 use Rattle.cs_children.specs.declared.children.Children.{Children}
+use Rattle.cs_children.specs.Settled.{IsSettled}
 use Rattle.cs_successors.specs.Coming.{AreGuessesAfter, StateEnd, OutcomesDiffer}
 
 -- children and ends are added, and no cut
@@ -63,10 +64,12 @@ IsPassed rules event answer before after = IsPhaseAfter rules before.phase event
 pub record IsOfPiece (rules : List Rule) (before : State) (place : Place) (guess : Sym) (piece : Piece) (child : Child) : Type 0 where
   pub event : child.event ≡ record { place = place; label = piece.label }
   pub guessed : child.guess ≡ option_map (λ guessed. guess) piece.guessed
-  pub declared : IsDeclared piece.constraints (leads_on piece.label piece.answer).sym
+  pub answer : Lin
+  pub settled : IsSettled before.constraints child.guess (leads_on piece.label piece.answer) answer
+  pub declared : IsDeclared piece.constraints answer.sym
   pub phase : IsPhaseAfter rules before.phase child.event child.state.value.phase
   pub asked : AreGuessesAfter (before.counters.events + 1) child.guess before.asked child.state.value.asked
-  pub state : child.state.value ≡ record (after_event (leads_on piece.label piece.answer) child.state.value.phase before) {
+  pub state : child.state.value ≡ record (after_event answer child.state.value.phase before) {
     constraints = piece.constraints;
     asked = child.state.value.asked;
   }

@@ -1,5 +1,5 @@
 //! What comes of a state: the states directly after its next events, and its ends.
-ghost use Rattle.std.specs.Prelude.{◌≡◌, ◌≤◌, true, false, [], ◌∷◌, map, OnOk, IfOk, MatchOption};
+ghost use Rattle.std.specs.Prelude.{◌≡◌, ◌≤◌, true, false, [], ◌∷◌, map, option_map, OnOk, IfOk, MatchOption};
 ghost use Rattle.cs_objects.specs.Prepared.{IsReady};
 ghost use Rattle.cs_constraints.specs.Constraints.{IsDeclared};
 ghost use Rattle.cs_state.specs.Naming.{naming, Extends};
@@ -9,6 +9,7 @@ ghost use Rattle.cs_children.specs.Adding.{IsNextEvent, IsPassed, AreOfQuestion,
 ghost use Rattle.cs_children.specs.Finding.{AreNone, FindsAll, code_of, model_of};
 
 use crate::exploration::Exploration;
+use crate::settled::settled;
 use cs_access::{Checked, FaultyPart, Reached, ReachedOffset, Rest, is_known, reach};
 use cs_ast::Place;
 use cs_cfg::{BlockEnd, Instruction};
@@ -294,7 +295,8 @@ impl Children {
     }
 
     // The state after one piece. Its answer is over a declared symbol, so that want of memory is never answered for one that isn't: a symbol of
-    // the operands, which the state mentions and so has declared, or the symbol of the guess, which the piece declares.
+    // the operands, which the state mentions and so has declared, or the symbol of the guess, which the piece declares. It is over one on which
+    // it depends, so that a state mentions no symbol but those that the state before mentions and those of guesses.
     fn add(
         &mut self,
         exploration: &Exploration,
@@ -313,9 +315,10 @@ impl Children {
             guessed,
         } = piece;
         let mut state = state;
-        state.constraints = constraints;
         let event = Event { place, label };
-        let answer = leads_on(label, answer);
+        let given = leads_on(label, answer);
+        let answer = settled(&state.constraints, guess_of(guessed, guess), given)?;
+        state.constraints = constraints;
         if !is_declared(&*state, answer) {
             return Err(AllocError);
         }
@@ -456,6 +459,16 @@ fn pass_offset(
     };
     pass(exploration, state, &event, constant(offset))?;
     Ok(event)
+}
+
+// The symbol of the guess, where something was guessed.
+fn guess_of(guessed: Option<Guessed>, guess: Sym) -> Option<Sym>
+    ensures { result ≡ option_map (λ what. guess) guessed }
+{
+    match guessed {
+        Some(_) => Some(guess),
+        None => None,
+    }
 }
 
 // Whether the symbol of a term, where it has one, is declared.

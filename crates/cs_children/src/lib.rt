@@ -3,6 +3,7 @@
 
 mod children;
 mod exploration;
+mod settled;
 
 pub use children::Children;
 pub use exploration::Exploration;

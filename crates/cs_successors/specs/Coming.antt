@@ -1,5 +1,5 @@
 -- What comes of a state: the states directly after its next events, and its ends, beside the runs that have come to the state.
-use Rattle.std.specs.Prelude.{◌≡◌, ◌≢◌, ◌⊎◌, ◌≤◌, ℕ, suc, ℤ, pos, Bool, List, [], ◌∷◌, All, length, Option, None, Some}
+use Rattle.std.specs.Prelude.{◌≡◌, ◌≢◌, ◌⊎◌, ◌≤◌, ℕ, suc, ℤ, pos, Bool, true, List, [], ◌∷◌, All, length, Option, None, Some}
 use Rattle.std.specs.Prelude.{option_map, unwrap_or}
 use Rattle.std.specs.Prelude.{is_some, IsSome, slice_get, Contains}
 use Rattle.std.specs.FinMap as finite
@@ -88,7 +88,20 @@ abbrev pub OutcomesDiffer : List StateEnd → Type 0
 OutcomesDiffer ends = (one other : ℕ) (first second : StateEnd) → slice_get ends one ≡ Some first → slice_get ends other ≡ Some second
     → first.0 ≡ second.0 → one ≡ other
 
+-- all symbols that are known stay so
+abbrev pub Includes : (ℕ → Bool) → (ℕ → Bool) → Type 0
+Includes known more = (symbol : ℕ) → known symbol ≡ true → more symbol ≡ true
+
 module _ (code : Code) (program : TypedProgram) (budgets : RunBudgets) (names : Naming) where
+  -- a state after another one mentions no symbols but those that this one mentions
+  abbrev pub MentionsNoOthers : State → State → Type 0
+  MentionsNoOthers before after = (known : ℕ → Bool) → HasLocalsAlone program names.bases known before → HasLocalsAlone program names.bases known after
+
+  -- a child's state mentions those of the state before it and that of its guess
+  abbrev pub MentionsGuess : State → Child → Type 0
+  MentionsGuess before child = (known more : ℕ → Bool) → HasLocalsAlone program names.bases known before → Includes known more
+      → ((symbol : Sym) → child.guess ≡ Some symbol → more symbol.0 ≡ true) → HasLocalsAlone program names.bases more child.state.value
+
   -- a run goes by the program's model and by the budgets
   pub record GoesBy (setting : Setting) : Type 0 where
     pub model : setting.model ≡ program.model
@@ -150,6 +163,7 @@ module _ (code : Code) (program : TypedProgram) (budgets : RunBudgets) (names : 
         → LeavesAfter (code_step code program budgets) setting (first_of setting log left) (one ∷ []) rest later → one.event ≡ child.event
         → ListsNoneOrTruth setting child → GivesOwn setting child one.answer valuation
         → IsAt child.state.value setting valuation rest later
+    pub mentions : MentionsGuess before child
 
   -- an end of a state: runs that have come to the state under one of its valuations end so
   pub record IsEndOf (before : State) (end : StateEnd) : Type 0 where
@@ -158,6 +172,7 @@ module _ (code : Code) (program : TypedProgram) (budgets : RunBudgets) (names : 
     pub fits : (valuation : Valuation) → Fits valuation end.1.value.constraints → Fits valuation before.constraints
     pub phase : end.1.value.phase ≡ before.phase
     pub asked : end.1.value.asked ≡ before.asked
+    pub mentions : MentionsNoOthers before end.1.value
     pub locals : HasLocalsAlone program names.bases (is_declared end.1.value.constraints) end.1.value
     pub integers : HasIntegerCode code program end.1.value.frame.spot.function
     pub ends : (setting : Setting) (valuation : Valuation) (left : Act CodeState) (log : Log) → GoesBy setting
@@ -202,6 +217,7 @@ module _ (code : Code) (program : TypedProgram) (budgets : RunBudgets) (names : 
     pub events : state.counters.events ≡ before.counters.events
     pub phase : state.phase ≡ before.phase
     pub asked : state.asked ≡ before.asked
+    pub mentions : MentionsNoOthers before state
     pub fits : (valuation : Valuation) → Fits valuation state.constraints → Fits valuation before.constraints
     pub endings : All (IsEndOf before) ends
     pub comes : (setting : Setting) (valuation : Valuation) (left : Act CodeState) (log : Log) → GoesBy setting

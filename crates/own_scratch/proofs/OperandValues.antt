@@ -1,0 +1,64 @@
+-- The values of operands: for those who split constraints by a term.
+use Rattle.std.proofs.Common.{◌≡◌, ◌≢◌, ◌⊎◌, inl, inr, ◌^◌, ℕ, Bool, true, ℤ, pos, ◌+ℤ◌, List, Option, Some, None, refl, sym}
+use Rattle.std.proofs.Common.{ap, subst, ◌∙◌, arith}
+use Rattle.std.specs.Prelude.{IsNone, neg_ℤ, if◌then◌else◌}
+use Rattle.std.proofs.lemmas.Bool.{eq-eqb, ne_eqb}
+use Rattle.std.proofs.lemmas.Bool.Decides.{eqb_tells}
+use Rattle.std.proofs.lemmas.Int.{ints}
+use Rattle.std.proofs.lemmas.Option.{same_Some}
+use Rattle.cs_ranges.specs.declared.range_set.Interval.{Interval}
+use Rattle.cs_ranges.specs.RangeSet.{contains}
+use Rattle.cs_terms.specs.declared.symbol.Sym.{Sym}
+use Rattle.cs_terms.specs.declared.term.Lin.{Lin}
+use Rattle.cs_terms.specs.declared.term.Lin2.{Lin2}
+use Rattle.cs_terms.specs.Term.{Valuation, value_with, value_of, value_of_sum, value_at, IsTerm}
+use Rattle.cs_constraints.specs.Constraints.{Sets, set_of, AreInhabited, Fits}
+use Rattle.cs_constraints.proofs.Assuming.{fitting, value_of-symbol}
+use Rattle.own_scratch.specs.Operands.{IsBetween, IsTermBetween, IsTermInside, LOWEST, HIGHEST}
+use Rattle.own_scratch.specs.Parts.{with_number}
+
+-- whether two numbers are one
+pub decide : (m n : ℕ) → (m ≡ n) ⊎ (m ≢ n)
+decide m n = elim (eqb_tells m n) [ inl same ↦ inl same.1 | inr differ ↦ inr differ.1 ]
+
+pub none_is : (symbol : Option Sym) → IsNone symbol → symbol ≡ None
+none_is None h = refl
+none_is (Some s) h = absurd (cc)
+
+-- a term without a symbol has its value under each valuation
+pub value_of-none : (v : Valuation) (term : Lin) → term.sym ≡ None → value_of v term ≡ term.value
+value_of-none v term e = ap (λ (o : Option Sym). value_with v o term.slope term.at term.value) e
+
+-- under each valuation that fits, an operand's value lies between its bounds
+pub value_between : (sets : Sets) (low high : ℤ) (term : Lin) (v : Valuation) → IsTermBetween sets low high term → Fits v sets
+    → IsBetween low high (value_of v term)
+value_between sets low high term v h fits = by term.sym refl
+  where
+    with_set : (s : Sym) → term.sym ≡ Some s → (o : Option (List Interval)) → set_of sets s.0 ≡ o → IsBetween low high (value_of v term)
+    with_set s e None f = absurd (h.declared s e f)
+    with_set s e (Some set) f =
+        subst (λ (x : ℤ). IsBetween low high x) (sym (value_of-symbol v term s e)) (h.values s set e f (v s.0) (fits s.0 set f))
+
+    by : (symbol : Option Sym) → term.sym ≡ symbol → IsBetween low high (value_of v term)
+    by None e =
+        let none_there : IsNone term.sym = subst (λ (o : Option Sym). IsNone o) (sym e) refl in
+        subst (λ (x : ℤ). IsBetween low high x) (sym (value_of-none v term e)) (h.constant none_there)
+    by (Some s) e = with_set s e (set_of sets s.0) refl
+
+pub with_number-same : (guess : ℕ) (number : ℤ) (v : Valuation) (s : ℕ) → s ≡ guess → with_number guess number v s ≡ number
+with_number-same guess number v s e = ap (λ (b : Bool). if b then number else v s) (eq-eqb s guess e)
+
+pub with_number-other : (guess : ℕ) (number : ℤ) (v : Valuation) (s : ℕ) → s ≢ guess → with_number guess number v s ≡ v s
+with_number-other guess number v s d = ap (λ (b : Bool). if b then number else v s) (ne_eqb s guess d)
+
+-- a valuation that fits still does with another number of a symbol's set
+pub fits_with : (sets : Sets) (s : ℕ) (set : List Interval) (x : ℤ) (v : Valuation) → set_of sets s ≡ Some set → contains set x ≡ true
+    → Fits v sets
+    → Fits (with_number s x v) sets
+fits_with sets s set x v known member fits other found e = elim (decide other s) [
+  | inl same ↦
+      let own : set ≡ found = same_Some set found (sym known ∙ ap (set_of sets) (sym same) ∙ e) in
+      ap (contains found) (with_number-same s x v other same) ∙ ap (λ (z : List Interval). contains z x) (sym own) ∙ member
+  | inr differ ↦ ap (contains found) (with_number-other s x v other differ) ∙ fits other found e
+]
+

@@ -1,0 +1,105 @@
+-- A closed graph covers all positions of runs without guesses, with the phases of their events: for `CoversPositions` and `CoversPhases`.
+use Rattle.std.proofs.Common.{ℕ, List, [], ◌∙◌}
+use Rattle.std.specs.Prelude.{Bool}
+use Rattle.cs_ast.specs.TypedProgram.{TypedProgram}
+use Rattle.cs_events.specs.declared.outcome.RunBudgets.{RunBudgets}
+use Rattle.cs_events.specs.Acts.{Act}
+use Rattle.cs_events.specs.Runs.{Setting, Log, read_cell}
+use Rattle.cs_event_runs.specs.Left.{left_of}
+use Rattle.cs_cfg.specs.Graph.{Code}
+use Rattle.cs_cfg.specs.Working.{CodeState}
+use Rattle.cs_regions.specs.Numbering.{IsNumbered}
+use Rattle.cs_terms.specs.Term.{Valuation}
+use Rattle.cs_state.specs.declared.state.State.{State}
+use Rattle.cs_state.specs.Meaning.{StandsFor}
+use Rattle.cs_state.specs.Naming.{Naming, naming}
+use Rattle.cs_state.specs.Valuations.{cell_read}
+use Rattle.cs_explored.specs.declared.explored.Explored.{Explored}
+use Rattle.cs_explored.specs.declared.watch.Rule.{Rule}
+use Rattle.cs_cfg.specs.IntegerCode.{HasIntegerCode}
+use Rattle.own_scratch.specs.Locals.{HasLocalsAlone}
+use Rattle.own_scratch.specs.EntryRuns.{setting_with}
+use Rattle.own_scratch.specs.Coming.{IsAt}
+use Rattle.own_scratch.specs.Closing.{AreNames, IsClosed}
+use Rattle.own_scratch.specs.Covering.{HasAllNodes}
+use Rattle.own_scratch.specs.Positions.{CoversPositions, CoversPhases}
+use Rattle.own_scratch.proofs.Coverage.{stands_at_row, stands_at_end}
+use Rattle.own_scratch.proofs.LocalsRead.{any_cells}
+
+-- names extend themselves
+pub themselves : (names : Naming) → IsNumbered names.bases → AreNames names names
+themselves names numbered = record {
+  extend = record { syms = λ place name there. there; bases = λ place name there. there; types = λ place name there. there };
+  numbered = numbered;
+}
+
+module _ (code : Code) (program : TypedProgram) (budgets : RunBudgets) (names : Naming) (state : State) {known : ℕ → Bool}
+    (locals : HasLocalsAlone program names.bases known state) where
+  -- a state of integer code to which a run has come stands for the run: no cells of inputs matter
+  pub stands_for : HasIntegerCode code program state.frame.spot.function → (setting : Setting) (valuation : Valuation) (left : Act CodeState)
+      (log : Log) → IsAt code program budgets names state setting valuation left log
+      → StandsFor code program budgets names state valuation (left_of (read_cell setting) [] left) log
+  stands_for integers setting valuation left log at = record {
+    fits = at.fits;
+    left =
+        at.same
+        ∙ any_cells program names known state locals valuation code budgets integers (read_cell setting)
+        (cell_read state.model names.syms valuation);
+    passed = at.passed;
+  }
+
+module _ (code : Code) (program : TypedProgram) (entry : ℕ) (budgets : RunBudgets) (rules : List Rule) (explored : Explored)
+    (numbered : IsNumbered (naming explored.tables).bases)
+    (closed : HasAllNodes explored.cuts.items
+    → IsClosed code program entry budgets rules (naming explored.tables) explored.rows.items explored.ends.items (λ number. ⊥)) where
+  abbrev names : Naming
+  names = naming explored.tables
+
+  abbrev are : AreNames names names
+  are = themselves names numbered
+
+  -- the rows' and the ends' states are states of integer code, in which no cells of inputs matter
+  pub covers_phases : CoversPhases code program entry budgets rules explored
+  covers_phases = record {
+    positions = λ all inputs steps left log has none.
+        let at = stands_at_row code program entry budgets rules names explored.rows.items explored.ends.items (closed all) names are inputs steps left log
+        has in
+        let state = ((closed all).states at.number at.row at.there).integer names are in
+        record {
+          position = record {
+            number = at.number;
+            row = at.row;
+            there = at.there;
+            valuation = at.valuation;
+            stands = stands_for code program budgets names at.row.state.value state.locals state.integers (setting_with program budgets inputs []) at.valuation
+                left log at.at;
+          };
+          phase = at.phase;
+        };
+    endings = λ all inputs steps outcome log runs none.
+        let at = stands_at_end code program entry budgets rules names explored.rows.items explored.ends.items (closed all) names are inputs steps outcome log
+        runs in
+        record {
+          ending = record {
+            number = at.number;
+            end = at.end;
+            there = at.there;
+            ended = at.ended;
+            last = at.last;
+            before = at.before;
+            ends_with = at.ends_with;
+            valuation = at.valuation;
+            stands = stands_for code program budgets names at.end.state.value at.locals at.integers (setting_with program budgets inputs []) at.valuation
+                at.last at.before at.at;
+            returned = at.returned;
+          };
+          phase = at.phase;
+        };
+  }
+
+  -- so all positions are covered
+  pub covers_positions : CoversPositions code program entry budgets explored
+  covers_positions = record {
+    positions = λ all inputs steps left log has none. (covers_phases.positions all inputs steps left log has none).position;
+    endings = λ all inputs steps outcome log runs none. (covers_phases.endings all inputs steps outcome log runs none).ending;
+  }

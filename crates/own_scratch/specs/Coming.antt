@@ -1,0 +1,227 @@
+-- What comes of a state: the states directly after its next events, and its ends, beside the runs that have come to the state.
+use Rattle.std.specs.Prelude.{◌≡◌, ◌≢◌, ◌⊎◌, ◌≤◌, ℕ, suc, ℤ, pos, Bool, true, List, [], ◌∷◌, All, length, Option, None, Some}
+use Rattle.std.specs.Prelude.{option_map, unwrap_or}
+use Rattle.std.specs.Prelude.{is_some, IsSome, slice_get, Contains}
+use Rattle.std.specs.FinMap as finite
+use Rattle.std.specs.Global.{Box}
+use Rattle.cs_inputs.specs.declared.path.Path.{Path}
+use Rattle.cs_ast.specs.TypedProgram.{TypedProgram}
+use Rattle.cs_terms.specs.declared.symbol.Sym.{Sym}
+use Rattle.cs_terms.specs.declared.symbol.SymName.TheVariants.{Guess as GuessAt}
+use Rattle.cs_terms.specs.Term.{Valuation}
+use Rattle.cs_constraints.specs.Constraints.{Sets, set_of, Fits}
+use Rattle.cs_events.specs.declared.event.Label.{Label}
+use Rattle.cs_events.specs.declared.event.Label.TheVariants.{Truth}
+use Rattle.cs_events.specs.declared.guess.Guess.{Guess}
+use Rattle.cs_events.specs.declared.input.InputKind.{InputKind}
+use Rattle.cs_events.specs.declared.outcome.Outcome.{Outcome}
+use Rattle.cs_events.specs.declared.outcome.RunBudgets.{RunBudgets}
+use Rattle.cs_events.specs.Acts.{Act}
+use Rattle.cs_events.specs.Objects.{Cell}
+use Rattle.cs_events.specs.Runs.{Setting, Log, guess_at, read_cell}
+use Rattle.cs_event_runs.specs.First.{Step, Ended, first_of}
+use Rattle.cs_event_runs.specs.Left.{left_of}
+use Rattle.cs_cfg.specs.Graph.{Code}
+use Rattle.cs_cfg.specs.Working.{CodeState}
+use Rattle.cs_cfg.specs.CodeSteps.{code_step}
+use Rattle.cs_state.specs.declared.asked.Asked.{Asked}
+use Rattle.cs_state.specs.declared.state.State.{State}
+use Rattle.cs_state.specs.Cells.{block_of}
+use Rattle.cs_state.specs.Naming.{Naming}
+use Rattle.cs_state.specs.Valuations.{Guessed as Guesses}
+use Rattle.cs_cfg.specs.IntegerCode.{HasIntegerCode}
+use Rattle.own_scratch.specs.Locals.{HasLocalsAlone}
+use Rattle.own_scratch.specs.Stepping.{end_of, result_in, HasReturned, next_left, UsesAnswers}
+use Rattle.cs_explored.specs.declared.child.Child.{Child}
+use Rattle.cs_explored.specs.declared.watch.Rule.{Rule}
+use Rattle.cs_explored.specs.Watching.{IsPhaseAfter}
+use Rattle.own_scratch.specs.EntryRuns.{LeavesAfter, Proceeds}
+
+-- whether a symbol is declared
+abbrev pub is_declared : Sets → ℕ → Bool
+is_declared sets symbol = is_some (set_of sets symbol)
+
+-- a state of a function that works with integers alone, in which each valuation that fits has come to where the state stands; and some fits. It
+-- mentions no symbol but those that are declared, and has no block
+pub record IsIntegerState (code : Code) (program : TypedProgram) (budgets : RunBudgets) (names : Naming) (state : State) : Type 0 where
+  pub model : state.model ≡ program.model
+  pub integers : HasIntegerCode code program state.frame.spot.function
+  pub locals : HasLocalsAlone program names.bases (is_declared state.constraints) state
+  pub blocks : (base : ℕ) → block_of state.blocks base ≡ None
+  pub uses : (cells : Path → InputKind → Cell) (valuation : Valuation) → Fits valuation state.constraints
+      → UsesAnswers code names program budgets cells state valuation
+  pub possible : (valuation : Valuation) × Fits valuation state.constraints
+  pub guessed : (asked : Asked) → Contains (finite.values state.asked) asked → asked.event ≤ state.counters.events
+
+-- the guesses before an event with a number and directly after it, where the symbol stands for what was guessed there, or nothing was guessed
+abbrev pub AreGuessesAfter : ℕ → Option Sym → Guesses → Guesses → Type 0
+AreGuessesAfter event None before after = after ≡ before
+AreGuessesAfter event (Some symbol) before after =
+    (one : Asked) × (one.event ≡ event) × (one.guess ≡ symbol) × (after ≡ finite.insert before (event, 0) one)
+
+-- what shows is a truth, as that of a comparison or of an order test
+abbrev pub IsTruth : Label → Type 0
+IsTruth (Truth holds) = Unit {0}
+IsTruth other = ⊥
+
+-- 0 or 1 is listed for an event
+abbrev pub ListsTruth : List Guess → ℕ → Type 0
+ListsTruth guesses event = (guess_at guesses event ≡ Some (pos 0)) ⊎ (guess_at guesses event ≡ Some (pos 1))
+
+-- a run lists no guess at the event of a child; or the child has guessed a truth there, so that of a comparison or of an order test, and the run lists 0 or 1
+abbrev pub ListsNoneOrTruth : Setting → Child → Type 0
+ListsNoneOrTruth setting child =
+    (guess_at setting.guesses child.state.value.counters.events ≡ None)
+    ⊎ (IsSome child.guess × IsTruth child.event.label × ListsTruth setting.guesses child.state.value.counters.events)
+
+-- a valuation gives the symbol of a child's guess the number that a run lists there, or where it lists none the operation's own result, which leads on
+abbrev pub GivesOwn : Setting → Child → ℤ → Valuation → Type 0
+GivesOwn setting child answer valuation = (symbol : Sym) → child.guess ≡ Some symbol
+    → valuation symbol.0 ≡ unwrap_or (guess_at setting.guesses child.state.value.counters.events) answer
+
+-- an end of runs, with the state that stands for them
+abbrev pub StateEnd : Type 0
+StateEnd = Outcome × Box State
+
+-- no two ends have one outcome
+abbrev pub OutcomesDiffer : List StateEnd → Type 0
+OutcomesDiffer ends = (one other : ℕ) (first second : StateEnd) → slice_get ends one ≡ Some first → slice_get ends other ≡ Some second
+    → first.0 ≡ second.0 → one ≡ other
+
+-- all symbols that are known stay so
+abbrev pub Includes : (ℕ → Bool) → (ℕ → Bool) → Type 0
+Includes known more = (symbol : ℕ) → known symbol ≡ true → more symbol ≡ true
+
+module _ (code : Code) (program : TypedProgram) (budgets : RunBudgets) (names : Naming) where
+  -- a state after another one mentions no symbols but those that this one mentions
+  abbrev pub MentionsNoOthers : State → State → Type 0
+  MentionsNoOthers before after = (known : ℕ → Bool) → HasLocalsAlone program names.bases known before → HasLocalsAlone program names.bases known after
+
+  -- a child's state mentions those of the state before it and that of its guess
+  abbrev pub MentionsGuess : State → Child → Type 0
+  MentionsGuess before child = (known more : ℕ → Bool) → HasLocalsAlone program names.bases known before → Includes known more
+      → ((symbol : Sym) → child.guess ≡ Some symbol → more symbol.0 ≡ true) → HasLocalsAlone program names.bases more child.state.value
+
+  -- a run goes by the program's model and by the budgets
+  pub record GoesBy (setting : Setting) : Type 0 where
+    pub model : setting.model ≡ program.model
+    pub limits : setting.budgets ≡ budgets
+
+  -- a run has come to where a state stands under a valuation that fits: so much is left for it to do, with this log
+  pub record IsAt (state : State) (setting : Setting) (valuation : Valuation) (left : Act CodeState) (log : Log) : Type 0 where
+    pub fits : Fits valuation state.constraints
+    pub same : left_of (read_cell setting) [] left ≡ next_left code names program budgets (read_cell setting) state valuation
+    pub passed : length log.events ≡ state.counters.events
+
+  -- with so much left to do and this log, a run comes to where a state stands, and nothing shows on the way
+  pub record ComesSilently (state : State) (setting : Setting) (valuation : Valuation) (left : Act CodeState) (log : Log) : Type 0 where
+    pub rest : Act CodeState
+    pub later : Log
+    pub proceeds : Proceeds (code_step code program budgets) setting left log [] rest later
+    pub comes : IsAt state setting valuation rest later
+
+  -- with so much left to do and this log, a run passes one event and has come, directly after it, to where a state stands
+  pub record PassesTo (state : State) (setting : Setting) (valuation : Valuation) (left : Act CodeState) (log : Log) : Type 0 where
+    pub one : Step
+    pub rest : Act CodeState
+    pub later : Log
+    pub leaves : LeavesAfter (code_step code program budgets) setting (first_of setting log left) (one ∷ []) rest later
+    pub comes : IsAt state setting valuation rest later
+
+  -- with so much left to do and this log, a run passes no event and ends so, where a state stands
+  pub record EndsIn (outcome : Outcome) (state : State) (setting : Setting) (valuation : Valuation) (left : Act CodeState) (log : Log) : Type 0 where
+    pub last : Act CodeState
+    pub before : Log
+    pub ended : Outcome
+    pub after : Log
+    pub proceeds : Proceeds (code_step code program budgets) setting left log [] last before
+    pub comes : IsAt state setting valuation last before
+    pub ends : first_of setting before last ≡ Ended ended after
+    pub same : outcome ≡ end_of ended
+    pub returned : HasReturned ended (result_in names.bases state.blocks valuation state.result)
+
+  -- the number that is guessed on the way to a child is the one that a valuation gives the symbol
+  abbrev pub GuessesAs : Setting → Child → Valuation → Type 0
+  GuessesAs setting child valuation =
+      guess_at setting.guesses child.state.value.counters.events ≡ option_map (λ (symbol : Sym). valuation symbol.0) child.guess
+
+  -- a child of a state: its valuations are some of the state's, and runs that have come to the state under one of them pass its event to the child. A run
+  -- without a guess there that passes the child's event has come to the child, and so has one that lists a truth for the child's guess
+  pub record IsChildOf (rules : List Rule) (before : State) (child : Child) : Type 0 where
+    pub integer : IsIntegerState code program budgets names child.state.value
+    pub number : child.state.value.counters.events ≡ suc before.counters.events
+    pub phase : IsPhaseAfter rules before.phase child.event child.state.value.phase
+    pub named : (symbol : Sym) → child.guess ≡ Some symbol
+        → slice_get names.syms symbol.0 ≡ Some (GuessAt child.state.value.counters.events)
+    pub asked : AreGuessesAfter child.state.value.counters.events child.guess before.asked child.state.value.asked
+    pub fits : (valuation : Valuation) → Fits valuation child.state.value.constraints → Fits valuation before.constraints
+    pub passes : (setting : Setting) (valuation : Valuation) (left : Act CodeState) (log : Log) → GoesBy setting
+        → IsAt before setting valuation left log → Fits valuation child.state.value.constraints → GuessesAs setting child valuation
+        → (to : PassesTo child.state.value setting valuation left log) × (to.one.event ≡ child.event)
+    pub back : (setting : Setting) (valuation : Valuation) (left rest : Act CodeState) (log later : Log) (one : Step) → GoesBy setting
+        → IsAt before setting valuation left log
+        → LeavesAfter (code_step code program budgets) setting (first_of setting log left) (one ∷ []) rest later → one.event ≡ child.event
+        → ListsNoneOrTruth setting child → GivesOwn setting child one.answer valuation
+        → IsAt child.state.value setting valuation rest later
+    pub mentions : MentionsGuess before child
+
+  -- an end of a state: runs that have come to the state under one of its valuations end so
+  pub record IsEndOf (before : State) (end : StateEnd) : Type 0 where
+    pub model : end.1.value.model ≡ program.model
+    pub possible : (valuation : Valuation) × Fits valuation end.1.value.constraints
+    pub fits : (valuation : Valuation) → Fits valuation end.1.value.constraints → Fits valuation before.constraints
+    pub phase : end.1.value.phase ≡ before.phase
+    pub asked : end.1.value.asked ≡ before.asked
+    pub mentions : MentionsNoOthers before end.1.value
+    pub locals : HasLocalsAlone program names.bases (is_declared end.1.value.constraints) end.1.value
+    pub integers : HasIntegerCode code program end.1.value.frame.spot.function
+    pub ends : (setting : Setting) (valuation : Valuation) (left : Act CodeState) (log : Log) → GoesBy setting
+        → IsAt before setting valuation left log → Fits valuation end.1.value.constraints
+        → EndsIn end.0 end.1.value setting valuation left log
+
+  -- a run passes its next event to a child, under a valuation that gives all symbols but that of the child's guess the same numbers, and that one
+  -- the number with which the run goes on
+  pub record ComesToChild (made : List Child) (setting : Setting) (valuation : Valuation) (left : Act CodeState) (log : Log) : Type 0 where
+    pub place : ℕ
+    pub child : Child
+    pub there : slice_get made place ≡ Some child
+    pub after : Valuation
+    pub to : PassesTo child.state.value setting after left log
+    pub others : (symbol : Sym) → child.guess ≢ Some symbol → after symbol.0 ≡ valuation symbol.0
+    pub guess : (symbol : Sym) → child.guess ≡ Some symbol → after symbol.0 ≡ to.one.answer
+    pub shown : child.guess ≡ None → to.one.event ≡ child.event
+    pub phases : (rules : List Rule) (phase next : ℕ) → IsPhaseAfter rules phase child.event next → IsPhaseAfter rules phase to.one.event next
+
+  -- a run ends as one of the ends
+  pub record ComesToEnd (ends : List StateEnd) (setting : Setting) (valuation : Valuation) (left : Act CodeState) (log : Log)
+      : Type 0 where
+    pub place : ℕ
+    pub end : StateEnd
+    pub there : slice_get ends place ≡ Some end
+    pub ending : EndsIn end.0 end.1.value setting valuation left log
+
+  -- all that comes of a state: its children and its ends, one of which each run without a guess at its next event comes to
+  pub record ComesOfState (rules : List Rule) (before : State) (made : List Child) (ends : List StateEnd) : Type 0 where
+    pub children : All (IsChildOf rules before) made
+    pub endings : All (IsEndOf before) ends
+    pub covers : (setting : Setting) (valuation : Valuation) (left : Act CodeState) (log : Log) → GoesBy setting
+        → IsAt before setting valuation left log → guess_at setting.guesses (suc before.counters.events) ≡ None
+        → ComesToChild made setting valuation left log ⊎ ComesToEnd ends setting valuation left log
+    pub labels_differ : (one other : ℕ) (first second : Child) → slice_get made one ≡ Some first → slice_get made other ≡ Some second
+        → first.event.label ≡ second.event.label → one ≡ other
+    pub outcomes_differ : OutcomesDiffer ends
+
+  -- a state to which runs come silently from another one, where its valuations fit. They are some of that one's: under the others, runs have come to ends
+  pub record IsReachedFrom (before state : State) (ends : List StateEnd) : Type 0 where
+    pub integer : IsIntegerState code program budgets names state
+    pub events : state.counters.events ≡ before.counters.events
+    pub phase : state.phase ≡ before.phase
+    pub asked : state.asked ≡ before.asked
+    pub mentions : MentionsNoOthers before state
+    pub fits : (valuation : Valuation) → Fits valuation state.constraints → Fits valuation before.constraints
+    pub endings : All (IsEndOf before) ends
+    pub comes : (setting : Setting) (valuation : Valuation) (left : Act CodeState) (log : Log) → GoesBy setting
+        → IsAt before setting valuation left log → Fits valuation state.constraints → ComesSilently state setting valuation left log
+    pub covers : (setting : Setting) (valuation : Valuation) (left : Act CodeState) (log : Log) → GoesBy setting
+        → IsAt before setting valuation left log
+        → Fits valuation state.constraints ⊎ ComesToEnd ends setting valuation left log

@@ -1,0 +1,78 @@
+-- A part of what an exploration is to find of the runs of an entry (`Covering`): some state of a row or end stands for a run at each of its positions, with the
+-- phase that the rules give the run's events. That it does so under the run's own numbers of live symbols isn't said here.
+use Rattle.std.specs.Prelude.{◌≡◌, ℕ, ℤ, List, [], Some, slice_get}
+use Rattle.cs_inputs.specs.declared.path.Path.{Path}
+use Rattle.cs_ast.specs.TypedProgram.{TypedProgram}
+use Rattle.cs_terms.specs.Term.{Valuation}
+use Rattle.cs_events.specs.declared.event.Event.{Event}
+use Rattle.cs_events.specs.declared.outcome.Outcome.{Outcome}
+use Rattle.cs_events.specs.declared.outcome.RunBudgets.{RunBudgets}
+use Rattle.cs_events.specs.Acts.{Act}
+use Rattle.cs_events.specs.Runs.{Setting, Log, read_cell}
+use Rattle.cs_event_runs.specs.First.{Step}
+use Rattle.cs_event_runs.specs.Left.{left_of}
+use Rattle.cs_cfg.specs.Graph.{Code}
+use Rattle.cs_cfg.specs.Working.{CodeState}
+use Rattle.cs_state.specs.Naming.{Naming, naming}
+use Rattle.cs_state.specs.Meaning.{StandsFor}
+use Rattle.cs_explored.specs.declared.explored.End.{End}
+use Rattle.cs_explored.specs.declared.explored.Explored.{Explored}
+use Rattle.cs_explored.specs.declared.explored.Row.{Row}
+use Rattle.cs_explored.specs.declared.watch.Rule.{Rule}
+use Rattle.own_scratch.specs.Stepping.{end_of, result_in, HasReturned}
+use Rattle.own_scratch.specs.EntryRuns.{events_of, setting_with, HasLeft, EndsAfter, EndsWith}
+use Rattle.own_scratch.specs.Covering.{HasAllNodes, IsCutAt, PassesNone}
+use Rattle.own_scratch.specs.Phases.{IsPhaseAlong}
+
+module _ (code : Code) (program : TypedProgram) (entry : ℕ) (budgets : RunBudgets) (names : Naming) where
+  -- some row's state stands for a run that has so much left to do, with this log
+  pub record HasPosition (rows : List Row) (setting : Setting) (left : Act CodeState) (log : Log) : Type 0 where
+    pub number : ℕ
+    pub row : Row
+    pub there : slice_get rows number ≡ Some row
+    pub valuation : Valuation
+    pub stands : StandsFor code program budgets names row.state.value valuation (left_of (read_cell setting) [] left) log
+
+  -- some end's state stands for a run that passes these steps and ends so, with a log, before it ends; and has what the run returns
+  pub record HasEnding (ends : List End) (setting : Setting) (steps : List Step) (outcome : Outcome) (log : Log) : Type 0 where
+    pub number : ℕ
+    pub end : End
+    pub there : slice_get ends number ≡ Some end
+    pub ended : end.outcome ≡ end_of outcome
+    pub last : Act CodeState
+    pub before : Log
+    pub ends_with : EndsWith code program entry budgets setting steps last before outcome log
+    pub valuation : Valuation
+    pub stands : StandsFor code program budgets names end.state.value valuation (left_of (read_cell setting) [] last) before
+    pub returned : HasReturned outcome (result_in names.bases end.state.value.blocks valuation end.state.value.result)
+
+module _ (code : Code) (program : TypedProgram) (entry : ℕ) (budgets : RunBudgets) where
+  -- a run without guesses has such a position at its beginning and after each event, and such an end, unless an access that was cut comes before
+  pub record CoversPositions (explored : Explored) : Type 0 where
+    pub positions : HasAllNodes explored.cuts.items → (inputs : Path → ℤ) (steps : List Step) (left : Act CodeState) (log : Log)
+        → HasLeft code program entry budgets (setting_with program budgets inputs []) steps left log → PassesNone (IsCutAt explored.cuts.items) steps
+        → HasPosition code program entry budgets (naming explored.tables) explored.rows.items (setting_with program budgets inputs []) left log
+    pub endings : HasAllNodes explored.cuts.items → (inputs : Path → ℤ) (steps : List Step) (outcome : Outcome) (log : Log)
+        → EndsAfter code program entry budgets (setting_with program budgets inputs []) steps outcome log → PassesNone (IsCutAt explored.cuts.items) steps
+        → HasEnding code program entry budgets (naming explored.tables) explored.ends.items (setting_with program budgets inputs []) steps outcome log
+
+  -- some row's state stands for a run that has passed these events and has so much left to do, and has their phase
+  pub record HasPhasedRow (rules : List Rule) (names : Naming) (rows : List Row) (setting : Setting) (events : List Event) (left : Act CodeState) (log : Log)
+      : Type 0 where
+    pub position : HasPosition code program entry budgets names rows setting left log
+    pub phase : IsPhaseAlong rules events position.row.state.value.phase
+
+  -- some end's state stands for a run that passes these steps and ends so, and has the phase of their events
+  pub record HasPhasedEnd (rules : List Rule) (names : Naming) (ends : List End) (setting : Setting) (steps : List Step) (outcome : Outcome) (log : Log)
+      : Type 0 where
+    pub ending : HasEnding code program entry budgets names ends setting steps outcome log
+    pub phase : IsPhaseAlong rules (events_of steps) ending.end.state.value.phase
+
+  -- the same of runs without guesses, with the phases of their events
+  pub record CoversPhases (rules : List Rule) (explored : Explored) : Type 0 where
+    pub positions : HasAllNodes explored.cuts.items → (inputs : Path → ℤ) (steps : List Step) (left : Act CodeState) (log : Log)
+        → HasLeft code program entry budgets (setting_with program budgets inputs []) steps left log → PassesNone (IsCutAt explored.cuts.items) steps
+        → HasPhasedRow rules (naming explored.tables) explored.rows.items (setting_with program budgets inputs []) (events_of steps) left log
+    pub endings : HasAllNodes explored.cuts.items → (inputs : Path → ℤ) (steps : List Step) (outcome : Outcome) (log : Log)
+        → EndsAfter code program entry budgets (setting_with program budgets inputs []) steps outcome log → PassesNone (IsCutAt explored.cuts.items) steps
+        → HasPhasedEnd rules (naming explored.tables) explored.ends.items (setting_with program budgets inputs []) steps outcome log

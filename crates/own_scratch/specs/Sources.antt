@@ -1,0 +1,100 @@
+-- Where rows and ends come from: each row but the first is a child of the row that its parent number names, and each end is one of its row. These are facts
+-- about single rows and ends, and hold of each graph on the way.
+use Rattle.std.specs.Prelude.{◌≡◌, ◌⊎◌, ◌<◌, ℕ, ℤ, List, None, Some, length, slice_get}
+use Rattle.cs_inputs.specs.declared.path.Path.{Path}
+use Rattle.cs_ast.specs.TypedProgram.{TypedProgram}
+use Rattle.cs_events.specs.declared.event.Event.{Event}
+use Rattle.cs_events.specs.declared.guess.Guess.{Guess}
+use Rattle.cs_events.specs.declared.outcome.RunBudgets.{RunBudgets}
+use Rattle.cs_events.specs.Runs.{Log}
+use Rattle.cs_event_runs.specs.First.{Step}
+use Rattle.cs_meaning.specs.Machine.{routine_of}
+use Rattle.cs_cfg.specs.Graph.{Code}
+use Rattle.cs_cfg.specs.CodeSteps.{code_started}
+use Rattle.cs_terms.specs.Table.{HasEachOnce}
+use Rattle.cs_constraints.specs.Constraints.{Fits}
+use Rattle.cs_state.specs.declared.state.State.{State}
+use Rattle.cs_state.specs.Meaning.{meaning}
+use Rattle.cs_state.specs.Naming.{Naming}
+use Rattle.cs_state.specs.Starting.{StartsFrom}
+use Rattle.cs_explored.specs.declared.child.Child.{Child}
+use Rattle.cs_explored.specs.declared.explored.End.{End}
+use Rattle.cs_explored.specs.declared.explored.Row.{Row}
+use Rattle.cs_explored.specs.declared.watch.Rule.{Rule}
+use Rattle.cs_explored.specs.Placing.{RowGraph, child_row, end_of_row}
+use Rattle.own_scratch.specs.EntryRuns.{setting_with}
+use Rattle.own_scratch.specs.Coming.{StateEnd, IsIntegerState, ComesOfState}
+use Rattle.own_scratch.specs.Closing.{AreNames, HaveKeys}
+use Rattle.own_scratch.specs.OwnNumbers.{own_valuation}
+use Rattle.own_scratch.specs.Distinct.{KeysDiffer, SiblingsDiffer, EndsDiffer}
+
+module _ (code : Code) (program : TypedProgram) (entry : ℕ) (budgets : RunBudgets) (names : Naming) (rules : List Rule) where
+  -- a state stands for the beginning of each run under the run's own numbers, whatever the run lists, passes and reads
+  abbrev pub BeginsOwn : State → Type 0
+  BeginsOwn state = (inputs : Path → ℤ) (guesses : List Guess) (steps : List Step) (log : Log)
+      → let own = own_valuation program entry names (setting_with program budgets inputs guesses) steps log in
+      Fits own state.constraints × (meaning code names program state own ≡ code_started code program inputs entry (routine_of program entry))
+
+  -- an exploration begins in this state
+  pub record IsFirstState (state : State) : Type 0 where
+    pub integer : IsIntegerState code program budgets names state
+    pub starts : StartsFrom code program entry names state
+    pub own : BeginsOwn state
+    pub phase : state.phase ≡ 0
+
+  -- the first row: no event leads to it, and nothing was guessed there
+  pub record IsFirstRow (row : Row) : Type 0 where
+    pub no_event : row.event ≡ None
+    pub no_guess : row.guess ≡ None
+    pub first : IsFirstState row.state.value
+
+  -- these children and ends are all that comes of a row's state
+  pub record ComesOfRow (rows : List Row) (number : ℕ) (made : List Child) (endings : List StateEnd) : Type 0 where
+    pub row : Row
+    pub there : slice_get rows number ≡ Some row
+    pub all : ComesOfState code program budgets names rules row.state.value made endings
+
+  -- a row is a child of its parent, which comes before it
+  pub record IsOfParent (rows : List Row) (number : ℕ) (row : Row) : Type 0 where
+    pub before : row.parent < number
+    pub made : List Child
+    pub endings : List StateEnd
+    pub parent : ComesOfRow rows row.parent made endings
+    pub place : ℕ
+    pub child : Child
+    pub at : slice_get made place ≡ Some child
+    pub same : row ≡ child_row row.parent child
+
+  -- where a row comes from
+  abbrev pub HasSource : List Row → ℕ → Row → Type 0
+  HasSource rows number row = ((number ≡ 0) × IsFirstRow row) ⊎ IsOfParent rows number row
+
+  -- an end is one of its row
+  pub record IsOfRow (rows : List Row) (end : End) : Type 0 where
+    pub made : List Child
+    pub endings : List StateEnd
+    pub from : ComesOfRow rows end.row made endings
+    pub place : ℕ
+    pub one : StateEnd
+    pub at : slice_get endings place ≡ Some one
+    pub same : end ≡ end_of_row end.row one
+
+  -- nothing has come of open rows so far, no two rows or ends are alike, and each comes from a row
+  pub record AreSourced (rows : List Row) (ends : List End) (Are : ℕ → Type 0) : Type 0 where
+    pub rows_come : (number : ℕ) (row : Row) → slice_get rows number ≡ Some row → HasSource rows number row
+    pub ends_come : (number : ℕ) (end : End) → slice_get ends number ≡ Some end → IsOfRow rows end
+    pub keys_differ : KeysDiffer rows
+    pub siblings_differ : SiblingsDiffer rows
+    pub ends_differ : EndsDiffer ends
+    pub no_children : (number : ℕ) (row : Row) (event : Event) → slice_get rows number ≡ Some row → row.event ≡ Some event → ¬ Are row.parent
+    pub no_ends : (number : ℕ) (end : End) → slice_get ends number ≡ Some end → ¬ Are end.row
+
+  -- a graph with the keys of its rows, of which some are open by what waits in it
+  pub record IsSourcedGraph (graph : RowGraph) (ends : List End) (Open : List (ℕ × ℕ) → ℕ → Type 0) : Type 0 where
+    pub keys : HaveKeys graph
+    pub long : length graph.keys ≡ length graph.rows
+    pub sourced : AreSourced graph.rows ends (Open graph.work)
+
+-- under all names that extend these and in which no two symbols have one name
+abbrev pub UnderNames : Naming → (Naming → Type 0) → Type 0
+UnderNames given Holds = (names : Naming) → AreNames given names → HasEachOnce names.syms → Holds names

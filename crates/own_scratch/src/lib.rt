@@ -1,0 +1,5 @@
+//! Scratch.
+#![tactic(auto)]
+mod settled;
+pub mod question;
+pub mod piece;

@@ -1,0 +1,59 @@
+//! The terms that lead on after an event.
+ghost use Rattle.std.specs.Prelude.{◌≡◌, true, Some, IfOk, IfSome};
+ghost use Rattle.cs_ranges.specs.Affine.{affine};
+ghost use Rattle.own_scratch.specs.Settled.{IsSettled};
+
+use cs_constraints::Constraints;
+use cs_explored::constant;
+use cs_terms::{Lin, Sym};
+use std::alloc::AllocError;
+
+/// An answer as it leads on: over the symbol of the guess, or over one on which it depends before the event; else the constant that it is.
+pub(crate) fn settled(
+    before: &Constraints,
+    guess: Option<Sym>,
+    answer: Lin,
+) -> Result<Lin, AllocError>
+    ensures { IfOk result (IsSettled before.now guess answer) }
+{
+    let Some(sym) = answer.sym else {
+        return Ok(answer);
+    };
+    if is_guess(guess, sym) {
+        return Ok(answer);
+    }
+    let Some(range) = before.range_of(sym) else {
+        return Err(AllocError);
+    };
+    let (Some(least), Some(greatest)) = (range.least(), range.greatest()) else {
+        return Err(AllocError);
+    };
+    let (Some(first), Some(last)) = (value_at(answer, least), value_at(answer, greatest)) else {
+        return Err(AllocError);
+    };
+    if first == last {
+        return Ok(constant(first));
+    }
+    Ok(answer)
+}
+
+// Whether a symbol is that of the guess.
+fn is_guess(guess: Option<Sym>, sym: Sym) -> bool
+    ensures { result ≡ true → guess ≡ Some sym }
+{
+    match guess {
+        Some(found) => found.0 == sym.0,
+        None => false,
+    }
+}
+
+// The value of a term at a number of its symbol. No answer has a value that doesn't fit.
+fn value_at(term: Lin, number: i128) -> Option<i128>
+    ensures { IfSome result (λ value.
+        value ≡ affine term.slope term.at term.value number) }
+{
+    let steps = number.checked_sub(term.at)?;
+    let rise = term.slope.checked_mul(steps)?;
+    let value = term.value.checked_add(rise)?;
+    Some(value)
+}
