@@ -55,7 +55,6 @@ use Rattle.cs_state.proofs.Received.{same_name}
 use Rattle.cs_successors.specs.EntryRuns.{setting_with}
 use Rattle.cs_coverage.specs.IntegerEntries.{HasIntegerParameters}
 use Rattle.cs_coverage.specs.OwnNumbers.{input_number, kind_in, number_of as number_for, own_valuation, received_by}
-use Rattle.cs_coverage.specs.Closing.{IsBeginning}
 use Rattle.cs_coverage.proofs.OwnBeginnings.{IsScalar, parameter_number, own_fits}
 
 -- what is found where nothing is
@@ -375,11 +374,3 @@ module _ (code : Code) (program : TypedProgram) (entry : ℕ) (budgets : RunBudg
     fits_own =
         own_fits code program entry budgets given state start once
         (λ number v there. let ty = integers number v there in scalar_integer v.ty ty.0 ty.1) inputs [] [] empty
-
-  pub is_beginning : IsBeginning code program entry names state
-  is_beginning = record {
-    answers = start.answers;
-    events = ap (λ (c : Counters). c.events) start.counters;
-    phase = start.phase;
-    covers = λ inputs. (own inputs, fits_own inputs, meaning_is inputs);
-  }

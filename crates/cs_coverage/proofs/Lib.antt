@@ -12,6 +12,7 @@ pub mod OwnBeginnings
 pub mod Beginnings
 pub mod StartBlocks
 pub mod BeginningStates
+pub mod OwnStarts
 pub mod ClosedGraphs
 pub mod RowKeys
 pub mod PlacedRows

@@ -3,8 +3,11 @@ use Rattle.std.specs.Prelude.{◌≡◌, ◌⊎◌, ℕ, ℤ, List, [], Some, le
 use Rattle.std.specs.Global.{Box}
 use Rattle.cs_inputs.specs.declared.path.Path.{Path}
 use Rattle.cs_ast.specs.TypedProgram.{TypedProgram}
+use Rattle.cs_events.specs.declared.guess.Guess.{Guess}
 use Rattle.cs_events.specs.declared.outcome.Outcome.{Outcome}
 use Rattle.cs_events.specs.declared.outcome.RunBudgets.{RunBudgets}
+use Rattle.cs_events.specs.Runs.{Log}
+use Rattle.cs_event_runs.specs.First.{Step}
 use Rattle.cs_meaning.specs.Machine.{routine_of}
 use Rattle.cs_cfg.specs.Graph.{Code}
 use Rattle.cs_cfg.specs.CodeSteps.{code_started}
@@ -21,7 +24,9 @@ use Rattle.cs_explored.specs.declared.child.Child.{Child}
 use Rattle.cs_explored.specs.declared.explored.End.{End}
 use Rattle.cs_explored.specs.declared.explored.Row.{Row}
 use Rattle.cs_explored.specs.declared.watch.Rule.{Rule}
+use Rattle.cs_successors.specs.EntryRuns.{setting_with}
 use Rattle.cs_successors.specs.Coming.{IsIntegerState, ComesOfState}
+use Rattle.cs_coverage.specs.OwnNumbers.{own_valuation}
 use Rattle.cs_store.specs.Held.{HasPlainKeys}
 use Rattle.cs_explored.specs.Placing.{RowGraph}
 
@@ -56,11 +61,19 @@ abbrev pub HaveKeys : RowGraph → Type 0
 HaveKeys graph = (number : ℕ) (key : List ℕ) (row : Row) → slice_get graph.keys number ≡ Some key → slice_get graph.rows number ≡ Some row
     → key ≡ words_of (live_part row.state.value)
 
--- the state stands for the beginning of each run of an entry, under some valuation that fits
+-- a state stands for the beginning of each run under the run's own numbers, whatever the run lists, passes and reads
+abbrev pub BeginsOwn : Code → TypedProgram → ℕ → Naming → State → Type 0
+BeginsOwn code program entry names state =
+    (budgets : RunBudgets) (inputs : Path → ℤ) (guesses : List Guess) (steps : List Step) (log : Log)
+    → let own = own_valuation program entry names (setting_with program budgets inputs guesses) steps log in
+    Fits own state.constraints × (meaning code names program state own ≡ code_started code program inputs entry (routine_of program entry))
+
+-- the state stands for the beginning of each run of an entry, under some valuation that fits, and under the run's own numbers
 pub record IsBeginning (code : Code) (program : TypedProgram) (entry : ℕ) (names : Naming) (state : State) : Type 0 where
   pub answers : state.answers ≡ []
   pub events : state.counters.events ≡ 0
   pub phase : state.phase ≡ 0
+  pub own : BeginsOwn code program entry names state
   pub covers : (inputs : Path → ℤ) → (valuation : Valuation) × Fits valuation state.constraints
       × (meaning code names program state valuation ≡ code_started code program inputs entry (routine_of program entry))
 

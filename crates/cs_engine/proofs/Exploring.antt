@@ -36,7 +36,7 @@ use Rattle.cs_children.specs.Finding.{code_of, limits_of, Explores}
 use Rattle.cs_coverage.specs.Closing.{Waits, IsOpen, IsRowState, IsClosed, IsClosedGraph}
 use Rattle.cs_coverage.specs.Covering.{HasAllNodes}
 use Rattle.cs_coverage.specs.Positions.{CoversPositions, CoversPhases}
-use Rattle.cs_coverage.proofs.Beginnings.{is_beginning}
+use Rattle.cs_coverage.proofs.OwnStarts.{is_beginning}
 use Rattle.cs_coverage.proofs.BeginningStates.{begins_integer}
 use Rattle.cs_coverage.proofs.Coverage.{element}
 use Rattle.cs_coverage.proofs.ExpandedRows.{IsFound, graph_given, graph_later, graph_expanded, graph_done, graph_begun}
@@ -93,7 +93,7 @@ module _ (exploration : Exploration) (entry : ℕ) (explores : ExploresIntegers 
         (subst (λ (ends : List End). IsGraph (naming before.tables) after.graph ends Waits) (sym (keeps.ends ∙ no_ends))
         (graph_begun code program entry budgets rules (naming before.tables) before.graph after.graph (first_row state) no_keys no_rows placed.0 first_state
         (λ names are.
-        is_beginning code program entry budgets (naming before.tables) names state.value start are.extend are.numbered once explores.works.parameters differ
+        is_beginning code program entry budgets (naming before.tables) names state.value start are.extend are.numbered once explores.works differ
         (no_blocks code program entry (naming before.tables) state.value start explores.works.parameters))))
 
   -- the next row is given

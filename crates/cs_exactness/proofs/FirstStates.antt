@@ -2,7 +2,6 @@
 -- `IsFirstState`.
 use Rattle.std.proofs.Common.{◌≡◌, ℕ, ℤ, pos, Bool, true, List, Option, None, Some, slice_get, refl, sym, ap, ◌∙◌, subst}
 use Rattle.std.specs.Prelude.{is_some, IsTrue, if◌then◌else◌}
-use Rattle.cs_ranges.specs.RangeSet.{contains}
 use Rattle.cs_inputs.specs.declared.path.Path.{Path}
 use Rattle.cs_types.specs.declared.int_type.IntType.{IntType}
 use Rattle.cs_types.specs.Shape.{Shape, integer}
@@ -11,10 +10,7 @@ use Rattle.cs_terms.specs.declared.symbol.SymName.TheVariants.{Input}
 use Rattle.cs_terms.specs.Table.{HasEachOnce}
 use Rattle.cs_terms.specs.Term.{Valuation}
 use Rattle.cs_constraints.specs.Constraints.{set_of, Fits}
-use Rattle.cs_events.specs.declared.guess.Guess.{Guess}
 use Rattle.cs_events.specs.declared.outcome.RunBudgets.{RunBudgets}
-use Rattle.cs_events.specs.Runs.{Log}
-use Rattle.cs_event_runs.specs.First.{Step}
 use Rattle.cs_events.specs.InputCells.{input_kind, lies_in}
 use Rattle.cs_events.specs.Operations.{numbers_of}
 use Rattle.cs_meaning.specs.Machine.{routine_of}
@@ -32,14 +28,13 @@ use Rattle.cs_state.specs.Starting.{IsStart, HoldsValue, HoldsNumber, DifferInNa
 use Rattle.cs_state.specs.Valuations.{input_of}
 use Rattle.cs_state.proofs.Numbers.{input_here}
 use Rattle.cs_explored.specs.declared.watch.Rule.{Rule}
-use Rattle.cs_successors.specs.EntryRuns.{setting_with}
 use Rattle.cs_successors.specs.Coming.{is_declared}
 use Rattle.cs_successors.proofs.Agreeing.{means_alike}
 use Rattle.cs_coverage.specs.IntegerEntries.{IsIntegerEntry}
-use Rattle.cs_coverage.specs.OwnNumbers.{input_number, own_valuation}
-use Rattle.cs_coverage.proofs.OwnBeginnings.{parameter_number}
-use Rattle.cs_coverage.proofs.Beginnings.{own, own_is, meaning_is, fits_own, is_beginning}
+use Rattle.cs_coverage.specs.OwnNumbers.{input_number}
+use Rattle.cs_coverage.proofs.Beginnings.{own, own_is, meaning_is}
 use Rattle.cs_coverage.proofs.BeginningStates.{begins_integer}
+use Rattle.cs_coverage.proofs.OwnStarts.{is_beginning}
 use Rattle.cs_exactness.specs.Sources.{IsFirstState}
 
 -- an option that is there has something
@@ -100,38 +95,9 @@ module _ (code : Code) (program : TypedProgram) (entry : ℕ) (budgets : RunBudg
       (λ symbol declared. same_number v fits symbol declared) code names program state integer.locals integer.blocks
       ∙ meaning_is code program entry budgets given names state start more numbered once works.parameters differ nothing (input_of names.syms v)
 
-  -- each run's own numbers of declared symbols are the numbers of its inputs
-  module _ (inputs : Path → ℤ) (guesses : List Guess) (steps : List Step) (log : Log) where
-    abbrev numbers : Valuation
-    numbers = own_valuation program entry names (setting_with program budgets inputs guesses) steps log
-
-    abbrev first_numbers : Valuation
-    first_numbers = own code program entry budgets given names state start more numbered once works.parameters differ nothing inputs
-
-    own_number : (symbol : ℕ) → is_declared state.constraints symbol ≡ true → numbers symbol ≡ first_numbers symbol
-    own_number symbol declared =
-        let found = some_found (set_of state.constraints symbol) declared in
-        let known = start.received.symbols symbol found.0 found.1 in
-        let parameter : Variable = known.1 in
-        parameter_number program entry budgets names differ known.0 parameter known.2.there symbol
-        (more.syms symbol (Input (parameter_path parameter)) known.3) inputs guesses steps log
-        ∙ sym (own_is code program entry budgets given names state start more numbered once works.parameters differ nothing inputs known.0 parameter
-        known.2.there symbol known.3)
-
-    own_numbers_fit : Fits numbers state.constraints
-    own_numbers_fit symbol set there =
-        let fits = fits_own code program entry budgets given names state start more numbered once works.parameters differ nothing inputs symbol set there in
-        subst (λ (x : ℤ). IsTrue (contains set x)) (sym (own_number symbol (ap is_some there))) fits
-
-    own_means : meaning code names program state numbers ≡ code_started code program inputs entry (routine_of program entry)
-    own_means =
-        let integer = begins_integer code program entry budgets given names state start more numbered once works differ nothing in
-        means_alike (is_declared state.constraints) first_numbers numbers own_number code names program state integer.locals integer.blocks
-        ∙ meaning_is code program entry budgets given names state start more numbered once works.parameters differ nothing inputs
-
   pub first_state : (rules : List Rule) → state.phase ≡ 0 → IsFirstState code program entry budgets names rules state
   first_state rules phase =
-      let begins = is_beginning code program entry budgets given names state start more numbered once works.parameters differ nothing in
+      let begins = is_beginning code program entry budgets given names state start more numbered once works differ nothing in
       record {
         integer = begins_integer code program entry budgets given names state start more numbered once works differ nothing;
         starts = record {
@@ -141,6 +107,6 @@ module _ (code : Code) (program : TypedProgram) (entry : ℕ) (budgets : RunBudg
           means = means;
           covers = begins.covers;
         };
-        own = λ inputs guesses steps log. (own_numbers_fit inputs guesses steps log, own_means inputs guesses steps log);
+        own = begins.own;
         phase = phase;
       }

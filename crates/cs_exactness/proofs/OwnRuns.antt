@@ -363,7 +363,7 @@ module _ (code : Code) (program : TypedProgram) (entry : ℕ) (budgets : RunBudg
         absurd (passes_some (step_of code program entry budgets) setting leaves refl)
     along (first at none) row there lists [] more left log is (begins same nothing) shown =
         let begin = (first_is code program entry budgets names rules rows come row there).first in
-        let means = begin.own inputs guesses all last in
+        let means = begin.own budgets inputs guesses all last in
         record {
           fits = means.0;
           same =

@@ -1,20 +1,12 @@
 -- Where rows and ends come from: each row but the first is a child of the row that its parent number names, and each end is one of its row. These are facts
 -- about single rows and ends, and hold of each graph on the way.
-use Rattle.std.specs.Prelude.{◌≡◌, ◌⊎◌, ◌<◌, ℕ, ℤ, List, None, Some, length, slice_get}
-use Rattle.cs_inputs.specs.declared.path.Path.{Path}
+use Rattle.std.specs.Prelude.{◌≡◌, ◌⊎◌, ◌<◌, ℕ, List, None, Some, length, slice_get}
 use Rattle.cs_ast.specs.TypedProgram.{TypedProgram}
 use Rattle.cs_events.specs.declared.event.Event.{Event}
-use Rattle.cs_events.specs.declared.guess.Guess.{Guess}
 use Rattle.cs_events.specs.declared.outcome.RunBudgets.{RunBudgets}
-use Rattle.cs_events.specs.Runs.{Log}
-use Rattle.cs_event_runs.specs.First.{Step}
-use Rattle.cs_meaning.specs.Machine.{routine_of}
 use Rattle.cs_cfg.specs.Graph.{Code}
-use Rattle.cs_cfg.specs.CodeSteps.{code_started}
 use Rattle.cs_terms.specs.Table.{HasEachOnce}
-use Rattle.cs_constraints.specs.Constraints.{Fits}
 use Rattle.cs_state.specs.declared.state.State.{State}
-use Rattle.cs_state.specs.Meaning.{meaning}
 use Rattle.cs_state.specs.Naming.{Naming}
 use Rattle.cs_state.specs.Starting.{StartsFrom}
 use Rattle.cs_explored.specs.declared.child.Child.{Child}
@@ -22,24 +14,16 @@ use Rattle.cs_explored.specs.declared.explored.End.{End}
 use Rattle.cs_explored.specs.declared.explored.Row.{Row}
 use Rattle.cs_explored.specs.declared.watch.Rule.{Rule}
 use Rattle.cs_explored.specs.Placing.{RowGraph, child_row, end_of_row}
-use Rattle.cs_successors.specs.EntryRuns.{setting_with}
 use Rattle.cs_successors.specs.Coming.{StateEnd, IsIntegerState, ComesOfState}
-use Rattle.cs_coverage.specs.Closing.{AreNames, HaveKeys}
-use Rattle.cs_coverage.specs.OwnNumbers.{own_valuation}
+use Rattle.cs_coverage.specs.Closing.{AreNames, HaveKeys, BeginsOwn}
 use Rattle.cs_exactness.specs.Distinct.{KeysDiffer, SiblingsDiffer, EndsDiffer}
 
 module _ (code : Code) (program : TypedProgram) (entry : ℕ) (budgets : RunBudgets) (names : Naming) (rules : List Rule) where
-  -- a state stands for the beginning of each run under the run's own numbers, whatever the run lists, passes and reads
-  abbrev pub BeginsOwn : State → Type 0
-  BeginsOwn state = (inputs : Path → ℤ) (guesses : List Guess) (steps : List Step) (log : Log)
-      → let own = own_valuation program entry names (setting_with program budgets inputs guesses) steps log in
-      Fits own state.constraints × (meaning code names program state own ≡ code_started code program inputs entry (routine_of program entry))
-
   -- an exploration begins in this state
   pub record IsFirstState (state : State) : Type 0 where
     pub integer : IsIntegerState code program budgets names state
     pub starts : StartsFrom code program entry names state
-    pub own : BeginsOwn state
+    pub own : BeginsOwn code program entry names state
     pub phase : state.phase ≡ 0
 
   -- the first row: no event leads to it, and nothing was guessed there
