@@ -68,7 +68,7 @@ none_of : {A B : Type 0} (f : A → B) (o : Option A) → ((x : A) → o ≡ Som
 none_of f None not = refl
 none_of f (Some x) not = absurd (not x refl)
 
-bound_in : (found : Option Value) (fill : store.Fill) (value : Value)
+pub bound_in : (found : Option Value) (fill : store.Fill) (value : Value)
     → option_map_or (λ value. Direct value) found (Fill fill) ≡ Direct value → found ≡ Some value
 bound_in None fill value e = absurd (no_direct fill value e)
   where

@@ -4,6 +4,8 @@ pub mod AlikeEntries
 pub mod LiveTerms
 pub mod LiveMeaning
 pub mod Merging
+pub mod Mentioned
+pub mod AgreeingRuns
 pub mod Coverage
 pub mod ReadingNothing
 pub mod LocalsRead

@@ -50,6 +50,20 @@ module _ (sets others : Sets) where
   abbrev pub SameContents : Contents → Contents → Type 0
   SameContents c d = (c.fill ≡ d.fill) × (map (live_binding sets) (bindings_of c) ≡ map (live_binding others) (bindings_of d))
 
+module _ (sets others : Sets) where
+  -- what contents hold at an offset
+  pub direct_alike : (c d : Contents) → HasOffsets c.direct → HasOffsets d.direct → SameContents sets others c d → (offset : ℕ)
+      → FindsAlike (SameValue sets others) (finite.get c.direct (offset, 0)) (finite.get d.direct (offset, 0))
+  direct_alike c d plain bare same offset =
+      let fused_one = map-map (live_binding sets) (λ (e : (ℕ × ℕ) × Value). (e.0.0, e.1)) (finite.entries c.direct) in
+      let fused_two = map-map (live_binding others) (λ (e : (ℕ × ℕ) × Value). (e.0.0, e.1)) (finite.entries d.direct) in
+      let alike : AreAlike (SameValue sets others) (finite.entries c.direct) (finite.entries d.direct) =
+      said_alike (λ (e : (ℕ × ℕ) × Value). live_binding sets (e.0.0, e.1)) (λ (e : (ℕ × ℕ) × Value). live_binding others (e.0.0, e.1))
+      (λ b. b.0)
+      (SameValue sets others) (λ e. refl) (λ e. refl) (λ e f is. ap (λ b. b.1) is) (finite.entries c.direct) (finite.entries d.direct)
+      (map_keyed c.direct plain) (map_keyed d.direct bare) (sym fused_one ∙ same.1 ∙ fused_two) in
+      get_alike (SameValue sets others) (offset, 0) c.direct d.direct alike
+
 module _ (sets others : Sets) (valuation other : Valuation)
     (agrees : (symbol : ℕ) → set_of sets symbol ≡ set_of others symbol → other symbol ≡ valuation symbol) where
   -- blocks
@@ -129,16 +143,9 @@ module _ (sets others : Sets) (valuation other : Valuation)
     pub same_written : (c d : Contents) → HasOffsets c.direct → HasOffsets d.direct → SameContents sets others c d
         → (block : Known) → written_over (cell_of bases blocks valuation) c block ≡ written_over (cell_of bases counterparts other) d block
     same_written c d plain bare same block =
-        let fused_one = map-map (live_binding sets) (λ (e : (ℕ × ℕ) × Value). (e.0.0, e.1)) (finite.entries c.direct) in
-        let fused_two = map-map (live_binding others) (λ (e : (ℕ × ℕ) × Value). (e.0.0, e.1)) (finite.entries d.direct) in
-        let alike : AreAlike (SameValue sets others) (finite.entries c.direct) (finite.entries d.direct) =
-        said_alike (λ (e : (ℕ × ℕ) × Value). live_binding sets (e.0.0, e.1)) (λ (e : (ℕ × ℕ) × Value). live_binding others (e.0.0, e.1))
-        (λ b. b.0)
-        (SameValue sets others) (λ e. refl) (λ e. refl) (λ e f is. ap (λ b. b.1) is) (finite.entries c.direct) (finite.entries d.direct)
-        (map_keyed c.direct plain) (map_keyed d.direct bare) (sym fused_one ∙ same.1 ∙ fused_two) in
         let fills = same.0 in
         let direct : (o : ℕ) → option_map (cell_of bases blocks valuation) (finite.get c.direct (o, 0))
         ≡ option_map (cell_of bases counterparts other) (finite.get d.direct (o, 0)) =
         λ o. found_cell (finite.get c.direct (o, 0)) (finite.get d.direct (o, 0))
-        (get_alike (SameValue sets others) (o, 0) c.direct d.direct alike) in
+        (direct_alike sets others c d plain bare same o) in
         λ i. record block { fill = fill_over (fills i) block.fill; written = λ offset. direct offset i }

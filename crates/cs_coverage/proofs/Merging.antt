@@ -125,7 +125,7 @@ module _ (one two : State) (same : live_part one ≡ live_part two) (says : Says
   nothing_alike =
       (refl, ap (map (live_binding one.constraints)) nothing_bound ∙ sym (ap (map (live_binding two.constraints)) nothing_bound))
 
-  contents_alike : (base : ℕ) → SameContents one.constraints two.constraints (contents_of one.store base) (contents_of two.store base)
+  pub contents_alike : (base : ℕ) → SameContents one.constraints two.constraints (contents_of one.store base) (contents_of two.store base)
   contents_alike base = by (finite.get one.store (base, 0)) (finite.get two.store (base, 0)) (regions_alike base)
     where
       by : (c d : Option Contents) → FindsAlike (SameContents one.constraints two.constraints) c d

@@ -1,5 +1,5 @@
--- A closed graph covers all positions of runs without guesses, with the phases of their events: for `CoversPositions` and `CoversPhases`.
-use Rattle.std.proofs.Common.{ℕ, List, [], ◌∙◌}
+-- A closed graph covers all positions of runs without guesses, under their own numbers: for `CoversPositions` and `CoversOwn`.
+use Rattle.std.proofs.Common.{ℕ, List, [], refl, ◌∙◌}
 use Rattle.std.specs.Prelude.{Bool}
 use Rattle.cs_ast.specs.TypedProgram.{TypedProgram}
 use Rattle.cs_events.specs.declared.outcome.RunBudgets.{RunBudgets}
@@ -22,7 +22,7 @@ use Rattle.cs_successors.specs.EntryRuns.{setting_with}
 use Rattle.cs_successors.specs.Coming.{IsAt}
 use Rattle.cs_coverage.specs.Closing.{AreNames, IsClosed}
 use Rattle.cs_coverage.specs.Covering.{HasAllNodes}
-use Rattle.cs_coverage.specs.Positions.{CoversPositions, CoversPhases}
+use Rattle.cs_coverage.specs.Positions.{CoversPositions, CoversOwn}
 use Rattle.cs_coverage.proofs.Coverage.{stands_at_row, stands_at_end}
 use Rattle.cs_coverage.proofs.LocalsRead.{any_cells}
 
@@ -59,11 +59,11 @@ module _ (code : Code) (program : TypedProgram) (entry : ℕ) (budgets : RunBudg
   are = themselves names numbered
 
   -- the rows' and the ends' states are states of integer code, in which no cells of inputs matter
-  pub covers_phases : CoversPhases code program entry budgets rules explored
-  covers_phases = record {
+  pub covers_own : CoversOwn code program entry budgets rules explored
+  covers_own = record {
     positions = λ all inputs steps left log has none.
-        let at = stands_at_row code program entry budgets rules names explored.rows.items explored.ends.items (closed all) names are inputs steps left log
-        has in
+        let at = stands_at_row code program entry budgets rules names explored.rows.items explored.ends.items (closed all) names are inputs steps log steps
+        left log refl has in
         let state = ((closed all).states at.number at.row at.there).integer names are in
         record {
           position = record {
@@ -75,10 +75,11 @@ module _ (code : Code) (program : TypedProgram) (entry : ℕ) (budgets : RunBudg
                 left log at.at;
           };
           phase = at.phase;
+          agrees = at.agrees;
         };
     endings = λ all inputs steps outcome log runs none.
-        let at = stands_at_end code program entry budgets rules names explored.rows.items explored.ends.items (closed all) names are inputs steps outcome log
-        runs in
+        let at = stands_at_end code program entry budgets rules names explored.rows.items explored.ends.items (closed all) names are inputs steps log steps
+        outcome log refl runs in
         record {
           ending = record {
             number = at.number;
@@ -94,12 +95,13 @@ module _ (code : Code) (program : TypedProgram) (entry : ℕ) (budgets : RunBudg
             returned = at.returned;
           };
           phase = at.phase;
+          agrees = at.agrees;
         };
   }
 
   -- so all positions are covered
   pub covers_positions : CoversPositions code program entry budgets explored
   covers_positions = record {
-    positions = λ all inputs steps left log has none. (covers_phases.positions all inputs steps left log has none).position;
-    endings = λ all inputs steps outcome log runs none. (covers_phases.endings all inputs steps outcome log runs none).ending;
+    positions = λ all inputs steps left log has none. (covers_own.positions all inputs steps left log has none).position;
+    endings = λ all inputs steps outcome log runs none. (covers_own.endings all inputs steps outcome log runs none).ending;
   }

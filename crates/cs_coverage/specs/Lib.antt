@@ -1,5 +1,6 @@
 pub mod OwnNumbers
 pub mod Phases
+pub mod Agreeing
 pub mod Covering
 pub mod IntegerEntries
 pub mod Closing

@@ -1,10 +1,10 @@
 -- A part of what an exploration is to find of the runs of an entry (`Covering`): some state of a row or end stands for a run at each of its positions, with the
--- phase that the rules give the run's events. That it does so under the run's own numbers of live symbols isn't said here.
+-- phase that the rules give the run's events, and under the run's own numbers of the symbols that operands, answers and memory mention. Of the rest of a
+-- state's live part, as what was read and returned, that isn't said.
 use Rattle.std.specs.Prelude.{◌≡◌, ℕ, ℤ, List, [], Some, slice_get}
 use Rattle.cs_inputs.specs.declared.path.Path.{Path}
 use Rattle.cs_ast.specs.TypedProgram.{TypedProgram}
 use Rattle.cs_terms.specs.Term.{Valuation}
-use Rattle.cs_events.specs.declared.event.Event.{Event}
 use Rattle.cs_events.specs.declared.outcome.Outcome.{Outcome}
 use Rattle.cs_events.specs.declared.outcome.RunBudgets.{RunBudgets}
 use Rattle.cs_events.specs.Acts.{Act}
@@ -22,6 +22,8 @@ use Rattle.cs_explored.specs.declared.watch.Rule.{Rule}
 use Rattle.cs_progress.specs.Stepping.{end_of, result_in, HasReturned}
 use Rattle.cs_successors.specs.EntryRuns.{events_of, setting_with, HasLeft, EndsAfter, EndsWith}
 use Rattle.cs_coverage.specs.Covering.{HasAllNodes, IsCutAt, PassesNone}
+use Rattle.cs_coverage.specs.Agreeing.{AgreesOnMentioned}
+use Rattle.cs_coverage.specs.OwnNumbers.{own_valuation}
 use Rattle.cs_coverage.specs.Phases.{IsPhaseAlong}
 
 module _ (code : Code) (program : TypedProgram) (entry : ℕ) (budgets : RunBudgets) (names : Naming) where
@@ -56,23 +58,26 @@ module _ (code : Code) (program : TypedProgram) (entry : ℕ) (budgets : RunBudg
         → EndsAfter code program entry budgets (setting_with program budgets inputs []) steps outcome log → PassesNone (IsCutAt explored.cuts.items) steps
         → HasEnding code program entry budgets (naming explored.tables) explored.ends.items (setting_with program budgets inputs []) steps outcome log
 
-  -- some row's state stands for a run that has passed these events and has so much left to do, and has their phase
-  pub record HasPhasedRow (rules : List Rule) (names : Naming) (rows : List Row) (setting : Setting) (events : List Event) (left : Act CodeState) (log : Log)
+  -- some row's state stands for a run that has passed these steps and has so much left to do. It has the phase of the events, and stands for the run under
+  -- the run's own numbers of the symbols that it mentions
+  pub record HasOwnRow (rules : List Rule) (names : Naming) (rows : List Row) (setting : Setting) (steps : List Step) (left : Act CodeState) (log : Log)
       : Type 0 where
     pub position : HasPosition code program entry budgets names rows setting left log
-    pub phase : IsPhaseAlong rules events position.row.state.value.phase
+    pub phase : IsPhaseAlong rules (events_of steps) position.row.state.value.phase
+    pub agrees : AgreesOnMentioned program names.bases position.row.state.value (own_valuation program entry names setting steps log) position.valuation
 
-  -- some end's state stands for a run that passes these steps and ends so, and has the phase of their events
-  pub record HasPhasedEnd (rules : List Rule) (names : Naming) (ends : List End) (setting : Setting) (steps : List Step) (outcome : Outcome) (log : Log)
+  -- the same of some end's state, before the run ends so
+  pub record HasOwnEnd (rules : List Rule) (names : Naming) (ends : List End) (setting : Setting) (steps : List Step) (outcome : Outcome) (log : Log)
       : Type 0 where
     pub ending : HasEnding code program entry budgets names ends setting steps outcome log
     pub phase : IsPhaseAlong rules (events_of steps) ending.end.state.value.phase
+    pub agrees : AgreesOnMentioned program names.bases ending.end.state.value (own_valuation program entry names setting steps log) ending.valuation
 
-  -- the same of runs without guesses, with the phases of their events
-  pub record CoversPhases (rules : List Rule) (explored : Explored) : Type 0 where
+  -- each run without guesses has such a position at its beginning and after each event, and such an end, with the same conditions
+  pub record CoversOwn (rules : List Rule) (explored : Explored) : Type 0 where
     pub positions : HasAllNodes explored.cuts.items → (inputs : Path → ℤ) (steps : List Step) (left : Act CodeState) (log : Log)
         → HasLeft code program entry budgets (setting_with program budgets inputs []) steps left log → PassesNone (IsCutAt explored.cuts.items) steps
-        → HasPhasedRow rules (naming explored.tables) explored.rows.items (setting_with program budgets inputs []) (events_of steps) left log
+        → HasOwnRow rules (naming explored.tables) explored.rows.items (setting_with program budgets inputs []) steps left log
     pub endings : HasAllNodes explored.cuts.items → (inputs : Path → ℤ) (steps : List Step) (outcome : Outcome) (log : Log)
         → EndsAfter code program entry budgets (setting_with program budgets inputs []) steps outcome log → PassesNone (IsCutAt explored.cuts.items) steps
-        → HasPhasedEnd rules (naming explored.tables) explored.ends.items (setting_with program budgets inputs []) steps outcome log
+        → HasOwnEnd rules (naming explored.tables) explored.ends.items (setting_with program budgets inputs []) steps outcome log

@@ -1,8 +1,7 @@
 -- Where runs stand in a graph: at a row directly after an event, and at an end before they end.
-use Rattle.std.specs.Prelude.{◌≡◌, ℕ, List, Some, slice_get}
+use Rattle.std.specs.Prelude.{◌≡◌, ℕ, List, Some, length, slice_get}
 use Rattle.cs_ast.specs.TypedProgram.{TypedProgram}
 use Rattle.cs_terms.specs.Term.{Valuation}
-use Rattle.cs_events.specs.declared.event.Event.{Event}
 use Rattle.cs_events.specs.declared.outcome.Outcome.{Outcome}
 use Rattle.cs_events.specs.declared.outcome.RunBudgets.{RunBudgets}
 use Rattle.cs_events.specs.Acts.{Act}
@@ -19,20 +18,24 @@ use Rattle.cs_progress.specs.Locals.{HasLocalsAlone}
 use Rattle.cs_progress.specs.Stepping.{end_of, result_in, HasReturned}
 use Rattle.cs_successors.specs.EntryRuns.{events_of, EndsWith}
 use Rattle.cs_successors.specs.Coming.{is_declared, IsAt}
+use Rattle.cs_coverage.specs.Agreeing.{AgreesOnMentioned}
 use Rattle.cs_coverage.specs.Phases.{IsPhaseAlong}
 
 module _ (code : Code) (program : TypedProgram) (entry : ℕ) (budgets : RunBudgets) (names : Naming) (rules : List Rule) where
-  -- a run that has passed these events and has so much left to do, with this log, has come to where a row stands, which has the phase of these events
-  pub record StandsAtRow (rows : List Row) (setting : Setting) (events : List Event) (left : Act CodeState) (log : Log) : Type 0 where
+  -- a run that has passed these steps and has so much left to do, with this log, has come to where a row stands, which has the phase of the events: under a
+  -- valuation that agrees with one that is the run's own on what the row's state mentions
+  pub record StandsAtRow (rows : List Row) (setting : Setting) (own : Valuation) (steps : List Step) (left : Act CodeState) (log : Log) : Type 0 where
     pub number : ℕ
     pub row : Row
     pub there : slice_get rows number ≡ Some row
     pub valuation : Valuation
     pub at : IsAt code program budgets names row.state.value setting valuation left log
-    pub phase : IsPhaseAlong rules events row.state.value.phase
+    pub count : row.state.value.counters.events ≡ length steps
+    pub phase : IsPhaseAlong rules (events_of steps) row.state.value.phase
+    pub agrees : AgreesOnMentioned program names.bases row.state.value own valuation
 
   -- a run that passes these steps and ends so, with this log, has come before that to where an end stands, whose state is one of integer code
-  pub record StandsAtEnd (ends : List End) (setting : Setting) (steps : List Step) (outcome : Outcome) (log : Log) : Type 0 where
+  pub record StandsAtEnd (ends : List End) (setting : Setting) (own : Valuation) (steps : List Step) (outcome : Outcome) (log : Log) : Type 0 where
     pub number : ℕ
     pub end : End
     pub there : slice_get ends number ≡ Some end
@@ -43,6 +46,7 @@ module _ (code : Code) (program : TypedProgram) (entry : ℕ) (budgets : RunBudg
     pub valuation : Valuation
     pub at : IsAt code program budgets names end.state.value setting valuation last before
     pub phase : IsPhaseAlong rules (events_of steps) end.state.value.phase
+    pub agrees : AgreesOnMentioned program names.bases end.state.value own valuation
     pub locals : HasLocalsAlone program names.bases (is_declared end.state.value.constraints) end.state.value
     pub integers : HasIntegerCode code program end.state.value.frame.spot.function
     pub returned : HasReturned outcome (result_in names.bases end.state.value.blocks valuation end.state.value.result)

@@ -35,12 +35,12 @@ use Rattle.cs_children.specs.declared.exploration.Exploration.{Exploration}
 use Rattle.cs_children.specs.Finding.{code_of, limits_of, Explores}
 use Rattle.cs_coverage.specs.Closing.{Waits, IsOpen, IsRowState, IsClosed, IsClosedGraph}
 use Rattle.cs_coverage.specs.Covering.{HasAllNodes}
-use Rattle.cs_coverage.specs.Positions.{CoversPositions, CoversPhases}
+use Rattle.cs_coverage.specs.Positions.{CoversPositions, CoversOwn}
 use Rattle.cs_coverage.proofs.OwnStarts.{is_beginning}
 use Rattle.cs_coverage.proofs.BeginningStates.{begins_integer}
 use Rattle.cs_coverage.proofs.Coverage.{element}
 use Rattle.cs_coverage.proofs.ExpandedRows.{IsFound, graph_given, graph_later, graph_expanded, graph_done, graph_begun}
-use Rattle.cs_coverage.proofs.Positions.{covers_positions, covers_phases}
+use Rattle.cs_coverage.proofs.Positions.{covers_positions, covers_own}
 use Rattle.cs_coverage.proofs.StartBlocks.{no_blocks}
 use Rattle.cs_engine.specs.Exploring.{program_of, ExploresIntegers, IsOpenGraph, IsClosedAtLast}
 
@@ -178,6 +178,6 @@ module _ (exploration : Exploration) (entry : ℕ) (explores : ExploresIntegers 
       pub covered : CoversPositions code program entry budgets explored
       covered = covers_positions code program entry budgets rules explored last_numbered closed_at_last
 
-      -- with the phases of their events
-      pub phased : CoversPhases code program entry budgets rules explored
-      phased = covers_phases code program entry budgets rules explored last_numbered closed_at_last
+      -- with the phases of their events, and the runs' own numbers
+      pub own_covered : CoversOwn code program entry budgets rules explored
+      own_covered = covers_own code program entry budgets rules explored last_numbered closed_at_last

@@ -10,7 +10,7 @@ use Rattle.cs_children.specs.Finding.{code_of, limits_of}
 use Rattle.cs_coverage.specs.IntegerEntries.{IsIntegerEntry}
 use Rattle.cs_coverage.specs.Closing.{IsClosed, IsClosedGraph}
 use Rattle.cs_coverage.specs.Covering.{HasAllNodes}
-use Rattle.cs_coverage.specs.Positions.{CoversPositions, CoversPhases}
+use Rattle.cs_coverage.specs.Positions.{CoversPositions, CoversOwn}
 use Rattle.cs_exactness.specs.Distinct.{AreDistinct}
 use Rattle.cs_exactness.specs.Exact.{IsExact}
 use Rattle.cs_exactness.specs.Noted.{EachNotesEvents}
@@ -65,11 +65,11 @@ abbrev pub CoversIntegers : Exploration → ℕ → Explored → Type 0
 CoversIntegers exploration entry explored =
     ExploresIntegers exploration entry → CoversPositions (code_of exploration) (program_of exploration) entry (limits_of exploration) explored
 
--- and that with the phases that the watched rules give the runs' events
-abbrev pub CoversPhasesOnIntegers : Exploration → ℕ → Explored → Type 0
-CoversPhasesOnIntegers exploration entry explored =
+-- and that with the phases that the watched rules give the runs' events, and under the runs' own numbers of what rows and ends mention
+abbrev pub CoversOwnOnIntegers : Exploration → ℕ → Explored → Type 0
+CoversOwnOnIntegers exploration entry explored =
     ExploresIntegers exploration entry
-    → CoversPhases (code_of exploration) (program_of exploration) entry (limits_of exploration) exploration.rules.now explored
+    → CoversOwn (code_of exploration) (program_of exploration) entry (limits_of exploration) exploration.rules.now explored
 
 -- rows and ends stand for the runs of just their valuations
 abbrev pub IsExactFor : Exploration → ℕ → Explored → Type 0

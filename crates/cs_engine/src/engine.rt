@@ -5,7 +5,7 @@ ghost use Rattle.cs_explored.specs.Found.{IsSound, Grows, AreLinked, AreOfRows};
 ghost use Rattle.cs_operators.specs.Asking.{HasEveryKind};
 ghost use Rattle.cs_coverage.specs.Closing.{Waits, IsOpen};
 ghost use Rattle.cs_engine.specs.Exploring.{ExploresIntegers, IsFull, IsKept, IsDone};
-ghost use Rattle.cs_engine.specs.Exploring.{CoversIntegers, CoversPhasesOnIntegers, IsExactOnIntegers};
+ghost use Rattle.cs_engine.specs.Exploring.{CoversIntegers, CoversOwnOnIntegers, IsExactOnIntegers};
 ghost use Rattle.cs_engine.specs.Exploring.{HasOwnOnIntegers};
 
 use crate::entry::start;
@@ -32,9 +32,9 @@ pub fn explore(
     ensures covers { IfOk result (λ explored.
         HasEveryKind (λ b. kind_of b) checkers.old.items
         → CoversIntegers exploration.now entry explored) }
-    ensures phases { IfOk result (λ explored.
+    ensures agrees { IfOk result (λ explored.
         HasEveryKind (λ b. kind_of b) checkers.old.items
-        → CoversPhasesOnIntegers exploration.now entry explored) }
+        → CoversOwnOnIntegers exploration.now entry explored) }
     ensures exact { IfOk result (λ explored.
         HasEveryKind (λ b. kind_of b) checkers.old.items
         → IsExactOnIntegers exploration.now entry explored) }

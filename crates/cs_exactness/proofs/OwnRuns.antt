@@ -37,7 +37,8 @@ use Rattle.cs_successors.specs.EntryRuns.{begins, passes, EndsAfter}
 use Rattle.cs_successors.specs.Coming.{StateEnd, IsTruth, ListsTruth, IsAt, IsEndOf, ListsNoneOrTruth}
 use Rattle.cs_successors.proofs.Passing.{passes_some, as_proceeds, ends_after_one, ends_alone}
 use Rattle.cs_successors.proofs.Proceeding.{proceeds_on}
-use Rattle.cs_coverage.specs.OwnNumbers.{received_by, own_valuation, number_of, answer_at, IsGuessedAt, ListsTruths, ListsOwn}
+use Rattle.cs_coverage.specs.OwnNumbers.{own_valuation, IsGuessedAt, ListsTruths, ListsOwn}
+use Rattle.cs_coverage.proofs.AgreeingRuns.{gives_own}
 use Rattle.cs_coverage.proofs.Coverage.{element}
 use Rattle.cs_coverage.proofs.Positions.{stands_for}
 use Rattle.cs_exactness.specs.Chains.{IsChain, first, further}
@@ -342,17 +343,6 @@ module _ (code : Code) (program : TypedProgram) (entry : ℕ) (budgets : RunBudg
     abbrev own : Valuation
     own = own_valuation program entry names setting all last
 
-    -- its number for the guess of a child leads on there
-    gives_own : (child : Child) (symbol : Sym) → slice_get names.syms symbol.0 ≡ Some (GuessAt child.state.value.counters.events)
-        → (earlier more : List Step) (one : Step) → all ≡ earlier ++ one ∷ more → child.state.value.counters.events ≡ suc (length earlier)
-        → own symbol.0 ≡ unwrap_or (guess_at guesses child.state.value.counters.events) one.answer
-    gives_own child symbol named earlier more one is count =
-        let passes_one : answer_at all (suc (length earlier)) ≡ one.answer =
-        ap (λ (steps : List Step). unwrap_or (option_map (λ (it : Step). it.answer) (slice_get steps (length earlier))) (pos 0)) is
-        ∙ ap (λ (found : Option Step). unwrap_or (option_map (λ (it : Step). it.answer) found) (pos 0)) (item_after earlier one more) in
-        ap (λ o. unwrap_or (option_map (number_of setting (received_by program entry ++ last.read) all) o) (pos 0)) named
-        ∙ ap (unwrap_or (guess_at guesses child.state.value.counters.events)) (ap (answer_at all) count ∙ passes_one)
-
     -- along a chain, the run comes to where each row stands
     along : {number : ℕ} {chain : List Event} → IsChain rows number chain → (row : Row) → slice_get rows number ≡ Some row
         → ListsSoFar row.state.value chain guesses → (steps more : List Step) (left : Act CodeState) (log : Log) → all ≡ steps ++ more
@@ -395,7 +385,9 @@ module _ (code : Code) (program : TypedProgram) (entry : ℕ) (budgets : RunBudg
         subst (λ (s : State). IsAt code program budgets names s setting own left log) (sym state)
         (is_child.back setting own split.between left split.before log parts.one (record { model = refl; limits = refl }) here split.leaves
         (parts.event_is ∙ sym event_is) (lists_here guesses row of parents_chain event event_is setting refl lists_child)
-        (λ symbol guess. gives_own of.child symbol (is_child.named symbol guess) parts.earlier more parts.one all_are count))
+        (λ symbol guess.
+        gives_own program entry budgets names inputs guesses all last of.child.state.value.counters.events symbol (is_child.named symbol guess) parts.earlier
+        more parts.one all_are count))
 
   -- so it fits each row, which stands for it
   own_row : (number : ℕ) (row : Row) (chain : List Event) → slice_get rows number ≡ Some row → IsChain rows number chain

@@ -1,4 +1,4 @@
-use Rattle.cs_engine.proofs.Exploring.{covered, phased}
+use Rattle.cs_engine.proofs.Exploring.{covered, own_covered}
 use Rattle.cs_engine.proofs.Sourcing.{exact_at_last, own_at_last}
 use Rattle.cs_engine.proofs.engine.explore.Goals as goal
 
@@ -8,9 +8,9 @@ returns-clause-covers g c every explores =
     c.explored.ensures.rows c.explored.ensures.all_ends c.explored.ensures.cuts c.explored.ensures.tables
     (c.in_ok-expand_all.ensures.done every c.args.entry explores (c.in_ok-findings.ensures.begins explores)).closed
 
-pub returns-clause-phases : goal.returns-clause-phases
-returns-clause-phases g c every explores =
-    phased c.args.exploration.now c.args.entry explores c.expand_all.new.findings c.explored.result c.have_each_once.ensures.bases
+pub returns-clause-agrees : goal.returns-clause-agrees
+returns-clause-agrees g c every explores =
+    own_covered c.args.exploration.now c.args.entry explores c.expand_all.new.findings c.explored.result c.have_each_once.ensures.bases
     c.explored.ensures.rows c.explored.ensures.all_ends c.explored.ensures.cuts c.explored.ensures.tables
     (c.in_ok-expand_all.ensures.done every c.args.entry explores (c.in_ok-findings.ensures.begins explores)).closed
 
