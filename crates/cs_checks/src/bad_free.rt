@@ -33,8 +33,8 @@ impl Checker for BadFreeChecker {
 
     fn examine(&mut self, subject: &Subject) -> Answer {
         self.examined = self.examined.saturating_add(1);
-        match *subject {
-            Subject::Release { block, offset } => released(block, offset),
+        match subject {
+            Subject::Release { block, offset } => released(*block, *offset),
             _ => Answer::never(),
         }
     }

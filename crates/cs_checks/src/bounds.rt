@@ -32,9 +32,9 @@ impl Checker for BoundsChecker {
 
     fn examine(&mut self, subject: &Subject) -> Answer {
         self.examined = self.examined.saturating_add(1);
-        match *subject {
-            Subject::Rest { term } => Answer::of_sum(term, [NEGATIVE, NO_NUMBER]),
-            Subject::Slot { fits } => Answer::of_test(!fits),
+        match subject {
+            Subject::Rest { term } => Answer::of_sum(*term, [NEGATIVE, NO_NUMBER]),
+            Subject::Slot { fits } => Answer::of_test(!*fits),
             _ => Answer::never(),
         }
     }

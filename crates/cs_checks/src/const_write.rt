@@ -31,8 +31,8 @@ impl Checker for ConstWriteChecker {
 
     fn examine(&mut self, subject: &Subject) -> Answer {
         self.examined = self.examined.saturating_add(1);
-        match *subject {
-            Subject::Written { constant } => Answer::of_test(constant),
+        match subject {
+            Subject::Written { constant } => Answer::of_test(*constant),
             _ => Answer::never(),
         }
     }

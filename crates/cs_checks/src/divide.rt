@@ -32,8 +32,8 @@ impl Checker for DivideChecker {
 
     fn examine(&mut self, subject: &Subject) -> Answer {
         self.examined = self.examined.saturating_add(1);
-        match *subject {
-            Subject::Divisor { term } => Answer::of_term(term, [ZERO, NO_NUMBER]),
+        match subject {
+            Subject::Divisor { term } => Answer::of_term(*term, [ZERO, NO_NUMBER]),
             _ => Answer::never(),
         }
     }

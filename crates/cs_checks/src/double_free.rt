@@ -31,7 +31,7 @@ impl Checker for DoubleFreeChecker {
 
     fn examine(&mut self, subject: &Subject) -> Answer {
         self.examined = self.examined.saturating_add(1);
-        match *subject {
+        match subject {
             Subject::Release {
                 block: Freeable::Freed,
                 ..

@@ -31,7 +31,7 @@ impl Checker for FreedChecker {
 
     fn examine(&mut self, subject: &Subject) -> Answer {
         self.examined = self.examined.saturating_add(1);
-        match *subject {
+        match subject {
             Subject::Reached {
                 standing: Standing::Freed,
             } => Answer::of_test(true),

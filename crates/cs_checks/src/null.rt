@@ -33,9 +33,9 @@ impl Checker for NullChecker {
 
     fn examine(&mut self, subject: &Subject) -> Answer {
         self.examined = self.examined.saturating_add(1);
-        match *subject {
-            Subject::Through { null } => Answer::of_test(null),
-            Subject::Move { null, amount } => moved(null, amount),
+        match subject {
+            Subject::Through { null } => Answer::of_test(*null),
+            Subject::Move { null, amount } => moved(*null, *amount),
             _ => Answer::never(),
         }
     }

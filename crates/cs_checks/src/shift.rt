@@ -32,8 +32,8 @@ impl Checker for ShiftChecker {
 
     fn examine(&mut self, subject: &Subject) -> Answer {
         self.examined = self.examined.saturating_add(1);
-        match *subject {
-            Subject::Shift { count, width } => Answer::of_term(count, [NEGATIVE, at_least(width)]),
+        match subject {
+            Subject::Shift { count, width } => Answer::of_term(*count, [NEGATIVE, at_least(*width)]),
             _ => Answer::never(),
         }
     }

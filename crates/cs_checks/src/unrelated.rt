@@ -31,8 +31,8 @@ impl Checker for UnrelatedChecker {
 
     fn examine(&mut self, subject: &Subject) -> Answer {
         self.examined = self.examined.saturating_add(1);
-        match *subject {
-            Subject::Pair { same } => Answer::of_test(!same),
+        match subject {
+            Subject::Pair { same } => Answer::of_test(!*same),
             _ => Answer::never(),
         }
     }

@@ -31,8 +31,8 @@ impl Checker for UnsetChecker {
 
     fn examine(&mut self, subject: &Subject) -> Answer {
         self.examined = self.examined.saturating_add(1);
-        match *subject {
-            Subject::Cell { unset } => Answer::of_test(unset),
+        match subject {
+            Subject::Cell { unset } => Answer::of_test(*unset),
             _ => Answer::never(),
         }
     }
