@@ -69,10 +69,10 @@ first_has : (one : Piece) (others : List Piece) → PiecesHaveArguments (one ∷
 first_has (Evaluated offset e) others has = ((has.0, tt), has.1)
 first_has (Spelled offset bytes) others has = (tt, has)
 
-first_integers : {count : ℕ} (one : Piece) (others : List Piece) → PiecesAreOfIntegers count (one ∷ others)
+first_integers : (count : ℕ) (one : Piece) (others : List Piece) → PiecesAreOfIntegers count (one ∷ others)
     → PiecesAreOfIntegers count (one ∷ []) × PiecesAreOfIntegers count others
-first_integers (Evaluated offset e) others ints = ((ints.0, tt), ints.1)
-first_integers (Spelled offset bytes) others ints = absurd ints
+first_integers count (Evaluated offset e) others ints = ((ints.0, tt), ints.1)
+first_integers count (Spelled offset bytes) others ints = absurd ints
 
 -- the control points of an expression, and of a piece that is one
 module _ {flow : Flow} where
@@ -144,7 +144,7 @@ module _ {program : TypedProgram} {routine : Routine} where
         let meets = stores_meet program flow routine (labels_in routine flow) others at declaration r q (rest.does flow in_mid both.1) m in
         adds_before one others following (rest.adds flow in_mid both.1 following m) (first.adds flow has both.0 (first_pieces others following) meets);
     integers = λ count below ints.
-        let both = first_integers one others ints in
+        let both = first_integers count one others ints in
         integers_both (rest.integers count below both.1) (first.integers count below both.0);
   }
 

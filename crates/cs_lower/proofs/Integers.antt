@@ -3,10 +3,10 @@ use Rattle.std.proofs.Common.{◌≡◌, ℕ, List, [], ◌∷◌, Option, Some,
 use Rattle.std.specs.Prelude.{All, Contains}
 use Rattle.std.specs.Option.{IfSome}
 use Rattle.std.proofs.lemmas.List.Elements.{All-cons, All-contains, All-head, All-nil, All-tail, All-weaker}
-use Rattle.cs_types.specs.Shape.{Shape, integer}
+use Rattle.cs_types.specs.Shape.{Shape}
 use Rattle.cs_ast.specs.declared.place.Place.{Place}
-use Rattle.cs_ast.specs.TypedTree.{Typed, Of, Form, Number, Null, Text, Local, Global, Through, Index, Member, Arrow, Load, Address, Decay, Convert, Unary, Not}
-use Rattle.cs_ast.specs.TypedTree.{Binary, Compare, Sum, Difference, And, Or, Choice, Comma, Assign, Update, Move, Call, Allocate, Free}
+use Rattle.cs_ast.specs.TypedTree.{Typed, Of, Form, Number, Local, Load, Convert, Unary, Not}
+use Rattle.cs_ast.specs.TypedTree.{Binary, Compare, And, Or, Choice, Comma, Assign, Update, Call}
 use Rattle.cs_ast.specs.TypedProgram.{TypedProgram}
 use Rattle.cs_meaning.specs.Access.{access_of}
 use Rattle.cs_cfg.specs.Graph.{BlockEnd, Operation, Point, Work}

@@ -117,9 +117,9 @@ module _ {program : TypedProgram} {routine : Routine} where
       }
 
   -- and all of it works with integers alone where the body does
-  pub whole_integers : {body : Statement} {entry count : ℕ} {old new : Built} {flow : Flow} → BeginsBody program routine body old new entry
+  pub whole_integers : {body : Statement} {entry count : ℕ} {old new : Built} (flow : Flow) → BeginsBody program routine body old new entry
       → old ≡ record { counted_points = count; heads = []; others = [] } → All (Contains (blocks new)) flow.blocks → WorksAs body flow
-  whole_integers begins starts no_other = λ count ints.
+  whole_integers flow begins starts no_other = λ count ints.
       let nothing_yet = subst (λ (b : Built). All (IsIntegerPoint count) (blocks b)) (sym starts) (All-nil (IsIntegerPoint count)) in
       (integers_among no_other).keeps ((begins.integers count ints).keeps nothing_yet)
 

@@ -1,6 +1,6 @@
 -- What the lowering of expressions ensures: in every graph that has what was built, the point evaluates the expression, and after it
 -- stands the other one; and of the blocks that were there before, the other point first, those that are there now were made, the point
--- first, which brings in no control points but those of the expression.
+-- first, which brings in no control points but those of the expression, and where the expression is of integers no work on anything else.
 use Rattle.std.specs.Prelude.{ℕ, suc, ◌+◌, List, ◌++◌, ◌∷◌, Option, Some, None}
 use Rattle.cs_types.specs.Shape.{Shape}
 use Rattle.cs_ast.specs.declared.place.Place.{Place}

@@ -14,7 +14,7 @@ use Rattle.cs_lower.specs.Building.{Built, blocks, Has, Grows}
 use Rattle.cs_lower.specs.Integers.{StatementIsOfIntegers, AddsIntegers}
 
 -- a graph that begins in a block and has what was built executes a function's body, once the blocks of all counted points are there; and what was
--- built has no control points but those of the function, where what was there before has no others
+-- built has no control points but those of the function, where what was there before has no others, and works with integers alone if the body does
 pub record BeginsBody (program : TypedProgram) (routine : Routine) (body : Statement) (old new : Built) (entry : ℕ) : Type 0 where
   pub grows : Grows (counted_points body) old new
   pub does : (flow : Flow) → Has flow new → StatementHasArguments body → length new.heads ≡ new.counted_points → flow.entry ≡ entry

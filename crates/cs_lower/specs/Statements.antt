@@ -1,6 +1,6 @@
 -- What the lowering of statements ensures: in every graph that has what was built, the point executes the statement, and after it
 -- stands the other one; and of the blocks that were there before, the other point first, those that are there now were made, the point
--- first, which brings in no control points but those of the statement.
+-- first, which brings in no control points but those of the statement, and where the statement is of integers no work on anything else.
 use Rattle.std.specs.Prelude.{◌≡◌, ◌<◌, ℕ, ◌+◌, List, [], ◌∷◌, ◌++◌, length, Option, unwrap_or, slice_get}
 use Rattle.cs_ast.specs.declared.place.Place.{Place}
 use Rattle.cs_ast.specs.TypedTree.{Typed, Initial, Statement, Declare, Return, Statements, count_of}

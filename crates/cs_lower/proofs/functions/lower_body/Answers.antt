@@ -7,6 +7,7 @@ use Rattle.std.specs.Ordering.{nat_cmp}
 use Rattle.cs_ast.specs.TypedTree.{Block, Empty}
 use Rattle.cs_ast.specs.TypedProgram.{routine}
 use Rattle.cs_ast.specs.TypedView.{statement}
+use Rattle.cs_cfg.specs.GraphView as view
 use Rattle.cs_lower.specs.Labels.{label_in}
 use Rattle.cs_lower.proofs.WholeBodies.{whole_body, whole_integers}
 use Rattle.cs_lower.proofs.functions.lower_body.Goals as goal
@@ -28,4 +29,4 @@ returns-clause-graph c =
     c.in_ok-flow.ensures.no_other c.in_ok-flow.ensures.entry c.in_ok-flow.ensures.counted_points c.requires.own
 
 pub returns-clause-integers : goal.returns-clause-integers
-returns-clause-integers c = whole_integers c.in_ok-entry.ensures c.new-graph.ensures c.in_ok-flow.ensures.no_other
+returns-clause-integers c = whole_integers (view.flow c.in_ok-flow.flow) c.in_ok-entry.ensures c.new-graph.ensures c.in_ok-flow.ensures.no_other
