@@ -1,5 +1,6 @@
 -- Lists of numbers in ascending order: for the contracts of `all_numbers`, `followed_numbers` and `reach`.
-use Rattle.std.proofs.Common.{◌≡◌, ◌⊎◌, ◌<◌, ◌≤◌, ◌+◌, ℕ, zero, suc, ℤ, pos, ◌+ℤ◌, ◌<ℤ◌, ◌≤ℤ◌, List, [], ◌∷◌, ◌++◌, length, map, reverse}
+use Rattle.std.proofs.Common.{◌≡◌, ◌⊎◌, ◌<◌, ◌≤◌, ◌+◌, ℕ, zero, suc, ℤ, pos, ◌+ℤ◌, ◌<ℤ◌, ◌≤ℤ◌, List, []}
+use Rattle.std.proofs.Common.{◌∷◌, ◌++◌, length, map, reverse}
 use Rattle.std.proofs.Common.{true, slice_index_or, get_or, take, refl, sym, ap, ◌∙◌, subst, inl, inr, arith}
 use Rattle.std.specs.Prelude.{◌↔◌}
 use Rattle.std.specs.List.{Contains}
@@ -158,17 +159,19 @@ pub record AreSoFar (before : List ℤ) (low next : ℤ) (numbers : List ℤ) : 
   pub ascending : IsAscending numbers
   pub members : (x : ℤ) → Contains numbers x ↔ (Contains before x ⊎ ((low ≤ℤ x) × (x <ℤ next)))
 
-pub so_far_none : (before numbers : List ℤ) (low next : ℤ) → next ≡ low → numbers ≡ before → IsAscending before → AreSoFar before low next numbers
-so_far_none before numbers low next start same up = subst (λ n. AreSoFar before low n numbers) (sym start) (subst (AreSoFar before low low) (sym same) (record {
-  ascending = up;
-  members = λ x. (
-    λ has. inl has,
-    λ has. elim has [
-      | inl old ↦ old
-      | inr between ↦ absurd (omega (arith, ints, between.0, between.1))
-    ],
-  );
-}))
+pub so_far_none : (before numbers : List ℤ) (low next : ℤ) → next ≡ low → numbers ≡ before → IsAscending before
+    → AreSoFar before low next numbers
+so_far_none before numbers low next start same up =
+    subst (λ n. AreSoFar before low n numbers) (sym start) (subst (AreSoFar before low low) (sym same) (record {
+      ascending = up;
+      members = λ x. (
+        λ has. inl has,
+        λ has. elim has [
+          | inl old ↦ old
+          | inr between ↦ absurd (omega (arith, ints, between.0, between.1))
+        ],
+      );
+    }))
 
 so_far_push : (before numbers : List ℤ) (low next : ℤ) → IsBelow before low → low ≤ℤ next → AreSoFar before low next numbers
     → AreSoFar before low (next +ℤ pos 1) (numbers ++ next ∷ [])
@@ -194,11 +197,13 @@ so_far_push before numbers low next below from so_far = record {
   );
 }
 
-pub so_far_more : (before numbers more : List ℤ) (low number next value : ℤ) → IsBelow before low → low ≤ℤ number → AreSoFar before low number numbers
+pub so_far_more : (before numbers more : List ℤ) (low number next value : ℤ) → IsBelow before low → low ≤ℤ number
+    → AreSoFar before low number numbers
     → more ≡ numbers ++ value ∷ [] → value ≡ number → next ≡ number +ℤ pos 1 → AreSoFar before low next more
 so_far_more before numbers more low number next value below from so_far pushed same step =
     subst (λ n. AreSoFar before low n more) (sym step)
-    (subst (AreSoFar before low (number +ℤ pos 1)) (sym (pushed ∙ ap (λ n. numbers ++ n ∷ []) same)) (so_far_push before numbers low number below from so_far))
+    (subst (AreSoFar before low (number +ℤ pos 1)) (sym (pushed ∙ ap (λ n. numbers ++ n ∷ []) same))
+    (so_far_push before numbers low number below from so_far))
 
 pub so_far_all : (before numbers : List ℤ) (low high next : ℤ) → high <ℤ next → next ≤ℤ (high +ℤ pos 1) → AreSoFar before low next numbers
     → AreAdded before low high numbers
@@ -275,12 +280,14 @@ one_of_three a b c x has = elim (one_of a (b ∷ c ∷ []) x has) [
 ]
 
 -- what has the first, the second and the third has each of the three
-has_each : (a b c : ℤ) (xs : List ℤ) → Contains xs a → Contains xs b → Contains xs c → (x : ℤ) → (x ≡ a) ⊎ (x ≡ b) ⊎ (x ≡ c) → Contains xs x
+has_each : (a b c : ℤ) (xs : List ℤ) → Contains xs a → Contains xs b → Contains xs c → (x : ℤ) → (x ≡ a) ⊎ (x ≡ b) ⊎ (x ≡ c)
+    → Contains xs x
 has_each a b c xs first second third x (inl same) = equal_is xs x a same first
 has_each a b c xs first second third x (inr (inl same)) = equal_is xs x b same second
 has_each a b c xs first second third x (inr (inr same)) = equal_is xs x c same third
 
-pub each_once_are : (a b c : ℤ) (one two : List ℤ) → a ≤ℤ b → b ≤ℤ c → IsPushed a b [] one → IsPushed b c one two → HasEach a b c (two ++ c ∷ [])
+pub each_once_are : (a b c : ℤ) (one two : List ℤ) → a ≤ℤ b → b ≤ℤ c → IsPushed a b [] one → IsPushed b c one two
+    → HasEach a b c (two ++ c ∷ [])
 each_once_are a b c one two low high (inl p) (inl q) =
     subst (λ l. HasEach a b c (l ++ c ∷ [])) (sym (q.1 ∙ ap (λ l. l ++ b ∷ []) p.1)) (record {
       ascending = (p.0, (q.0, tt));

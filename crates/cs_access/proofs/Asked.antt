@@ -1,5 +1,6 @@
 -- Checkers that are asked one by one, and the kinds that they give conditions for: for the contract of `check`.
-use Rattle.std.proofs.Common.{◌≡◌, ◌<◌, ◌≤◌, ◌+◌, ℕ, Bool, true, false, List, [], ◌∷◌, ◌++◌, take, drop, get_or, set, map, length, refl, sym, ap, ◌∙◌}
+use Rattle.std.proofs.Common.{◌≡◌, ◌<◌, ◌≤◌, ◌+◌, ℕ, Bool, true, false, List, [], ◌∷◌, ◌++◌, take, drop, get_or, set, map}
+use Rattle.std.proofs.Common.{length, refl, sym, ap, ◌∙◌}
 use Rattle.std.proofs.Common.{subst, inl, inr, arith, Option, None, Result, Ok, Err}
 use Rattle.std.specs.Prelude.{OnOk}
 use Rattle.std.specs.Result.{is_ok}
@@ -135,7 +136,8 @@ module _ {C : Type 0} (kind : C → Kind) (count : C → ℕ) (subject : Subject
       (asked_more olds news place before after found more d new asked within one same next)
 
 -- what the list of checkers is in the end
-all_new : {C : Type 0} (olds news : List C) (n : ℕ) → length news ≡ length olds → n ≡ length olds → take n (news ++ drop (length news) olds) ≡ news
+all_new : {C : Type 0} (olds news : List C) (n : ℕ) → length news ≡ length olds → n ≡ length olds
+    → take n (news ++ drop (length news) olds) ≡ news
 all_new olds news n many whole =
     ap (λ rest. take n (news ++ rest)) (drop_all (length news) olds (omega arith)) ∙ ap (take n) (append_nil news) ∙ take_all n news (omega arith)
 

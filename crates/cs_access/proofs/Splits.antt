@@ -1,5 +1,6 @@
 -- A state split by whether an operation is faulty, kind by kind: for the contract of `check`.
-use Rattle.std.proofs.Common.{◌≡◌, ◌<◌, ◌≤◌, ◌+◌, ◌^◌, ℕ, Bool, true, false, not, ◌&&◌, ◌||◌, ℤ, pos, neg_ℤ, ◌+ℤ◌, int_le, List, [], ◌∷◌}
+use Rattle.std.proofs.Common.{◌≡◌, ◌<◌, ◌≤◌, ◌+◌, ◌^◌, ℕ, Bool, true, false, not, ◌&&◌, ◌||◌, ℤ, pos, neg_ℤ, ◌+ℤ◌}
+use Rattle.std.proofs.Common.{int_le, List, [], ◌∷◌}
 use Rattle.std.proofs.Common.{◌++◌, Option, None, Some, length, take, get_or, refl, sym, ap, ◌∙◌, subst, inl, inr, arith}
 use Rattle.std.proofs.Common.{Result, Ok, Err}
 use Rattle.std.specs.Prelude.{IsNone, IfOk}
@@ -127,7 +128,8 @@ module _ (before : State) where
         inr (some.0, some.1, some.2, some.3, some.4, one_never kinds some.1 kind some.5 never)
 
     pub one_part : (kinds : List Kind) (parts : List FaultyPart) (kind : Kind) (part : FaultyPart) → AreFaults before subject kinds parts
-        → part.kind ≡ kind → IsPart before (is_faulty_for kind subject) part.state → AreFaults before subject (kinds ++ kind ∷ []) (parts ++ part ∷ [])
+        → part.kind ≡ kind → IsPart before (is_faulty_for kind subject) part.state
+        → AreFaults before subject (kinds ++ kind ∷ []) (parts ++ part ∷ [])
     one_part [] parts kind part faults same is = inr (part, [], ap (λ l. l ++ part ∷ []) faults, same, is, refl)
     one_part (k ∷ kinds) parts kind part (inl none) same is = inl (none.0, one_part kinds parts kind part none.1 same is)
     one_part (k ∷ kinds) parts kind part (inr some) same is =

@@ -1,5 +1,6 @@
 -- The parts of a state in which an operation is faulty, and the rest.
-use Rattle.std.specs.Prelude.{◌≡◌, ◌≢◌, ◌⊎◌, ◌↔◌, ℕ, ℤ, Bool, true, false, not, IsTrue, IsNone, List, [], ◌∷◌, ◌++◌, None, Some}
+use Rattle.std.specs.Prelude.{◌≡◌, ◌≢◌, ◌⊎◌, ◌↔◌, ℕ, ℤ, Bool, true, false, not, IsTrue, IsNone, List, [], ◌∷◌, ◌++◌, None}
+use Rattle.std.specs.Prelude.{Some}
 use Rattle.std.specs.List.{list_any}
 use Rattle.cs_model.specs.declared.kind.Kind.{Kind}
 use Rattle.cs_ranges.specs.declared.range_set.Interval.{Interval}

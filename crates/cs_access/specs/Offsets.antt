@@ -1,5 +1,6 @@
 -- The offsets of an access, each with the state of the runs that have it.
-use Rattle.std.specs.Prelude.{◌≡◌, ◌⊎◌, ◌<◌, ◌≤◌, ◌↔◌, ◌^◌, ◌-◌, ℕ, ℤ, pos, false, int_lt, min, List, [], ◌∷◌, ◌++◌, map, reverse, if◌then◌else◌}
+use Rattle.std.specs.Prelude.{◌≡◌, ◌⊎◌, ◌<◌, ◌≤◌, ◌↔◌, ◌^◌, ◌-◌, ℕ, ℤ, pos, false, int_lt, min, List, [], ◌∷◌}
+use Rattle.std.specs.Prelude.{◌++◌, map, reverse, if◌then◌else◌}
 use Rattle.std.specs.Ordering.{int_eq}
 use Rattle.std.specs.List.{All, Contains}
 use Rattle.cs_ranges.specs.declared.range_set.Interval.{Interval}

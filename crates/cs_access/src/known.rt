@@ -57,7 +57,8 @@ fn is_known_over(state: &State, term: Lin, sym: Sym) -> bool
 // Whether a term's values over the numbers of its symbol lie inside. They rise or fall all along, so that those at both ends decide.
 fn stays_inside(term: Lin, set: &RangeSet) -> bool
     requires symbol { term.sym ≢ None }
-    ensures { result ≡ true → (x : ℤ) → IsTrue (contains set.now x) → IsInside (value_at term x) }
+    ensures { result ≡ true → (x : ℤ) → IsTrue (contains set.now x)
+        → IsInside (value_at term x) }
 {
     let (Some(first), Some(last)) = (set.least(), set.greatest()) else {
         return true;

@@ -70,7 +70,8 @@ module _ (cell : Value → Cell) where
       never_filled cell after (λ o fill is. same_unset fill (sym is ∙ none o)) block
       ∙ (λ i. record block { fill = unset i; written = λ o. option_map cell (bound_value (none o i)) })
 
-map_twice : {X : Type 0} (f g h : X → X) (o : Option X) → ((x : X) → o ≡ Some x → f x ≡ h (g x)) → option_map f o ≡ option_map h (option_map g o)
+map_twice : {X : Type 0} (f g h : X → X) (o : Option X) → ((x : X) → o ≡ Some x → f x ≡ h (g x))
+    → option_map f o ≡ option_map h (option_map g o)
 map_twice f g h None same = refl
 map_twice f g h (Some x) same = ap Some (same x refl)
 

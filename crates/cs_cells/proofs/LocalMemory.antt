@@ -1,5 +1,6 @@
 -- What the memory of a state's meaning holds in the locals of the frame that runs.
-use Rattle.std.proofs.Common.{◌≡◌, ℕ, ◌<◌, nat_eq, List, ◌∷◌, map, length, Option, Some, None, option_map, slice_get, if◌then◌else◌, refl, sym, ap, ◌∙◌, inl, inr, arith}
+use Rattle.std.proofs.Common.{◌≡◌, ℕ, ◌<◌, nat_eq, List, ◌∷◌, map, length, Option, Some, None, option_map, slice_get, if◌then◌else◌}
+use Rattle.std.proofs.Common.{refl, sym, ap, ◌∙◌, inl, inr, arith}
 use Rattle.std.proofs.lemmas.Option.{slice_get_cases}
 use Rattle.std.proofs.lemmas.Bool.{eq-eqb}
 use Rattle.std.specs.Option.{option_and_then, option_map_or}

@@ -61,7 +61,8 @@ pub fn read(
     ensures local { IfOk result (λ value. (names : Naming) (frame count : ℕ)
         → Extends (naming tables.old) names → IsLocalOf names.bases frame count base
         → IsUnfilled state.old.store base offset
-        → (value ≡ value_held (held state.old.store base offset)) × (state.new ≡ state.old)) }
+        → (value ≡ value_held (held state.old.store base offset))
+        × (state.new ≡ state.old)) }
     ensures memory { IfErr result (λ why. why ≡ pause.Memory) }
     ensures extends { Extends (naming tables.old) (naming tables.new) }
 {
@@ -87,7 +88,8 @@ pub fn look_up(
     ensures local { IfOk result (λ cell. (names : Naming) (frame count : ℕ)
         → Extends (naming tables.old) names → IsLocalOf names.bases frame count base
         → IsUnfilled state.old.store base offset
-        → (cell ≡ Cell.Known (value_held (held state.old.store base offset))) × (state.new ≡ state.old)) }
+        → (cell ≡ Cell.Known (value_held (held state.old.store base offset)))
+        × (state.new ≡ state.old)) }
     ensures memory { IfErr result (λ why. why ≡ pause.Memory) }
     ensures extends { Extends (naming tables.old) (naming tables.new) }
 {

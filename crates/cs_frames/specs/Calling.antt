@@ -7,7 +7,7 @@ use Rattle.cs_events.specs.declared.event.Label.TheVariants as label
 use Rattle.cs_events.specs.Acts.{Act, Goes}
 use Rattle.cs_meaning.specs.Memory.{Block, Memory, Unknown}
 use Rattle.cs_meaning.specs.Access.{shows_then, receive}
-use Rattle.cs_meaning.specs.Calls.{outside_result, write_arguments, result_path, without_locals}
+use Rattle.cs_meaning.specs.Calls.{outside_result, write_arguments, result_path}
 use Rattle.cs_meaning.specs.Machine.{Operand, Scalar, Frame, State, push}
 use Rattle.cs_memory.specs.MemoryView.{with_frame}
 
@@ -40,10 +40,3 @@ inside_with frame locals m = record m {
 -- the machine with one more frame that called the one that runs
 abbrev pub called_by : Frame → State → State
 called_by caller m = record m { callers = caller ∷ m.callers }
-
--- the machine in a frame to which the frame that ran gives a value
-abbrev pub back_in : Frame → Operand → State → State
-back_in caller value m = record m {
-  frame = record caller { stack = value ∷ caller.stack };
-  memory = without_locals m.frame.number m.memory;
-}

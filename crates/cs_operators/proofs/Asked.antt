@@ -44,8 +44,10 @@ module _ (state : State) (at : Place) (question : Question) where
       → first ≡ next.Asks at question → HasNoAnswer state used → AsksFirst act → WaitsFor bases state used first act
   question_waits bases used first act is none asks cells v fits uses =
       let (onward, same) = asks v fits in
-      subst (λ (first : Next). BeginsWith bases state v first (left_of cells (answers_left state used v) (act v))) (sym is)
-      (onward, ap (left_of cells (answers_left state used v)) same ∙ asks_first cells (answers_left state used v) at (operation_of v question) onward (none v))
+      subst (λ (first : Next). BeginsWith bases state v first (left_of cells (answers_left state used v) (act v))) (sym is) (
+        onward,
+        ap (left_of cells (answers_left state used v)) same ∙ asks_first cells (answers_left state used v) at (operation_of v question) onward (none v),
+      )
 
   -- the question is the last of a part
   pub asked : (bases : List Base) (before after : Progress) (answer : Result Lin Pause) (part : Valuation → (ℤ → Act CodeState) → Act CodeState)

@@ -1,5 +1,6 @@
 -- What the silence of checkers of every kind shows of an act, and what the faults do that they find: for the contract of `check`.
-use Rattle.std.proofs.Common.{◌≡◌, ℕ, zero, suc, ℤ, inl, inr, Bool, true, false, true≢false, List, [], ◌∷◌, length, map, All, Any, Result, Ok, Err, IsErr, OnOk, refl, sym, ap, ◌∙◌, subst, arith}
+use Rattle.std.proofs.Common.{◌≡◌, ℕ, zero, suc, ℤ, inl, inr, Bool, true, false, true≢false, List, [], ◌∷◌, length, map, All, Any, Result, Ok}
+use Rattle.std.proofs.Common.{Err, IsErr, OnOk, refl, sym, ap, ◌∙◌, subst, arith}
 use Rattle.std.proofs.lemmas.List.{length-map, length-drop}
 use Rattle.std.proofs.lemmas.List.Folds.{list_any_at, Any-from_list_any}
 use Rattle.std.specs.List.{list_any}

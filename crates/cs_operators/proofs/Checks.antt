@@ -1,5 +1,6 @@
 -- What each check of an operator does in its act: it stops in its kind of fault exactly where the subject is faulty for it.
-use Rattle.std.proofs.Common.{◌≡◌, ℕ, ◌*◌, ℤ, pos, negsuc, int_lt, int_le, Bool, true, false, not, ◌&&◌, ◌||◌, true≢false, Option, None, Some, if◌then◌else◌, refl, sym, ap, ◌∙◌, arith}
+use Rattle.std.proofs.Common.{◌≡◌, ℕ, ◌*◌, ℤ, pos, negsuc, int_lt, int_le, Bool, true, false, not, ◌&&◌, ◌||◌, true≢false, Option, None}
+use Rattle.std.proofs.Common.{Some, if◌then◌else◌, refl, sym, ap, ◌∙◌, arith}
 use Rattle.std.proofs.lemmas.Int.{ints}
 use Rattle.std.specs.Ordering.{int_eq}
 use Rattle.cs_types.specs.declared.data_model.DataModel.{DataModel}
@@ -71,7 +72,8 @@ module _ (at : Place) (v : Valuation) where
   only_move null amount kind.Null holds = (refl, holds)
   only_move null amount other holds = absurd (true≢false (sym holds))
 
-  only_divide : (term : Lin) (other : Kind) → is_faulty_for other (Divisor term) v ≡ true → (other ≡ kind.Divide) × (int_eq (value_of v term) (pos 0) ≡ true)
+  only_divide : (term : Lin) (other : Kind) → is_faulty_for other (Divisor term) v ≡ true
+      → (other ≡ kind.Divide) × (int_eq (value_of v term) (pos 0) ≡ true)
   only_divide term kind.Divide holds = (refl, holds)
   only_divide term other holds = absurd (true≢false (sym holds))
 
@@ -79,7 +81,8 @@ module _ (at : Place) (v : Valuation) where
   only_unset unset kind.Unset holds = (refl, holds)
   only_unset unset other holds = absurd (true≢false (sym holds))
 
-  only_bounds : (term : Lin2) (other : Kind) → is_faulty_for other (Rest term) v ≡ true → (other ≡ kind.Bounds) × (int_lt (value_of_sum v term) (pos 0) ≡ true)
+  only_bounds : (term : Lin2) (other : Kind) → is_faulty_for other (Rest term) v ≡ true
+      → (other ≡ kind.Bounds) × (int_lt (value_of_sum v term) (pos 0) ≡ true)
   only_bounds term kind.Bounds holds = (refl, holds)
   only_bounds term other holds = absurd (true≢false (sym holds))
 

@@ -48,7 +48,8 @@ module _ (at : Place) (operator : CmpOp) (one other : Cell) (onward : ℤ → Ac
       → operators.compare at operator one other onward ≡ operators.compare_pointers at operator one other onward
   pointers_compared some = ap (λ pointer. if pointer then operators.compare_pointers at operator one other onward else numbers) some
 
-  pub numbers_compared : (m n : ℤ) → operators.is_pointer one ≡ false → operators.is_pointer other ≡ false → number_in one ≡ m → number_in other ≡ n
+  pub numbers_compared : (m n : ℤ) → operators.is_pointer one ≡ false → operators.is_pointer other ≡ false → number_in one ≡ m
+      → number_in other ≡ n
       → operators.compare at operator one other onward ≡ Asks at (Compare operator m n) onward
   numbers_compared m n no_first no_second first second =
       (λ i. if no_first i || no_second i then operators.compare_pointers at operator one other onward else numbers)

@@ -92,4 +92,5 @@ module _ (code : Code) (names : Naming) (program : TypedProgram) (before : State
         → ((onward : Given → Act CodeState) → WaitsFor names.bases before earlier first (λ v. part v onward))
         → WaitsFor names.bases before earlier first (λ v. act (stands todo v))
     part_waits earlier first waits cells v fits =
-        waits_on cells _ _ (act (stands todo v)) (part v (rest v)) names.bases before v first (leads_same cells _ _ _ (same v fits)) (waits (rest v) cells v fits)
+        waits_on cells _ _ (act (stands todo v)) (part v (rest v)) names.bases before v first (leads_same cells _ _ _ (same v fits))
+        (waits (rest v) cells v fits)

@@ -1,5 +1,6 @@
 -- What a conversion leaves as it was: for the contract of `convert`.
-use Rattle.std.proofs.Common.{◌≡◌, ◌<◌, ℤ, pos, Bool, true, false, true≢false, List, [], ◌∷◌, length, drop, map, Option, None, Some, slice_get, if◌then◌else◌, refl, sym, ap, ◌∙◌, arith}
+use Rattle.std.proofs.Common.{◌≡◌, ◌<◌, ℤ, pos, Bool, true, false, true≢false, List, [], ◌∷◌, length, drop, map, Option, None, Some}
+use Rattle.std.proofs.Common.{slice_get, if◌then◌else◌, refl, sym, ap, ◌∙◌, arith}
 use Rattle.std.specs.Option.{unwrap_or}
 use Rattle.std.proofs.lemmas.List.{length-map, length-reverse}
 use Rattle.cs_types.specs.declared.data_model.DataModel.{DataModel}

@@ -50,7 +50,8 @@ module _ (state : State) (bases : List Base) (at : Place) (left right : Value) w
         (second : GetsThrough state between.used seen.used (looked bases state at right)) where
       -- a fault of two pointers that don't is waited for
       pub relation_waits : (answer : Result Lin Pause) (why : Pause) → IsErr answer × IsErrAnd answer (λ e. e ≡ why)
-          → CarriesOut {T = Lin × Lin} bases state seen after (Err why) (λ v. related at (cell_in bases state left v) (cell_in bases state right v)) both_values
+          → CarriesOut {T = Lin × Lin} bases state seen after (Err why) (λ v. related at (cell_in bases state left v) (cell_in bases state right v))
+          both_values
           → CarriesOut bases state before after answer part (λ made v. value_of v made)
       relation_waits answer why is carries =
           carries_on state bases before after answer seen part rest (λ made v. value_of v made)

@@ -20,7 +20,8 @@ pub two_regions : (bases : List Base) (m n : ℕ) (x y : ℤ) → IsNumbered bas
     → in_one_object (pointer_to (slice_get bases m) x) (pointer_to (slice_get bases n) y) ≡ None
 two_regions bases m n x y once differ = by (slice_get bases m) (slice_get bases n) refl refl
   where
-    by : (one other : Option Base) → slice_get bases m ≡ one → slice_get bases n ≡ other → in_one_object (pointer_to one x) (pointer_to other y) ≡ None
+    by : (one other : Option Base) → slice_get bases m ≡ one → slice_get bases n ≡ other
+        → in_one_object (pointer_to one x) (pointer_to other y) ≡ None
     by None other at_m at_n = refl
     by (Some one) None at_m at_n = refl
     by (Some one) (Some other) at_m at_n = by_object (same_object (object_of one) (object_of other)) refl

@@ -1,5 +1,6 @@
 -- Two pointers that have to point into one object: for the contracts of `related` and `equality`.
-use Rattle.std.proofs.Common.{◌≡◌, ◌≢◌, ℤ, pos, Bool, true, false, cond, ◌&&◌, List, Option, None, Some, option_map, slice_get, refl, sym, ap, ◌∙◌, subst}
+use Rattle.std.proofs.Common.{◌≡◌, ◌≢◌, ℤ, pos, Bool, true, false, cond, ◌&&◌, List, Option, None, Some, option_map, slice_get, refl, sym, ap}
+use Rattle.std.proofs.Common.{◌∙◌, subst}
 use Rattle.std.specs.Prelude.{is_some, unwrap_or}
 use Rattle.std.specs.Option.{ok_or}
 use Rattle.cs_ast.specs.declared.place.Place.{Place}
@@ -74,7 +75,8 @@ null_seen bases v Other (PointerCell object offset) named seen = absurd seen
 null_seen bases v Other UnsetCell named seen = refl
 
 related_cells : (one other : Cell)
-    → operators.related one other ≡ cond {A = Option (ℤ × ℤ)} (is_null_cell one && is_null_cell other) (Some (pos 0, pos 0)) (operators.in_one_object one other)
+    → operators.related one other ≡ cond {A = Option (ℤ × ℤ)} (is_null_cell one && is_null_cell other) (Some (pos 0, pos 0))
+    (operators.in_one_object one other)
 unfolding is_null_cell
 related_cells NullCell NullCell = refl
 related_cells NullCell (NumberCell n) = refl

@@ -1,5 +1,6 @@
 -- What a test shows, of a number or of a pointer that was looked at: for the contracts of `test` and `equality`.
-use Rattle.std.proofs.Common.{◌≡◌, ◌≢◌, ℕ, ℤ, pos, Bool, true, false, List, Option, None, Some, if◌then◌else◌, slice_get, refl, sym, ap, ◌∙◌, subst}
+use Rattle.std.proofs.Common.{◌≡◌, ◌≢◌, ℕ, ℤ, pos, Bool, true, false, List, Option, None, Some, if◌then◌else◌, slice_get, refl, sym, ap}
+use Rattle.std.proofs.Common.{◌∙◌, subst}
 use Rattle.cs_ast.specs.declared.place.Place.{Place}
 use Rattle.cs_terms.specs.declared.term.Lin.{Lin}
 use Rattle.cs_terms.specs.Term.{Valuation, value_of}
@@ -80,7 +81,8 @@ module _ (at : Place) (tested : Tested) where
   pub number_test : (n number : ℤ) (holds : Bool) (onward : Bool → Act CodeState) → number ≡ n → is_true number ≡ holds
       → test at tested (NumberCell n) onward ≡ Asks at (operation.Show (label_of tested (holds_for tested number))) (λ answer. onward holds)
   number_test n number holds onward same truth =
-      subst (λ (n : ℤ). test at tested (NumberCell n) onward ≡ Asks at (operation.Show (label_of tested (holds_for tested number))) (λ answer. onward holds))
+      subst (λ (n : ℤ).
+      test at tested (NumberCell n) onward ≡ Asks at (operation.Show (label_of tested (holds_for tested number))) (λ answer. onward holds))
       same (λ i. shows_then at (label_shown tested number i) (onward (truth i)))
 
   -- a truth shows as its number does

@@ -1,5 +1,6 @@
 -- The use of a call's result: for the contract of `use_result`.
-use Rattle.std.proofs.Common.{◌≡◌, ◌≢◌, ℤ, pos, Bool, true, false, List, Option, None, Some, Result, Ok, Err, slice_get, if◌then◌else◌, refl}
+use Rattle.std.proofs.Common.{◌≡◌, ◌≢◌, ℤ, pos, Bool, true, false, List, Option, None, Some, Result, Ok, Err, slice_get, if◌then◌else◌}
+use Rattle.std.proofs.Common.{refl}
 use Rattle.cs_ast.specs.declared.place.Place.{Place}
 use Rattle.cs_ast.specs.TypedProgram.{TypedProgram}
 use Rattle.cs_terms.specs.Term.{Valuation, value_of}

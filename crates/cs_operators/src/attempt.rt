@@ -39,7 +39,8 @@ impl Attempt {
     /// What is about to be done is no fault, under no valuation that fits. What comes before an event that was answered was checked before
     /// that event.
     pub fn check(&mut self, state: &State, at: Place, subject: Subject) -> Result<(), Pause>
-        ensures kinds { KeepKinds (λ b. kind_of b) self.old.checkers.items self.new.checkers.items }
+        ensures kinds { KeepKinds (λ b. kind_of b) self.old.checkers.items
+            self.new.checkers.items }
         ensures passed { OnOk result (IsAnsweredLater state.now self.old.progress.used
             ⊎ IsNoFault state.now subject (map (λ b. kind_of b) self.old.checkers.items)) }
         ensures used { self.new.progress.used ≡ self.old.progress.used }

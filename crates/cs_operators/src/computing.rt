@@ -73,7 +73,8 @@ pub fn unary(
         → Computes code names program state.old state.new progress.old progress.new result
         (do_work code program budgets at (graph.Unary operator ty)) }
     ensures frame { OnOk result (StaysInFrame state.old state.new) }
-    ensures locals { OnOk result ((program : TypedProgram) (bases : List Base) (known : ℕ → Bool)
+    ensures locals { OnOk result
+        ((program : TypedProgram) (bases : List Base) (known : ℕ → Bool)
         → KeepsLocals program bases known state.old state.new) }
     ensures unchanged { WaitsUnchanged state.old state.new result }
 {
@@ -89,7 +90,8 @@ pub fn judge(state: &mut State, progress: &mut Progress, at: Place) -> Result<()
         → Computes code names program state.old state.new progress.old progress.new result
         (do_work code program budgets at graph.Judge) }
     ensures frame { OnOk result (StaysInFrame state.old state.new) }
-    ensures locals { OnOk result ((program : TypedProgram) (bases : List Base) (known : ℕ → Bool)
+    ensures locals { OnOk result
+        ((program : TypedProgram) (bases : List Base) (known : ℕ → Bool)
         → KeepsLocals program bases known state.old state.new) }
     ensures unchanged { WaitsUnchanged state.old state.new result }
 {
@@ -104,7 +106,8 @@ pub fn negate(state: &mut State, progress: &mut Progress, at: Place) -> Result<(
         → Computes code names program state.old state.new progress.old progress.new result
         (do_work code program budgets at graph.Not) }
     ensures frame { OnOk result (StaysInFrame state.old state.new) }
-    ensures locals { OnOk result ((program : TypedProgram) (bases : List Base) (known : ℕ → Bool)
+    ensures locals { OnOk result
+        ((program : TypedProgram) (bases : List Base) (known : ℕ → Bool)
         → KeepsLocals program bases known state.old state.new) }
     ensures unchanged { WaitsUnchanged state.old state.new result }
 {
@@ -130,7 +133,8 @@ pub fn binary(
         → Computes code names program state.old state.new attempt.old.progress
         attempt.new.progress result (do_work code program budgets at (graph.Binary operator ty)) }
     ensures frame { OnOk result (StaysInFrame state.old state.new) }
-    ensures locals { OnOk result ((program : TypedProgram) (bases : List Base) (known : ℕ → Bool)
+    ensures locals { OnOk result
+        ((program : TypedProgram) (bases : List Base) (known : ℕ → Bool)
         → KeepsLocals program bases known state.old state.new) }
     ensures unchanged { WaitsUnchanged state.old state.new result }
 {
@@ -154,7 +158,8 @@ pub fn compare_operands(
         → Computes code names program state.old state.new attempt.old.progress
         attempt.new.progress result (do_work code program budgets at (graph.Compare operator)) }
     ensures frame { OnOk result (StaysInFrame state.old state.new) }
-    ensures locals { OnOk result ((program : TypedProgram) (bases : List Base) (known : ℕ → Bool)
+    ensures locals { OnOk result
+        ((program : TypedProgram) (bases : List Base) (known : ℕ → Bool)
         → KeepsLocals program bases known state.old state.new) }
     ensures unchanged { WaitsUnchanged state.old state.new result }
 {
@@ -245,7 +250,8 @@ pub fn convert(
         → Computes code names program state.old state.new progress.old progress.new result
         (do_work code program budgets at (graph.Convert (shape_of from.now) (shape_of to.now))) }
     ensures frame { OnOk result (StaysInFrame state.old state.new) }
-    ensures locals { OnOk result ((program : TypedProgram) (bases : List Base) (known : ℕ → Bool)
+    ensures locals { OnOk result
+        ((program : TypedProgram) (bases : List Base) (known : ℕ → Bool)
         → KeepsLocals program bases known state.old state.new) }
     ensures unchanged { WaitsUnchanged state.old state.new result }
 {

@@ -340,7 +340,8 @@ fn in_relation(left: Seen, right: Seen) -> Option<(Lin, Lin)>
     ensures { (bases : List Base) (valuation : Valuation) (one other : Cell) → IsNumbered bases
         → IsSeenNamed bases left → IsSeenNamed bases right
         → IsSeen bases valuation left one → IsSeen bases valuation right other
-        → operators.related one other ≡ option_map (λ found. both_values found valuation) result }
+        → operators.related one other
+        ≡ option_map (λ found. both_values found valuation) result }
 {
     match (left, right) {
         (Seen::Null, Seen::Null) => Some((constant(0), constant(0))),

@@ -52,7 +52,8 @@ module _ (program : TypedProgram) (bases : List Base) (known : ℕ → Bool) whe
   -- the pointers of all temporaries have names
   pub have_names : (state : State) → HasLocalsAlone program bases known state → HaveNames bases state
   have_names state have =
-      All-weaker (AreIn program bases known state.frame) (IsNamedTemporary bases) (named_locals bases known state.frame.number _) state.frame.temporaries have.temporaries
+      All-weaker (AreIn program bases known state.frame) (IsNamedTemporary bases) (named_locals bases known state.frame.number _) state.frame.temporaries
+      have.temporaries
 
   -- other temporaries, of locals alone
   pub locals_kept : (temporaries : List Temporary) (before after : State) → after ≡ with_temporaries temporaries before

@@ -32,7 +32,8 @@ same_objects one other same =
     ap object_of (same_Some other base there) ∙ is
 
 -- base regions of one object have one number
-pub same_region : (bases : List Base) (m n : ℕ) (one other : Base) → IsNumbered bases → slice_get bases m ≡ Some one → slice_get bases n ≡ Some other
+pub same_region : (bases : List Base) (m n : ℕ) (one other : Base) → IsNumbered bases → slice_get bases m ≡ Some one
+    → slice_get bases n ≡ Some other
     → same_object (object_of one) (object_of other) ≡ true → m ≡ n
 same_region bases m n one other once at_m at_n same =
     same_Some m n (sym (number_here bases m one once at_m) ∙ ap (number_of bases) (sym (same_objects (object_of one) other same))

@@ -57,7 +57,8 @@ GetsThrough state before after part = (cells : Path → InputKind → Cell) (val
     → (act : Act CodeState) → Leads cells (answers_left state before valuation) (answers_left state after valuation) (part valuation act) act
 
 -- under each valuation that fits, an operation gets through the first part of its act, which gives what comes after it a result
-abbrev pub Gives : {Given : Type 0} → State → ℕ → ℕ → (Valuation → (Given → Act CodeState) → Act CodeState) → (Valuation → Given) → Type 0
+abbrev pub Gives : {Given : Type 0} → State → ℕ → ℕ → (Valuation → (Given → Act CodeState) → Act CodeState) → (Valuation → Given)
+    → Type 0
 Gives {Given} state before after part given =
     (cells : Path → InputKind → Cell) (valuation : Valuation) → Fits valuation state.constraints → (onward : Given → Act CodeState)
     → Leads cells (answers_left state before valuation) (answers_left state after valuation) (part valuation onward) (onward (given valuation))

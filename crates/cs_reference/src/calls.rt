@@ -6,7 +6,7 @@ ghost use Rattle.cs_meaning.specs.Machine as machine;
 ghost use Rattle.cs_values.specs.View.{operand_of};
 ghost use Rattle.cs_objects.specs.BlockView.{type_of, block_at};
 ghost use Rattle.cs_run_state.specs.MachineView.{state_of, frame_of};
-ghost use Rattle.cs_frames.specs.Calling.{call_returning, inside_with, called_by, back_in};
+ghost use Rattle.cs_frames.specs.Calling.{call_returning, inside_with, called_by};
 ghost use Rattle.cs_reference.specs.RunnerView.{program_of, budgets_of, state_in, IsReady, Performs};
 
 use crate::runner::Runner;
@@ -107,7 +107,7 @@ impl<'a> Runner<'a> {
     {
         match pop_caller(&mut self.machine) {
             Some(caller) => {
-                come_back(&mut self.machine, caller, value)?;
+                self.machine.come_back(caller, value)?;
                 Ok(())
             }
             None => Err(Stop::Outcome(Outcome::Done(value.returned()))),
@@ -159,20 +159,4 @@ fn pop_caller<'a>(state: &mut Machine<'a>) -> Option<Frame<'a>>
         Some(caller) => Some(caller),
         None => None,
     }
-}
-
-// The frame that runs has ended, and gives a value to this one, which runs on.
-#[tactic(auto, using(cs_run_state::proofs::States::states), unfolding(cs_run_state::specs::MachineView::state_of))]
-fn come_back<'a>(
-    state: &mut Machine<'a>,
-    caller: Frame<'a>,
-    value: Operand,
-) -> Result<(), AllocError>
-    ensures { OnOk result (state_of state.new
-        ≡ back_in (frame_of caller.entry) (operand_of value) (state_of state.old)) }
-{
-    state.memory.end_frame(state.frame.number);
-    state.frame = caller;
-    state.push(value)?;
-    Ok(())
 }

@@ -12,9 +12,9 @@ use Rattle.cs_cfg.specs.CodeSteps.{code_started}
 use Rattle.cs_cfg.specs.Graph.{Point, Flow, no_flow, flow_of, block_of}
 use Rattle.cs_cfg.specs.GraphView as view
 use Rattle.cs_cfg.specs.Working.{CodeState}
-use Rattle.cs_replay.specs.declared.positions.Position.{Position}
+use Rattle.cs_positions.specs.declared.positions.Position.{Position}
 use Rattle.cs_replay.specs.CodeStates.{at_point, code_state, begun}
-use Rattle.cs_replay.specs.Points.{point_of}
+use Rattle.cs_positions.specs.Points.{point_of}
 
 -- the beginning of a block
 abbrev pub at_block : ℕ → Position

@@ -7,11 +7,11 @@ use Rattle.cs_memory.specs.declared.memory.Memory.{Memory}
 use Rattle.cs_memory.specs.MemoryView.{memory_of, with_frame}
 use Rattle.cs_run_state.specs.MachineView.{frame_of, state_of}
 use Rattle.cs_cfg.specs.declared.code.Code.{Code}
-use Rattle.cs_replay.specs.declared.positions.Position.{Position}
+use Rattle.cs_positions.specs.declared.positions.Position.{Position}
 use Rattle.cs_replay.specs.declared.replayer.Caller.{Caller}
 use Rattle.cs_replay.specs.CodeStates.{code_state}
 use Rattle.cs_replay.specs.FrameChanges.{inside_with}
-use Rattle.cs_replay.specs.Points.{point_of}
+use Rattle.cs_positions.specs.Points.{point_of}
 use Rattle.cs_replay.specs.ReplayerView.{caller_of, callers_of}
 
 pub inside_state : (code : Code) (before new : Position) (machine : Machine) (frame : Frame) (callers following : List Caller) (memory : Memory) (locals : ℕ

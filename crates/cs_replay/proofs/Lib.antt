@@ -2,7 +2,6 @@ mod Performs
 mod Reported
 mod Lengths
 mod LoweredRuns
-mod Blocks
 mod Cutting
 mod Stepping
 mod Passing

@@ -13,9 +13,9 @@ use Rattle.cs_run_state.specs.MachineView.{state_of}
 use Rattle.cs_cfg.specs.Graph.{Operation, BlockEnd, Point, Code, before, no_point}
 use Rattle.cs_cfg.specs.Working.{CodeState}
 use Rattle.cs_cfg.specs.CodeSteps.{do_operation, do_end, code_step}
-use Rattle.cs_replay.specs.declared.positions.Position.{Position}
+use Rattle.cs_positions.specs.declared.positions.Position.{Position}
 use Rattle.cs_replay.specs.declared.replayer.Replayer.{Replayer}
-use Rattle.cs_replay.specs.Points.{point_of}
+use Rattle.cs_positions.specs.Points.{point_of}
 use Rattle.cs_replay.specs.ReplayerView.{program_of, budgets_of, code_of, state_in, IsReady, LeadsOn, Ends, KeepsSetting}
 
 module _ (code : Code) (program : TypedProgram) (budgets : RunBudgets) (m : CodeState) where

@@ -20,7 +20,7 @@ use Rattle.cs_cfg.specs.Working.{CodeState}
 use Rattle.cs_replay.specs.declared.replayer.Caller.{Caller}
 use Rattle.cs_replay.specs.declared.replayer.Replayer.{Replayer}
 use Rattle.cs_replay.specs.CodeStates.{at_point, code_state}
-use Rattle.cs_replay.specs.Points.{point_of}
+use Rattle.cs_positions.specs.Points.{point_of}
 
 -- a frame that waits
 abbrev pub caller_of : Code → Caller → CallFrame Point

@@ -13,8 +13,6 @@ ghost use Rattle.cs_replay.specs.FrameChanges.{inside_with, called_by, back_in};
 ghost use Rattle.cs_replay.specs.ReplayerView.{program_of, budgets_of, code_of, caller_of, state_in, IsReady, KeepsSetting, Performs};
 
 use crate::frames::new_frame;
-use crate::nexts::flow_at;
-use crate::positions::Position;
 use crate::replayer::{Caller, Replayer};
 use cs_ast::Place;
 use cs_ast::typed::program::{Local, Program};
@@ -23,6 +21,7 @@ use cs_events::{Budget, Label, Outcome};
 use cs_frames::frames::local_blocks;
 use cs_frames::operands::pop_newest;
 use cs_objects::blocks::Block;
+use cs_positions::{Position, flow_at};
 use cs_run_log::Stop;
 use cs_run_state::machine::{Frame, Machine};
 use cs_values::Operand;
@@ -146,10 +145,7 @@ impl<'a> Replayer<'a> {
         ensures log { self.new.runner.log ≡ self.old.runner.log }
         ensures kept { OnOk result (KeepsSetting self.old self.new) }
     {
-        let machine = &mut self.runner.machine;
-        machine.memory.end_frame(machine.frame.number);
-        machine.frame = caller.frame;
-        machine.push(value)?;
+        self.runner.machine.come_back(caller.frame, value)?;
         self.position = caller.position;
         Ok(())
     }

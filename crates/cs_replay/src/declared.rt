@@ -1,8 +1,6 @@
 //! Locals that become unset or zero, and what is stored in declared objects (C11 6.2.4, paragraph 6; 6.7.9).
-ghost use Rattle.std.specs.Prelude.{◌≡◌};
 ghost use Rattle.cs_types.specs.Shape.{shape_of};
 ghost use Rattle.cs_cfg.specs.Graph as graph;
-ghost use Rattle.cs_cfg.specs.Working as working;
 ghost use Rattle.cs_reference.specs.RunnerView.{program_of, budgets_of, state_in, IsReady, Performs};
 ghost use Rattle.cs_replay.specs.Works.{works};
 
@@ -10,6 +8,7 @@ use cs_ast::Place;
 use cs_frames::frames::number_of;
 use cs_memory::access::touch_store;
 use cs_objects::blocks::Fill;
+use cs_positions::if_local;
 use cs_reference::runner::Runner;
 use cs_run_log::{Stop, Touch};
 use cs_types::CType;
@@ -76,11 +75,4 @@ pub fn spell(
     run.machine
         .spell_local(program, declaration, offset, bytes)?;
     Ok(())
-}
-
-// A local, where it is a scalar.
-fn if_local(scalar: bool, declaration: u32) -> Option<u32>
-    ensures { result ≡ working.if_local scalar declaration }
-{
-    if scalar { Some(declaration) } else { None }
 }

@@ -6,12 +6,12 @@ ghost use Rattle.cs_cfg.specs.GraphView as view;
 ghost use Rattle.cs_replay.specs.ReplayerView.{code_of, state_in, KeepsSetting, Performs};
 
 use crate::operands::cut;
-use crate::positions::Position;
 use crate::replayer::Replayer;
 use crate::ways::way_of;
 use cs_ast::Place;
 use cs_cfg::{BlockEnd, SwitchCase};
 use cs_events::{Label, PointKind};
+use cs_positions::Position;
 use cs_run_log::{Stop, Touch};
 use cs_values::{Cell, Operand};
 

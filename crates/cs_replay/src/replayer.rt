@@ -1,7 +1,7 @@
 //! A run of code on its way.
 
-use crate::positions::Position;
 use cs_cfg::Code;
+use cs_positions::Position;
 use cs_reference::runner::Runner;
 use cs_run_state::machine::Frame;
 

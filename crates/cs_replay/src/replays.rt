@@ -12,12 +12,12 @@ ghost use Rattle.cs_run_log.specs.LogView.{log_of};
 ghost use Rattle.cs_reference.specs.RunView.{run_of};
 ghost use Rattle.cs_replay.specs.RunLengths.{HasLength, HasLength-prop};
 
-use crate::nexts::flow_at;
 use crate::refusal::ReplayRefusal;
 use crate::starting::begin;
 use cs_cfg::Code;
 use cs_events::Outcome;
 use cs_objects::Setting;
+use cs_positions::flow_at;
 use cs_run_log::{Log, Stop};
 use std::alloc::{AllocError, Global};
 

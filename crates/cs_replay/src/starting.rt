@@ -8,16 +8,15 @@ ghost use Rattle.cs_cfg.specs.GraphView as view;
 ghost use Rattle.cs_objects.specs.Prepared.{IsReady};
 ghost use Rattle.cs_run_log.specs.LogView.{log_of};
 ghost use Rattle.cs_reference.specs.RunView.{run_of};
-ghost use Rattle.cs_replay.specs.Nexts.{flow_found};
+ghost use Rattle.cs_positions.specs.Nexts.{flow_found};
 ghost use Rattle.cs_replay.specs.ReplayerView.{state_in};
 
 use crate::frames::new_frame;
-use crate::nexts::flow_at;
-use crate::positions::Position;
 use crate::replayer::Replayer;
 use cs_cfg::{Code, Flow};
 use cs_frames::starting::start;
 use cs_objects::Setting;
+use cs_positions::{Position, flow_at};
 use cs_reference::runner::Runner;
 use cs_run_log::Log;
 use cs_run_state::machine::{Frame, Machine};

@@ -3,15 +3,15 @@ ghost use Rattle.std.specs.Prelude.{◌≡◌, ◌+◌, OnOk};
 ghost use Rattle.cs_cfg.specs.CodeSteps as steps;
 ghost use Rattle.cs_cfg.specs.GraphView as view;
 ghost use Rattle.cs_cfg.specs.Working as working;
-ghost use Rattle.cs_replay.specs.Nexts.{reaching};
+ghost use Rattle.cs_positions.specs.Nexts.{reaching};
 ghost use Rattle.cs_replay.specs.ReplayerView.{program_of, budgets_of, code_of, state_in, IsReady, Performs};
 
-use crate::nexts::{Next, next_at};
 use crate::operands::cut;
 use crate::replayer::Replayer;
 use crate::working::{takes, work};
 use cs_ast::Place;
 use cs_cfg::{CountedPoint, Operation, Work};
+use cs_positions::{Next, next_at};
 use cs_run_log::Stop;
 use cs_values::{Cell, Operand};
 use std::alloc::AllocError;

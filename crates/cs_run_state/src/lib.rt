@@ -7,5 +7,6 @@ mod heap;
 pub mod items;
 mod locals;
 pub mod machine;
+mod returning;
 mod updates;
 mod visits;

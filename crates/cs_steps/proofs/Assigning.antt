@@ -1,5 +1,6 @@
 -- Operations that store: for the contracts of `assign`, `update`, `initialize` and `clear`.
-use Rattle.std.proofs.Common.{◌≡◌, ◌≢◌, ℕ, zero, suc, [], ◌∷◌, Contains, refl, arith, rules, Bool, Some, slice_get, Result, Ok, Err, OnOk, IfErr, sym, ap, ◌∙◌}
+use Rattle.std.proofs.Common.{◌≡◌, ◌≢◌, ℕ, zero, suc, [], ◌∷◌, Contains, refl, arith, rules, Bool, Some, slice_get, Result, Ok, Err, OnOk}
+use Rattle.std.proofs.Common.{IfErr, sym, ap, ◌∙◌}
 use Rattle.cs_types.specs.Shape.{Shape}
 use Rattle.cs_inputs.specs.declared.path.Path.{Path}
 use Rattle.cs_ast.specs.declared.place.Place.{Place}
@@ -59,7 +60,8 @@ module _ (code : Code) (names : Naming) (program : TypedProgram) (before : State
       (leads : (todo : Point) → AllLead code names program before earlier middle (λ v. act (stands code names program before todo v))
       (λ v. part v (stored_left count left todo v))) where
     pub store_leads : (later : ℕ) (given : Valuation → Memory) → Gives before middle later part given → (todo : Point)
-        → AllLead code names program before earlier later (λ v. act (stands code names program before todo v)) (λ v. stored_left count left todo v (given v))
+        → AllLead code names program before earlier later (λ v. act (stands code names program before todo v))
+        (λ v. stored_left count left todo v (given v))
     store_leads later given gives todo cells v fits =
         leads_on cells _ _ _ (act (stands code names program before todo v)) (part v (stored_left count left todo v)) (stored_left count left todo v (given v))
         (leads todo cells v fits) (gives cells v fits (stored_left count left todo v))

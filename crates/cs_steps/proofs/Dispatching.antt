@@ -1,5 +1,6 @@
 -- Operations that do their work: by what they push, by the clauses of operators, and before the frame goes on. For the contracts of `work`.
-use Rattle.std.proofs.Common.{◌≡◌, ◌<◌, ℕ, ℤ, pos, Bool, List, [], ◌∷◌, ◌++◌, Result, Ok, Err, IsErr, IsErrAnd, OnOk, IfErr, true≢false, refl, sym, ap, ◌∙◌}
+use Rattle.std.proofs.Common.{◌≡◌, ◌<◌, ℕ, ℤ, pos, Bool, List, [], ◌∷◌, ◌++◌, Result, Ok, Err, IsErr, IsErrAnd, OnOk, IfErr}
+use Rattle.std.proofs.Common.{true≢false, refl, sym, ap, ◌∙◌}
 use Rattle.std.proofs.lemmas.Result.{on_ok_weaker}
 use Rattle.cs_inputs.specs.declared.path.Path.{Path}
 use Rattle.cs_ast.specs.TypedProgram.{TypedProgram}

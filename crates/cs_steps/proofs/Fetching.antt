@@ -1,5 +1,6 @@
 -- What was loaded for an update, and its number in the type of the operator: for the contracts of `push_converted` and `fetch_number`.
-use Rattle.std.proofs.Common.{◌≡◌, ℕ, ℤ, Bool, List, [], ◌∷◌, ◌++◌, Result, Ok, Err, IsErr, IsErrAnd, OnOk, IfErr, true≢false, sym, ap, ◌∙◌}
+use Rattle.std.proofs.Common.{◌≡◌, ℕ, ℤ, Bool, List, [], ◌∷◌, ◌++◌, Result, Ok, Err, IsErr, IsErrAnd, OnOk, IfErr, true≢false, sym, ap}
+use Rattle.std.proofs.Common.{◌∙◌}
 use Rattle.std.proofs.lemmas.List.Elements.{All-push}
 use Rattle.std.proofs.lemmas.Result.{on_ok_weaker}
 use Rattle.cs_types.specs.declared.data_model.DataModel.{DataModel}
@@ -44,7 +45,8 @@ module _ (before after : State) {T : Type 0} (answer : Result T Pause) (first se
 
   -- what may be in the frame was pushed
   pub both_keep : (MayAllBeIn before first → MayAllBeIn before second)
-      → OnOk answer (MayAllBeIn before first → (program : TypedProgram) (bases : List Base) (known : ℕ → Bool) → KeepsLocals program bases known before after)
+      → OnOk answer (MayAllBeIn before first → (program : TypedProgram) (bases : List Base) (known : ℕ → Bool)
+      → KeepsLocals program bases known before after)
   both_keep inside =
       on_ok_weaker answer
       (λ is given program bases known have.
@@ -56,7 +58,8 @@ module _ (before after : State) {T : Type 0} (answer : Result T Pause) (first se
 -- what is handed on as an error is waited for
 pub fetch_handed : {T : Type 0} (code : Code) (names : Naming) (program : TypedProgram) (before after : State) (earlier later : Progress)
     (answer : Result T Pause) (rest : Valuation → CodeState → Act CodeState) (why : Pause) → IsErr answer × IsErrAnd answer (λ e. e ≡ why)
-    → (why ≡ pause.Waits → (todo : Point) → WaitsFor names.bases before earlier.used later.first (λ v. rest v (stands code names program before todo v)))
+    → (why ≡ pause.Waits → (todo : Point)
+    → WaitsFor names.bases before earlier.used later.first (λ v. rest v (stands code names program before todo v)))
     → Fetches code names program before after earlier later answer rest
 fetch_handed {T} code names program before after earlier later answer rest why is waits = by_case answer is
   where
@@ -104,7 +107,8 @@ module _ (code : Code) (names : Naming) (program : TypedProgram) (before : State
 
     -- the conversion is waited for
     pub conversion_waits : (why : Pause) → IsErr answer × IsErrAnd answer (λ e. e ≡ why)
-        → (why ≡ pause.Waits → (onward : ℤ → Act CodeState) → WaitsFor names.bases before earlier.used later.first (λ v. part v onward)) → IsFetch
+        → (why ≡ pause.Waits → (onward : ℤ → Act CodeState) → WaitsFor names.bases before earlier.used later.first (λ v. part v onward))
+        → IsFetch
     conversion_waits why is waits =
         fetch_handed code names program before after earlier later answer (λ v. converts_beside model at from to (operand v)) why is
         (λ so todo cells v fits.

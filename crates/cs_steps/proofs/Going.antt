@@ -64,7 +64,8 @@ module _ (code : Code) where
         (rest_from spot.operation block.operations) refl e
 
     in_flow : HasIntegerCode code program spot.function → (flow : Option Flow) → flow_of code spot.function ≡ flow
-        → unwrap_or (option_and_then (λ (b : Point). point_in b spot.operation) (option_and_then (λ (f : Flow). slice_get f.blocks spot.block) flow)) no_point
+        → unwrap_or (option_and_then (λ (b : Point). point_in b spot.operation) (option_and_then (λ (f : Flow). slice_get f.blocks spot.block) flow))
+        no_point
         ≡ before operation following → IsIntegerOperation count operation
     in_flow integer None found e = nowhere e
     in_flow integer (Some flow) found e = in_block flow (integer flow found) (slice_get flow.blocks spot.block) refl e

@@ -1,5 +1,6 @@
 -- The end of a block is left, by what it leads to or waits for: for the contracts of `ends`.
-use Rattle.std.proofs.Common.{◌≡◌, ℕ, ℤ, Bool, List, [], map, Result, Ok, Err, IsErr, IsErrAnd, IfErr, OnOk, true≢false, refl, sym, ap, ◌∙◌, subst}
+use Rattle.std.proofs.Common.{◌≡◌, ℕ, ℤ, Bool, List, [], map, Result, Ok, Err, IsErr, IsErrAnd, IfErr, OnOk, true≢false, refl, sym, ap, ◌∙◌}
+use Rattle.std.proofs.Common.{subst}
 use Rattle.cs_inputs.specs.declared.path.Path.{Path}
 use Rattle.cs_ast.specs.TypedProgram.{TypedProgram}
 use Rattle.cs_terms.specs.Term.{Valuation}

@@ -1,5 +1,6 @@
 -- Loads from integer variables, in states of locals alone: for the contracts of `load` and `load_scalar`.
-use Rattle.std.proofs.Common.{◌≡◌, ℕ, ℤ, pos, Bool, List, Option, None, Some, slice_get, if◌then◌else◌, true, Result, Ok, Err, IsErr, IsErrAnd, true≢false}
+use Rattle.std.proofs.Common.{◌≡◌, ℕ, ℤ, pos, Bool, List, Option, None, Some, slice_get, if◌then◌else◌, true, Result, Ok, Err, IsErr, IsErrAnd}
+use Rattle.std.proofs.Common.{true≢false}
 use Rattle.std.proofs.Common.{refl, sym, ap, ◌∙◌, subst}
 use Rattle.cs_types.specs.declared.int_type.IntType.{IntType}
 use Rattle.cs_types.specs.Shape.{integer}
@@ -141,7 +142,8 @@ module _ (program : TypedProgram) (names : Naming) (known : ℕ → Bool) (befor
 
     -- where it is waited for to be reached, nothing is read yet
     pub load_waits : (earlier : ℕ) (first : Next)
-        → ((onward : Cell → Act CodeState) → WaitsFor names.bases before earlier first (λ v. reaches access.at (cell_in names.bases before place v) onward))
+        → ((onward : Cell → Act CodeState)
+        → WaitsFor names.bases before earlier first (λ v. reaches access.at (cell_in names.bases before place v) onward))
         → (onward : Memory × Operand → Act CodeState)
         → WaitsFor names.bases before earlier first (λ v. load_part program names before access place v onward)
     load_waits earlier first waits onward cells v fits =

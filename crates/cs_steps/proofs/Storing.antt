@@ -1,5 +1,6 @@
 -- Stores to integer variables, in states of locals alone: for the contracts of `locate_for_store`, `write` and `store`.
-use Rattle.std.proofs.Common.{◌≡◌, ◌≢◌, ◌⊎◌, ℕ, ℤ, pos, Bool, true, false, true≢false, List, Option, None, Some, slice_get, if◌then◌else◌}
+use Rattle.std.proofs.Common.{◌≡◌, ◌≢◌, ◌⊎◌, ℕ, ℤ, pos, Bool, true, false, true≢false, List, Option, None, Some, slice_get}
+use Rattle.std.proofs.Common.{if◌then◌else◌}
 use Rattle.std.proofs.Common.{Result, Ok, Err, IsErr, IsErrAnd, OnOk, IfErr, refl, sym, ap, ◌∙◌, subst}
 use Rattle.std.specs.Prelude.{option_map}
 use mathlib.Core.Path.{fun_ext}
@@ -87,7 +88,8 @@ module _ (program : TypedProgram) (bases : List Base) (state : State) (at : Plac
         (located cells v fits (to_store onward)) (leads_same cells _ _ _ (local_writable frame count reached local v onward))
 
     -- it was checked that it may be stored to
-    pub for_store_through : (later : ℕ) → GetsThrough state middle later (λ v act. act) → Gives state earlier later for_store (cell_reached bases reached)
+    pub for_store_through : (later : ℕ) → GetsThrough state middle later (λ v act. act)
+        → Gives state earlier later for_store (cell_reached bases reached)
     for_store_through later through cells v fits onward =
         leads_on cells _ _ _ (for_store v onward) (onward (cell_reached bases reached v)) (onward (cell_reached bases reached v))
         (for_store_leads cells v fits onward) (through cells v fits (onward (cell_reached bases reached v)))

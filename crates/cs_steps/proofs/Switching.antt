@@ -39,7 +39,8 @@ module _ (code : Code) (names : Naming) (program : TypedProgram) (state : State)
       ∙ ap (λ number. goes_way code at (way_of cases otherwise number 0) (pop (run v))) (is code names program v fits)
 
   -- the case stands first where no answer is left
-  pub case_shows : EndsAt code (Switch at temporary cases otherwise) state.frame.spot → (cells : Path → InputKind → Cell) (answers : List ℤ) (v : Valuation)
+  pub case_shows : EndsAt code (Switch at temporary cases otherwise) state.frame.spot
+      → (cells : Path → InputKind → Cell) (answers : List ℤ) (v : Valuation)
       → Fits v state.constraints → answers ≡ [] → ShowsCase code state v at term (left_of cells answers (switches v))
   unfolding left_of
   case_shows stands cells answers v fits none = record {

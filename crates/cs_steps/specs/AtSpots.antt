@@ -57,7 +57,8 @@ pub record TakesStep {T : Type 0} (code : Code) (names : Naming) (program : Type
       × HasLocalsAlone program names.bases known after)
 
 -- the same in each state of locals alone in which integer code runs, where no answer was used before: under all names that extend these
-abbrev pub StepsAtSpot : {T : Type 0} → Code → DataModel → RunBudgets → Naming → State → State → Progress → Progress → Result T Pause → Type 0
+abbrev pub StepsAtSpot : {T : Type 0} → Code → DataModel → RunBudgets → Naming → State → State → Progress → Progress → Result T Pause
+    → Type 0
 StepsAtSpot code model budgets given before after earlier later answer =
     (names : Naming) (program : TypedProgram) (known : ℕ → Bool) → program.model ≡ model → Extends given names → IsNumbered names.bases
     → HasLocalsAlone program names.bases known before → HasIntegerCode code program before.frame.spot.function → earlier.used ≡ 0

@@ -30,7 +30,8 @@ abbrev pub reaches_for_store : TypedProgram → Place → Cell → (Cell → Act
 reaches_for_store program at cell onward = direct at cell (λ object n. writable program at object (onward (PointerCell object (pos n))))
 
 -- a store of a temporary at a place, to the object whose place has this value: a part of an act, which gives memory
-abbrev pub store_part : TypedProgram → Naming → State → Place → Access → Value → Temporary → Valuation → (Memory → Act CodeState) → Act CodeState
+abbrev pub store_part : TypedProgram → Naming → State → Place → Access → Value → Temporary → Valuation → (Memory → Act CodeState)
+    → Act CodeState
 store_part program names state at access place stored valuation onward =
     store_object program (memory_in program names state valuation) state.frame.number at access (cell_in names.bases state place valuation)
     (operand_of names.bases state.blocks valuation stored) onward

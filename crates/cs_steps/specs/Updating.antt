@@ -21,7 +21,8 @@ use Rattle.cs_state.specs.Meaning.{meaning}
 use Rattle.cs_state.specs.Naming.{Naming}
 
 -- the number that an update stores in an object of an integer type: a part of an act
-abbrev pub update_part : DataModel → Place → BinOp → IntType → IntType → (Valuation → CodeState) → Valuation → (ℤ → Act CodeState) → Act CodeState
+abbrev pub update_part : DataModel → Place → BinOp → IntType → IntType → (Valuation → CodeState) → Valuation → (ℤ → Act CodeState)
+    → Act CodeState
 update_part model at operator works_in object state valuation onward =
     operate model at operator works_in (number_at (state valuation) 1) (number_at (state valuation) 0) (λ number.
     convert_number model at (integer works_in) object number onward)

@@ -30,7 +30,8 @@ pub fn end(
 ) -> Result<(), Pause>
     requires { IsReady context.now.setting.now }
     ensures extends { Extends (naming tables.old) (naming tables.new) }
-    ensures leaves { EndsAt (view.code context.now.code.now) (view.block_end end.now) state.old.frame.spot
+    ensures leaves { EndsAt (view.code context.now.code.now) (view.block_end end.now)
+        state.old.frame.spot
         → IsCutFor (view.block_end end.now) state.old
         → LeavesBlock (view.code context.now.code.now) (naming tables.new) state.old state.new
         progress.old progress.new result (view.block_end end.now) }
@@ -63,7 +64,8 @@ fn branch(
     one: u32,
     other: u32,
 ) -> Result<(), Pause>
-    ensures { (temporary : ℕ) (given : Naming) → IsCutFor (graph.Branch at temporary one other) state.old
+    ensures { (temporary : ℕ) (given : Naming)
+        → IsCutFor (graph.Branch at temporary one other) state.old
         → LeavesBlock (view.code context.now.code.now) given state.old state.new progress.old
         progress.new result (graph.Branch at temporary one other) }
 {
@@ -84,7 +86,8 @@ fn switch(
     ensures { (temporary : ℕ) (given : Naming)
         → EndsAt (view.code context.now.code.now) (graph.Switch at temporary
         (map view.switch_case cases.now) otherwise) state.old.frame.spot
-        → IsCutFor (graph.Switch at temporary (map view.switch_case cases.now) otherwise) state.old
+        → IsCutFor (graph.Switch at temporary (map view.switch_case cases.now) otherwise)
+        state.old
         → LeavesBlock (view.code context.now.code.now) given state.old state.new progress.old
         progress.new result (graph.Switch at temporary (map view.switch_case cases.now) otherwise) }
 {
@@ -127,7 +130,8 @@ fn go(context: &Context, state: &mut State, block: u32) -> Result<(), Pause>
 
 /// The frame goes on after what stands at its spot.
 pub fn go_on(context: &Context, state: &mut State) -> Result<(), Pause>
-    ensures moved_on { OnOk result (IsMovedOn (view.code context.now.code.now) state.old state.new) }
+    ensures moved_on { OnOk result
+        (IsMovedOn (view.code context.now.code.now) state.old state.new) }
     ensures memory { IfErr result (λ why. why ≡ pause.Memory) }
 {
     let next = context.code.next_at(state.frame.spot);

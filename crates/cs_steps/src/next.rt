@@ -145,7 +145,8 @@ fn end_block(
 
 // Drops the temporaries that an operation doesn't need.
 fn keep(state: &mut State, operation: &Operation) -> Result<(), Pause>
-    ensures cut { OnOk result (IsCutTo (operation.now.temporary + takes (view.work operation.now.work))
+    ensures cut { OnOk result
+        (IsCutTo (operation.now.temporary + takes (view.work operation.now.work))
         state.old state.new) }
     ensures memory { IfErr result (λ why. why ≡ pause.Memory) }
 {

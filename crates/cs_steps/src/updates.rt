@@ -52,7 +52,8 @@ pub fn fetch_number(
     ensures extends { Extends (naming tables.old) (naming tables.new) }
     ensures work { HasEveryKind (λ b. (⟦<dyn Checker as Checker>⟧ b.vtable).kind_of b.value)
         attempt.old.checkers.items
-        → DoesWork context.now.setting.now.program.now.model (naming tables.new) state.old state.new
+        → DoesWork context.now.setting.now.program.now.model (naming tables.new) state.old
+        state.new
         attempt.old.progress attempt.new.progress result how.0
         (graph.FetchNumber (view.access access.now) how.1) }
 {
@@ -121,8 +122,10 @@ pub fn update(
     ensures extends { Extends (naming tables.old) (naming tables.new) }
     ensures work { HasEveryKind (λ b. (⟦<dyn Checker as Checker>⟧ b.vtable).kind_of b.value)
         attempt.old.checkers.items
-        → DoesWork context.now.setting.now.program.now.model (naming tables.new) state.old state.new
-        attempt.old.progress attempt.new.progress result at (graph.Update how.0 (view.access access.now) how.1 how.2) }
+        → DoesWork context.now.setting.now.program.now.model (naming tables.new) state.old
+        state.new
+        attempt.old.progress attempt.new.progress result at
+        (graph.Update how.0 (view.access access.now) how.1 how.2) }
 {
     let (operator, ty, gives) = how;
     let stored = updated(context, state, attempt, at, (operator, ty), &access.ty)?;

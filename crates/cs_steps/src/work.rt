@@ -263,7 +263,9 @@ fn assign(
     ensures extends { Extends (naming tables.old) (naming tables.new) }
     ensures work { HasEveryKind (λ b. (⟦<dyn Checker as Checker>⟧ b.vtable).kind_of b.value)
         attempt.old.checkers.items
-        → (at : Place) → DoesWork context.now.setting.now.program.now.model (naming tables.new) state.old state.new
+        → (at : Place)
+        → DoesWork context.now.setting.now.program.now.model (naming tables.new) state.old
+        state.new
         attempt.old.progress attempt.new.progress result at (graph.Store (view.access access.now)) }
 {
     let place = value(state, 1)?;
@@ -285,7 +287,8 @@ fn initialize(
     requires { IsReady context.now.setting.now }
     ensures extends { Extends (naming tables.old) (naming tables.new) }
     ensures work { (at : Place) (scalar : Bool) (progress : Progress)
-        → DoesWork context.now.setting.now.program.now.model (naming tables.new) state.old state.new
+        → DoesWork context.now.setting.now.program.now.model (naming tables.new) state.old
+        state.new
         progress progress result at (graph.StoreLocal decl offset (shape_of ty.now) scalar) }
 {
     let stored = operand(state, 0)?.clone()?;
@@ -354,7 +357,8 @@ fn push_operand(state: &mut State, operand: Temporary) -> Result<(), Pause>
 // The place of an object.
 fn name(state: &mut State, tables: &mut Tables, base: Base) -> Result<(), Pause>
     ensures extends { Extends (naming tables.old) (naming tables.new) }
-    ensures pushed { OnOk result (IsPlacePushed (naming tables.new).bases base state.old state.new) }
+    ensures pushed { OnOk result
+        (IsPlacePushed (naming tables.new).bases base state.old state.new) }
     ensures memory { IfErr result (λ why. why ≡ pause.Memory) }
 {
     let base = tables.base(base)?;

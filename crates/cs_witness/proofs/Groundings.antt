@@ -96,7 +96,8 @@ module _ (pool : List Replay) (inputs : List (Path × ℤ)) where
         ground_is n ground is guess same keys)
 
 -- what holds of each item at its place holds of one more
-pub each_more_at : {A : Type 0} (P : ℕ → A → Type 0) (xs : List A) (x : A) → ((n : ℕ) (y : A) → slice_get xs n ≡ Some y → P n y) → P (length xs) x
+pub each_more_at : {A : Type 0} (P : ℕ → A → Type 0) (xs : List A) (x : A) → ((n : ℕ) (y : A) → slice_get xs n ≡ Some y → P n y)
+    → P (length xs) x
     → (n : ℕ) (y : A) → slice_get (xs ++ x ∷ []) n ≡ Some y → P n y
 each_more_at P [] x each one zero y there = let same : x ≡ y = cc in subst (P 0) same one
 each_more_at P [] x each one (suc n) y there = let no : ⊥ = cc in absurd no

@@ -1,5 +1,6 @@
 -- The keys of inputs, once a path was set. For the contracts of `listing` and of `copies`.
-use Rattle.std.proofs.Common.{◌≡◌, ℕ, zero, suc, ◌+◌, ◌<◌, ℤ, List, [], ◌∷◌, ◌++◌, length, take, drop, get_or, inl, inr, ◌⊎◌, refl, sym, ap, ◌∙◌, subst, arith}
+use Rattle.std.proofs.Common.{◌≡◌, ℕ, zero, suc, ◌+◌, ◌<◌, ℤ, List, [], ◌∷◌, ◌++◌, length, take, drop, get_or, inl, inr, ◌⊎◌}
+use Rattle.std.proofs.Common.{refl, sym, ap, ◌∙◌, subst, arith}
 use Rattle.std.specs.Prelude.{All, Contains, ◌↔◌}
 use Rattle.std.specs.Map.{keys_of}
 use Rattle.std.specs.BTreeMap.{insert_entry}
@@ -91,7 +92,8 @@ adds_one given old path = record {
   where
     is_path : (q : Path) → path ≡ q → number_at (insert_entry path_order old path (number_at given path)) q ≡ number_at given q
     is_path q e =
-        subst (λ p. number_at (insert_entry path_order old path (number_at given path)) p ≡ number_at given p) e (number_at-here old path (number_at given path))
+        subst (λ p. number_at (insert_entry path_order old path (number_at given path)) p ≡ number_at given p) e
+        (number_at-here old path (number_at given path))
 
     at : (q : Path) → AgreesWith given old → (Contains (keys_of old) q ⊎ Contains (path ∷ []) q) → (r : Ordering) → path_order q path ≡ r
         → number_at (insert_entry path_order old path (number_at given path)) q ≡ number_at given q
@@ -153,7 +155,8 @@ set_last entries k d ordered there =
     let high = get_or-map (λ (x : Path × ℤ). x.0) entries k d d.0 there in
     let taken = get_or-take k entries j f before in
     (λ i. path_order (taken i).0 e.0) ∙ (λ i. path_order (sym low i) (sym high i)) ∙ keys in
-    let point : IsPartitionPoint (λ (x : Path × ℤ). path_order x.0 e.0 ≡ Less) (λ (x : Path × ℤ). path_order x.0 e.0 ≡ Greater) (take k entries) (length (take k entries)) =
+    let point : IsPartitionPoint (λ (x : Path × ℤ). path_order x.0 e.0 ≡ Less) (λ (x : Path × ℤ).
+    path_order x.0 e.0 ≡ Greater) (take k entries) (length (take k entries)) =
     (λ j f low high. less j f (omega arith), λ j f low high. absurd (omega arith)) in
     sym (insert_missed path_order-total (take k entries) e.0 e.1 (length (take k entries)) (omega arith) point)
     ∙ ap2_last (take k entries) (e.0, e.1)
@@ -192,7 +195,8 @@ module _ (given : List (Path × ℤ)) (parameters read : List Path) (middle new 
   lists_in_order = other.in_order (one.in_order none_in_order)
 
 -- one more path on both sides
-pub keys_more : (one other : List (Path × ℤ)) (i : ℕ) (a b : Path × ℤ) → i < length one → i < length other → a ≡ get_or one i a → b ≡ get_or other i b
+pub keys_more : (one other : List (Path × ℤ)) (i : ℕ) (a b : Path × ℤ) → i < length one → i < length other → a ≡ get_or one i a
+    → b ≡ get_or other i b
     → a.0 ≡ b.0 → keys_of (take i one) ≡ keys_of (take i other) → keys_of (take (i + 1) one) ≡ keys_of (take (i + 1) other)
 keys_more one other i a b below below' is is' same before =
     let mine : take (i + 1) one ≡ take i one ++ a ∷ [] = take_more one i a below ∙ ap (λ (e : Path × ℤ). take i one ++ e ∷ []) (sym is) in

@@ -128,7 +128,8 @@ widens_one entry pool replay is = record {
 }
 
 -- one replay of a pool has other partners
-pub named_one : (pool : List Replay) (number : ℕ) (was replay : Replay) → number < length pool → bare replay ≡ bare was → was ≡ get_or pool number was
+pub named_one : (pool : List Replay) (number : ℕ) (was replay : Replay) → number < length pool → bare replay ≡ bare was
+    → was ≡ get_or pool number was
     → KeepsRuns pool (set pool number replay)
 named_one pool number was replay within same is =
     let count = length-map pool bare in

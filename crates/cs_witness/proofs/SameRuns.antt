@@ -73,7 +73,8 @@ module _ (program : TypedProgram) (one other : List (Path × ℤ)) where
       (λ path here. same path (later (parameter_path v) path (map parameter_path vs) here))
 
   module _ (entry : ℕ) (guesses : List Guess) (budgets : RunBudgets) where
-    start_alike : ((path : Path) → Contains (map parameter_path (parameters_of (routine_of program entry))) path → number_at one path ≡ number_at other path)
+    start_alike : ((path : Path) → Contains (map parameter_path (parameters_of (routine_of program entry))) path
+        → number_at one path ≡ number_at other path)
         → start_of program entry (record { inputs = one; guesses = guesses }) ≡ start_of program entry (record { inputs = other; guesses = guesses })
     start_alike same =
         let routine = routine_of program entry in

@@ -41,5 +41,6 @@ grounds_found entry run pool (Ok None) is real each = tt
 grounds_found entry run pool (Ok (Some grounds)) is real each = grounds_shown entry run pool grounds.items is real each
 
 -- a run that guesses nothing needs no grounds
-pub no_grounds : (R : Guess → Ground → Type 0) (guesses : List Guess) (grounds : List Ground) → guesses ≡ [] → grounds ≡ [] → IsEach R guesses grounds
+pub no_grounds : (R : Guess → Ground → Type 0) (guesses : List Guess) (grounds : List Ground) → guesses ≡ [] → grounds ≡ []
+    → IsEach R guesses grounds
 no_grounds R guesses grounds none empty = subst (λ gs. IsEach R gs grounds) (sym none) (subst (IsEach R []) (sym empty) tt)

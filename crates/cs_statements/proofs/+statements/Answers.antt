@@ -32,7 +32,8 @@ use Rattle.cs_statements.proofs.StatementKinds.{reported_as, block_refused, bloc
 use Rattle.cs_statements.proofs.StatementKinds.{return_reported, if_test_refused, if_body_refused, if_reported, else_test_refused, else_body_refused}
 use Rattle.cs_statements.proofs.StatementKinds.{else_refused, else_reported, for_held, switch_held}
 use Rattle.cs_statements.proofs.StatementRows.{statement_typed-Switch}
-use Rattle.cs_statements.proofs.StatementsInTurn.{answers_as, answers_with, listed, while_test_stops, while_body_stops, while_taken, answers_after, refused_after}
+use Rattle.cs_statements.proofs.StatementsInTurn.{answers_as, answers_with, listed, while_test_stops, while_body_stops, while_taken, answers_after}
+use Rattle.cs_statements.proofs.StatementsInTurn.{refused_after}
 use Rattle.cs_statements.proofs.StatementsInTurn.{given_after, do_body}
 use Rattle.cs_statements.proofs.StatementsInTurn.{do_body_stops, do_test_stops}
 use Rattle.cs_statements.proofs.StatementsInTurn.{do_taken, for_begins, for_first_stops, for_test_stops, for_last_stops, for_body_stops, for_taken}

@@ -34,7 +34,8 @@ loop-checker-preserved g c =
     let item = get_or c.loop-checker.checker-items c.loop-checker.checker-index c.checker-item.result in
     let kind = (goal.Checker-dyn g (item.vtable, item.value)).kind_of item.value in
     let is_new = subst (λ object. (goal.Checker-dyn g (box, new)).kind_of new ≡ (goal.Checker-dyn g object).kind_of object.1) here same in
-    let has_counted = subst (λ object. CountsOne ((goal.Checker-dyn g object).count_of object.1) ((goal.Checker-dyn g (box, new)).count_of new)) here counted in
+    let has_counted = subst (λ object. CountsOne ((goal.Checker-dyn g object).count_of object.1) ((goal.Checker-dyn g (box, new)).count_of new)) here
+    counted in
     let yields = subst (λ object. YieldsFaults ((goal.Checker-dyn g object).kind_of object.1) subject answer.conds) here faults in
     let so_far : c.if-complete.complete ≡ true → (c.loop-checker.complete ≡ true) × (is_ok c.match-examine-offset0.added ≡ true) = λ whole.
     elim c.if-complete.branch [

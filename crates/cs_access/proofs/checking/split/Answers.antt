@@ -19,7 +19,8 @@ pub loop-place-preserved : goal.loop-place-preserved
 loop-place-preserved c =
     let within : c.loop-place.place < length c.args.found.now = omega arith in
     let taken = rw c.deciding_term-term.ensures at c.in_ok-take_out.ensures in
-    split_more c.args.state.now c.args.subject.now c.args.found.now c.loop-place.place c.index-found-place.result c.index-found-place.is c.requires.can within c.requires.values
+    split_more c.args.state.now c.args.subject.now c.args.found.now c.loop-place.place c.index-found-place.result c.index-found-place.is c.requires.can within
+    c.requires.values
     c.loop-place.faults.items c.take_out.new.faults.items c.loop-place.good c.in_ok-good-2.good taken c.in_ok-good-2.ensures c.loop-place.invariant
 
 pub rest_of-requires : goal.rest_of-requires

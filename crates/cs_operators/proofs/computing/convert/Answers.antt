@@ -27,7 +27,8 @@ returns-then-not-is_number-clause-act c = λ code names program budgets model.
           (sym c.is_number.ensures ∙ c.if-not-is_number.true) in
           rw c.in-Int.is (leads_same given _ _ _
           (ap (λ operand. operators.convert program.model c.args.at from (integer c.in-Int.ty) operand onward) operand_is
-          ∙ same ∙ ap onward (sym operand_is) ∙ ap (λ same. Goes (machine.to_do todo same)) (same_again code names program state v c.in_ok-converted.ensures.there)));
+          ∙ same ∙ ap onward (sym operand_is)
+          ∙ ap (λ same. Goes (machine.to_do todo same)) (same_again code names program state v c.in_ok-converted.ensures.there)));
       waits = tt;
     }
 
@@ -85,7 +86,8 @@ pub returns-in_ok-after-in-Int-clause-frame : goal.returns-in_ok-after-in-Int-cl
 returns-in_ok-after-in-Int-clause-frame c = replaced_stays c.replace-in-Int.result 1 _ _ _ c.replace-in-Int.ensures.left
 
 pub returns-in_ok-after-in-Int-clause-locals : goal.returns-in_ok-after-in-Int-clause-locals
-returns-in_ok-after-in-Int-clause-locals c = replaced_keeps c.replace-in-Int.result 1 _ _ _ (c.in_ok-after-in-Int.ensures.over c.in_ok-before-in-Int.ensures.over) c.replace-in-Int.ensures.left
+returns-in_ok-after-in-Int-clause-locals c =
+    replaced_keeps c.replace-in-Int.result 1 _ _ _ (c.in_ok-after-in-Int.ensures.over c.in_ok-before-in-Int.ensures.over) c.replace-in-Int.ensures.left
 
 pub returns-in_ok-after-in-Int-clause-unchanged : goal.returns-in_ok-after-in-Int-clause-unchanged
 returns-in_ok-after-in-Int-clause-unchanged c = never_waits _ _ c.replace-in-Int.result c.replace-in-Int.ensures.memory

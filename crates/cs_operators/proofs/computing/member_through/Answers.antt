@@ -14,7 +14,8 @@ pub returns-in_err-place-clause-act : goal.returns-in_err-place-clause-act
 returns-in_err-place-clause-act g c = λ every code names program budgets have.
     let state = c.args.state.now in
     let at = c.args.at in
-    let part : Valuation → (Cell → Act CodeState) → Act CodeState = λ v. operators.arrow at (cell_in names.bases state c.in_ok-value.field-0 v) c.args.offset in
+    let part : Valuation → (Cell → Act CodeState) → Act CodeState = λ v.
+    operators.arrow at (cell_in names.bases state c.in_ok-value.field-0 v) c.args.offset in
     let act = do_work code program budgets at (graph.Arrow c.args.offset) in
     let rest = cell_left code names program state 1 in
     waited code names program state state _ _ c.from_residual-in_err-place.result act c.in_err-place.field-0.0 c.from_residual-in_err-place.ensures
@@ -26,7 +27,8 @@ pub returns-clause-act : goal.returns-clause-act
 returns-clause-act g c = λ every code names program budgets have.
     let state = c.args.state.now in
     let at = c.args.at in
-    let part : Valuation → (Cell → Act CodeState) → Act CodeState = λ v. operators.arrow at (cell_in names.bases state c.in_ok-value.field-0 v) c.args.offset in
+    let part : Valuation → (Cell → Act CodeState) → Act CodeState = λ v.
+    operators.arrow at (cell_in names.bases state c.in_ok-value.field-0 v) c.args.offset in
     let act = do_work code program budgets at (graph.Arrow c.args.offset) in
     let rest = cell_left code names program state 1 in
     replaced code names program state c.replace_with.new.state _ _ c.replace_with.result act 1 (temporary.Scalar c.in_ok-place.place)

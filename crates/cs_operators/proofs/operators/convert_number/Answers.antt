@@ -16,4 +16,5 @@ returns-clause-act c = λ bases.
 pub returns-clause-over : goal.returns-clause-over
 returns-clause-over c =
     let state = c.args.state.now in
-    IfOk-weaker c.ask.result (IsOverKnown state) (λ made. IsOverKnown state c.args.number → IsOverKnown state made) (λ made over given. over) c.ask.ensures.over
+    IfOk-weaker c.ask.result (IsOverKnown state) (λ made. IsOverKnown state c.args.number → IsOverKnown state made) (λ made over given. over)
+    c.ask.ensures.over

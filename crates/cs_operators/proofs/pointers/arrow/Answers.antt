@@ -44,7 +44,8 @@ returns-in_ok-shifted-in-At-clause-act g c = λ every bases named.
           let by : to_z w128 (of_z w128 c.from.result) ≡ pos c.args.bytes = search rules in
           let there = rw c.in-At.is at c.in_ok-seen.ensures.seen bases v fits in
           let member = ap (λ p. operators.pointed p c.args.bytes) there
-          ∙ member_at _ (value_of v c.in-At.offset) _ c.args.bytes (c.in_ok-shifted-in-At.ensures.value v ∙ ap (λ n. value_of v c.in-At.offset +ℤ n) by) in
+          ∙ member_at _ (value_of v c.in-At.offset) _ c.args.bytes (c.in_ok-shifted-in-At.ensures.value v
+          ∙ ap (λ n. value_of v c.in-At.offset +ℤ n) by) in
           leads_on cells _ _ _ (access.look at (cell v) checked) checked _ (c.in_ok-seen.ensures.through bases named cells v fits checked)
           (leads_on cells _ _ _ checked rest _ (checks.through cells v fits rest) (leads_same cells _ rest _ (ap onward member)));
       waits = tt;

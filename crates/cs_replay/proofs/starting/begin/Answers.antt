@@ -9,7 +9,7 @@ use Rattle.cs_cfg.specs.Graph.{Flow, no_flow, flow_of}
 use Rattle.cs_cfg.specs.GraphView as view
 use Rattle.cs_replay.specs.declared.replayer.Caller.{Caller}
 use Rattle.cs_replay.specs.CodeStates.{code_state, begun}
-use Rattle.cs_replay.specs.Points.{point_of}
+use Rattle.cs_positions.specs.Points.{point_of}
 use Rattle.cs_replay.specs.ReplayerView.{callers_of}
 use Rattle.cs_replay.proofs.Beginning.{at_block, started_is}
 use Rattle.cs_replay.proofs.starting.begin.Goals as goal

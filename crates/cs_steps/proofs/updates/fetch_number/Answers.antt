@@ -58,11 +58,13 @@ returns-clause-work g c = λ every code names program budgets known model extend
     (c.in_ok-place.ensures.within program names.bases known alone) in
     let same_model : program.model ≡ c.model.result = model ∙ sym c.model.ensures in
     let rest : Point → Valuation → Memory × Operand → Act CodeState =
-    λ todo v given. converts_beside c.model.result c.args.how.0 access.ty c.args.how.1 given.1 (with_memory given.0 (stands code names program state todo v)) in
+    λ todo v given.
+    converts_beside c.model.result c.args.how.0 access.ty c.args.how.1 given.1 (with_memory given.0 (stands code names program state todo v)) in
     fetch_works code names program known state alone c.load.new.state loads.same c.push_converted.new.state _ _ c.push_converted.result act _
     (converts_loaded names c.model.result c.args.how.0 access.ty c.args.how.1 loaded)
     (c.push_converted.ensures.act code names program) c.push_converted.ensures.frame
-    (on_ok_weaker c.push_converted.result (λ keeps. keeps (subst (λ (s : State). MayAllBeIn s loaded) (sym loads.same) loads.inside) program names.bases known)
+    (on_ok_weaker c.push_converted.result (λ keeps.
+    keeps (subst (λ (s : State). MayAllBeIn s loaded) (sym loads.same) loads.inside) program names.bases known)
     c.push_converted.ensures.locals) c.push_converted.ensures.unchanged
     (λ todo.
     part_leads code names program state todo act (load_part program names state access place) (rest todo)

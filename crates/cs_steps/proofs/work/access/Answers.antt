@@ -4,7 +4,8 @@ pub returns-in-Load-clause-work : goal.returns-in-Load-clause-work
 returns-in-Load-clause-work g c = λ every. rw c.in-Load.is (c.load_in_place.ensures.work every c.args.operation.now.place)
 
 pub returns-in-FetchPointer-clause-work : goal.returns-in-FetchPointer-clause-work
-returns-in-FetchPointer-clause-work g c = λ every code names program budgets known model extends numbered have integer. absurd (rw c.in-FetchPointer.is at integer)
+returns-in-FetchPointer-clause-work g c = λ every code names program budgets known model extends numbered have integer.
+    absurd (rw c.in-FetchPointer.is at integer)
 
 pub returns-in-FetchNumber-clause-work : goal.returns-in-FetchNumber-clause-work
 returns-in-FetchNumber-clause-work g c = λ every. rw c.in-FetchNumber.is (c.fetch_number.ensures.work every)

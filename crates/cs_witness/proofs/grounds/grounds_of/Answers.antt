@@ -11,7 +11,8 @@ returns c =
     let entry = c.args.entry.now in
     let run = run_of c.args.run.now in
     let replay = c.in_ok-shown_replay.field-0 in
-    let first : c.push.new.self.items ≡ replay ∷ [] = c.in_ok-push.ensures.items ∙ ap (λ (l : List Replay). l ++ replay ∷ []) c.new-pool.ensures.items in
+    let first : c.push.new.self.items ≡ replay ∷ [] = c.in_ok-push.ensures.items
+    ∙ ap (λ (l : List Replay). l ++ replay ∷ []) c.new-pool.ensures.items in
     let one : IsPoolOf entry run c.push.new.self.items =
     subst (IsPoolOf entry run) (sym first) (pool_of_one entry run replay c.in_ok-shown_replay.ensures.kept c.in_ok-shown_replay.ensures.run) in
     let two = widened entry run c.push.new.self.items c.add_all_corners.new.pool.items one c.in_ok-corners.ensures in

@@ -26,9 +26,11 @@ loop-parameter-preserved c =
     ap (λ l. map parameter_path (map variable l)) taken ∙ ap (map parameter_path) (map-append variable (take i read) (lookup ∷ []))
     ∙ map-append parameter_path (map variable (take i read)) (variable lookup ∷ []) in
     let one : Adds c.args.given.now (path lookup ∷ []) c.loop-parameter.inputs c.add.new.inputs =
-    subst (λ (p : Path). Adds c.args.given.now (p ∷ []) c.loop-parameter.inputs c.add.new.inputs) (c.root_path-path.ensures ∙ ap (λ name. root_path (Param name)) c.in_ok-copy.ensures) c.in_ok-add.ensures in
+    subst (λ (p : Path). Adds c.args.given.now (p ∷ []) c.loop-parameter.inputs c.add.new.inputs) (c.root_path-path.ensures
+    ∙ ap (λ name. root_path (Param name)) c.in_ok-copy.ensures) c.in_ok-add.ensures in
     subst (λ l. Adds c.args.given.now l c.args.inputs.now c.add.new.inputs) (sym paths)
-    (adds_then c.args.given.now (map parameter_path (map variable (take i read))) (path lookup ∷ []) c.args.inputs.now c.loop-parameter.inputs c.add.new.inputs
+    (adds_then c.args.given.now (map parameter_path (map variable (take i read))) (path lookup ∷ []) c.args.inputs.now c.loop-parameter.inputs
+    c.add.new.inputs
     c.loop-parameter.invariant one)
 
 pub returns : goal.returns

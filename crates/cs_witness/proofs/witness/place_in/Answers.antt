@@ -18,6 +18,7 @@ returns-clause-place c =
     let found : IsBinarySearchResult (λ (f : Finding). key_order (outcome_key f.what) key) findings c.binary_search_by.result =
     c.binary_search_by.ensures.position (λ (f : Finding). key_order (outcome_key f.what) key) (always_returns_same _ _ _ (λ a r f' called. search rules)) in
     place_from_search c.binary_search_by.result (HoldsAt (λ (f : Finding). key_order (outcome_key f.what) key ≡ Equal) findings)
-    (IsPartitionPoint (λ (f : Finding). key_order (outcome_key f.what) key ≡ Less) (λ (f : Finding). key_order (outcome_key f.what) key ≡ Greater) findings)
+    (IsPartitionPoint (λ (f : Finding). key_order (outcome_key f.what) key ≡ Less) (λ (f : Finding). key_order (outcome_key f.what) key ≡ Greater)
+    findings)
     (IsNonDecreasingBy (λ (f : Finding). ordering_index (key_order (outcome_key f.what) key)) findings)
     (searchable key_order-total (λ (f : Finding). outcome_key f.what) findings key c.requires) found

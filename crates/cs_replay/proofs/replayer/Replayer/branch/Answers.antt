@@ -7,7 +7,7 @@ use Rattle.cs_cfg.specs.Graph.{Branch}
 use Rattle.cs_cfg.specs.Working as working
 use Rattle.cs_cfg.specs.Working.{CodeState}
 use Rattle.cs_replay.specs.CodeStates.{code_state}
-use Rattle.cs_replay.specs.Points.{point_of}
+use Rattle.cs_positions.specs.Points.{point_of}
 use Rattle.cs_replay.specs.ReplayerView.{code_of, callers_of, state_in}
 use Rattle.cs_replay.specs.Works.{cut_to}
 use Rattle.cs_replay.proofs.Leading.{branches_so, no_branch, arrives}

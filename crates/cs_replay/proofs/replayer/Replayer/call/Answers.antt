@@ -9,7 +9,7 @@ use Rattle.cs_cfg.specs.Graph.{flow_of}
 use Rattle.cs_cfg.specs.GraphView as view
 use Rattle.cs_cfg.specs.Working.{do_work}
 use Rattle.cs_replay.specs.CodeStates.{code_state}
-use Rattle.cs_replay.specs.Points.{point_of}
+use Rattle.cs_positions.specs.Points.{point_of}
 use Rattle.cs_replay.specs.ReplayerView.{program_of, budgets_of, code_of, callers_of, state_in}
 use Rattle.cs_replay.proofs.Entering.{enters_is, no_body}
 use Rattle.cs_replay.proofs.Leading.{ends_so}

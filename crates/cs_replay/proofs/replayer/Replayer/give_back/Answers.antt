@@ -5,7 +5,7 @@ use Rattle.cs_values.specs.View.{operand_of}
 use Rattle.cs_run_state.specs.MachineView.{state_of}
 use Rattle.cs_cfg.specs.Working as working
 use Rattle.cs_replay.specs.CodeStates.{code_state}
-use Rattle.cs_replay.specs.Points.{point_of}
+use Rattle.cs_positions.specs.Points.{point_of}
 use Rattle.cs_replay.specs.ReplayerView.{callers_of, state_in}
 use Rattle.cs_replay.specs.Works.{cut_to}
 use Rattle.cs_replay.proofs.Leading.{leaves_alike}

@@ -3,7 +3,7 @@ use Rattle.cs_run_state.specs.declared.machine.Frame.{Frame}
 use Rattle.cs_objects.specs.BlockView.{block_at}
 use Rattle.cs_run_state.specs.MachineView.{state_of}
 use Rattle.cs_run_state.proofs.States.{reverse-map-push}
-use Rattle.cs_replay.specs.declared.positions.Position.{Position}
+use Rattle.cs_positions.specs.declared.positions.Position.{Position}
 use Rattle.cs_replay.specs.declared.replayer.Caller.{Caller}
 use Rattle.cs_replay.specs.ReplayerView.{caller_of, callers_of}
 use Rattle.cs_replay.proofs.FrameStates.{inside_state}

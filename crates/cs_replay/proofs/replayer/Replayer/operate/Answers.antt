@@ -4,7 +4,7 @@ use Rattle.cs_run_state.specs.MachineView.{state_of}
 use Rattle.cs_cfg.specs.GraphView as view
 use Rattle.cs_cfg.specs.Working.{takes, do_work}
 use Rattle.cs_replay.specs.CodeStates.{code_state}
-use Rattle.cs_replay.specs.Points.{point_of}
+use Rattle.cs_positions.specs.Points.{point_of}
 use Rattle.cs_replay.specs.ReplayerView.{program_of, budgets_of, code_of, callers_of}
 use Rattle.cs_replay.specs.Works.{cut_to}
 use Rattle.cs_replay.proofs.Passing.{performs_as}

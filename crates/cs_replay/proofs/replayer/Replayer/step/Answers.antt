@@ -4,7 +4,7 @@ use Rattle.cs_events.specs.Acts.{Act}
 use Rattle.cs_run_state.specs.MachineView.{state_of}
 use Rattle.cs_cfg.specs.GraphView as view
 use Rattle.cs_cfg.specs.Working.{CodeState}
-use Rattle.cs_replay.specs.Nexts.{reaching}
+use Rattle.cs_positions.specs.Nexts.{reaching}
 use Rattle.cs_replay.specs.ReplayerView.{program_of, budgets_of, code_of, state_in, Performs}
 use Rattle.cs_replay.proofs.Stepping.{leads_after, ends_after, kept_after, ready_after, step_ends, step_leaves, on_ok}
 use Rattle.cs_replay.proofs.replayer.Replayer.step.Goals as goal

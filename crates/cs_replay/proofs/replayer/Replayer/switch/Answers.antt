@@ -17,7 +17,7 @@ use Rattle.cs_cfg.specs.GraphView as view
 use Rattle.cs_cfg.specs.Working as working
 use Rattle.cs_cfg.specs.Working.{CodeState}
 use Rattle.cs_replay.specs.CodeStates.{code_state}
-use Rattle.cs_replay.specs.Points.{point_of}
+use Rattle.cs_positions.specs.Points.{point_of}
 use Rattle.cs_replay.specs.ReplayerView.{code_of, callers_of, state_in}
 use Rattle.cs_replay.specs.Ways.{way_seen}
 use Rattle.cs_replay.specs.Works.{cut_to}

@@ -3,7 +3,7 @@ use Rattle.std.specs.Prelude.{ℕ, drop}
 use Rattle.cs_cfg.specs.declared.code.Code.{Code}
 use Rattle.cs_cfg.specs.Graph.{Point, block_in}
 use Rattle.cs_cfg.specs.GraphView.{code}
-use Rattle.cs_replay.specs.declared.positions.Position.{Position}
+use Rattle.cs_positions.specs.declared.positions.Position.{Position}
 
 -- what is left of a point once so many of its operations are done
 abbrev pub left_of : ℕ → Point → Point

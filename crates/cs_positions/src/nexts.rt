@@ -2,8 +2,8 @@
 ghost use Rattle.std.specs.Prelude.{◌≡◌, ◌+◌};
 ghost use Rattle.cs_cfg.specs.Graph as graph;
 ghost use Rattle.cs_cfg.specs.GraphView as view;
-ghost use Rattle.cs_replay.specs.Nexts.{found_block, flow_found, without_counted_point, IsNext};
-ghost use Rattle.cs_replay.specs.Points.{left_of, point_of};
+ghost use Rattle.cs_positions.specs.Nexts.{found_block, flow_found, without_counted_point, IsNext};
+ghost use Rattle.cs_positions.specs.Points.{left_of, point_of};
 
 use crate::positions::Position;
 use cs_cfg::{Block, BlockEnd, Code, CountedPoint, Flow, Operation};

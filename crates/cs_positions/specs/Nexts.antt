@@ -6,8 +6,8 @@ use Rattle.cs_cfg.specs.declared.code.Flow as f
 use Rattle.cs_cfg.specs.declared.code.CountedPoint.{CountedPoint}
 use Rattle.cs_cfg.specs.Graph.{Operation, Reach, Point, Flow, before, no_point}
 use Rattle.cs_cfg.specs.GraphView as view
-use Rattle.cs_replay.specs.declared.nexts.Next.{Next}
-use Rattle.cs_replay.specs.declared.nexts.Next.TheVariants as next
+use Rattle.cs_positions.specs.declared.nexts.Next.{Next}
+use Rattle.cs_positions.specs.declared.nexts.Next.TheVariants as next
 
 -- a graph that was found
 abbrev pub flow_found : Option (Bor f.Flow) → Option Flow

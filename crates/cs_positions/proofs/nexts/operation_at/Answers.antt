@@ -3,8 +3,8 @@ use Rattle.std.specs.Prelude.{slice_get}
 use Rattle.cs_cfg.specs.declared.operation.Operation as o
 use Rattle.cs_cfg.specs.Graph.{Operation}
 use Rattle.cs_cfg.specs.GraphView as view
-use Rattle.cs_replay.proofs.Blocks.{after_one, lent_is}
-use Rattle.cs_replay.proofs.nexts.operation_at.Goals as goal
+use Rattle.cs_positions.proofs.Blocks.{after_one, lent_is}
+use Rattle.cs_positions.proofs.nexts.operation_at.Goals as goal
 
 pub returns-in-Some : goal.returns-in-Some
 returns-in-Some c =

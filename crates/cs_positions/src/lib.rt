@@ -1,0 +1,10 @@
+//! What the code has for a frame: what comes next at its position, and the local that a declaration touches.
+#![tactic(auto)]
+
+mod locals;
+mod nexts;
+mod positions;
+
+pub use locals::if_local;
+pub use nexts::{Next, flow_at, next_at};
+pub use positions::Position;
