@@ -1,6 +1,6 @@
 -- In a well-formed program a function that works with integers alone is one of integers, as lowering sees it: its variables are there, and
 -- what it loads from and stores to is one of them. A recursion over the typed tree.
-use Rattle.std.proofs.Common.{◌≡◌, ◌<◌, ℕ, zero, suc, Bool, true, false, List, [], ◌∷◌, length, Option, Some, None, refl, sym, subst, ◌∙◌}
+use Rattle.std.proofs.Common.{◌≡◌, ℕ, zero, suc, true, ◌&&◌, List, [], ◌∷◌, length, Option, Some, None, refl, sym, subst}
 use Rattle.std.specs.Prelude.{IfSome, slice_get, unwrap_or}
 use Rattle.std.specs.List.{AllByRecursion}
 use Rattle.std.proofs.lemmas.Bool.{and_from, and_parts, false≢true}
@@ -72,14 +72,25 @@ module _ (s : Setting) (all : are_integer_variables s.variables ≡ true) where
     form_integers ty (Convert a) is well = well_integers a is well.0
     form_integers ty (Unary op a) is well = well_integers a is well.0
     form_integers ty (Not a) is well = well_integers a is well.0
-    form_integers ty (Binary op a b) is well = two_integers a b is well.0 well.1
-    form_integers ty (Compare op a b) is well = two_integers a b is well.0 well.1
-    form_integers ty (And a b) is well = two_integers a b is well.0 well.1
-    form_integers ty (Or a b) is well = two_integers a b is well.0 well.1
+    form_integers ty (Binary op a b) is well =
+        let parts = and_parts (is_integer a) (is_integer b) is in
+        (well_integers a parts.0 well.0, well_integers b parts.1 well.1)
+    form_integers ty (Compare op a b) is well =
+        let parts = and_parts (is_integer a) (is_integer b) is in
+        (well_integers a parts.0 well.0, well_integers b parts.1 well.1)
+    form_integers ty (And a b) is well =
+        let parts = and_parts (is_integer a) (is_integer b) is in
+        (well_integers a parts.0 well.0, well_integers b parts.1 well.1)
+    form_integers ty (Or a b) is well =
+        let parts = and_parts (is_integer a) (is_integer b) is in
+        (well_integers a parts.0 well.0, well_integers b parts.1 well.1)
     form_integers ty (Choice a b c) is well =
         let parts = and_parts (is_integer a) (is_integer b && is_integer c) is in
-        (well_integers a parts.0 well.0, two_integers b c parts.1 well.1 well.2)
-    form_integers ty (Comma a b) is well = two_integers a b is well.0 well.1
+        let ways = and_parts (is_integer b) (is_integer c) parts.1 in
+        (well_integers a parts.0 well.0, well_integers b ways.0 well.1, well_integers c ways.1 well.2)
+    form_integers ty (Comma a b) is well =
+        let parts = and_parts (is_integer a) (is_integer b) is in
+        (well_integers a parts.0 well.0, well_integers b parts.1 well.1)
     form_integers ty (Assign object b) is well =
         let parts = and_parts (is_integer object) (is_integer b) is in
         (object_integers object parts.0 well.0 well.2, well_integers b parts.1 well.1)
@@ -87,12 +98,6 @@ module _ (s : Setting) (all : are_integer_variables s.variables ≡ true) where
         let parts = and_parts (is_integer object) (is_integer b) is in
         (object_integers object parts.0 well.0 well.2, well_integers b parts.1 well.1)
     form_integers ty other is well = absurd (false≢true is)
-
-    two_integers : (a b : Typed) → (is_integer a && is_integer b) ≡ true → IsWell s a → IsWell s b
-        → IsOfIntegers (length s.variables) a × IsOfIntegers (length s.variables) b
-    two_integers a b is well_a well_b =
-        let parts = and_parts (is_integer a) (is_integer b) is in
-        (well_integers a parts.0 well_a, well_integers b parts.1 well_b)
 
   test_integers : (test : Option Typed) → is_integer_if_any test ≡ true → IsTestIfAny s test → OptionIsOfIntegers (length s.variables) test
   test_integers None is well = tt
@@ -119,12 +124,16 @@ module _ (s : Setting) (all : are_integer_variables s.variables ≡ true) where
     statement_integers (Declare at number first) is well =
         (slice_get_within s.variables number well.0 well.1, first_integers well.0.ty first is well.2)
     statement_integers (Run at e) is well = well_integers e is well.0
-    statement_integers (If at test body) is well = tested_integers test body is well.0 well.2
+    statement_integers (If at test body) is well =
+        let parts = and_parts (is_integer test) (is_integer_statement body) is in
+        (well_integers test parts.0 well.0, statement_integers body parts.1 well.2)
     statement_integers (IfElse at test body other) is well =
         let parts = and_parts (is_integer test) (is_integer_statement body && is_integer_statement other) is in
         let ways = and_parts (is_integer_statement body) (is_integer_statement other) parts.1 in
         (well_integers test parts.0 well.0, statement_integers body ways.0 well.2, statement_integers other ways.1 well.3)
-    statement_integers (While at test body) is well = tested_integers test body is well.0 well.2
+    statement_integers (While at test body) is well =
+        let parts = and_parts (is_integer test) (is_integer_statement body) is in
+        (well_integers test parts.0 well.0, statement_integers body parts.1 well.2)
     statement_integers (Do at body test) is well =
         let parts = and_parts (is_integer_statement body) (is_integer test) is in
         (statement_integers body parts.0 well.2, well_integers test parts.1 well.0)
@@ -148,12 +157,6 @@ module _ (s : Setting) (all : are_integer_variables s.variables ≡ true) where
     statement_integers (Continue at) is well = tt
     statement_integers (Return at value) is well = returned_integers value is well
 
-    tested_integers : (test : Typed) (body : Statement) → (is_integer test && is_integer_statement body) ≡ true → IsWell s test → IsWellStatement s body
-        → IsOfIntegers (length s.variables) test × StatementIsOfIntegers (length s.variables) body
-    tested_integers test body is well_test well_body =
-        let parts = and_parts (is_integer test) (is_integer_statement body) is in
-        (well_integers test parts.0 well_test, statement_integers body parts.1 well_body)
-
     statements_integers : (statements : Statements) → are_integer_statements statements ≡ true → AreWellStatements s statements
         → StatementsAreOfIntegers (length s.variables) statements
     statements_integers Empty is well = tt
@@ -162,13 +165,16 @@ module _ (s : Setting) (all : are_integer_variables s.variables ≡ true) where
         (statement_integers first parts.0 well.0, statements_integers others parts.1 well.1)
 
 -- a function with a number, among well-formed ones
-the_routine : List Routine → ℕ → Routine
+abbrev the_routine : List Routine → ℕ → Routine
 the_routine routines function = unwrap_or (slice_get routines function) (no_routine NOWHERE)
+
+no_body : (function : ℕ) (body : Statement) → (the_routine [] function).body ≡ Some body → ⊥
+no_body function body is = cc
 
 routine_integers : (p : TypedProgram) (routines : List Routine) → AllByRecursion (IsWellRoutine p) routines → (function : ℕ) (body : Statement)
     → is_integer_routine (the_routine routines function) ≡ true → (the_routine routines function).body ≡ Some body
     → StatementIsOfIntegers (length (the_routine routines function).variables) body
-routine_integers p [] h function body integers is = absurd cc
+routine_integers p [] h function body integers is = absurd (no_body function body is)
 routine_integers p (r ∷ routines) h zero body integers is =
     let well : IsWellBody p r body = subst (λ b. IfSome b (IsWellBody p r)) is h.0.body in
     let parts = and_parts (are_integer_variables r.variables) (is_integer_body r.body) integers in
