@@ -1,4 +1,2 @@
 pub mod Acting
 pub mod Deciding
-pub mod RunView
-pub mod RunnerView

@@ -4,9 +4,8 @@ ghost use Rattle.cs_types.specs.Shape.{shape_of};
 ghost use Rattle.cs_ast.specs.TypedView.{initial};
 ghost use Rattle.cs_meaning.specs.Machine as machine;
 ghost use Rattle.cs_meaning.specs.Statements as meaning;
-ghost use Rattle.cs_reference.specs.RunnerView.{program_of, state_in, IsReady, Performs};
+ghost use Rattle.cs_runner.specs.RunnerView.{program_of, state_in, IsReady, Performs};
 
-use crate::runner::Runner;
 use cs_ast::Place;
 use cs_ast::typed::statement::Initial;
 use cs_frames::frames::number_of;
@@ -15,86 +14,90 @@ use cs_objects::blocks::Fill;
 use cs_objects::pieces::pieces;
 use cs_run_log::{Stop, Touch};
 use cs_run_state::items::{ExprStep, Item};
+use cs_runner::runner::Runner;
 use cs_types::CType;
 
-impl<'a> Runner<'a> {
-    /// A declaration is reached: the object becomes unset, or takes a value, or becomes zero before its pieces are stored.
-    pub fn declare(
-        &mut self,
-        place: Place,
-        declaration: u32,
-        first: Option<&'a Initial>,
-    ) -> Result<(), Stop>
-        requires { IsReady self.old }
-        ensures { Performs self.old self.new result
-            (meaning.declare (program_of self.old) place declaration
-            (option_map initial (option_copied first.entry)) (state_in self.old)) }
-    {
-        match first {
-            None => self.clear_local(place, declaration),
-            Some(first) => self.set_local(place, declaration, first),
+/// A declaration is reached: the object becomes unset, or takes a value, or becomes zero before its pieces are stored.
+pub fn declare<'a>(
+    run: &mut Runner<'a>,
+    place: Place,
+    declaration: u32,
+    first: Option<&'a Initial>,
+) -> Result<(), Stop>
+    requires { IsReady run.old }
+    ensures { Performs run.old run.new result
+        (meaning.declare (program_of run.old) place declaration
+        (option_map initial (option_copied first.entry)) (state_in run.old)) }
+{
+    match first {
+        None => clear_local(run, place, declaration),
+        Some(first) => set_local(run, place, declaration, first),
+    }
+}
+
+// A declaration with an initializer is reached: the object takes a value, or becomes zero before its pieces are stored.
+fn set_local<'a>(
+    run: &mut Runner<'a>,
+    place: Place,
+    declaration: u32,
+    first: &'a Initial,
+) -> Result<(), Stop>
+    requires { IsReady run.old }
+    ensures { Performs run.old run.new result
+        (meaning.declare (program_of run.old) place declaration (Some (initial first.now))
+        (state_in run.old)) }
+{
+    let program = run.setting.program;
+    match first {
+        Initial::Value(value) => {
+            run.machine
+                .put(Item::Store(place, declaration, 0, &value.ty))?;
+            run.machine.put_expr(ExprStep::Evaluate, value)?;
+            Ok(())
+        }
+        Initial::List(_) => {
+            run.machine
+                .initialize_local(program, place, declaration, first)?;
+            Ok(())
+        }
+        Initial::Text(_) => {
+            run.machine
+                .initialize_local(program, place, declaration, first)?;
+            Ok(())
         }
     }
+}
 
-    // A declaration with an initializer is reached: the object takes a value, or becomes zero before its pieces are stored.
-    fn set_local(&mut self, place: Place, declaration: u32, first: &'a Initial) -> Result<(), Stop>
-        requires { IsReady self.old }
-        ensures { Performs self.old self.new result
-            (meaning.declare (program_of self.old) place declaration (Some (initial first.now))
-            (state_in self.old)) }
-    {
-        let program = self.setting.program;
-        match first {
-            Initial::Value(value) => {
-                self.machine
-                    .put(Item::Store(place, declaration, 0, &value.ty))?;
-                self.machine.put_expr(ExprStep::Evaluate, value)?;
-                Ok(())
-            }
-            Initial::List(_) => {
-                self.machine
-                    .initialize_local(program, place, declaration, first)?;
-                Ok(())
-            }
-            Initial::Text(_) => {
-                self.machine
-                    .initialize_local(program, place, declaration, first)?;
-                Ok(())
-            }
-        }
+// A declaration without an initializer is reached: the object becomes unset, which is a touch where it is a scalar.
+fn clear_local(run: &mut Runner, place: Place, declaration: u32) -> Result<(), Stop>
+    ensures { Performs run.old run.new result
+        (meaning.clear_local (program_of run.old) place declaration (state_in run.old)) }
+{
+    let frame = number_of(&run.machine);
+    if let Some(local) = run.machine.scalar_local(run.setting.program, declaration) {
+        run.log.touch(Touch::Clears(frame, local, place))?;
     }
+    run.machine.refill_local(declaration, Fill::Unset)?;
+    Ok(())
+}
 
-    // A declaration without an initializer is reached: the object becomes unset, which is a touch where it is a scalar.
-    fn clear_local(&mut self, place: Place, declaration: u32) -> Result<(), Stop>
-        ensures { Performs self.old self.new result
-            (meaning.clear_local (program_of self.old) place declaration (state_in self.old)) }
-    {
-        let frame = number_of(&self.machine);
-        if let Some(local) = self.machine.scalar_local(self.setting.program, declaration) {
-            self.log.touch(Touch::Clears(frame, local, place))?;
-        }
-        self.machine.refill_local(declaration, Fill::Unset)?;
-        Ok(())
-    }
-
-    /// The newest value is stored in a local, in the part of it that begins at an offset.
-    pub fn store_local(
-        &mut self,
-        place: Place,
-        declaration: u32,
-        offset: u64,
-        ty: &'a CType,
-    ) -> Result<(), Stop>
-        requires { IsReady self.old }
-        ensures { Performs self.old self.new result
-            (meaning.store_local (program_of self.old) place declaration offset (shape_of ty.now)
-            (state_in self.old)) }
-    {
-        let frame = number_of(&self.machine);
-        let local = self.machine.scalar_local(self.setting.program, declaration);
-        touch_store(&mut self.log, frame, place, local)?;
-        self.machine
-            .store_newest(self.setting, ty, declaration, offset)?;
-        Ok(())
-    }
+/// The newest value is stored in a local, in the part of it that begins at an offset.
+pub fn store_local<'a>(
+    run: &mut Runner<'a>,
+    place: Place,
+    declaration: u32,
+    offset: u64,
+    ty: &'a CType,
+) -> Result<(), Stop>
+    requires { IsReady run.old }
+    ensures { Performs run.old run.new result
+        (meaning.store_local (program_of run.old) place declaration offset (shape_of ty.now)
+        (state_in run.old)) }
+{
+    let frame = number_of(&run.machine);
+    let local = run.machine.scalar_local(run.setting.program, declaration);
+    touch_store(&mut run.log, frame, place, local)?;
+    run.machine
+        .store_newest(run.setting, ty, declaration, offset)?;
+    Ok(())
 }

@@ -5,9 +5,8 @@ ghost use Rattle.cs_meaning.specs.Machine as machine;
 ghost use Rattle.cs_meaning.specs.Jumps as jumps;
 ghost use Rattle.cs_meaning.specs.Statements as statements;
 ghost use Rattle.cs_meaning.specs.Steps as steps;
-ghost use Rattle.cs_reference.specs.RunnerView.{program_of, budgets_of, state_in, Performs};
+ghost use Rattle.cs_runner.specs.RunnerView.{program_of, budgets_of, state_in, Performs};
 
-use crate::runner::Runner;
 use cs_ast::typed::program::Function;
 use cs_ast::typed::statement::Stmt;
 use cs_events::PointKind;
@@ -16,43 +15,47 @@ use cs_frames::lists::put_first;
 use cs_objects::blocks::BlockType;
 use cs_run_log::Stop;
 use cs_run_state::items::Item;
+use cs_runner::runner::Runner;
 
-impl<'a> Runner<'a> {
-    /// Goes to a label of the function that runs, which is reached; one that isn't there leads on.
-    pub fn go_to(&mut self, label: u32) -> Result<(), Stop>
-        ensures { Performs self.old self.new result
-            (statements.go_to (program_of self.old) (budgets_of self.old) label
-            (steps.at_end (machine.routine_of (program_of self.old)
-            (state_in self.old).frame.function)) (state_in self.old)) }
-    {
-        let number = function_of(&self.machine) as usize;
-        match self.setting.program.functions.get(number) {
-            Some(function) => match &function.body {
-                Some(body) => self.go_to_in(label, function, body),
-                None => Ok(()),
-            },
+/// Goes to a label of the function that runs, which is reached; one that isn't there leads on.
+pub fn go_to(run: &mut Runner, label: u32) -> Result<(), Stop>
+    ensures { Performs run.old run.new result
+        (statements.go_to (program_of run.old) (budgets_of run.old) label
+        (steps.at_end (machine.routine_of (program_of run.old)
+        (state_in run.old).frame.function)) (state_in run.old)) }
+{
+    let number = function_of(&run.machine) as usize;
+    match run.setting.program.functions.get(number) {
+        Some(function) => match &function.body {
+            Some(body) => go_to_in(run, label, function, body),
             None => Ok(()),
-        }
+        },
+        None => Ok(()),
     }
+}
 
-    // The same in the body of the function that runs.
-    fn go_to_in(&mut self, label: u32, function: &'a Function, body: &'a Stmt) -> Result<(), Stop>
-        ensures { Performs self.old self.new result
-            (statements.lands (budgets_of self.old)
-            (jumps.landing label (statement body.now) 0 (steps.at_end (routine function.now)))
-            (state_in self.old)) }
-    {
-        let mut todo = Vec::new(*self.machine.frame.todo.allocator());
-        put_first(
-            &mut todo,
-            Item::End(function.end, BlockType::Of(&function.result)),
-        )?;
-        match seek(label, body, 0, &mut todo)? {
-            Some(landing) => {
-                set_todo(&mut self.machine, todo);
-                self.reach_counted_point(landing.place, PointKind::Label, landing.counted_point)
-            }
-            None => Ok(()),
+// The same in the body of the function that runs.
+fn go_to_in<'a>(
+    run: &mut Runner<'a>,
+    label: u32,
+    function: &'a Function,
+    body: &'a Stmt,
+) -> Result<(), Stop>
+    ensures { Performs run.old run.new result
+        (statements.lands (budgets_of run.old)
+        (jumps.landing label (statement body.now) 0 (steps.at_end (routine function.now)))
+        (state_in run.old)) }
+{
+    let mut todo = Vec::new(*run.machine.frame.todo.allocator());
+    put_first(
+        &mut todo,
+        Item::End(function.end, BlockType::Of(&function.result)),
+    )?;
+    match seek(label, body, 0, &mut todo)? {
+        Some(landing) => {
+            set_todo(&mut run.machine, todo);
+            run.reach_counted_point(landing.place, PointKind::Label, landing.counted_point)
         }
+        None => Ok(()),
     }
 }

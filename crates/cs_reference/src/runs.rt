@@ -4,13 +4,14 @@ ghost use Rattle.cs_ast.specs.TypedProgram.{typed_program};
 ghost use Rattle.cs_meaning.specs.ProgramRuns.{RunGives};
 ghost use Rattle.cs_objects.specs.Prepared.{IsReady};
 ghost use Rattle.cs_run_log.specs.LogView.{log_of};
-ghost use Rattle.cs_reference.specs.RunView.{run_of};
+ghost use Rattle.cs_runner.specs.RunView.{run_of};
 
-use crate::runner::Runner;
+use crate::steps::step;
 use cs_events::Outcome;
 use cs_frames::starting::start;
 use cs_objects::Setting;
 use cs_run_log::{Log, Stop};
+use cs_runner::runner::Runner;
 use std::alloc::{AllocError, Global};
 
 /// A run that has ended: how, and what it has shown, read and touched.
@@ -34,7 +35,7 @@ pub fn run<'a>(alloc: Global, setting: &'a Setting<'a>, entry: u32) -> Result<En
         setting,
     };
     loop {
-        match runner.step() {
+        match step(&mut runner) {
             Ok(()) => {}
             Err(Stop::Outcome(outcome)) => {
                 let log = runner.log;

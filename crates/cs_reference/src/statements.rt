@@ -6,9 +6,10 @@ ghost use Rattle.cs_meaning.specs.Machine as machine;
 ghost use Rattle.cs_meaning.specs.Statements as meaning;
 ghost use Rattle.cs_meaning.specs.Steps as steps;
 ghost use Rattle.cs_run_state.specs.MachineView.{state_of};
-ghost use Rattle.cs_reference.specs.RunnerView.{program_of, budgets_of, state_in, IsReady, Performs};
+ghost use Rattle.cs_runner.specs.RunnerView.{program_of, budgets_of, state_in, IsReady, Performs};
 
-use crate::runner::Runner;
+use crate::declarations::declare;
+use crate::jumps::go_to;
 use cs_ast::Place;
 use cs_ast::typed::expression::Expr;
 use cs_ast::typed::statement::{Stmt, StmtKind};
@@ -19,70 +20,50 @@ use cs_objects::counted_points::together;
 use cs_run_log::Stop;
 use cs_run_state::items::{ExprStep, Item, StmtStep};
 use cs_run_state::machine::Machine;
+use cs_runner::runner::Runner;
 use cs_values::Operand;
 use std::alloc::AllocError;
 
-impl<'a> Runner<'a> {
-    /// A statement begins, the first counted point of which has a number.
-    pub fn execute(&mut self, s: &'a Stmt, counted_point: u64) -> Result<(), Stop>
-        requires { IsReady self.old }
-        ensures { Performs self.old self.new result
-            (meaning.execute (program_of self.old) (budgets_of self.old)
-            (steps.at_end (machine.routine_of (program_of self.old)
-            (state_in self.old).frame.function)) (statement s.now) counted_point
-            (state_in self.old)) }
-    {
-        match &*s.kind {
-            StmtKind::Block(statements) => Ok(put_all(
-                &mut self.machine,
-                statements,
-                counted_point,
-            )?),
-            StmtKind::Declare(declaration, first) => {
-                self.declare(s.place, *declaration, first.as_ref())
-            }
-            StmtKind::Run(e) => Ok(put_run(&mut self.machine, e)?),
-            StmtKind::If(test, _) => Ok(put_test(&mut self.machine, test, s, counted_point)?),
-            StmtKind::IfElse(test, _, _) => Ok(put_test(
-                &mut self.machine,
-                test,
-                s,
-                counted_point,
-            )?),
-            StmtKind::While(_, _) => Ok(put_loop(&mut self.machine, s, counted_point)?),
-            StmtKind::Do(_, _) => Ok(put_loop(&mut self.machine, s, counted_point)?),
-            StmtKind::For(first, _, _, _) => Ok(put_for(
-                &mut self.machine,
-                s,
-                counted_point,
-                first,
-            )?),
-            StmtKind::Switch(value, _, _) => Ok(put_switch(
-                &mut self.machine,
-                s,
-                counted_point,
-                value,
-            )?),
-            StmtKind::Goto(label) => self.go_to(*label),
-            StmtKind::Label(_, body) => {
-                put_stmt(
-                    &mut self.machine,
-                    StmtStep::Execute,
-                    body,
-                    together(counted_point, 1)?,
-                )?;
-                self.reach_counted_point(s.place, PointKind::Label, counted_point)
-            }
-            StmtKind::Break => {
-                break_out(&mut self.machine);
-                Ok(())
-            }
-            StmtKind::Continue => {
-                go_on(&mut self.machine);
-                Ok(())
-            }
-            StmtKind::Return(value) => Ok(put_return(&mut self.machine, s.place, value.as_ref())?),
+/// A statement begins, the first counted point of which has a number.
+pub fn execute<'a>(run: &mut Runner<'a>, s: &'a Stmt, counted_point: u64) -> Result<(), Stop>
+    requires { IsReady run.old }
+    ensures { Performs run.old run.new result
+        (meaning.execute (program_of run.old) (budgets_of run.old)
+        (steps.at_end (machine.routine_of (program_of run.old)
+        (state_in run.old).frame.function)) (statement s.now) counted_point
+        (state_in run.old)) }
+{
+    match &*s.kind {
+        StmtKind::Block(statements) => Ok(put_all(&mut run.machine, statements, counted_point)?),
+        StmtKind::Declare(declaration, first) => {
+            declare(run, s.place, *declaration, first.as_ref())
         }
+        StmtKind::Run(e) => Ok(put_run(&mut run.machine, e)?),
+        StmtKind::If(test, _) => Ok(put_test(&mut run.machine, test, s, counted_point)?),
+        StmtKind::IfElse(test, _, _) => Ok(put_test(&mut run.machine, test, s, counted_point)?),
+        StmtKind::While(_, _) => Ok(put_loop(&mut run.machine, s, counted_point)?),
+        StmtKind::Do(_, _) => Ok(put_loop(&mut run.machine, s, counted_point)?),
+        StmtKind::For(first, _, _, _) => Ok(put_for(&mut run.machine, s, counted_point, first)?),
+        StmtKind::Switch(value, _, _) => Ok(put_switch(&mut run.machine, s, counted_point, value)?),
+        StmtKind::Goto(label) => go_to(run, *label),
+        StmtKind::Label(_, body) => {
+            put_stmt(
+                &mut run.machine,
+                StmtStep::Execute,
+                body,
+                together(counted_point, 1)?,
+            )?;
+            run.reach_counted_point(s.place, PointKind::Label, counted_point)
+        }
+        StmtKind::Break => {
+            break_out(&mut run.machine);
+            Ok(())
+        }
+        StmtKind::Continue => {
+            go_on(&mut run.machine);
+            Ok(())
+        }
+        StmtKind::Return(value) => Ok(put_return(&mut run.machine, s.place, value.as_ref())?),
     }
 }
 

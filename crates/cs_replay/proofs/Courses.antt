@@ -17,7 +17,7 @@ use Rattle.cs_cfg.specs.Lowered.{HasGraphs}
 use Rattle.cs_cfg.specs.Working.{CodeState}
 use Rattle.cs_replay.specs.declared.replayer.Replayer.{Replayer}
 use Rattle.cs_replay.specs.declared.replays.Course.{Course}
-use Rattle.cs_reference.specs.RunView.{run_of}
+use Rattle.cs_runner.specs.RunView.{run_of}
 use Rattle.cs_replay.specs.ReplayerView.{program_of, budgets_of, code_of, state_in, IsReady, KeepsSetting}
 use Rattle.cs_replay.specs.RunLengths.{HasLeft}
 use Rattle.cs_replay.proofs.Lengths.{counted, counts_left, one_less}

@@ -10,7 +10,7 @@ use Rattle.cs_run_log.specs.declared.logs.Stop.{Stop}
 use Rattle.cs_run_log.specs.declared.logs.Stop.TheVariants as stop
 use Rattle.cs_run_log.specs.LogView.{setting_of, log_of}
 use Rattle.cs_run_state.specs.MachineView.{frame_of}
-use Rattle.cs_reference.specs.RunnerView as runner
+use Rattle.cs_runner.specs.RunnerView as runner
 use Rattle.cs_cfg.specs.declared.code.Code.{Code}
 use Rattle.cs_cfg.specs.Graph as graph
 use Rattle.cs_cfg.specs.Graph.{Point}

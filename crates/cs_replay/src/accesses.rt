@@ -3,15 +3,15 @@ ghost use Rattle.std.specs.Prelude.{◌≡◌};
 ghost use Rattle.cs_objects.specs.AccessView as view;
 ghost use Rattle.cs_cfg.specs.Graph as graph;
 ghost use Rattle.cs_cfg.specs.GraphView.{access};
-ghost use Rattle.cs_reference.specs.RunnerView.{program_of, budgets_of, state_in, IsReady, Performs};
+ghost use Rattle.cs_runner.specs.RunnerView.{program_of, budgets_of, state_in, IsReady, Performs};
 ghost use Rattle.cs_replay.specs.Works.{works};
 
 use cs_ast::Place;
 use cs_ast::typed::operator::{BinOp, Direction, Gives};
 use cs_cfg::Access;
 use cs_objects::access;
-use cs_reference::runner::Runner;
 use cs_run_log::Stop;
+use cs_runner::runner::Runner;
 use cs_types::IntType;
 
 /// A load (C11 6.3.2.1).

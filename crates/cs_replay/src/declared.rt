@@ -1,7 +1,7 @@
 //! Locals that become unset or zero, and what is stored in declared objects (C11 6.2.4, paragraph 6; 6.7.9).
 ghost use Rattle.cs_types.specs.Shape.{shape_of};
 ghost use Rattle.cs_cfg.specs.Graph as graph;
-ghost use Rattle.cs_reference.specs.RunnerView.{program_of, budgets_of, state_in, IsReady, Performs};
+ghost use Rattle.cs_runner.specs.RunnerView.{program_of, budgets_of, state_in, IsReady, Performs};
 ghost use Rattle.cs_replay.specs.Works.{works};
 
 use cs_ast::Place;
@@ -9,8 +9,8 @@ use cs_frames::frames::number_of;
 use cs_memory::access::touch_store;
 use cs_objects::blocks::Fill;
 use cs_positions::if_local;
-use cs_reference::runner::Runner;
 use cs_run_log::{Stop, Touch};
+use cs_runner::runner::Runner;
 use cs_types::CType;
 
 /// A local becomes unset, which is a touch where it is a scalar (C11 6.2.4, paragraph 6).

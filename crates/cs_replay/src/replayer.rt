@@ -2,8 +2,8 @@
 
 use cs_cfg::Code;
 use cs_positions::Position;
-use cs_reference::runner::Runner;
 use cs_run_state::machine::Frame;
+use cs_runner::runner::Runner;
 
 /// A frame that waits for the value of a call, and how far it has come.
 #[derive(Drop)]

@@ -9,7 +9,7 @@ ghost use Rattle.cs_cfg.specs.GraphView as view;
 ghost use Rattle.cs_cfg.specs.Lowered.{HasGraphs, IsLowered};
 ghost use Rattle.cs_objects.specs.Prepared.{IsReady};
 ghost use Rattle.cs_run_log.specs.LogView.{log_of};
-ghost use Rattle.cs_reference.specs.RunView.{run_of};
+ghost use Rattle.cs_runner.specs.RunView.{run_of};
 ghost use Rattle.cs_replay.specs.RunLengths.{HasLength, HasLength-prop};
 
 use crate::refusal::ReplayRefusal;

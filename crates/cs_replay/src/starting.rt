@@ -7,7 +7,7 @@ ghost use Rattle.cs_cfg.specs.Graph.{no_flow};
 ghost use Rattle.cs_cfg.specs.GraphView as view;
 ghost use Rattle.cs_objects.specs.Prepared.{IsReady};
 ghost use Rattle.cs_run_log.specs.LogView.{log_of};
-ghost use Rattle.cs_reference.specs.RunView.{run_of};
+ghost use Rattle.cs_runner.specs.RunView.{run_of};
 ghost use Rattle.cs_positions.specs.Nexts.{flow_found};
 ghost use Rattle.cs_replay.specs.ReplayerView.{state_in};
 
@@ -17,9 +17,9 @@ use cs_cfg::{Code, Flow};
 use cs_frames::starting::start;
 use cs_objects::Setting;
 use cs_positions::{Position, flow_at};
-use cs_reference::runner::Runner;
 use cs_run_log::Log;
 use cs_run_state::machine::{Frame, Machine};
+use cs_runner::runner::Runner;
 use std::alloc::{AllocError, Global};
 
 /// A run in the first frame of an entry, whose parameters hold the values of their paths. An entry without a graph has nothing to do.

@@ -5,15 +5,15 @@ ghost use Rattle.cs_meaning.specs.Machine as machine;
 ghost use Rattle.cs_events.specs.Acts.{Goes};
 ghost use Rattle.cs_values.specs.View.{cell_of};
 ghost use Rattle.cs_cfg.specs.Graph as graph;
-ghost use Rattle.cs_reference.specs.RunnerView.{program_of, budgets_of, state_in, Performs};
+ghost use Rattle.cs_runner.specs.RunnerView.{program_of, budgets_of, state_in, Performs};
 ghost use Rattle.cs_replay.specs.Works.{works};
 
 use cs_ast::Place;
 use cs_ast::typed::operator::{BinOp, CmpOp, Direction, Order, UnOp};
 use cs_events::Label;
 use cs_frames::frames::number_of;
-use cs_reference::runner::Runner;
 use cs_run_log::Stop;
+use cs_runner::runner::Runner;
 use cs_types::{CType, IntType};
 use cs_values::constants::{truth_cell, unary_operation};
 use cs_values::{Cell, Object, Operand, stride_of};

@@ -6,7 +6,7 @@ ghost use Rattle.cs_cfg.specs.Graph as graph;
 ghost use Rattle.cs_cfg.specs.GraphView as view;
 ghost use Rattle.cs_cfg.specs.Working as working;
 ghost use Rattle.cs_values.specs.View.{operand_of};
-ghost use Rattle.cs_reference.specs.RunnerView.{program_of, budgets_of, state_in, IsReady, Performs};
+ghost use Rattle.cs_runner.specs.RunnerView.{program_of, budgets_of, state_in, IsReady, Performs};
 ghost use Rattle.cs_replay.specs.Works.{works};
 
 use crate::accesses::{assign, fetch_number, fetch_pointer, load, move_pointer, update};
@@ -19,8 +19,8 @@ use cs_ast::Place;
 use cs_ast::typed::operator::Allocator;
 use cs_cfg::Work;
 use cs_events::PointKind;
-use cs_reference::runner::Runner;
 use cs_run_log::{Stop, Touch};
+use cs_runner::runner::Runner;
 use cs_values::{Cell, Object, Operand};
 
 /// Does what an operation does that is no call; a call goes on in another frame, and here does nothing.

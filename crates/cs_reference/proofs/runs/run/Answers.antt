@@ -21,7 +21,7 @@ loop-outcome-preserved c =
     let before = log_of c.loop-outcome.runner.log in
     let goes_on : Setting → Type 0 = λ s.
     perform (setting_of s) before (step (typed_program s.program.now) s.budgets last)
-    ≡ Continues (state_of c.step.new.self.machine) (log_of c.step.new.self.log) in
+    ≡ Continues (state_of c.step.new.run.machine) (log_of c.step.new.run.log) in
     record {
       leads = leads_on (step (typed_program c.args.setting.now.program.now) c.args.setting.now.budgets) (setting_of c.args.setting.now)
           c.loop-outcome.invariant.leads (goes (subst goes_on c.loop-outcome.invariant.kept c.in-Ok.ensures.ok) (stays refl refl));
@@ -32,13 +32,13 @@ pub loop-outcome-smaller : goal.loop-outcome-smaller
 loop-outcome-smaller c =
     let setting = c.loop-outcome.runner.setting.now in
     rw c.in-Ok.ensures.kept (fewer_left (typed_program setting.program.now) setting.budgets (setting_of setting) (state_of c.loop-outcome.runner.machine)
-    (state_of c.step.new.self.machine) (log_of c.loop-outcome.runner.log) (log_of c.step.new.self.log) c.in-Ok.ensures.ok)
+    (state_of c.step.new.run.machine) (log_of c.loop-outcome.runner.log) (log_of c.step.new.run.log) c.in-Ok.ensures.ok)
 
 pub returns-in-Err-Outcome : goal.returns-in-Err-Outcome
 returns-in-Err-Outcome c =
     let last = state_of c.loop-outcome.runner.machine in
     let before = log_of c.loop-outcome.runner.log in
     let ends : Setting → Type 0 = λ s.
-    perform (setting_of s) before (step (typed_program s.program.now) s.budgets last) ≡ Finishes c.in-Err-Outcome.outcome (log_of c.step.new.self.log) in
+    perform (setting_of s) before (step (typed_program s.program.now) s.budgets last) ≡ Finishes c.in-Err-Outcome.outcome (log_of c.step.new.run.log) in
     let ended = rw c.in-Err-Outcome.field-0-is at c.in-Err-Outcome.ensures.err in
     record { last = last; before = before; leads = c.loop-outcome.invariant.leads; finishes = subst ends c.loop-outcome.invariant.kept ended }

@@ -6,7 +6,7 @@ use Rattle.cs_meaning.specs.Steps.{step}
 use Rattle.cs_meaning.specs.ProgramRuns as meaning
 use Rattle.cs_run_log.specs.LogView.{setting_of, log_of}
 use Rattle.cs_run_state.specs.MachineView.{state_of}
-use Rattle.cs_reference.specs.RunView.{run_of}
+use Rattle.cs_runner.specs.RunView.{run_of}
 use Rattle.cs_reference.proofs.Remaining.{steps_left}
 use Rattle.cs_reference.proofs.runs.run.Given as goal
 

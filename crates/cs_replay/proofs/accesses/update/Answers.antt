@@ -3,7 +3,7 @@ use Rattle.cs_meaning.specs.Access.{Access}
 use Rattle.cs_run_state.specs.MachineView.{state_of}
 use Rattle.cs_run_log.specs.Pieces.{LeadsOrEnds}
 use Rattle.cs_run_state.specs.Updates.{update_act}
-use Rattle.cs_reference.specs.RunnerView.{program_of, state_in}
+use Rattle.cs_runner.specs.RunnerView.{program_of, state_in}
 use Rattle.cs_replay.proofs.Stepping.{on_ok}
 use Rattle.cs_replay.proofs.accesses.update.Goals as goal
 

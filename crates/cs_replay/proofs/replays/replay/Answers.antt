@@ -2,7 +2,7 @@ use Rattle.std.proofs.Common.{refl}
 use Rattle.cs_ast.specs.TypedProgram.{typed_program}
 use Rattle.cs_meaning.specs.Machine.{routine_of}
 use Rattle.cs_run_log.specs.LogView.{log_of}
-use Rattle.cs_reference.specs.RunView.{run_of}
+use Rattle.cs_runner.specs.RunView.{run_of}
 use Rattle.cs_cfg.specs.Graph.{flow_of}
 use Rattle.cs_cfg.specs.GraphView as view
 use Rattle.cs_replay.proofs.Entering.{no_body}

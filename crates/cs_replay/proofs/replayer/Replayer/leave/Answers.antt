@@ -10,7 +10,7 @@ use Rattle.cs_run_log.specs.LogView.{setting_of, log_of}
 use Rattle.cs_cfg.specs.declared.code.Code.{Code}
 use Rattle.cs_cfg.specs.Graph.{Point}
 use Rattle.cs_cfg.specs.Working.{CodeState}
-use Rattle.cs_reference.specs.declared.runner.Runner.{Runner}
+use Rattle.cs_runner.specs.declared.runner.Runner.{Runner}
 use Rattle.cs_replay.specs.FrameChanges.{back_in}
 use Rattle.cs_replay.specs.ReplayerView.{caller_of, state_in}
 use Rattle.cs_replay.proofs.Leading.{arrives, goes_so, stops_so}

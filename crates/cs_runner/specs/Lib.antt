@@ -1,0 +1,2 @@
+pub mod RunView
+pub mod RunnerView
