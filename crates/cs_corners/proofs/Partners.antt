@@ -55,7 +55,7 @@ module _ (sets : Sets) (left right : Lin) (s t : Sym) (left_over : left.sym ≡ 
   abbrev mine : Pair
   mine = pair_under left right v
 
-  -- two corners of which the first is this one pass a test if all such pairs do
+  -- two corners pass a test if their pairs of operands do
   two : (test : Pair → Pair → Bool) (p q p' q' : ℤ) → IsEnd sets s p → IsEnd sets t q → IsEnd sets s p' → IsEnd sets t q'
       → test (value_at left p, value_at right q) (value_at left p', value_at right q') ≡ true → HasTwo sets left right v test
   two test p q p' q' p_end q_end p'_end q'_end passed = record {
@@ -69,7 +69,7 @@ module _ (sets : Sets) (left right : Lin) (s t : Sym) (left_over : left.sym ≡ 
         passed;
   }
 
-  -- what a corner with another pair of operands passes, the pairs being spread with some second one
+  -- a corner with another pair of operands than the first: with some second corner the pairs don't lie on one line. It passes what it passes with any pair
   partner : (test : Pair → Pair → Bool) (p o q r : ℤ) → IsFrame p o q r → (mine ≢ (value_at left p, value_at right q))
       → ((pair : Pair) → test (value_at left p, value_at right q) pair ≡ true)
       → HasTwo sets left right v (λ first second. are_spread mine (Two first second) && test first second)
@@ -91,8 +91,7 @@ module _ (sets : Sets) (left right : Lin) (s t : Sym) (left_over : left.sym ≡ 
 
   -- a truth that differs at two opposite corners differs from that of the first pair at one of them
   pub tested : (test : Pair → Bool) (p o q r : ℤ) → IsFrame p o q r → (b : Bool) → test (value_at left p, value_at right q) ≡ b
-      → test (value_at left o, value_at right r) ≡ not b
-      → Tested test
+      → test (value_at left o, value_at right r) ≡ not b → Tested test
   tested test p o q r h b here there = by b (test mine) refl here there
     where
       clash : (x : Bool) (pair : Pair) → test mine ≡ x → test pair ≡ not x → mine ≢ pair
@@ -103,12 +102,10 @@ module _ (sets : Sets) (left right : Lin) (s t : Sym) (left_over : left.sym ≡ 
       disagree true pair other e f = or_first (disagrees (test pair) (test mine)) (disagrees (test other) (test mine)) (rw (e, f) refl)
       disagree false pair other e f = or_first (disagrees (test pair) (test mine)) (disagrees (test other) (test mine)) (rw (e, f) refl)
 
-      at_first : (x : Bool) → test mine ≡ x → test (value_at left p, value_at right q) ≡ not x
-          → Tested test
+      at_first : (x : Bool) → test mine ≡ x → test (value_at left p, value_at right q) ≡ not x → Tested test
       at_first x e f = partner (λ first second. truth_differs test mine (Two first second)) p o q r h (clash x _ e f) (λ pair. disagree x _ pair e f)
 
-      at_second : (x : Bool) → test mine ≡ x → test (value_at left o, value_at right r) ≡ not x
-          → Tested test
+      at_second : (x : Bool) → test mine ≡ x → test (value_at left o, value_at right r) ≡ not x → Tested test
       at_second x e f =
           partner (λ first second. truth_differs test mine (Two first second)) o p r q (turned p o q r h) (clash x _ e f) (λ pair. disagree x _ pair e f)
 
@@ -119,7 +116,7 @@ module _ (sets : Sets) (left right : Lin) (s t : Sym) (left_over : left.sym ≡ 
       by true false e f g = at_first false e f
       by false true e f g = at_first true e f
 
-  -- some corner has another pair of operands
+  -- some two corners don't lie on one line with the first pair
   pub spread : (p o q r : ℤ) → IsFrame p o q r → HasTwo sets left right v (λ first second. are_spread mine (Two first second))
   spread p o q r h = elim (same_or_not (value_at left p) mine.0) [
     | inr other ↦ two (λ first second. are_spread mine (Two first second)) p q p r h.p_end h.q_end h.p_end h.r_end
@@ -134,9 +131,9 @@ module _ (sets : Sets) (left right : Lin) (s t : Sym) (left_over : left.sym ≡ 
   -- the difference of the operands isn't above 0 at one corner and isn't below it at the opposite one
   pub met : (p o q r : ℤ) → IsFrame p o q r → gap (value_at left p, value_at right q) ≤ℤ pos 0
       → pos 0 ≤ℤ gap (value_at left o, value_at right r)
-      → gap (value_at left p, value_at right q) <ℤ gap (value_at left o, value_at right r)
-      → Met
-  met p o q r h under over order = by_lt_z (pos 0) (gap mine) above (λ low. by_lt_z (gap mine) (gap (value_at left o, value_at right r)) (below low) (at low))
+      → gap (value_at left p, value_at right q) <ℤ gap (value_at left o, value_at right r) → Met
+  met p o q r h under over order =
+      by_lt_z (pos 0) (gap mine) above (λ low. by_lt_z (gap mine) (gap (value_at left o, value_at right r)) (high_corner low) (at low))
     where
       differ : (one other : Pair) → gap one <ℤ gap other → one ≢ other
       differ one other lt e = let same : gap one ≡ gap other = ap gap e in absurd (omega (arith, ints))
@@ -160,9 +157,6 @@ module _ (sets : Sets) (left right : Lin) (s t : Sym) (left_over : left.sym ≡ 
 
       above : pos 0 <ℤ gap mine → Met
       above lt = low_corner (omega (arith, ints)) (omega (arith, ints))
-
-      below : gap mine ≤ℤ pos 0 → gap mine <ℤ gap (value_at left o, value_at right r) → Met
-      below low lt = high_corner low lt
 
       at : gap mine ≤ℤ pos 0 → gap (value_at left o, value_at right r) ≤ℤ gap mine → Met
       at low le = low_corner (omega (arith, ints)) (omega (arith, ints))
