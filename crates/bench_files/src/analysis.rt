@@ -2,6 +2,7 @@
 //! many functions were explored, how many rows their graphs have, how many findings are shown, and how many suspects were dropped, since
 //! their runs don't end as the exploration said.
 
+ghost use Rattle.cs_analysis.specs.Integers.{KeepsToIntegers};
 ghost use Rattle.cs_ast.specs.TypedProgram.{typed_program};
 ghost use Rattle.cs_cfg.specs.GraphView as view;
 ghost use Rattle.cs_cfg.specs.Lowered.{IsLowered};
@@ -106,6 +107,7 @@ fn checked(
     requires laid_out { IsLaidOut program.now.model program.now.table.list }
     requires prepared { IsPrepared prepared.now program.now }
     requires lowered { IsLowered (view.code code.now) (typed_program program.now) }
+    requires integers { KeepsToIntegers (view.code code.now) (typed_program program.now) }
     requires nodes { budgets.nodes ≤ 200000 }
 {
     let mut list: Vec<Box<dyn Checker>> = Vec::new(alloc);
@@ -134,6 +136,7 @@ fn counts_of(
     requires laid_out { IsLaidOut program.now.model program.now.table.list }
     requires prepared { IsPrepared prepared.now program.now }
     requires lowered { IsLowered (view.code code.now) (typed_program program.now) }
+    requires integers { KeepsToIntegers (view.code code.now) (typed_program program.now) }
     requires nodes { budgets.nodes ≤ 200000 }
 {
     let mut counts = Counts::default();

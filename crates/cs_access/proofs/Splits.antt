@@ -218,7 +218,7 @@ pub rest_is : (before : State) (subject : Subject) (kinds : List Kind) (parts : 
 rest_is before subject kinds parts good all Whole split none is =
     none_faulty before subject kinds (subst (AreFaults before subject kinds) (none is) split.faults)
 rest_is before subject kinds parts good all (Part part) split none is =
-    part_same before _ (λ v. not (is_faulty kinds subject v)) part split.good_values is
+    part_same before _ (λ v. not (is_faulty kinds subject v)) part.value split.good_values is
 rest_is before subject kinds parts good all Nothing split none is =
     λ v fits. not_turned _ (is_faulty kinds subject v) (split.good_values v fits) (is v fits)
 
@@ -271,7 +271,7 @@ module _ (before : State) (subject : Subject) (can : CanCheck before.constraints
       → IsRest before subject (kinds_of found) rest → IsRest before subject kinds rest
   rest_of_all kinds found Whole are is = λ v fits. sym (same_faulty kinds found are v fits) ∙ is v fits
   rest_of_all kinds found (Part part) are is =
-      part_same before _ (λ v. not (is_faulty kinds subject v)) part (λ v fits. ap not (same_faulty kinds found are v fits)) is
+      part_same before _ (λ v. not (is_faulty kinds subject v)) part.value (λ v fits. ap not (same_faulty kinds found are v fits)) is
   rest_of_all kinds found Nothing are is = λ v fits. sym (same_faulty kinds found are v fits) ∙ is v fits
 
 -- what is listed are the faulty values

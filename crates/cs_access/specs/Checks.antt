@@ -69,7 +69,7 @@ AreFaults before subject (kind ∷ kinds) parts =
 -- what is left where the operation isn't faulty for any of the kinds
 abbrev pub IsRest : State → Subject → List Kind → Rest → Type 0
 IsRest before subject kinds Whole = (v : Valuation) → Fits v before.constraints → is_faulty kinds subject v ≡ false
-IsRest before subject kinds (Part state) = IsPart before (λ v. not (is_faulty kinds subject v)) state
+IsRest before subject kinds (Part part) = IsPart before (λ v. not (is_faulty kinds subject v)) part.value
 IsRest before subject kinds Nothing = (v : Valuation) → Fits v before.constraints → is_faulty kinds subject v ≡ true
 
 -- each checker has counted one question
@@ -87,5 +87,5 @@ IsTakenOut state term kind set before after =
 -- what is left where the term has a value of the set, or all
 abbrev pub IsRestIn : State → Lin → List Interval → Bool → Rest → Type 0
 IsRestIn state term set all Whole = all ≡ true
-IsRestIn state term set all (Part part) = IsPart state (λ v. contains set (value_of v term)) part
+IsRestIn state term set all (Part part) = IsPart state (λ v. contains set (value_of v term)) part.value
 IsRestIn state term set all Nothing = (v : Valuation) → Fits v state.constraints → contains set (value_of v term) ≡ false

@@ -25,7 +25,7 @@ pub enum Rest {
     /// All of them: the state as it was.
     Whole,
     /// Some of them.
-    Part(State),
+    Part(Box<State>),
     /// None.
     Nothing,
 }
@@ -140,7 +140,7 @@ fn split(
         take_out(state, term, *kind, values, &mut faults)?;
         good = without(good, values)?;
     }
-    let rest = rest_of(state, term, &good, faults.is_empty())?;
+    let rest = rest_of(alloc, state, term, &good, faults.is_empty())?;
     Ok(Checked { faults, rest })
 }
 
@@ -181,7 +181,13 @@ fn without(good: RangeSet, bad: &RangeSet) -> Result<RangeSet, AllocError>
 }
 
 // The part of a state in which a term has a good value; all of it where all values are good.
-fn rest_of(state: &State, term: Lin, good: &RangeSet, all: bool) -> Result<Rest, AllocError>
+fn rest_of(
+    alloc: Global,
+    state: &State,
+    term: Lin,
+    good: &RangeSet,
+    all: bool,
+) -> Result<Rest, AllocError>
     requires { IsKnown state.now.constraints term }
     ensures { IfOk result (λ rest. IsRestIn state.now term good.now all rest) }
 {
@@ -189,7 +195,7 @@ fn rest_of(state: &State, term: Lin, good: &RangeSet, all: bool) -> Result<Rest,
         return Ok(Rest::Whole);
     }
     match state.narrowed(term, good)? {
-        Some(state) => Ok(Rest::Part(state)),
+        Some(state) => Ok(Rest::Part(Box::new(alloc, state)?)),
         None => Ok(Rest::Nothing),
     }
 }

@@ -8,9 +8,8 @@ ghost use Rattle.cs_coverage.specs.Positions.{CoversPositions};
 ghost use Rattle.cs_findings.specs.EveryRun.{MissesNothing};
 ghost use Rattle.cs_findings.specs.GoodEntries.{IsGoodEntry};
 ghost use Rattle.cs_findings.specs.Runs.{run_budgets};
-ghost use Rattle.cs_integer_functions.specs.IntegerFunctions.{IsIntegerFunction};
 ghost use Rattle.cs_operators.specs.Asking.{HasEveryKind};
-ghost use Rattle.cs_cfg.specs.IntegerCode.{HasIntegerCode};
+ghost use Rattle.cs_analysis.specs.Integers.{KeepsToIntegers};
 ghost use Rattle.cs_analysis.specs.Whole.{IsAllOf};
 ghost use Rattle.cs_witness.specs.Entries.{CanRun};
 
@@ -20,7 +19,6 @@ use cs_engine::{Exploration, explore};
 use cs_explored::Explored;
 use cs_findings::EntryResult;
 use cs_inputs::Inputs;
-use cs_integer_code::has_integer_code;
 use cs_integer_functions::is_integer_function;
 use cs_objects::Setting;
 use cs_progress::Context;
@@ -39,14 +37,16 @@ pub struct Analysis {
 /// Explores the runs of an entry, and gives what is shown of its ends: each end that the exploration finds is replayed and judged, so
 /// nothing has to be known of it for the findings to be true.
 ///
-/// Of an entry that works with integers alone, no run is left out. The exploration covers its runs; that its code works with integers alone
-/// too, and that each end which is a fault or a budget was shown, is asked here. No test has met a no, which would be want of memory.
+/// Of an entry that works with integers alone, no run is left out. The exploration covers its runs, since its code works with integers alone
+/// too; that each end which is a fault or a budget was shown is asked here. No test has met a no, which would be want of memory.
 pub fn analyze(
     alloc: Global,
     entry: &Entry,
     checkers: &mut Vec<Box<dyn Checker>>,
 ) -> Result<Analysis, AllocError>
     requires runs { CanRun entry.now }
+    requires integers { KeepsToIntegers (view.code entry.now.code.now)
+        (typed_program entry.now.program.now) }
     requires nodes { entry.now.budgets.nodes ≤ 200000 }
     ensures good { IfOk result (λ analysis. IsGoodEntry
         (typed_program entry.now.program.now) entry.now.budgets analysis.witnessed.result) }
@@ -59,7 +59,7 @@ pub fn analyze(
     ensures kinds { map (λ b. kind_of b) checkers.new.items
         ≡ map (λ b. kind_of b) checkers.old.items }
 {
-    let is_integer = works_with_integers(entry)?;
+    let is_integer = is_integer_function(entry.program, entry.function);
     let explored = explored(alloc, entry, checkers)?;
     let found = suspects(alloc, &explored)?;
     let cuts = listed(alloc, &explored.cuts)?;
@@ -67,24 +67,6 @@ pub fn analyze(
     let witnessed = result(alloc, entry, &found, cuts)?;
     refuse_lost(is_integer, &explored, &witnessed.result)?;
     Ok(Analysis { witnessed, rows })
-}
-
-// Whether the entry works with integers alone. Its code then does so, too.
-fn works_with_integers(entry: &Entry) -> Result<bool, AllocError>
-    ensures function { IfOk result (λ is_integer. IsIntegerFunction
-        (typed_program entry.now.program.now) entry.now.function → is_integer ≡ true) }
-    ensures code { IfOk result (λ is_integer. is_integer ≡ true
-        → HasIntegerCode (view.code entry.now.code.now)
-        (typed_program entry.now.program.now) entry.now.function) }
-{
-    if !is_integer_function(entry.program, entry.function) {
-        return Ok(false);
-    }
-    if has_integer_code(entry.program, entry.code, entry.function) {
-        Ok(true)
-    } else {
-        Err(AllocError)
-    }
 }
 
 // Nothing that an exploration of integers has found is lost.

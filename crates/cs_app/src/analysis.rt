@@ -7,6 +7,7 @@ ghost use Rattle.cs_objects.specs.Prepared.{IsPrepared};
 ghost use Rattle.cs_types.specs.Layout.{IsLaidOut};
 ghost use Rattle.cs_generate.specs.GeneratedFile.{generated_file};
 ghost use Rattle.cs_well_formed.specs.Programs.{IsWellFormed};
+ghost use Rattle.cs_analysis.specs.Integers.{KeepsToIntegers};
 ghost use Rattle.cs_app.specs.Analyses as analyses;
 ghost use Rattle.cs_app.specs.Analyses.{AreGoodResults, IsAnalysis, IsAnalysisAnswer, IsSummary};
 
@@ -184,6 +185,7 @@ fn results_with(
     requires laid_out { IsLaidOut program.now.model program.now.table.list }
     requires prepared { IsPrepared prepared.now program.now }
     requires lowered { IsLowered (view.code code.now) (typed_program program.now) }
+    requires integers { KeepsToIntegers (view.code code.now) (typed_program program.now) }
     requires nodes { budgets.nodes ≤ 200000 }
     ensures good { IfOk result (λ results.
         AreGoodResults (map (λ b. kind_of b) checkers.old.items) (typed_program program.now)

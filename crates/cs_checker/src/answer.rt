@@ -46,7 +46,8 @@ impl Answer {
         first.is_none() && second.is_none()
     }
 
-    /// The fault is certain, or it can't be.
+    /// The fault is certain, or it can't be. It isn't inlined, since an answer is large: a checker that isn't concerned writes no condition.
+    #[inline(never)]
     #[tactic(auto, unfolding(cs_ranges::specs::RangeSet::contains, cs_ranges::specs::Interval::in_interval))]
     pub fn of_test(fault: bool) -> Answer
         ensures faults { (numbers : Valuation) → some_holds result.conds numbers ≡ fault }
@@ -78,6 +79,7 @@ impl Answer {
     }
 
     /// The fault occurs where the sum has a value in one of the intervals.
+    #[inline(never)]
     #[tactic(auto, unfolding(crate::specs::Answers::some_holds, crate::specs::Answers::HasTermsFor))]
     pub fn of_sum(term: Lin2, bad: [Interval; 2]) -> Answer
         ensures faults { (numbers : Valuation)

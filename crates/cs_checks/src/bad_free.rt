@@ -33,10 +33,10 @@ impl Checker for BadFreeChecker {
 
     fn examine(&mut self, subject: &Subject) -> Answer {
         self.examined = self.examined.saturating_add(1);
-        match *subject {
-            Subject::Release { block, offset } => released(block, offset),
-            _ => Answer::never(),
+        if let Subject::Release { block, offset } = subject {
+            return released(*block, *offset);
         }
+        Answer::never()
     }
 
     fn examined(&self) -> u64 {

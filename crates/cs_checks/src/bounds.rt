@@ -32,11 +32,13 @@ impl Checker for BoundsChecker {
 
     fn examine(&mut self, subject: &Subject) -> Answer {
         self.examined = self.examined.saturating_add(1);
-        match *subject {
-            Subject::Rest { term } => Answer::of_sum(term, [NEGATIVE, NO_NUMBER]),
-            Subject::Slot { fits } => Answer::of_test(!fits),
-            _ => Answer::never(),
+        if let Subject::Rest { term } = subject {
+            return Answer::of_sum(*term, [NEGATIVE, NO_NUMBER]);
         }
+        if let Subject::Slot { fits } = subject {
+            return Answer::of_test(!*fits);
+        }
+        Answer::never()
     }
 
     fn examined(&self) -> u64 {

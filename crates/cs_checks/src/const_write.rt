@@ -31,10 +31,10 @@ impl Checker for ConstWriteChecker {
 
     fn examine(&mut self, subject: &Subject) -> Answer {
         self.examined = self.examined.saturating_add(1);
-        match *subject {
-            Subject::Written { constant } => Answer::of_test(constant),
-            _ => Answer::never(),
+        if let Subject::Written { constant } = subject {
+            return Answer::of_test(*constant);
         }
+        Answer::never()
     }
 
     fn examined(&self) -> u64 {

@@ -31,12 +31,13 @@ impl Checker for DeadLocalChecker {
 
     fn examine(&mut self, subject: &Subject) -> Answer {
         self.examined = self.examined.saturating_add(1);
-        match *subject {
-            Subject::Reached {
-                standing: Standing::Ended,
-            } => Answer::of_test(true),
-            _ => Answer::never(),
+        if let Subject::Reached {
+            standing: Standing::Ended,
+        } = subject
+        {
+            return Answer::of_test(true);
         }
+        Answer::never()
     }
 
     fn examined(&self) -> u64 {

@@ -32,10 +32,10 @@ impl Checker for DivideChecker {
 
     fn examine(&mut self, subject: &Subject) -> Answer {
         self.examined = self.examined.saturating_add(1);
-        match *subject {
-            Subject::Divisor { term } => Answer::of_term(term, [ZERO, NO_NUMBER]),
-            _ => Answer::never(),
+        if let Subject::Divisor { term } = subject {
+            return Answer::of_term(*term, [ZERO, NO_NUMBER]);
         }
+        Answer::never()
     }
 
     fn examined(&self) -> u64 {

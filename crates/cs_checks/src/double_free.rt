@@ -31,13 +31,14 @@ impl Checker for DoubleFreeChecker {
 
     fn examine(&mut self, subject: &Subject) -> Answer {
         self.examined = self.examined.saturating_add(1);
-        match *subject {
-            Subject::Release {
-                block: Freeable::Freed,
-                ..
-            } => Answer::of_test(true),
-            _ => Answer::never(),
+        if let Subject::Release {
+            block: Freeable::Freed,
+            ..
+        } = subject
+        {
+            return Answer::of_test(true);
         }
+        Answer::never()
     }
 
     fn examined(&self) -> u64 {

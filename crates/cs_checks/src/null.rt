@@ -33,11 +33,13 @@ impl Checker for NullChecker {
 
     fn examine(&mut self, subject: &Subject) -> Answer {
         self.examined = self.examined.saturating_add(1);
-        match *subject {
-            Subject::Through { null } => Answer::of_test(null),
-            Subject::Move { null, amount } => moved(null, amount),
-            _ => Answer::never(),
+        if let Subject::Through { null } = subject {
+            return Answer::of_test(*null);
         }
+        if let Subject::Move { null, amount } = subject {
+            return moved(*null, *amount);
+        }
+        Answer::never()
     }
 
     fn examined(&self) -> u64 {

@@ -32,10 +32,10 @@ impl Checker for ShiftChecker {
 
     fn examine(&mut self, subject: &Subject) -> Answer {
         self.examined = self.examined.saturating_add(1);
-        match *subject {
-            Subject::Shift { count, width } => Answer::of_term(count, [NEGATIVE, at_least(width)]),
-            _ => Answer::never(),
+        if let Subject::Shift { count, width } = subject {
+            return Answer::of_term(*count, [NEGATIVE, at_least(*width)]);
         }
+        Answer::never()
     }
 
     fn examined(&self) -> u64 {

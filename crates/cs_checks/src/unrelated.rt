@@ -31,10 +31,10 @@ impl Checker for UnrelatedChecker {
 
     fn examine(&mut self, subject: &Subject) -> Answer {
         self.examined = self.examined.saturating_add(1);
-        match *subject {
-            Subject::Pair { same } => Answer::of_test(!same),
-            _ => Answer::never(),
+        if let Subject::Pair { same } = subject {
+            return Answer::of_test(!*same);
         }
+        Answer::never()
     }
 
     fn examined(&self) -> u64 {

@@ -31,10 +31,10 @@ impl Checker for UnsetChecker {
 
     fn examine(&mut self, subject: &Subject) -> Answer {
         self.examined = self.examined.saturating_add(1);
-        match *subject {
-            Subject::Cell { unset } => Answer::of_test(unset),
-            _ => Answer::never(),
+        if let Subject::Cell { unset } = subject {
+            return Answer::of_test(*unset);
         }
+        Answer::never()
     }
 
     fn examined(&self) -> u64 {

@@ -128,5 +128,5 @@ AddsFaulty place parts before after = (ends : List StateEnd) × Adds before afte
 -- what is left of a state goes on, if anything is left
 abbrev pub GoesOn : Rest → Bool → State → State → Type 0
 GoesOn Whole goes before after = (goes ≡ true) × (after ≡ before)
-GoesOn (Part state) goes before after = (goes ≡ true) × (after ≡ state)
+GoesOn (Part part) goes before after = (goes ≡ true) × (after ≡ part.value)
 GoesOn Nothing goes before after = (goes ≡ false) × (after ≡ before)

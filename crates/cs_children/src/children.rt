@@ -154,7 +154,7 @@ impl Children {
         match rest {
             Rest::Whole => Ok(true),
             Rest::Part(rest) => {
-                *state = rest;
+                *state = Box::into_inner(rest);
                 Ok(true)
             }
             Rest::Nothing => Ok(false),

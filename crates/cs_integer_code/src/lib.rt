@@ -1,9 +1,9 @@
-//! Code that works with integers alone, as flow graphs show it.
-//!
-//! A function of a program that works with integers alone (`cs_integer_functions`) has such code. That isn't proved of the lowering, so an
-//! analysis asks.
+//! A law about well-formed programs: the code of a function that works with integers alone does so, too.
 #![tactic(auto)]
 
-mod code;
+ghost use Rattle.cs_integer_code.specs.IntegerCode.{IntegerFunctionsHaveIntegerCode};
 
-pub use code::has_integer_code;
+/// In a well-formed program, the function that works with integers alone has code that does so, as lowering makes it.
+pub fn integer_functions_have_integer_code()
+    ensures { IntegerFunctionsHaveIntegerCode }
+{}

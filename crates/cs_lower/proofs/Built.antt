@@ -14,6 +14,7 @@ use Rattle.cs_cfg.specs.Placing.{does}
 use Rattle.cs_cfg.proofs.Fitting.{adds_among}
 use Rattle.cs_lower.specs.Building.{Built, blocks, Has, Grows}
 use Rattle.cs_lower.specs.Sealing.{Seals, SealsCountedPoint}
+use Rattle.cs_lower.proofs.Integers.{integers_past, integers_among}
 
 module _ {X : Type 0} where
   -- what is in a list stays where it is when more comes after
@@ -140,6 +141,7 @@ pushed old p = record {
   };
   is = λ flow has. has.others (length old.others) p (newest old.others p);
   adds = λ flow. adds_among (p ∷ blocks old) (old.heads ++ (old.others ++ p ∷ [])) (among_last p old.heads old.others);
+  integers = λ count. integers_among (among_last p old.heads old.others);
 }
 
 -- one more block of a counted point
@@ -163,6 +165,9 @@ pushed_counted_point old kind at p number is_last = record {
       let head = does at 0 (Reach kind number) p in
       subst (λ (k : ℕ). AddsPoints flow [] (does at 0 (Reach kind k) p ∷ blocks old) ((old.heads ++ head ∷ []) ++ old.others)) same
       (adds_among (head ∷ blocks old) ((old.heads ++ head ∷ []) ++ old.others) (among_middle head old.heads old.others));
+  integers = λ count.
+      let head = does at 0 (Reach kind number) p in
+      integers_past at 0 (Reach kind number) p tt (integers_among (among_middle head old.heads old.others));
 }
 
 -- a graph of all that was built

@@ -22,10 +22,12 @@ use Rattle.cs_objects.specs.declared.blocks.Piece.{Piece as CodePiece}
 use Rattle.cs_objects.specs.BlockView.{piece_of}
 use Rattle.cs_lower.specs.Allocations.{InitialHasArguments, InitialsHaveArguments, PiecesHaveArguments}
 use Rattle.cs_lower.specs.Building.{Built}
+use Rattle.cs_lower.specs.Integers.{PiecesAreOfIntegers}
 use Rattle.cs_lower.specs.Expressions.{Uses}
 use Rattle.cs_lower.specs.Statements.{labels_in, StoresPieces, Declares}
 use Rattle.cs_lower.proofs.Built.{nothing_more, grows_on}
 use Rattle.cs_lower.proofs.Evaluating.{same_after, same_before}
+use Rattle.cs_lower.proofs.Integers.{integers_same, integers_both, integers_past, integers_after, integers_before}
 
 all_have : (some more : List Piece) → PiecesHaveArguments some → PiecesHaveArguments more → PiecesHaveArguments (some ++ more)
 all_have [] more a b = b
@@ -66,6 +68,11 @@ stored_before program routine at declaration flow (Spelled offset bytes) others 
 first_has : (one : Piece) (others : List Piece) → PiecesHaveArguments (one ∷ others) → PiecesHaveArguments (one ∷ []) × PiecesHaveArguments others
 first_has (Evaluated offset e) others has = ((has.0, tt), has.1)
 first_has (Spelled offset bytes) others has = (tt, has)
+
+first_integers : (count : ℕ) (one : Piece) (others : List Piece) → PiecesAreOfIntegers count (one ∷ others)
+    → PiecesAreOfIntegers count (one ∷ []) × PiecesAreOfIntegers count others
+first_integers count (Evaluated offset e) others ints = ((ints.0, tt), ints.1)
+first_integers count (Spelled offset bytes) others ints = absurd ints
 
 -- the control points of an expression, and of a piece that is one
 module _ {flow : Flow} where
@@ -110,6 +117,7 @@ module _ {program : TypedProgram} {routine : Routine} where
         adds = λ flow has args following m.
             as_piece offset e following
             (adds_past at 0 store q refl (same_after is (h.adds flow has args.0 following (same_meets is (does_meets at 0 store q refl m)))));
+        integers = λ count below ints. integers_past at 0 store q below (integers_after is (h.integers count ints.0));
       }
 
   -- a text is stored
@@ -119,6 +127,7 @@ module _ {program : TypedProgram} {routine : Routine} where
     grows = nothing_more built;
     does = λ flow has args. (q, is, refl);
     adds = λ flow has args following m. same_before is (adds_silent at 0 (graph.Spell declaration offset bytes) q refl);
+    integers = λ count below ints. absurd ints;
   }
 
   pub stored_then : {at : Place} {declaration : ℕ} {one : Piece} {others : List Piece} {old mid new : Built} {p r q : Point}
@@ -134,6 +143,9 @@ module _ {program : TypedProgram} {routine : Routine} where
         let in_mid = first.grows.keeps flow has in
         let meets = stores_meet program flow routine (labels_in routine flow) others at declaration r q (rest.does flow in_mid both.1) m in
         adds_before one others following (rest.adds flow in_mid both.1 following m) (first.adds flow has both.0 (first_pieces others following) meets);
+    integers = λ count below ints.
+        let both = first_integers count one others ints in
+        integers_both (rest.integers count below both.1) (first.integers count below both.0);
   }
 
   -- one more of a row that is lowered from its end
@@ -156,6 +168,8 @@ module _ {program : TypedProgram} {routine : Routine} where
     grows = nothing_more built;
     does = λ flow has args. is;
     adds = λ flow has args to following m. same_before is (adds_silent at 0 (graph.Clear declaration (is_scalar (type_in routine declaration))) q refl);
+    integers = λ count below ints.
+        integers_before is (integers_past at 0 (graph.Clear declaration (is_scalar (type_in routine declaration))) q below integers_same);
   }
 
   pub declared_value : {at : Place} {declaration : ℕ} {e : Typed} {old new : Built} {p q : Point}
@@ -168,6 +182,7 @@ module _ {program : TypedProgram} {routine : Routine} where
         subst (λ r. used program flow e 0 p (does at 0 (graph.StoreLocal declaration 0 (type_of e) (is_scalar (type_in routine declaration))) r)) stored.2
         stored.1;
     adds = λ flow has args to following m. as_value 0 e following (h.adds flow has (args, tt) following m);
+    integers = λ count below ints. h.integers count below (ints, tt);
   }
 
   pub declared_parts : {at : Place} {declaration : ℕ} {initial : Initial} {parts : Initials} {old new : Built} {p r q : Point} → initial ≡ Parts parts
@@ -182,6 +197,7 @@ module _ {program : TypedProgram} {routine : Routine} where
         does = λ flow has args. (r, zeroed, stored.does flow has (pieces_have program (type_in routine declaration) 0 (Parts parts) args));
         adds = λ flow has args to following m. zeroed_first program (type_in routine declaration) (Parts parts) following zeroed
             (stored.adds flow has (pieces_have program (type_in routine declaration) 0 (Parts parts) args) following m);
+        integers = λ count below ints. absurd ints;
       }) h
 
   pub declared_text : {at : Place} {declaration : ℕ} {initial : Initial} {bytes : List ℕ} {old new : Built} {p r q : Point} → initial ≡ Bytes bytes
@@ -196,4 +212,5 @@ module _ {program : TypedProgram} {routine : Routine} where
         does = λ flow has args. (r, zeroed, stored.does flow has (pieces_have program (type_in routine declaration) 0 (Bytes bytes) args));
         adds = λ flow has args to following m. zeroed_first program (type_in routine declaration) (Bytes bytes) following zeroed
             (stored.adds flow has (pieces_have program (type_in routine declaration) 0 (Bytes bytes) args) following m);
+        integers = λ count below ints. absurd ints;
       }) h

@@ -1,5 +1,6 @@
 -- What is built of expressions, one after another: for the contracts of the functions that `lower_expression` calls.
-use Rattle.std.proofs.Common.{◌≡◌, ℕ, suc, ◌+◌, ◌-◌, ◌≤◌, pos, List, ◌∷◌, length, drop, get_or, drop-cons, refl, sym, ap, subst}
+use Rattle.std.proofs.Common.{◌≡◌, ℕ, ℤ, suc, ◌+◌, ◌-◌, ◌≤◌, pos, List, ◌∷◌, length, drop, get_or, drop-cons, refl, sym, ap}
+use Rattle.std.proofs.Common.{subst}
 use Rattle.std.proofs.Common.{◌∙◌, arith}
 use Rattle.cs_types.specs.Shape.{Shape, void}
 use Rattle.cs_ast.specs.declared.place.Place.{Place}
@@ -18,9 +19,11 @@ use Rattle.cs_cfg.proofs.Fitting.{adds_both, adds_past, then_nothing}
 use Rattle.cs_cfg.proofs.Meeting.{joins_meet, does_meets, split_meets, same_meets, use_meets, used_meets, all_meet}
 use Rattle.cs_lower.specs.Allocations.{HasArguments, AllHaveArguments}
 use Rattle.cs_lower.specs.Building.{jump_to, Built, blocks, Has}
+use Rattle.cs_lower.specs.Integers.{AddsIntegers}
 use Rattle.cs_lower.specs.Sealing.{Seals}
 use Rattle.cs_lower.specs.Expressions.{Evaluates, EvaluatesForm, Uses, UsesBoth, UsesAll, UsesIn}
 use Rattle.cs_lower.proofs.Built.{nothing_more, grows_on, adds_nothing}
+use Rattle.cs_lower.proofs.Integers.{integers_both, integers_end, integers_past, integers_after, used_integers}
 
 module _ {flow : Flow} {some : List ControlPoint} where
   -- the point after code may be seen as another that it is, and so may the point before it
@@ -29,6 +32,15 @@ module _ {flow : Flow} {some : List ControlPoint} where
 
   pub same_before : {old new : List Point} {p t : Point} → p ≡ t → AddsPoints flow some old (t ∷ new) → AddsPoints flow some old (p ∷ new)
   same_before {old = old} {new = new} is adds = subst (λ r. AddsPoints flow some old (r ∷ new)) (sym is) adds
+
+-- the two ways of `&&` and `||`, of which one makes a truth of a number and the other knows it, and the test before them
+judged_integers : {count one other : ℕ} {old sealed with_way with_both new : List Point} {q p : Point} (at : Place) (number end : ℕ) (known : ℤ)
+    → AddsIntegers count (q ∷ old) sealed → AddsIntegers count (does at number graph.Judge (jump_to end) ∷ sealed) with_way
+    → AddsIntegers count (does at number (graph.Number known) (jump_to end) ∷ with_way) with_both
+    → AddsIntegers count (split at number one other ∷ with_both) (p ∷ new) → AddsIntegers count (q ∷ old) (p ∷ new)
+judged_integers at number end known ends way knows tests =
+    integers_both ends (integers_both (integers_end (integers_past at number graph.Judge (jump_to end) tt way))
+    (integers_both (integers_end (integers_past at number (graph.Number known) (jump_to end) tt knows)) (integers_end tests)))
 
 module _ (program : TypedProgram) (flow : Flow) where
   -- a jump to a block that is a point
@@ -53,6 +65,7 @@ module _ {program : TypedProgram} where
     grows = h.grows;
     does = λ flow has args. used_is program flow e number p q (subst (λ s. evaluates program flow e number p s) is (h.does flow has args));
     adds = λ flow has args following m. adds_use e number q (same_after is (h.adds flow has args following (same_meets is (use_meets e number q m))));
+    integers = λ count ints. used_integers e number q ints (integers_after is (h.integers count ints));
   }
 
   -- an expression at the beginning of a block
@@ -62,6 +75,7 @@ module _ {program : TypedProgram} where
     grows = grows_on h.grows seals.grows;
     does = λ flow has args. subst (λ p. used program flow e number p q) (sym (seals.is flow has)) (h.does flow (seals.grows.keeps flow has) args);
     adds = λ flow has args following m. then_nothing (h.adds flow (seals.grows.keeps flow has) args following m) (seals.adds flow);
+    integers = λ count ints. integers_both (h.integers count ints) (seals.integers count);
   }
 
   -- two expressions
@@ -77,11 +91,17 @@ module _ {program : TypedProgram} where
             let in_mid = before.grows.keeps flow has in
             let other_meets = used_meets program flow other next r q (last.does flow in_mid args.1) m in
             adds_both (last.adds flow in_mid args.1 following m) (before.adds flow has args.0 (first other following) other_meets);
+        integers = λ count ints. integers_both (last.integers count ints.1) (before.integers count ints.0);
       }
 
   -- expressions in a row
   pub uses_none : (number : ℕ) (built : Built) (p : Point) → UsesAll program NoMore number built built p p
-  uses_none number built p = record { grows = nothing_more built; does = λ flow has args. refl; adds = λ flow has args following m. adds_nothing }
+  uses_none number built p = record {
+    grows = nothing_more built;
+    does = λ flow has args. refl;
+    adds = λ flow has args following m. adds_nothing;
+    integers = λ count ints. absurd ints;
+  }
 
   -- one more of a row that is lowered from its end
   pub uses_further : {here : ℕ} {old mid new : Built} {p r q : Point} (row : List Expr) (left number : ℕ) (e : Expr) → 1 ≤ left → left ≤ length row
@@ -109,6 +129,7 @@ module _ {program : TypedProgram} where
             let meets = all_meet program flow rest (left + number) r q (last.does flow in_mid both.1) m in
             subst (λ l. AddsPoints flow (points_in (typed_list l) following) (q ∷ blocks old) (p ∷ blocks new)) (sym cut)
             (adds_both (last.adds flow in_mid both.1 following m) (one.adds flow has both.0 (first_in rest following) meets));
+        integers = λ count ints. absurd ints;
       }
 
   -- the comma
@@ -127,6 +148,8 @@ module _ {program : TypedProgram} where
         let dropped = does_meets at number graph.Drop r refl (used_meets program flow b number r q (last.does flow in_mid args.1) m) in
         adds_both (last.adds flow in_mid args.1 following m)
         (adds_past at number graph.Drop r refl (same_after is (one.adds flow has args.0 (first b following) (same_meets is dropped))));
+    integers = λ count ints.
+        integers_both (last.integers count ints.1) (integers_past at number graph.Drop r tt (integers_after is (one.integers count ints.0)));
   }
 
   -- the ways of a branch, each of which ends with a jump to one block
@@ -159,6 +182,8 @@ module _ {program : TypedProgram} where
             let right = same_after judges (way.adds flow in_y args.1 following (same_meets judges truth)) in
             let left = same_after tests (test.adds flow has args.0 (met point.Branch at) (same_meets tests (split_meets at number one other))) in
             and_adds program flow at void number end following p q m a b (placed flow has args void) (ends.adds flow) right (knows.adds flow) left;
+        integers = λ count ints. judged_integers at number end (pos 0) (ends.integers count) (integers_after judges (way.integers count ints.1))
+            (knows.integers count) (integers_after tests (test.integers count ints.0));
       }
 
   pub ors : {at : Place} {a b : Typed} {number end one other : ℕ} {old x y z new : Built} {p q s t : Point} → Seals old x end q
@@ -189,6 +214,8 @@ module _ {program : TypedProgram} where
             let right = same_after judges (way.adds flow in_y args.1 following (same_meets judges truth)) in
             let left = same_after tests (test.adds flow has args.0 (met point.Branch at) (same_meets tests (split_meets at number one other))) in
             or_adds program flow at void number end following p q m a b (placed flow has args void) (ends.adds flow) right (knows.adds flow) left;
+        integers = λ count ints. judged_integers at number end (pos 1) (ends.integers count) (integers_after judges (way.integers count ints.1))
+            (knows.integers count) (integers_after tests (test.integers count ints.0));
       }
 
   pub chooses : {at : Place} {a b c : Typed} {number end one other : ℕ} {old x y z new : Built} {p q t u v : Point} → Seals old x end q
@@ -221,4 +248,8 @@ module _ {program : TypedProgram} where
             let third = same_after jump_other (way_other.adds flow in_z args.2 following (same_meets jump_other on)) in
             let left = same_after tests (test.adds flow has args.0 (met point.Branch at) (same_meets tests (split_meets at number one other))) in
             choice_adds program flow at void number end following p q m a b c (placed flow has args void) (ends.adds flow) second third left;
+        integers = λ count ints.
+            integers_both (ends.integers count) (integers_both (integers_end (integers_after jump_one (way_one.integers count ints.1)))
+            (integers_both (integers_end (integers_after jump_other (way_other.integers count ints.2)))
+            (integers_end (integers_after tests (test.integers count ints.0)))));
       }

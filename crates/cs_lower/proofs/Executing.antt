@@ -29,6 +29,7 @@ use Rattle.cs_lower.specs.Statements.{labels_in, Executes, ExecutesAll, Executes
 use Rattle.cs_lower.proofs.Aiming.{aims_of}
 use Rattle.cs_lower.proofs.AddedPoints.{if_else_adds}
 use Rattle.cs_lower.proofs.Built.{nothing_more, more_and_more, adds_nothing}
+use Rattle.cs_lower.proofs.Integers.{integers_same, integers_both, integers_end, integers_past, integers_after, integers_before}
 use Rattle.cs_lower.proofs.Evaluating.{jump_joins, same_after, same_before}
 
 -- where a statement stands, its counted point is so many before those after it
@@ -61,7 +62,7 @@ module _ {program : TypedProgram} {routine : Routine} where
 
   pub block : {at : Place} {statements : Statements} {out again : ℕ} {old new : Built} {p q : Point}
       → ExecutesAll program routine statements out again old new p q → Executes program routine (Block at statements) out again old new p q
-  block h = record { grows = h.grows; does = h.does; adds = h.adds }
+  block h = record { grows = h.grows; does = h.does; adds = h.adds; integers = h.integers }
 
   pub declare : {at : Place} {declaration : ℕ} {initial : Option Initial} {out again : ℕ} {old new : Built} {p q : Point}
       → Declares program routine at declaration initial old new p q → Executes program routine (Declare at declaration initial) out again old new p q
@@ -69,6 +70,7 @@ module _ {program : TypedProgram} {routine : Routine} where
     grows = h.grows;
     does = λ flow has args counted_point e. h.does flow has args;
     adds = λ flow has args counted_point e to aims following m. h.adds flow has args to following m;
+    integers = λ count ints. h.integers count ints.0 ints.1;
   }
 
   pub run : {at : Place} {e : Typed} {out again : ℕ} {old new : Built} {p s q : Point} → s ≡ does at 0 graph.Drop q → Evaluates program e 0 old new p s
@@ -78,6 +80,7 @@ module _ {program : TypedProgram} {routine : Routine} where
     does = λ flow has args counted_point at. subst (λ s. evaluates program flow e 0 p s) is (h.does flow has args);
     adds = λ flow has args counted_point at to aims following m.
         adds_past place 0 graph.Drop q refl (same_after is (h.adds flow has args following (same_meets is (does_meets place 0 graph.Drop q refl m))));
+    integers = λ count ints. integers_past place 0 graph.Drop q tt (integers_after is (h.integers count ints));
   }
 
   -- a statement at the beginning of a block
@@ -93,6 +96,7 @@ module _ {program : TypedProgram} {routine : Routine} where
     adds = λ flow has args counted_point e to aims following m.
         then_nothing (same_after is (h.adds flow (seals.grows.keeps flow has) args counted_point (counted_point_stays seals.grows counted_point e) to aims
         following (same_meets is (past_jump m)))) (seals.adds flow);
+    integers = λ count ints. integers_both (integers_end (integers_after is (h.integers count ints))) (seals.integers count);
   }
 
   -- an `if`, and one with an `else`
@@ -125,6 +129,8 @@ module _ {program : TypedProgram} {routine : Routine} where
             at test body end (placed flow has args counted_point e)
             (way.adds flow in_y args.1 counted_point (counted_point_stays tests.grows counted_point e) to aims following on)
             (tests.adds flow has args.0 (met point.Branch at) (split_meets at 0 one end));
+        integers = λ count ints.
+            integers_both (ends.integers count) (integers_both (way.integers count ints.1) (integers_end (tests.integers count ints.0)));
       }
 
   pub if_else : {at : Place} {test : Typed} {body following : Statement} {out again end one other : ℕ} {old x y z new : Built} {p q : Point}
@@ -168,6 +174,9 @@ module _ {program : TypedProgram} {routine : Routine} where
             (if_else_adds at test body following to next one other end one_met other_met
             (way_other.adds flow in_y args.2 (counted_point + counted_points body) below to aims next on)
             (way_one.adds flow in_z args.1 counted_point here to aims next on) (tests.adds flow has args.0 (met point.Branch at) (split_meets at 0 one other)));
+        integers = λ count ints.
+            integers_both (ends.integers count) (integers_both (way_other.integers count ints.2)
+            (integers_both (way_one.integers count ints.1) (integers_end (tests.integers count ints.0))));
       }
 
   -- a label
@@ -202,6 +211,8 @@ module _ {program : TypedProgram} {routine : Routine} where
             (aims_of aims) (inside.does flow in_x args (counted_point + 1) here) m in
             same_before jump (label_adds at number body counted_point counted_point to r q following inside_met
             (inside.adds flow in_x args (counted_point + 1) here to aims following m) (seals.adds flow counted_point last));
+        integers = λ count ints. integers_before jump
+            (integers_both (inside.integers count ints) (integers_both (seals.integers count) (integers_end integers_same)));
       }
     where
       led : (flow : Flow) (o : Option Landing)
@@ -216,6 +227,7 @@ module _ {program : TypedProgram} {routine : Routine} where
     grows = nothing_more built;
     does = λ flow has args counted_point e. there;
     adds = λ flow has args counted_point e to aims following m. adds_nothing;
+    integers = λ count ints. integers_same;
   }
 
   pub executes_then : {first : Statement} {others : Statements} {out again : ℕ} {old mid new : Built} {p r q : Point}
@@ -236,6 +248,7 @@ module _ {program : TypedProgram} {routine : Routine} where
         r q (aims_of aims) (last.does flow in_mid args.1 (counted_point + counted_points first) below) m in
         adds_both (last.adds flow in_mid args.1 (counted_point + counted_points first) below to aims following m)
         (one.adds flow has args.0 counted_point e to aims (starts_in to others following) on);
+    integers = λ count ints. integers_both (last.integers count ints.1) (one.integers count ints.0);
   }
 
   -- one more of a row that is lowered from its end

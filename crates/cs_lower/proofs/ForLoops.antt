@@ -16,6 +16,7 @@ use Rattle.cs_cfg.proofs.Meeting.{point_meets, same_meets}
 use Rattle.cs_cfg.proofs.Starting.{last_meets, for_test_meets, starts_meet}
 use Rattle.cs_lower.specs.Allocations.{OptionHasArguments, StatementHasArguments}
 use Rattle.cs_lower.specs.Building.{jump_to, Built, blocks, Has, Grows}
+use Rattle.cs_lower.specs.Integers.{OptionIsOfIntegers, StatementIsOfIntegers, AddsIntegers}
 use Rattle.cs_lower.specs.Sealing.{Seals, SealsCountedPoint}
 use Rattle.cs_lower.specs.Statements.{labels_in, Aims, Executes, ExecutesAll, TestsFor, EndsFor}
 use Rattle.cs_lower.proofs.Aiming.{aims_of, aims_in_loop, aims_in_switch}
@@ -23,6 +24,7 @@ use Rattle.cs_lower.proofs.AddedPoints.{for_adds}
 use Rattle.cs_lower.proofs.Built.{more_and_more}
 use Rattle.cs_lower.proofs.Evaluating.{same_after}
 use Rattle.cs_lower.proofs.Executing.{counted_point_stays, all_on}
+use Rattle.cs_lower.proofs.Integers.{integers_both, integers_between, integers_end, integers_after}
 use Rattle.cs_lower.proofs.TurningLoops.{after_head}
 
 -- what is met after the body of a `for`, the targets inside of it, and what is met where it begins
@@ -58,6 +60,8 @@ module _ (program : TypedProgram) (routine : Routine) where
         (following : Next) → MeetsNext flow q following →
         AddsPoints flow ((for_tested at test (in_body to at last body following) following ++ for_points at test)
         ++ (flows (in_for to at last following) body (turning at last) ++ points_some last (met point.Head at))) (q ∷ blocks old) (r ∷ blocks new)
+    pub integers : (count : ℕ) → OptionIsOfIntegers count test → OptionIsOfIntegers count last → StatementIsOfIntegers count body
+        → AddsIntegers count (q ∷ blocks old) (r ∷ blocks new)
 
 module _ {program : TypedProgram} {routine : Routine} where
   pub for_turned : {at : Place} {test last : Option
@@ -124,6 +128,9 @@ module _ {program : TypedProgram} {routine : Routine} where
             (body_met flow has has_last has_body head_is to out again aims following m) (same_meets (on flow has) m) in
             adds_both (adds_both (nothing_then (ends.adds flow) (nothing_then (adds_jump head) last_adds))
             (nothing_then (adds_jump block) (same_after leads body_adds))) test_adds;
+        integers = λ count in_test in_last in_body.
+            let round = integers_end (integers_after leads (way.integers count in_body)) in
+            integers_both (ends.integers count) (integers_both (ended.integers count in_last) (integers_both round (tests.integers count in_test)));
       }
 
   -- a `for`
@@ -173,4 +180,7 @@ module _ {program : TypedProgram} {routine : Routine} where
             (same_meets starts (past_jump head_met)) in
             for_adds at first test last body to following head p r (turns.meets flow in_z args.1 args.2 args.3 head_is to o g aims following m)
             (turns.adds flow in_z args.1 args.2 args.3 head_is to o g aims following m) (same_after starts first_adds) (seals.adds flow head final);
+        integers = λ count ints.
+            let loop = turns.integers count ints.1 ints.2 ints.3 in
+            integers_between loop (integers_end (integers_after starts (before_it.integers count ints.0))) (seals.integers count);
       }

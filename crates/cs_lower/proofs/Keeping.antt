@@ -9,6 +9,7 @@ use Rattle.cs_lower.specs.Keeping.{Keeps}
 use Rattle.cs_lower.specs.Sealing.{Seals}
 use Rattle.cs_lower.proofs.AddedPoints.{adds_less}
 use Rattle.cs_lower.proofs.Built.{nothing_more}
+use Rattle.cs_lower.proofs.Integers.{integers_less}
 
 module _ (program : TypedProgram) (flow : Flow) where
   -- a block is kept
@@ -22,11 +23,17 @@ module _ (program : TypedProgram) (flow : Flow) where
 -- a jump needs no block of its own; other code gets one
 pub keeps_jump : {built : Built} {p : Point} {block : ℕ} → p ≡ jump_to block → Keeps built built p
 keeps_jump {built = built} {p = p} {block = block} is =
-    record { grows = nothing_more built; kept = λ program flow has. kept_jump program flow block p is; adds = λ flow. adds_less }
+    record {
+      grows = nothing_more built;
+      kept = λ program flow has. kept_jump program flow block p is;
+      adds = λ flow. adds_less;
+      integers = λ count. integers_less;
+    }
 
 pub keeps_block : {old new : Built} {p : Point} {block : ℕ} → Seals old new block p → Keeps old new p
 keeps_block {p = p} {block = block} seals = record {
   grows = seals.grows;
   kept = λ program flow has. kept_at program flow block p (seals.is flow has);
   adds = seals.adds;
+  integers = seals.integers;
 }

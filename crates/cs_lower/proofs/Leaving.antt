@@ -12,11 +12,13 @@ use Rattle.cs_cfg.specs.Placing.{Joins, there, jumps}
 use Rattle.cs_cfg.specs.Executing.{IsKept, goes_to}
 use Rattle.cs_cfg.proofs.Fitting.{adds_jump, nothing_then, then_nothing}
 use Rattle.cs_lower.specs.Building.{jump_to, Built, blocks}
+use Rattle.cs_lower.specs.Integers.{AddsIntegers}
 use Rattle.cs_lower.specs.Keeping.{Keeps, LeadsOff}
 use Rattle.cs_lower.specs.Labels.{point_of_label}
 use Rattle.cs_lower.specs.Statements.{labels_in, Executes, Returns}
 use Rattle.cs_lower.proofs.Built.{nothing_more, grows_on, adds_nothing}
 use Rattle.cs_lower.proofs.Evaluating.{same_before}
+use Rattle.cs_lower.proofs.Integers.{integers_same, integers_both, integers_end, integers_before}
 
 jump_leads : {program : TypedProgram} (flow : Flow) (block : ℕ) (p : Point) → p ≡ jump_to block → Joins program flow p (block_of flow block)
 jump_leads {program = program} flow block p is = subst (λ r. Joins program flow r (block_of flow block)) (sym is) (jumps there)
@@ -26,6 +28,9 @@ led_off : (flow : Flow) {block : ℕ} {old new : Built} {p q : Point} → LeadsO
     → AddsPoints flow [] (q ∷ blocks old) (p ∷ blocks new)
 led_off flow {block = block} h = same_before h.is (then_nothing (h.keeps.adds flow) (adds_jump block))
 
+led_integers : {count block : ℕ} {old new : Built} {p q : Point} → LeadsOff old new block p q → AddsIntegers count (q ∷ blocks old) (p ∷ blocks new)
+led_integers {count = count} h = integers_before h.is (integers_both (h.keeps.integers count) (integers_end integers_same))
+
 module _ {program : TypedProgram} {routine : Routine} where
   pub break : {at : Place} {out again : ℕ} {old new : Built} {p q : Point} → LeadsOff old new out p q
       → Executes program routine (Break at) out again old new p q
@@ -33,6 +38,7 @@ module _ {program : TypedProgram} {routine : Routine} where
     grows = h.keeps.grows;
     does = λ flow has args counted_point e. (jump_leads flow out p h.is, h.keeps.kept program flow has);
     adds = λ flow has args counted_point e to aims following m. led_off flow h;
+    integers = λ count ints. led_integers h;
   }
 
   pub continue : {at : Place} {out again : ℕ} {old new : Built} {p q : Point} → LeadsOff old new again p q
@@ -41,6 +47,7 @@ module _ {program : TypedProgram} {routine : Routine} where
     grows = h.keeps.grows;
     does = λ flow has args counted_point e. (jump_leads flow again p h.is, h.keeps.kept program flow has);
     adds = λ flow has args counted_point e to aims following m. led_off flow h;
+    integers = λ count ints. led_integers h;
   }
 
   -- a `goto`
@@ -50,6 +57,7 @@ module _ {program : TypedProgram} {routine : Routine} where
     grows = h.keeps.grows;
     does = λ flow has args n e. goes flow (landing label (body_of routine) 0 []) found (h.keeps.kept program flow has);
     adds = λ flow has args n e to aims following m. led_off flow h;
+    integers = λ count ints. led_integers h;
   }
     where
       goes : (flow : Flow) (o : Option Landing) → option_map (λ (l : Landing). l.counted_point) o ≡ Some counted_point → IsKept program flow q
@@ -65,6 +73,7 @@ module _ {program : TypedProgram} {routine : Routine} where
     grows = nothing_more built;
     does = λ flow has args n e. goes flow (landing label (body_of routine) 0 []) none;
     adds = λ flow has args n e to aims following m. adds_nothing;
+    integers = λ count ints. integers_same;
   }
     where
       goes : (flow : Flow) (o : Option Landing) → option_map (λ (l : Landing). l.counted_point) o ≡ None
@@ -79,4 +88,5 @@ module _ {program : TypedProgram} {routine : Routine} where
     grows = grows_on keeps.grows h.grows;
     does = λ flow has args counted_point e. (h.does flow has args, keeps.kept program flow (h.grows.keeps flow has));
     adds = λ flow has args counted_point e to aims following m. nothing_then (keeps.adds flow) (h.adds flow has args to following);
+    integers = λ count ints. integers_both (keeps.integers count) (h.integers count ints);
   }

@@ -6,6 +6,7 @@ pub mod Evaluating
 pub mod Executing
 pub mod ForLoops
 pub mod Forms
+pub mod Integers
 pub mod Keeping
 pub mod LabelPoints
 pub mod Leaving

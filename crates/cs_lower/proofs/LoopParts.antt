@@ -21,6 +21,7 @@ use Rattle.cs_lower.specs.Expressions.{Uses}
 use Rattle.cs_lower.specs.Statements.{TestsFor, EndsFor, Returns}
 use Rattle.cs_lower.proofs.Built.{nothing_more, grows_on, adds_nothing, among_rest}
 use Rattle.cs_lower.proofs.Evaluating.{same_after, same_before}
+use Rattle.cs_lower.proofs.Integers.{integers_same, integers_both, integers_end, integers_past, integers_after, integers_before}
 
 module _ (program : TypedProgram) (flow : Flow) where
   -- a block leads to what it is, and what it is leads to the block
@@ -44,6 +45,7 @@ module _ {program : TypedProgram} where
     grows = nothing_more built;
     does = λ flow q has args is. (refl, (end, joins_block program flow end q is));
     adds = λ flow has args inside following m m'. adds_nothing;
+    integers = λ count ints. integers_same;
   }
 
   pub tests_for : {at : Place} {test : Typed} {one end : ℕ} {old x new : Built} {p body : Point} → Seals old x one body
@@ -54,6 +56,7 @@ module _ {program : TypedProgram} where
     adds = λ flow has args inside following m m'.
         let way = same_meets (seals.is flow (tests.grows.keeps flow has)) m in
         nothing_then (seals.adds flow) (for_test_adds at test one end way m' (tests.adds flow has args (met point.Branch at) (split_meets at 0 one end)));
+    integers = λ count ints. integers_both (seals.integers count) (integers_end (tests.integers count ints));
   }
 
   -- the last part of a `for`
@@ -62,6 +65,7 @@ module _ {program : TypedProgram} where
     grows = nothing_more built;
     does = λ flow has args. there;
     adds = λ flow has args following m. adds_among (jump_to head ∷ blocks built) (blocks built) (among_rest (jump_to head) (blocks built));
+    integers = λ count ints. integers_same;
   }
 
   pub ends_for : {at : Place} {last : Typed} {block head : ℕ} {old x new : Built} {p s : Point} → s ≡ does at 0 graph.Drop (jump_to head)
@@ -79,6 +83,9 @@ module _ {program : TypedProgram} where
         let dropped = does_meets at 0 graph.Drop (jump_to head) refl (past_jump m) in
         let part = one.adds flow (seals.grows.keeps flow has) args following (same_meets is dropped) in
         then_nothing (adds_past at 0 graph.Drop (jump_to head) refl (same_after is part)) (seals.adds flow);
+    integers = λ count ints.
+        let part = integers_after is (one.integers count ints) in
+        integers_both (integers_end (integers_past at 0 graph.Drop (jump_to head) tt part)) (seals.integers count);
   }
 
   -- a `return` without a value, and with one
@@ -93,6 +100,9 @@ module _ {program : TypedProgram} where
           does = λ flow has args. whole;
           adds = λ flow has args to following. return_alone None to following
               (same_before whole (adds_silent at 0 graph.Nothing (does at 1 (graph.Meet point.Return) leaving) refl));
+          integers = λ count ints.
+              let given = integers_past at 0 graph.Nothing (does at 1 (graph.Meet point.Return) leaving) tt integers_same in
+              integers_before whole (integers_end (integers_past at 1 (graph.Meet point.Return) leaving tt given));
         }
 
     pub returns_value : {at : Place} {e : Typed} {old new : Built} {p s l : Point} → l ≡ leaving → s ≡ does at 1 (graph.Meet point.Return) l
@@ -105,4 +115,5 @@ module _ {program : TypedProgram} where
           adds = λ flow has args to following.
               let value = h.adds flow has args (met point.Return at) (same_meets returned (point_meets at 1 (graph.Meet point.Return) leaving refl)) in
               return_alone (Some e) to following (same_after returned value);
+          integers = λ count ints. integers_end (integers_past at 1 (graph.Meet point.Return) leaving tt (integers_after returned (h.integers count ints)));
         }

@@ -31,6 +31,7 @@ use Rattle.cs_lower.proofs.Aiming.{aims_of, aims_in_switch}
 use Rattle.cs_lower.proofs.AddedPoints.{adds_less}
 use Rattle.cs_lower.proofs.Built.{nothing_more, more_and_more, adds_nothing}
 use Rattle.cs_lower.proofs.Executing.{counted_point_before, counted_point_stays}
+use Rattle.cs_lower.proofs.Integers.{integers_same, integers_both, integers_end}
 
 module _ (program : TypedProgram) (routine : Routine) where
   -- from the first statement on are all
@@ -63,6 +64,7 @@ module _ {program : TypedProgram} {routine : Routine} where
     counts = refl;
     does = λ flow has args counted_point e item. there;
     adds = λ flow has args counted_point e to aims following m. adds_nothing;
+    integers = λ count ints. integers_same;
   }
 
   pub enters_then : {first : Statement} {others : Statements} {out again : ℕ} {old mid new : Built} {block next end : ℕ} {entries : List ℕ}
@@ -87,6 +89,7 @@ module _ {program : TypedProgram} {routine : Routine} where
             (block_of flow again) (block_of flow next) (block_of flow end) (aims_of aims) following_first m in
             adds_both (last.adds flow in_mid args.1 (counted_point + counted_points first) below to aims following m)
             (nothing_then (adds_jump next) (one.adds flow has args.0 counted_point e to aims (starts_in to others following) on));
+        integers = λ count ints. integers_both (last.integers count ints.1) (one.integers count ints.0);
       }
     where
       others_at : (flow : Flow) (counted_point : ℕ)
@@ -164,6 +167,8 @@ module _ {program : TypedProgram} {routine : Routine} where
             inner_aims following on))
             (goes.adds flow has args.0 (met point.Switch at)
             (switch_meets at (cases_to entries end cases) (block_at entries end (default_item cases (length entries)))));
+        integers = λ count ints.
+            integers_both (ends.integers count) (integers_both (enters.integers count ints.1) (integers_end (goes.integers count ints.0)));
       }
 
 -- the cases with a value, and the one of `default`, as they are gone through

@@ -23,6 +23,7 @@ use Rattle.cs_lower.proofs.Aiming.{aims_of, aims_in_loop}
 use Rattle.cs_lower.proofs.Built.{more_and_more}
 use Rattle.cs_lower.proofs.Evaluating.{jump_joins, same_after, same_before}
 use Rattle.cs_lower.proofs.Executing.{counted_point_stays}
+use Rattle.cs_lower.proofs.Integers.{integers_same, integers_both, integers_end, integers_after, integers_before}
 
 -- the head of a loop has the number that was told before its body
 pub is_head : {old y new : Built} {count head inner counted_point : ℕ} → Grows count old y → Grows 1 y new
@@ -111,6 +112,9 @@ module _ {program : TypedProgram} {routine : Routine} where
             test body head (placed flow has args)
             (way.adds flow in_y args.1 (head + 1) here (in_loop to following (met point.Head at)) inner_aims (met point.Head at) turns)
             (tests.adds flow in_z args.0 (met point.Branch at) (split_meets at 0 one end)) (seals.adds flow head last));
+        integers = λ count ints.
+            integers_before jump (integers_both (ends.integers count) (integers_both (way.integers count ints.1)
+            (integers_both (integers_end (tests.integers count ints.0)) (integers_both (seals.integers count) (integers_end integers_same)))));
       }
 
   -- a `do`
@@ -168,4 +172,8 @@ module _ {program : TypedProgram} {routine : Routine} where
             (then_nothing (tests.adds flow in_y args.1 (met point.Branch at) (split_meets at 0 head end)) (tested.adds flow))
             (same_after leads (way.adds flow in_w args.0 (head + 1) here (in_loop to next again_next) inner_aims again_next
             (same_meets leads (past_jump again_met)))) (seals.adds flow head last));
+        integers = λ count ints.
+            let turned = integers_end (integers_after leads (way.integers count ints.0)) in
+            integers_before jump (integers_both (ends.integers count) (integers_both (integers_end (tests.integers count ints.1))
+            (integers_both (tested.integers count) (integers_both turned (integers_both (seals.integers count) (integers_end integers_same))))));
       }

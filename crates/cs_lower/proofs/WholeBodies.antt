@@ -5,6 +5,7 @@ use Rattle.std.specs.Option.{IfSome}
 use Rattle.std.proofs.Common.{◌≡◌, ℕ, zero, suc, ◌+◌, ◌<◌, ◌≤◌, nat_lt, Bool, true, false, List, [], ◌∷◌, ◌++◌, length, map}
 use Rattle.std.proofs.Common.{get_or, Option, Some, None, refl, sym, ap, subst, ◌∙◌, arith}
 use Rattle.std.proofs.lemmas.Option.{slice_get_past, slice_get-map, slice_get-get_or}
+use Rattle.std.proofs.lemmas.List.Elements.{All-nil}
 use Rattle.std.proofs.lemmas.Bool.{false≢true}
 use Rattle.std.proofs.lemmas.Bool.Decides.{nat_tests}
 use Rattle.cs_ast.specs.TypedTree.{Statement}
@@ -17,6 +18,7 @@ use Rattle.cs_cfg.specs.ControlPoints.{flows, end_of, body_targets, control_poin
 use Rattle.cs_cfg.specs.Fitting.{BlockFits, AllFit, GraphFits, CodeFits, AddsPoints}
 use Rattle.cs_cfg.specs.Graph as graph
 use Rattle.cs_cfg.specs.Graph.{Point, Flow, Code, block_of, flow_of}
+use Rattle.cs_cfg.specs.IntegerCode.{count_of_locals, IsIntegerPoint}
 use Rattle.cs_cfg.specs.Working.{closed_with}
 use Rattle.cs_cfg.specs.Placing.{does, Joins, there}
 use Rattle.cs_cfg.specs.Executing.{leaving, finishing, executes_at}
@@ -32,10 +34,12 @@ use Rattle.cs_lower.specs.Allocations.{StatementHasArguments, AllocationsHaveArg
 use Rattle.cs_lower.specs.Building.{Built, blocks, Has}
 use Rattle.cs_lower.specs.Sealing.{Seals}
 use Rattle.cs_lower.specs.Statements.{labels_in, Aims, Executes}
-use Rattle.cs_lower.specs.Functions.{BeginsBody, IsGraphOf, HasGraph}
+use Rattle.cs_lower.specs.Functions.{BeginsBody, IsGraphOf, WorksAs, HasGraph}
+use Rattle.cs_lower.specs.Integers.{KeepsIntegers}
 use Rattle.cs_lower.proofs.Aiming.{aims_from}
 use Rattle.cs_lower.proofs.Built.{more_and_more}
 use Rattle.cs_lower.proofs.Evaluating.{same_after}
+use Rattle.cs_lower.proofs.Integers.{integers_both, integers_end, integers_past, integers_among, integers_after}
 
 module _ {program : TypedProgram} {routine : Routine} where
   -- a body between its beginning and its end
@@ -87,6 +91,12 @@ module _ {program : TypedProgram} {routine : Routine} where
             (fit_more (subst (λ p. BlockFits flow (control_points routine) p) (sym finish_is) (block_end graph.Finish refl)) fit) in
             graph_fits program flow routine body has_body low (blocks new) (subst (λ b. Made b) (sym (executed routine body has_body)) made)
             (same_after enters (begins.adds flow)) finished;
+        integers = λ count ints.
+            let finished = integers_end (integers_after finish_is (finishes.integers count)) in
+            let ended = integers_after closes (executes.integers count ints) in
+            let made = integers_end (integers_past routine.closes 0 (graph.Close nothing) leaving tt ended) in
+            integers_both finished (integers_both made
+            (integers_past routine.at 0 (graph.Meet point.Enter) inside tt (integers_after enters (begins.integers count))));
       }
 
   -- all of a body's graph
@@ -106,21 +116,32 @@ module _ {program : TypedProgram} {routine : Routine} where
         fits = fit_among flow.blocks (blocks new) no_other (begins.fits flow (has all) args all first (omega arith) has_body nothing_yet);
       }
 
+  -- and all of it works with integers alone where the body does
+  pub whole_integers : {body : Statement} {entry count : ℕ} {old new : Built} (flow : Flow) → BeginsBody program routine body old new entry
+      → old ≡ record { counted_points = count; heads = []; others = [] } → All (Contains (blocks new)) flow.blocks → WorksAs body flow
+  whole_integers flow begins starts no_other = λ count ints.
+      let nothing_yet = subst (λ (b : Built). All (IsIntegerPoint count) (blocks b)) (sym starts) (All-nil (IsIntegerPoint count)) in
+      (integers_among no_other).keeps ((begins.integers count ints).keeps nothing_yet)
+
   -- a function with a body
   pub has_graph : {body : Statement} {flow : Flow} → routine.body ≡ Some body → (StatementHasArguments body → IsGraphOf program routine body flow)
-      → HasGraph program routine (Some flow)
-  has_graph {body = body} {flow = flow} is lowers = record {
+      → WorksAs body flow → HasGraph program routine (Some flow)
+  has_graph {body = body} {flow = flow} is lowers works = record {
     there = ap is_there (sym is);
     lowers = λ other graph other_is graph_is args.
         let same : body ≡ other = cc in
         let alike : flow ≡ graph = cc in
         subst (λ b. IsGraphOf program routine b graph) same
         (subst (λ f. IsGraphOf program routine body f) alike (lowers (subst StatementHasArguments (sym same) args)));
+    integers = λ other graph other_is graph_is.
+        let same : body ≡ other = cc in
+        let alike : flow ≡ graph = cc in
+        subst (λ b. WorksAs b graph) same (subst (λ f. WorksAs body f) alike works);
   }
 
   -- a function without one
   pub has_none : routine.body ≡ None → HasGraph program routine None
-  has_none is = record { there = ap is_there (sym is); lowers = λ body flow none some args. cc }
+  has_none is = record { there = ap is_there (sym is); lowers = λ body flow none some args. cc; integers = λ body flow none some. cc }
 
 -- the graphs of the first functions
 pub record HasGraphsBelow (program : TypedProgram) (count : ℕ) (graphs : List (Option Flow)) : Type 0 where
@@ -202,6 +223,15 @@ module _ {program : TypedProgram} {count : ℕ} {graphs : List (Option Flow)} (a
 
   graph_of : (n : ℕ) → HasGraph program (routine_of program n) (unwrap_or (slice_get graphs n) None)
   graph_of n = graph_at n (nat_lt n count) refl
+
+  -- of a function of integers it works with integers alone
+  pub all_integers : KeepsIntegers (record { flows = graphs }) program
+  all_integers n ints flow is =
+      let Works : Flow → Type 0 = λ (f : Flow). All (IsIntegerPoint (count_of_locals program n)) f.blocks in
+      let graph = unwrap_or (slice_get graphs n) None in
+      let works : IfSome graph Works = if_there (routine_of program n).body graph (graph_of n).there
+      (λ body f has_body has_flow. (graph_of n).integers body f has_body has_flow (count_of_locals program n) (ints body has_body)) in
+      subst (λ g. IfSome g Works) is works
 
   module _ (args : AllocationsHaveArguments program) where
     -- each executes the body of its function

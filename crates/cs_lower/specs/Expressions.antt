@@ -1,6 +1,6 @@
 -- What the lowering of expressions ensures: in every graph that has what was built, the point evaluates the expression, and after it
 -- stands the other one; and of the blocks that were there before, the other point first, those that are there now were made, the point
--- first, which brings in no control points but those of the expression.
+-- first, which brings in no control points but those of the expression, and where the expression is of integers no work on anything else.
 use Rattle.std.specs.Prelude.{ℕ, suc, ◌+◌, List, ◌++◌, ◌∷◌, Option, Some, None}
 use Rattle.cs_types.specs.Shape.{Shape}
 use Rattle.cs_ast.specs.declared.place.Place.{Place}
@@ -18,6 +18,7 @@ use Rattle.cs_cfg.specs.Placing.{does, evaluates, evaluates_form, used, used_all
 use Rattle.cs_cfg.specs.Standing.{work_of}
 use Rattle.cs_lower.specs.Allocations.{HasArguments, FormHasArguments, AllHaveArguments}
 use Rattle.cs_lower.specs.Building.{Built, blocks, Has, Grows}
+use Rattle.cs_lower.specs.Integers.{IsOfIntegers, FormIsOfIntegers, AddsIntegers}
 
 -- what code is built for
 pub data Task : Type 0 where
@@ -39,6 +40,14 @@ TaskHasArguments (formed at form number) = FormHasArguments form
 TaskHasArguments (used_one e number) = HasArguments e
 TaskHasArguments (used_both one other number) = HasArguments one × HasArguments other
 TaskHasArguments (used_row row number) = AllHaveArguments row
+
+-- it is of integers, in a function with so many locals; a row has the arguments of a call
+abbrev pub TaskIsOfIntegers : ℕ → Task → Type 0
+TaskIsOfIntegers count (evaluated e number) = IsOfIntegers count e
+TaskIsOfIntegers count (formed at form number) = FormIsOfIntegers count form
+TaskIsOfIntegers count (used_one e number) = IsOfIntegers count e
+TaskIsOfIntegers count (used_both one other number) = IsOfIntegers count one × IsOfIntegers count other
+TaskIsOfIntegers count (used_row row number) = ⊥
 
 -- its control points, after which this is met
 abbrev pub task_points : Task → Next → List ControlPoint
@@ -81,6 +90,7 @@ module _ (program : TypedProgram) where
     pub does : (flow : Flow) → Has flow new → TaskHasArguments task → PerformsTask program flow task p q
     pub adds : (flow : Flow) → Has flow new → TaskHasArguments task → (following : Next) → MeetsNext flow q following →
         AddsPoints flow (task_points task following) (q ∷ blocks old) (p ∷ blocks new)
+    pub integers : (count : ℕ) → TaskIsOfIntegers count task → AddsIntegers count (q ∷ blocks old) (p ∷ blocks new)
 
   -- a point evaluates an expression into the temporary with a number
   abbrev pub Evaluates : Typed → ℕ → Built → Built → Point → Point → Type 0
@@ -108,6 +118,7 @@ module _ (program : TypedProgram) where
     pub does : (flow : Flow) → Has flow new → HasArguments e → used program flow e number (block_of flow block) q
     pub adds : (flow : Flow) → Has flow new → HasArguments e → (following : Next) → MeetsNext flow q following →
         AddsPoints flow (points e following) (q ∷ blocks old) (blocks new)
+    pub integers : (count : ℕ) → IsOfIntegers count e → AddsIntegers count (q ∷ blocks old) (blocks new)
 
   -- the same of the object of an update and its right part, so many temporaries above it, between which the object is loaded
   pub record UsesAround (update object right : Typed) (more number : ℕ) (old new : Built) (p q : Point) : Type 0 where

@@ -3,6 +3,7 @@ pub mod Building
 pub mod Builds
 pub mod Expressions
 pub mod Functions
+pub mod Integers
 pub mod Keeping
 pub mod Labels
 pub mod Ready

@@ -6,12 +6,14 @@ use Rattle.cs_cfg.specs.Fitting.{AddsPoints}
 use Rattle.cs_cfg.specs.Graph.{Point, Flow, Reach, block_of}
 use Rattle.cs_cfg.specs.Placing.{does}
 use Rattle.cs_lower.specs.Building.{Built, blocks, Has, Grows}
+use Rattle.cs_lower.specs.Integers.{AddsIntegers}
 
 -- a block with this number is added, which is this point
 pub record Seals (old new : Built) (block : ℕ) (p : Point) : Type 0 where
   pub grows : Grows 0 old new
   pub is : (flow : Flow) → Has flow new → block_of flow block ≡ p
   pub adds : (flow : Flow) → AddsPoints flow [] (p ∷ blocks old) (blocks new)
+  pub integers : (count : ℕ) → AddsIntegers count (p ∷ blocks old) (blocks new)
 
 -- the block of the last counted point that had none is added: the counted point is reached, and then comes this point
 pub record SealsCountedPoint (old new : Built) (kind : PointKind) (at : Place) (p : Point) : Type 0 where
@@ -20,3 +22,4 @@ pub record SealsCountedPoint (old new : Built) (kind : PointKind) (at : Place) (
       → block_of flow counted_point ≡ does at 0 (Reach kind counted_point) p
   pub adds : (flow : Flow) (counted_point : ℕ) → counted_point + suc (length old.heads) ≡ old.counted_points
       → AddsPoints flow [] (does at 0 (Reach kind counted_point) p ∷ blocks old) (blocks new)
+  pub integers : (count : ℕ) → AddsIntegers count (p ∷ blocks old) (blocks new)

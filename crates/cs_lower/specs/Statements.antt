@@ -1,7 +1,7 @@
 -- What the lowering of statements ensures: in every graph that has what was built, the point executes the statement, and after it
 -- stands the other one; and of the blocks that were there before, the other point first, those that are there now were made, the point
--- first, which brings in no control points but those of the statement.
-use Rattle.std.specs.Prelude.{◌≡◌, ℕ, ◌+◌, List, [], ◌∷◌, ◌++◌, length, Option, unwrap_or, slice_get}
+-- first, which brings in no control points but those of the statement, and where the statement is of integers no work on anything else.
+use Rattle.std.specs.Prelude.{◌≡◌, ◌<◌, ℕ, ◌+◌, List, [], ◌∷◌, ◌++◌, length, Option, unwrap_or, slice_get}
 use Rattle.cs_ast.specs.declared.place.Place.{Place}
 use Rattle.cs_ast.specs.TypedTree.{Typed, Initial, Statement, Declare, Return, Statements, count_of}
 use Rattle.cs_ast.specs.TypedProgram.{TypedProgram, Routine}
@@ -18,6 +18,7 @@ use Rattle.cs_cfg.specs.Executing.{goes_to, executes_at, all_at, from_at, for_te
 use Rattle.cs_lower.specs.Allocations.{OptionHasArguments, OptionInitialHasArguments, PiecesHaveArguments, StatementHasArguments, StatementsHaveArguments}
 use Rattle.cs_lower.specs.Labels.{point_of_label}
 use Rattle.cs_lower.specs.Building.{jump_to, Built, blocks, Has, Grows}
+use Rattle.cs_lower.specs.Integers.{OptionIsOfIntegers, InitialIsOfIntegers, PiecesAreOfIntegers, StatementIsOfIntegers, StatementsAreOfIntegers, AddsIntegers}
 
 -- where the `goto`s of a function lead: to the block of that counted point
 abbrev pub labels_in : Routine → Flow → ℕ → Point
@@ -45,6 +46,7 @@ module _ (program : TypedProgram) (routine : Routine) where
     pub adds : (flow : Flow) → Has flow new → StatementHasArguments s → (counted_point : ℕ) → counted_point + length new.heads ≡ new.counted_points
         → (to : Targets) → Aims flow to (block_of flow out) (block_of flow again) →
         (following : Next) → MeetsNext flow q following → AddsPoints flow (flows to s following) (q ∷ blocks old) (p ∷ blocks new)
+    pub integers : (count : ℕ) → StatementIsOfIntegers count s → AddsIntegers count (q ∷ blocks old) (p ∷ blocks new)
 
   -- the same of statements one after another
   pub record ExecutesAll (statements : Statements) (out again : ℕ) (old new : Built) (p q : Point) : Type 0 where
@@ -56,6 +58,7 @@ module _ (program : TypedProgram) (routine : Routine) where
         → (counted_point : ℕ) → counted_point + length new.heads ≡ new.counted_points
         → (to : Targets) → Aims flow to (block_of flow out) (block_of flow again) →
         (following : Next) → MeetsNext flow q following → AddsPoints flow (flows_in to statements following) (q ∷ blocks old) (p ∷ blocks new)
+    pub integers : (count : ℕ) → StatementsAreOfIntegers count statements → AddsIntegers count (q ∷ blocks old) (p ∷ blocks new)
 
   -- the same of a statement with which a block begins, and after which stands a jump
   pub record ExecutesIn (s : Statement) (out again : ℕ) (old new : Built) (block end : ℕ) : Type 0 where
@@ -66,6 +69,7 @@ module _ (program : TypedProgram) (routine : Routine) where
     pub adds : (flow : Flow) → Has flow new → StatementHasArguments s → (counted_point : ℕ) → counted_point + length new.heads ≡ new.counted_points
         → (to : Targets) → Aims flow to (block_of flow out) (block_of flow again) →
         (following : Next) → MeetsNext flow (block_of flow end) following → AddsPoints flow (flows to s following) (jump_to end ∷ blocks old) (blocks new)
+    pub integers : (count : ℕ) → StatementIsOfIntegers count s → AddsIntegers count (blocks old) (blocks new)
 
   -- statements one after another, each with which a block begins, and after them a block
   pub record EntersAll (statements : Statements) (out again : ℕ) (old new : Built) (entries : List ℕ) (end : ℕ) : Type 0 where
@@ -79,6 +83,7 @@ module _ (program : TypedProgram) (routine : Routine) where
         → (counted_point : ℕ) → counted_point + length new.heads ≡ new.counted_points
         → (to : Targets) → Aims flow to (block_of flow out) (block_of flow again) →
         (following : Next) → MeetsNext flow (block_of flow end) following → AddsPoints flow (flows_in to statements following) (blocks old) (blocks new)
+    pub integers : (count : ℕ) → StatementsAreOfIntegers count statements → AddsIntegers count (blocks old) (blocks new)
 
   -- pieces of an initializer are stored, one after another
   pub record StoresPieces (at : Place) (declaration : ℕ) (pieces : List Piece) (old new : Built) (p q : Point) : Type 0 where
@@ -87,6 +92,7 @@ module _ (program : TypedProgram) (routine : Routine) where
         → stores_at program flow routine (labels_in routine flow) at declaration pieces p q
     pub adds : (flow : Flow) → Has flow new → PiecesHaveArguments pieces → (following : Next) → MeetsNext flow q following
         → AddsPoints flow (points_pieces pieces following) (q ∷ blocks old) (p ∷ blocks new)
+    pub integers : (count : ℕ) → declaration < count → PiecesAreOfIntegers count pieces → AddsIntegers count (q ∷ blocks old) (p ∷ blocks new)
 
   -- a declaration
   pub record Declares (at : Place) (declaration : ℕ) (initial : Option Initial) (old new : Built) (p q : Point) : Type 0 where
@@ -95,6 +101,7 @@ module _ (program : TypedProgram) (routine : Routine) where
         → declares_at program flow routine (labels_in routine flow) at declaration initial p q
     pub adds : (flow : Flow) → Has flow new → OptionInitialHasArguments initial → (to : Targets) (following : Next) → MeetsNext flow q following →
         AddsPoints flow (flows to (Declare at declaration initial) following) (q ∷ blocks old) (p ∷ blocks new)
+    pub integers : (count : ℕ) → declaration < count → InitialIsOfIntegers count initial → AddsIntegers count (q ∷ blocks old) (p ∷ blocks new)
 
   -- a `return`
   pub record Returns (at : Place) (value : Option Typed) (old new : Built) (p : Point) : Type 0 where
@@ -102,6 +109,7 @@ module _ (program : TypedProgram) (routine : Routine) where
     pub does : (flow : Flow) → Has flow new → OptionHasArguments value → returns_at program flow routine (labels_in routine flow) at value p
     pub adds : (flow : Flow) → Has flow new → OptionHasArguments value
         → (to : Targets) (following : Next) → AddsPoints flow (flows to (Return at value) following) (blocks old) (p ∷ blocks new)
+    pub integers : (count : ℕ) → OptionIsOfIntegers count value → AddsIntegers count (blocks old) (p ∷ blocks new)
 
 -- a test, and then one of two blocks, is a use over no temporaries; the test of a `for` may be left out
 pub record TestsFor (program : TypedProgram) (at : Place) (test : Option Typed) (old new : Built) (p body : Point) (end : ℕ) : Type 0 where
@@ -110,6 +118,7 @@ pub record TestsFor (program : TypedProgram) (at : Place) (test : Option Typed) 
   pub adds : (flow : Flow) → Has flow new → OptionHasArguments test → (inside following : Next) → MeetsNext flow body inside
       → MeetsNext flow (block_of flow end) following →
       AddsPoints flow (for_tested at test inside following ++ for_points at test) (body ∷ blocks old) (p ∷ blocks new)
+  pub integers : (count : ℕ) → OptionIsOfIntegers count test → AddsIntegers count (body ∷ blocks old) (p ∷ blocks new)
 
 -- the last part of a `for`, with a jump to its head
 pub record EndsFor (program : TypedProgram) (last : Option Typed) (old new : Built) (block head : ℕ) : Type 0 where
@@ -117,3 +126,4 @@ pub record EndsFor (program : TypedProgram) (last : Option Typed) (old new : Bui
   pub does : (flow : Flow) → Has flow new → OptionHasArguments last → last_at program flow last (block_of flow block) (block_of flow head)
   pub adds : (flow : Flow) → Has flow new → OptionHasArguments last → (following : Next) → MeetsNext flow (block_of flow head) following →
       AddsPoints flow (points_some last following) (jump_to head ∷ blocks old) (blocks new)
+  pub integers : (count : ℕ) → OptionIsOfIntegers count last → AddsIntegers count (blocks old) (blocks new)

@@ -11,7 +11,8 @@ ghost use Rattle.cs_cfg.specs.Lowered.{IsLowered};
 ghost use Rattle.cs_cfg.specs.Placed.{IsPlaced};
 ghost use Rattle.cs_lower.specs.Allocations.{StatementHasArguments, AllocationsHaveArguments};
 ghost use Rattle.cs_lower.specs.Building.{built_of};
-ghost use Rattle.cs_lower.specs.Functions.{BeginsBody, IsGraphOf, HasGraph};
+ghost use Rattle.cs_lower.specs.Functions.{BeginsBody, IsGraphOf, WorksAs, HasGraph};
+ghost use Rattle.cs_lower.specs.Integers.{KeepsIntegers};
 ghost use Rattle.cs_lower.specs.Ready.{IsReady};
 ghost use Rattle.cs_lower.specs.Builds.{program_of, function_of};
 
@@ -29,7 +30,8 @@ use std::alloc::{AllocError, Global};
 use std::collections::BTreeMap;
 
 /// The code of a program: each function with a body has a flow graph that executes it, and has just its control points, where each
-/// allocation has the arguments that its function takes (C11 7.22.3). Its only error is want of memory.
+/// allocation has the arguments that its function takes (C11 7.22.3). A function that works with integers alone has a graph that does so.
+/// Its only error is want of memory.
 pub fn lower(alloc: Global, program: &Program) -> Result<Code, AllocError>
     requires { IsLaidOut program.now.model program.now.table.list }
     ensures placed { IfOk result (λ code.
@@ -38,6 +40,8 @@ pub fn lower(alloc: Global, program: &Program) -> Result<Code, AllocError>
     ensures lowered { IfOk result (λ code.
         AllocationsHaveArguments (typed_program program.now)
         → IsLowered (view.code code) (typed_program program.now)) }
+    ensures integers { IfOk result (λ code.
+        KeepsIntegers (view.code code) (typed_program program.now)) }
 {
     let mut flows = Vec::new(alloc);
     for function in &program.functions {
@@ -75,10 +79,11 @@ fn lower_body(
 ) -> Result<Flow, AllocError>
     requires laid_out { IsLaidOut program.now.model program.now.table.list }
     requires own { (routine function.now).body ≡ Some (statement body.now) }
-    ensures { IfOk result (λ flow.
+    ensures graph { IfOk result (λ flow.
         StatementHasArguments (statement body.now)
         → IsGraphOf (typed_program program.now) (routine function.now) (statement body.now)
         (view.flow flow)) }
+    ensures integers { IfOk result (λ flow. WorksAs (statement body.now) (view.flow flow)) }
 {
     let mut labels = BTreeMap::new(alloc);
     let counted_points = add_labels(&mut labels, body, 0)?;

@@ -1,4 +1,4 @@
-use Rattle.std.proofs.Common.{◌≡◌, ℕ, sym, subst}
+use Rattle.std.proofs.Common.{◌≡◌, ℕ, sym, subst, ◌∙◌}
 use Rattle.cs_ast.specs.TypedProgram.{typed_program}
 use Rattle.cs_cfg.specs.GraphView as view
 use Rattle.cs_coverage.specs.Positions.{CoversPositions}
@@ -13,7 +13,7 @@ returns-clause-complete g c = λ every integer.
     let program = typed_program entry.program.now in let code = view.code entry.code.now in
     let same : given.entry ≡ entry.function = c.in_ok-witnessed.ensures.entry in
     let is : IsIntegerFunction program entry.function = subst (IsIntegerFunction program) same integer in
-    let yes = c.in_ok-is_integer.ensures.function is in
-    let covers = c.in_ok-explored.ensures.covers every (integer_entry code program entry.function is (c.in_ok-is_integer.ensures.code yes)) in
+    let yes = c.is_integer_function-is_integer.ensures ∙ is in
+    let covers = c.in_ok-explored.ensures.covers every (integer_entry code program entry.function is (c.requires.integers entry.function is)) in
     let covered = subst (λ (number : ℕ). CoversPositions code program number (run_budgets entry.budgets) explored) (sym same) covers in
     misses_none code program entry.budgets explored given c.requires.runs.lowered integer covered (c.in_ok-refuse_lost.ensures yes)

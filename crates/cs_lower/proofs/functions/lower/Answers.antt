@@ -5,7 +5,7 @@ use Rattle.cs_ast.specs.TypedProgram.{typed_program, routine}
 use Rattle.cs_cfg.specs.GraphView as view
 use Rattle.cs_lower.specs.Functions.{HasGraph}
 use Rattle.cs_lower.proofs.Built.{map_push}
-use Rattle.cs_lower.proofs.WholeBodies.{HasGraphsBelow, no_graphs, one_more_graph, all_placed, all_lowered, routine_there}
+use Rattle.cs_lower.proofs.WholeBodies.{HasGraphsBelow, no_graphs, one_more_graph, all_placed, all_lowered, all_integers, routine_there}
 use Rattle.cs_lower.proofs.functions.lower.Goals as goal
 
 pub loop-function-init : goal.loop-function-init
@@ -32,3 +32,8 @@ pub returns-clause-lowered : goal.returns-clause-lowered
 returns-clause-lowered c =
     let all = length-map c.args.program.now.functions.items routine in
     all_lowered (omega arith) c.loop-function.invariant
+
+pub returns-clause-integers : goal.returns-clause-integers
+returns-clause-integers c =
+    let all = length-map c.args.program.now.functions.items routine in
+    all_integers (omega arith) c.loop-function.invariant

@@ -8,4 +8,4 @@ pub returns-in-None : goal.returns-in-None
 returns-in-None c = has_none (ap (option_map statement) c.in-None.is)
 
 pub returns-in_ok-flow-in-Some : goal.returns-in_ok-flow-in-Some
-returns-in_ok-flow-in-Some c = has_graph (ap (option_map statement) c.in-Some.is) c.in_ok-flow-in-Some.ensures
+returns-in_ok-flow-in-Some c = has_graph (ap (option_map statement) c.in-Some.is) c.in_ok-flow-in-Some.ensures.graph c.in_ok-flow-in-Some.ensures.integers

@@ -10,6 +10,7 @@ use Rattle.cs_lower.specs.Expressions.{Uses, UsesAll}
 use Rattle.cs_lower.proofs.Evaluating.{uses, uses_in, uses_both, uses_further, commas, ands, ors, chooses}
 use Rattle.cs_lower.proofs.Forms as forms
 use Rattle.cs_lower.proofs.Forms.{if_made}
+use Rattle.cs_lower.proofs.Integers.{local_integers}
 use Rattle.cs_lower.proofs.context.Lowering.+expressions.Goals as goal
 
 pub lower_used-returns : goal.lower_used-returns
@@ -38,10 +39,12 @@ pub lower_expression-returns-in-Through : goal.lower_expression-returns-in-Throu
 lower_expression-returns-in-Through t c =
     elim c.in-Through.is [
       | inl is ↦ if_made c.lower_used-in-Through.result (λ made h.
-          forms.part (ap form (sym c.deref.ensures ∙ is)) (λ flow it. it) (λ args. args) (λ following. refl) c.in_ok-next.ensures h)
+          forms.part (ap form (sym c.deref.ensures ∙ is)) (λ flow it. it) (λ args. args) (λ count ints. absurd ints) (λ following. refl)
+          c.in_ok-next.ensures h)
           c.lower_used-in-Through.ensures
       | inr is ↦ if_made c.lower_used-in-Through.result (λ made h.
-          forms.part (ap form (sym c.deref.ensures ∙ is)) (λ flow it. it) (λ args. args) (λ following. refl) c.in_ok-next.ensures h)
+          forms.part (ap form (sym c.deref.ensures ∙ is)) (λ flow it. it) (λ args. args) (λ count ints. local_integers ints) (λ following. refl)
+          c.in_ok-next.ensures h)
           c.lower_used-in-Through.ensures
     ]
 
@@ -49,10 +52,12 @@ pub lower_expression-returns-in-Address : goal.lower_expression-returns-in-Addre
 lower_expression-returns-in-Address t c =
     elim c.in-Address.is [
       | inl is ↦ if_made c.lower_used-in-Address.result (λ made h.
-          forms.part (ap form (sym c.deref.ensures ∙ is)) (λ flow it. it) (λ args. args) (λ following. refl) c.in_ok-next.ensures h)
+          forms.part (ap form (sym c.deref.ensures ∙ is)) (λ flow it. it) (λ args. args) (λ count ints. absurd ints) (λ following. refl)
+          c.in_ok-next.ensures h)
           c.lower_used-in-Address.ensures
       | inr is ↦ if_made c.lower_used-in-Address.result (λ made h.
-          forms.part (ap form (sym c.deref.ensures ∙ is)) (λ flow it. it) (λ args. args) (λ following. refl) c.in_ok-next.ensures h)
+          forms.part (ap form (sym c.deref.ensures ∙ is)) (λ flow it. it) (λ args. args) (λ count ints. absurd ints) (λ following. refl)
+          c.in_ok-next.ensures h)
           c.lower_used-in-Address.ensures
     ]
 
@@ -60,53 +65,61 @@ pub lower_expression-returns-in-Not : goal.lower_expression-returns-in-Not
 lower_expression-returns-in-Not t c =
     elim c.in-Not.is [
       | inl is ↦ if_made c.lower_used-in-Not.result (λ made h.
-          forms.part (ap form (sym c.deref.ensures ∙ is)) (λ flow it. it) (λ args. args) (λ following. refl) c.in_ok-next.ensures h)
+          forms.part (ap form (sym c.deref.ensures ∙ is)) (λ flow it. it) (λ args. args) (λ count ints. ints) (λ following. refl) c.in_ok-next.ensures h)
           c.lower_used-in-Not.ensures
       | inr is ↦ if_made c.lower_used-in-Not.result (λ made h.
-          forms.part (ap form (sym c.deref.ensures ∙ is)) (λ flow it. it) (λ args. args) (λ following. refl) c.in_ok-next.ensures h)
+          forms.part (ap form (sym c.deref.ensures ∙ is)) (λ flow it. it) (λ args. args) (λ count ints. absurd ints) (λ following. refl)
+          c.in_ok-next.ensures h)
           c.lower_used-in-Not.ensures
     ]
 
 pub lower_expression-returns-in-Member : goal.lower_expression-returns-in-Member
 lower_expression-returns-in-Member t c =
     let is : form c.args.e.now.kind.value ≡ Member (typed c.in-Member.a) c.in-Member.field-1 = search rules in
-    if_made c.lower_used.result (λ made h. forms.part is (λ flow it. it) (λ args. args) (λ following. refl) c.in_ok-next.ensures h) c.lower_used.ensures
+    if_made c.lower_used.result (λ made h.
+    forms.part is (λ flow it. it) (λ args. args) (λ count ints. absurd ints) (λ following. refl) c.in_ok-next.ensures h) c.lower_used.ensures
 
 pub lower_expression-returns-in-Arrow : goal.lower_expression-returns-in-Arrow
 lower_expression-returns-in-Arrow t c =
     let is : form c.args.e.now.kind.value ≡ Arrow (typed c.in-Arrow.a) c.in-Arrow.field-1 = search rules in
-    if_made c.lower_used-in-Arrow.result (λ made h. forms.part is (λ flow it. it) (λ args. args) (λ following. refl) c.in_ok-next.ensures h)
+    if_made c.lower_used-in-Arrow.result (λ made h.
+    forms.part is (λ flow it. it) (λ args. args) (λ count ints. absurd ints) (λ following. refl) c.in_ok-next.ensures h)
     c.lower_used-in-Arrow.ensures
 
 pub lower_expression-returns-in-Unary : goal.lower_expression-returns-in-Unary
 lower_expression-returns-in-Unary t c =
     let is : form c.args.e.now.kind.value ≡ Unary c.in-Unary.field-0 (typed c.in-Unary.a) = search rules in
-    if_made c.lower_used-in-Unary.result (λ made h. forms.part is (λ flow it. it) (λ args. args) (λ following. refl) c.in_ok-next.ensures h)
+    if_made c.lower_used-in-Unary.result (λ made h.
+    forms.part is (λ flow it. it) (λ args. args) (λ count ints. ints) (λ following. refl) c.in_ok-next.ensures h)
     c.lower_used-in-Unary.ensures
 
 pub lower_expression-returns-in-Binary : goal.lower_expression-returns-in-Binary
 lower_expression-returns-in-Binary t c =
     let is : form c.args.e.now.kind.value ≡ Binary c.in-Binary.field-0 (typed c.in-Binary.a) (typed c.in-Binary.b) = search rules in
-    if_made c.lower_pair.result (λ made h. forms.pair is (λ flow r one other. (r, one, other)) (λ args. args) (λ following. refl) c.in_ok-next.ensures h)
+    if_made c.lower_pair.result (λ made h.
+    forms.pair is (λ flow r one other. (r, one, other)) (λ args. args) (λ count ints. ints) (λ following. refl) c.in_ok-next.ensures h)
     c.lower_pair.ensures
 
 pub lower_expression-returns-in-Compare : goal.lower_expression-returns-in-Compare
 lower_expression-returns-in-Compare t c =
     let is : form c.args.e.now.kind.value ≡ Compare c.in-Compare.field-0 (typed c.in-Compare.a) (typed c.in-Compare.b) = search rules in
     if_made c.lower_pair-in-Compare.result (λ made h.
-    forms.pair is (λ flow r one other. (r, one, other)) (λ args. args) (λ following. refl) c.in_ok-next.ensures h) c.lower_pair-in-Compare.ensures
+    forms.pair is (λ flow r one other. (r, one, other)) (λ args. args) (λ count ints. ints) (λ following. refl) c.in_ok-next.ensures h)
+    c.lower_pair-in-Compare.ensures
 
 pub lower_expression-returns-in-Difference : goal.lower_expression-returns-in-Difference
 lower_expression-returns-in-Difference t c =
     let is : form c.args.e.now.kind.value ≡ Difference (typed c.in-Difference.a) (typed c.in-Difference.b) = search rules in
     if_made c.lower_pair-in-Difference.result (λ made h.
-    forms.pair is (λ flow r one other. (r, one, other)) (λ args. args) (λ following. refl) c.in_ok-next.ensures h) c.lower_pair-in-Difference.ensures
+    forms.pair is (λ flow r one other. (r, one, other)) (λ args. args) (λ count ints. absurd ints) (λ following. refl) c.in_ok-next.ensures h)
+    c.lower_pair-in-Difference.ensures
 
 pub lower_expression-returns-in-Assign : goal.lower_expression-returns-in-Assign
 lower_expression-returns-in-Assign t c =
     let is : form c.args.e.now.kind.value ≡ Assign (typed c.in-Assign.a) (typed c.in-Assign.b) = search rules in
     if_made c.lower_pair-in-Assign.result (λ made h.
-    forms.pair is (λ flow r one other. (r, one, other)) (λ args. args) (λ following. refl) c.in_ok-next.ensures h) c.lower_pair-in-Assign.ensures
+    forms.pair is (λ flow r one other. (r, one, other)) (λ args. args) (λ count ints. (local_integers ints.0, ints.1)) (λ following. refl)
+    c.in_ok-next.ensures h) c.lower_pair-in-Assign.ensures
 
 pub lower_expression-returns-in-Index : goal.lower_expression-returns-in-Index
 lower_expression-returns-in-Index t c =

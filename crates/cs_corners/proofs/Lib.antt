@@ -1,0 +1,15 @@
+pub mod Numbers
+pub mod Ends
+pub mod Moving
+pub mod Terms
+pub mod Rectangles
+pub mod Opposite
+pub mod Spread
+pub mod Extremes
+pub mod Partners
+pub mod Choices
+pub mod Binaries
+pub mod Comparisons
+pub mod Products
+pub mod Questions
+pub mod Narrower

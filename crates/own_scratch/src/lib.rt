@@ -1,5 +1,0 @@
-//! Scratch.
-#![tactic(auto)]
-mod settled;
-pub mod question;
-pub mod piece;
