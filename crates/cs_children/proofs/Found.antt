@@ -47,7 +47,8 @@ use Rattle.cs_children.specs.declared.children.Children.{Children}
 use Rattle.cs_children.specs.declared.exploration.Exploration.{Exploration}
 use Rattle.cs_children.specs.Adding.{ComesOfPieces, over, shows}
 use Rattle.cs_children.specs.Adding.{Adds, AddsPieces, AddsFaulty, AreOfQuestion, AreOfSwitch, GoesOn}
-use Rattle.cs_successors.specs.Coming.{is_declared, IsIntegerState, MentionsNoOthers, StateEnd, OutcomesDiffer, IsAt, EndsIn, IsChildOf, IsEndOf, ComesOfState, IsReachedFrom}
+use Rattle.cs_successors.specs.Coming.{is_declared, IsIntegerState, MentionsNoOthers, StateEnd, OutcomesDiffer, IsAt, EndsIn, IsChildOf, IsEndOf, ComesOfState}
+use Rattle.cs_successors.specs.Coming.{IsReachedFrom}
 use Rattle.cs_successors.specs.EntryRuns.{stays}
 use Rattle.cs_children.specs.Finding.{code_of, model_of, limits_of, AreNone, Explores, FindsAll, FindsSoFar}
 use Rattle.cs_children.proofs.FaultyParts.{rest_reached, nothing_left}

@@ -179,7 +179,8 @@ module _ (code : Code) (program : TypedProgram) (entry : ℕ) (budgets : RunBudg
       positions [] steps [] (all_are ∙ sym (append-nil steps)) (step next) left before log (at_first (step next) before (ap step nexts) logs) rest
 
   -- at its end, after the steps that it has passed so far and those that it passes then
-  endings : (passed steps : List Step) → all ≡ passed ++ steps → (between : Act CodeState) (before : Log) (outcome : Outcome) (log : Log) → AtRow passed between before
+  endings : (passed steps : List Step) → all ≡ passed ++ steps
+      → (between : Act CodeState) (before : Log) (outcome : Outcome) (log : Log) → AtRow passed between before
       → Proceeds step here (step (start_of code program entry budgets here)) empty passed between before
       → RunsTo step here (first_of here before between) steps outcome log
       → StandsAtEnd code program entry budgets names rules ends here own (passed ++ steps) outcome log
@@ -228,7 +229,8 @@ module _ (code : Code) (program : TypedProgram) (entry : ℕ) (budgets : RunBudg
             subst (λ (l : List Step). StandsAtEnd code program entry budgets names rules ends here own l outcome log)
             (append_assoc passed (child.to.one ∷ []) steps ∙ (λ i. passed ++ same i ∷ steps))
             (endings (passed ++ child.to.one ∷ []) steps
-            (all_are ∙ (λ i. passed ++ sym same i ∷ steps) ∙ sym (append_assoc passed (child.to.one ∷ []) steps)) child.to.rest child.to.later outcome log
+            (all_are ∙ (λ i. passed ++ sym same i ∷ steps) ∙ sym (append_assoc passed (child.to.one ∷ []) steps)) child.to.rest child.to.later outcome
+            log
             (at_child between before at child steps (all_are ∙ (λ i. passed ++ sym same i ∷ steps)))
             (proceeds_on step here way (as_proceeds step here child.to.leaves))
             (subst (λ s. RunsTo step here (first_of here child.to.later child.to.rest) s outcome log) (tail_is one child.to.one steps more.0 more.1) more.2))
