@@ -255,15 +255,15 @@ module _ (code : Code) (program : TypedProgram) (budgets : RunBudgets) (names : 
           by (Part part) is_part on =
               let test : Valuation → Bool = λ v. not (is_faulty parts.kinds parts.subject v) in
               subst (λ (s : State). IsReachedFrom code program budgets names state s ends) (sym on.1) (record {
-                integer = part_integer test part is_part;
+                integer = part_integer test part.value is_part;
                 events = ap (λ (s : State). s.counters.events) is_part.rest;
                 phase = ap (λ (s : State). s.phase) is_part.rest;
                 asked = ap (λ (s : State). s.asked) is_part.rest;
-                mentions = part_mentions test part is_part;
-                fits = part_fits test part is_part;
+                mentions = part_mentions test part.value is_part;
+                fits = part_fits test part.value is_part;
                 endings = end_each;
                 comes = λ setting v left log goes here fits.
-                    record { rest = left; later = log; proceeds = stays refl refl; comes = part_at test part is_part setting v left log here fits };
+                    record { rest = left; later = log; proceeds = stays refl refl; comes = part_at test part.value is_part setting v left log here fits };
                 covers = λ setting v left log goes here. elim (decided (is_faulty parts.kinds parts.subject v)) [
                   | inl holds ↦ inr (cover setting v left log here holds)
                   | inr fails ↦ inl ((is_part.exactly v).1 (here.fits, ap not fails))
