@@ -13,3 +13,4 @@ mod Tests
 pub mod Computed
 mod Converting
 pub mod Using
+mod Harmless
