@@ -101,11 +101,6 @@ pub failed : {T E : Type 0} (answer : Result T E) (P : Type 0) → IsErr answer 
 failed (Ok made) P is = absurd (true≢false (sym is))
 failed (Err why) P is = tt
 
--- what is owed of a success holds, where something holds of each success that it follows from
-pub each_ok : {T E P Q : Type 0} (answer : Result T E) → (P → Q) → OnOk answer P → OnOk answer Q
-each_ok (Ok made) follows is = follows is
-each_ok (Err why) follows is = tt
-
 -- where the checkers keep their kinds, each kind still has a checker
 pub every_kept : {Checker : Type 0} (kind : Checker → Kind) (before after : List Checker) → KeepKinds kind before after
     → HasEveryKind kind before → HasEveryKind kind after

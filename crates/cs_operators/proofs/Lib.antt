@@ -13,4 +13,3 @@ mod Tests
 pub mod Computed
 mod Converting
 pub mod Using
-mod Harmless

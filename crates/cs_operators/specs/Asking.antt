@@ -21,10 +21,6 @@ KeepKinds kind before after = map kind after ≡ map kind before
 abbrev pub IsNoFault : State → Subject → List Kind → Type 0
 IsNoFault state subject kinds = (valuation : Valuation) → Fits valuation state.constraints → is_faulty kinds subject valuation ≡ false
 
--- whatever the numbers are, what is about to be done is no fault of any kind
-abbrev pub IsHarmless : Subject → Type 0
-IsHarmless subject = (kind : Kind) (valuation : Valuation) → is_faulty_for kind subject valuation ≡ false
-
 -- each kind of faults has a checker
 abbrev pub HasEveryKind : {Checker : Type 0} → (Checker → Kind) → List Checker → Type 0
 HasEveryKind kind checkers = AreAllKinds (map kind checkers)

@@ -1,17 +1,16 @@
 //! One attempt to carry out an operation.
-ghost use Rattle.std.specs.Prelude.{◌≡◌, ◌⊎◌, true, List, map, OnOk};
+ghost use Rattle.std.specs.Prelude.{◌≡◌, ◌⊎◌, List, map, OnOk};
 ghost use Rattle.cs_regions.specs.declared.base.Base.{Base};
 ghost use Rattle.cs_terms.specs.Term.{Valuation};
 ghost use Rattle.cs_events.specs.Acts.{Act};
 ghost use Rattle.cs_cfg.specs.Working.{CodeState};
 ghost use Rattle.cs_progress.specs.Answering.{IsAnsweredLater};
 ghost use Rattle.cs_progress.specs.Acting.{Passes};
-ghost use Rattle.cs_operators.specs.Asking.{KeepKinds, IsNoFault, IsHarmless, HasEveryKind, ChecksFor};
+ghost use Rattle.cs_operators.specs.Asking.{KeepKinds, IsNoFault, HasEveryKind, ChecksFor};
 
 use cs_access::{Rest, can_check, check};
 use cs_ast::Place;
 use cs_checker::{Checker, Subject};
-use cs_model::Standing;
 use cs_progress::{Next, Pause, Progress};
 use cs_state::State;
 use std::alloc::Global;
@@ -53,49 +52,14 @@ impl Attempt {
         if self.progress.is_answered_later(state) {
             return Ok(());
         }
-        if is_harmless(&subject) {
-            return Ok(());
-        }
-        self.ask(state, at, &subject)
-    }
-
-    // The checkers are asked.
-    #[inline(never)]
-    fn ask(&mut self, state: &State, at: Place, subject: &Subject) -> Result<(), Pause>
-        ensures kinds { KeepKinds (λ b. kind_of b) self.old.checkers.items self.new.checkers.items }
-        ensures passed { OnOk result
-            (IsNoFault state.now subject.now (map (λ b. kind_of b) self.old.checkers.items)) }
-        ensures used { self.new.progress.used ≡ self.old.progress.used }
-        ensures act { HasEveryKind (λ b. kind_of b) self.old.checkers.items
-            → (bases : List Base) (checked : Valuation → Act CodeState → Act CodeState)
-            → ChecksFor state.now subject.now at checked
-            → Passes bases state.now self.old.progress self.new.progress result checked }
-    {
-        if !can_check(state, subject) {
+        if !can_check(state, &subject) {
             return Err(Pause::Memory);
         }
-        let checked = check(self.alloc, state, subject, &mut self.checkers)?;
+        let checked = check(self.alloc, state, &subject, &mut self.checkers)?;
         if let Rest::Whole = checked.rest {
             return Ok(());
         }
         let checked = Box::new(self.alloc, checked)?;
         Err(self.progress.wait(Next::Checks(at, checked)))
-    }
-}
-
-// What can be no fault of any kind, whatever numbers the symbols have, as the load of a cell that is set. Nobody has to be asked about it.
-fn is_harmless(subject: &Subject) -> bool
-    ensures { result ≡ true → IsHarmless subject.now }
-{
-    match subject {
-        Subject::Through { null: false } => true,
-        Subject::Cell { unset: false } => true,
-        Subject::Slot { fits: true } => true,
-        Subject::Reached {
-            standing: Standing::Live,
-        } => true,
-        Subject::Pair { same: true } => true,
-        Subject::Written { constant: false } => true,
-        _ => false,
     }
 }
