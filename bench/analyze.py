@@ -20,13 +20,22 @@ def least(command, text):
     return min(it[1] for it in runs), max(it[2] for it in runs)
 
 
-def doubled(count, table=0, further=0):
-    """Tests of parameters in a row, each of which doubles a number, with or without 1: each path has its own sum."""
+def doubled(count, table="", further=0):
+    """Tests of parameters in a row, each of which doubles a number, with or without 1: each path has its own sum. A table may be bound first."""
     parameters = ",".join([f"int p{it}" for it in range(count)] + [f"int q{it}" for it in range(further)])
     tests = "".join(f"if(p{it})s=s*2+1;else s=s*2;" for it in range(count))
-    half = table // 2
-    bound = f"int t[{table}];int i;for(i=0;i<{half};i++)t[i]=i;for(i={half};i<{table};i++)t[i]=i;" if table else ""
-    return f"int f({parameters}){{int s=0;{bound}{tests}return s;}}\n"
+    return f"int f({parameters}){{int s=0;{table}{tests}return s;}}\n"
+
+
+def listed(size):
+    """A table that an initializer list binds: one binding each."""
+    return f"int t[{size}]={{{','.join(str(it) for it in range(size))}}};"
+
+
+def filled(size):
+    """A table that loops bind, whose heads are rows too."""
+    half = size // 2
+    return f"int t[{size}];int i;for(i=0;i<{half};i++)t[i]=i;for(i={half};i<{size};i++)t[i]=i;"
 
 
 def merged(count):
@@ -91,8 +100,10 @@ def main():
     generated()
     for count in (6, 8, 10, 12):
         row(f"{count} tests of {count} parameters", doubled(count))
-    for table in (64, 256, 1024):
-        row(f"12 tests, with a table of {table} ints", doubled(12, table), ["--visits", "1000", "--events", "100000"])
+    for size in (64, 256, 1024):
+        row(f"12 tests, with a table of {size} ints", doubled(12, listed(size)))
+    for size in (64, 256, 1024):
+        row(f"12 tests, with a table of {size} ints that loops fill", doubled(12, filled(size)), ["--visits", "1000", "--events", "100000"])
     for further in (16, 64, 256):
         row(f"10 tests of 10 parameters, and {further} further parameters", doubled(10, further=further))
     row("150,000 rows, then cut", doubled(16), ["--nodes", "150000"])

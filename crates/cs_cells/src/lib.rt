@@ -3,4 +3,6 @@
 
 pub mod cells;
 pub mod inputs;
+mod integers;
 pub mod objects;
+pub mod structs;
