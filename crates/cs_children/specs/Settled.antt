@@ -1,6 +1,7 @@
 -- The answers of states: each is over a symbol on which it depends, or over that of a guess.
-use Rattle.std.specs.Prelude.{◌≡◌, ◌≢◌, ◌⊎◌, ℤ, IsTrue, List, Option, Some}
+use Rattle.std.specs.Prelude.{◌≡◌, ◌≢◌, ◌⊎◌, ℤ, IsTrue, List, Option, None, Some}
 use Rattle.cs_ranges.specs.declared.range_set.Interval.{Interval}
+use Rattle.cs_ranges.specs.Affine.{affine}
 use Rattle.cs_ranges.specs.RangeSet.{contains}
 use Rattle.cs_terms.specs.declared.symbol.Sym.{Sym}
 use Rattle.cs_terms.specs.declared.term.Lin.{Lin}
@@ -22,3 +23,8 @@ pub record DependsOn (sets : Sets) (term : Lin) (symbol : Sym) : Type 0 where
 pub record IsSettled (before : Sets) (guess : Option Sym) (given settled : Lin) : Type 0 where
   pub values : (v : Valuation) → Fits v before → value_of v settled ≡ value_of v given
   pub over : (symbol : Sym) → settled.sym ≡ Some symbol → (guess ≡ Some symbol) ⊎ DependsOn before settled symbol
+
+-- a constant with the value of a term at a number of its symbol
+pub record IsConstantAt (term : Lin) (number : ℤ) (made : Lin) : Type 0 where
+  pub no_symbol : made.sym ≡ None
+  pub value : made.value ≡ affine term.slope term.at term.value number

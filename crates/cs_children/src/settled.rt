@@ -1,7 +1,7 @@
 //! The terms that lead on after an event.
 ghost use Rattle.std.specs.Prelude.{◌≡◌, true, Some, IfOk, IfSome};
 ghost use Rattle.cs_ranges.specs.Affine.{affine};
-ghost use Rattle.cs_children.specs.Settled.{IsSettled};
+ghost use Rattle.cs_children.specs.Settled.{IsSettled, IsConstantAt};
 
 use cs_constraints::Constraints;
 use cs_explored::constant;
@@ -22,19 +22,26 @@ pub(crate) fn settled(
     if is_guess(guess, sym) {
         return Ok(answer);
     }
+    if answer.slope == 0 {
+        return Ok(constant(answer.value));
+    }
     let Some(range) = before.range_of(sym) else {
         return Err(AllocError);
     };
-    let (Some(least), Some(greatest)) = (range.least(), range.greatest()) else {
-        return Err(AllocError);
-    };
-    let (Some(first), Some(last)) = (value_at(answer, least), value_at(answer, greatest)) else {
-        return Err(AllocError);
-    };
-    if first == last {
-        return Ok(constant(first));
+    match range.is_single() {
+        Some(only) => settled_at(answer, only),
+        None => Ok(answer),
     }
-    Ok(answer)
+}
+
+// The constant that an answer is where its symbol has one number.
+fn settled_at(answer: Lin, only: i128) -> Result<Lin, AllocError>
+    ensures { IfOk result (IsConstantAt answer only) }
+{
+    match value_at(answer, only) {
+        Some(value) => Ok(constant(value)),
+        None => Err(AllocError),
+    }
 }
 
 // Whether a symbol is that of the guess.
