@@ -19,9 +19,9 @@ ghost use Rattle.cs_steps.specs.Loading.{Loads, load_part, scalar_part};
 ghost use Rattle.cs_steps.specs.Storing.{reaches_for_store, store_part, IsWritten, Stores};
 
 use cs_ast::Place;
-use cs_cells::cells::{Cell, look_up, read};
-use cs_cells::inputs::Inputs;
+use cs_cells::cells::read;
 use cs_cells::objects::object;
+use cs_cells::structs;
 use cs_cfg::Access;
 use cs_checker::{Checker, Subject};
 use cs_operators::Attempt;
@@ -216,21 +216,7 @@ fn read_all(
     requires { IsReady context.now.setting.now }
     ensures { Extends (naming tables.old) (naming tables.new) }
 {
-    let offsets = context.offsets(ty)?;
-    let mut values = Vec::new(context.alloc);
-    let mut inputs = Inputs::new(context.alloc);
-    for offset in offsets.as_slice() {
-        let at = reached.offset.checked_add(*offset).ok_or(Pause::Memory)?;
-        let value = match look_up(context, state, tables, reached.base, at)? {
-            Cell::Known(value) => value,
-            Cell::Received(input) => {
-                inputs.add(state, at, input)?;
-                input.value
-            }
-        };
-        values.push(value)?;
-    }
-    inputs.settle(state, reached.base)?;
+    let values = structs::read_all(context, state, tables, ty, reached.base, reached.offset)?;
     Ok(Scalars::of(values)?)
 }
 
@@ -301,7 +287,7 @@ fn write_all(
     ensures { IfErr result (λ why. why ≡ pause.Memory) }
 {
     let offsets = context.offsets(ty)?;
-    let mut leaves = Vec::new(context.alloc);
+    let mut leaves = Vec::with_capacity(context.alloc, scalars.as_slice().len())?;
     for (offset, value) in offsets.as_slice().iter().zip(scalars.as_slice()) {
         let at = reached.offset.checked_add(*offset).ok_or(Pause::Memory)?;
         leaves.push((at, *value))?;
