@@ -48,6 +48,11 @@ def copied(count):
     return f"struct s{{int a[{count}];}};void f(struct s*p,struct s*q){{*p=*q;}}\n"
 
 
+def again(turns):
+    """The same struct of 4,096 scalars copied in so many turns."""
+    return f"struct s{{int a[4096];}};struct s p;struct s q;int f(void){{{'q=p;' * turns}return q.a[0];}}\n"
+
+
 def looked_up(count):
     """Reads of a constant table at an offset that isn't known."""
     numbers = ",".join(str(it % 7) for it in range(count))
@@ -109,6 +114,8 @@ def main():
     row("150,000 rows, then cut", doubled(16), ["--nodes", "150000"])
     row("20 merged branches", merged(20))
     row("a copy of a struct of 4,096 scalars", copied(4096))
+    once, often = (least([CSA, "analyze"], again(turns))[0] for turns in (1, 101))
+    print(f"| each further copy of the same struct | | {10 * (often - once):.2f} ms | |", flush=True)
     row("a constant table of 4,096 ints under 64 splits", looked_up(4096))
     seconds, memory = least([CSA, "flow"], looked_up(4096))
     print(f"| the flow of the same file | | {seconds:.3f} s | {memory} MB |", flush=True)
