@@ -18,6 +18,7 @@ use cs_names::Name;
 use cs_types::DataModel;
 use cs_typing::typed;
 use std::alloc::Global;
+use std::mem::forget;
 
 /// The program of a file, and the names of the files that its places are in.
 #[derive(Drop)]
@@ -52,7 +53,12 @@ fn parsed(alloc: Global, model: DataModel, lexed: Lexed) -> Result<FileProgram, 
         → Lexes file lexed → IsRefusedFor model file refusal) }
 {
     match parse(alloc, lexed.list.as_slice(), lexed.end) {
-        Ok(tree) => typed_as(alloc, model, lexed, &tree.externals),
+        Ok(tree) => {
+            let answer = typed_as(alloc, model, lexed, &tree.externals);
+            // The caller answers for one file and ends: the tree isn't given back node by node.
+            forget(tree);
+            answer
+        }
         Err(refusal) => Err(FileRefusal::Syntax(refusal, lexed.files)),
     }
 }
@@ -72,10 +78,14 @@ fn typed_as(
         → IsRefusedFor model file refusal) }
 {
     match typed(alloc, model, &lexed.files, &lexed.list, tree) {
-        Ok(program) => Ok(FileProgram {
-            files: lexed.files,
-            program,
-        }),
+        Ok(program) => {
+            // Nor are the tokens.
+            forget(lexed.list);
+            Ok(FileProgram {
+                files: lexed.files,
+                program,
+            })
+        }
         Err(refusal) => Err(FileRefusal::Types(refusal, lexed.files)),
     }
 }
