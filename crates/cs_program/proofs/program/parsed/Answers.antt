@@ -2,8 +2,8 @@ use Rattle.std.proofs.Common.{refl}
 use Rattle.cs_parsed_files.proofs.FileTrees.{lexed_files_have_trees}
 use Rattle.cs_program.proofs.program.parsed.Goals as goal
 
-pub typed_as-requires : goal.typed_as-requires
-typed_as-requires c =
+pub typed_as-answer-requires : goal.typed_as-answer-requires
+typed_as-answer-requires c =
     let taken = rw c.as_slice.ensures.value at c.in-Ok.ensures.taken in
     let placed = rw c.as_slice.ensures.value at c.in-Ok.ensures.placed in
     let cut = c.requires.lexed in

@@ -15,8 +15,8 @@ returns-in-Ok-clause-program c =
       names = refl;
     }
 
-pub returns-clause-refused : goal.returns-clause-refused
-returns-clause-refused c =
+pub returns-in-Err-clause-refused : goal.returns-in-Err-clause-refused
+returns-in-Err-clause-refused c =
     let same = same_typing c.args.lexed c.args.model c.args.model c.deref.result.now c.deref-2.result.now c.args.tree.now
     refl c.deref.ensures.value c.deref-2.ensures.value in
     λ file parsed.
