@@ -1,4 +1,3 @@
 pub mod Parameters
-pub mod Moved
 pub mod Exploring
 pub mod Sourcing

@@ -34,7 +34,7 @@ use Rattle.cs_coverage.proofs.ClosedGraphs.{earlier_names}
 use Rattle.cs_coverage.proofs.Positions.{themselves}
 use Rattle.cs_coverage.proofs.StartBlocks.{no_blocks}
 use Rattle.cs_exactness.specs.Distinct.{AreDistinct}
-use Rattle.cs_exactness.specs.Noted.{EachNotesEvents}
+use Rattle.cs_exactness.specs.Noted.{EachState, EachNotesEvents}
 use Rattle.cs_exactness.specs.OwnRuns.{HasOwnRuns}
 use Rattle.cs_exactness.specs.Sources.{IsFirstRow, AreSourced, IsSourcedGraph, UnderNames}
 use Rattle.cs_exactness.proofs.DifferentRows.{are_distinct}
@@ -45,6 +45,10 @@ use Rattle.cs_exactness.proofs.OwnRuns.{has_own_runs}
 use Rattle.cs_exactness.proofs.SourcedGraphs.{sources_given, sources_expanded, sources_nothing, sources_begun}
 use Rattle.cs_exactness.proofs.SourcedRows.{sourced_but}
 use Rattle.cs_exactness.proofs.Walking.{integer_row}
+use Rattle.cs_guesses.specs.Asking.{AreAskedAlong}
+use Rattle.cs_guesses.specs.Real.{HasRealGuesses, IsLoweredEntry}
+use Rattle.cs_guesses.proofs.Asked.{are_asked}
+use Rattle.cs_guesses.proofs.Real.{are_real}
 use Rattle.cs_engine.specs.Exploring.{program_of, ExploresIntegers, IsFull, HasSources, IsKept, IsDone, IsExactFor}
 use Rattle.cs_engine.proofs.Exploring.{ComesOf, given_graph, done_graph}
 
@@ -188,3 +192,14 @@ module _ (exploration : Exploration) (entry : ℕ) (explores : ExploresIntegers 
     own_at_last =
         has_own_runs code program entry budgets last_names rules explored.rows.items sourced_at_last.rows_come explored.ends.items (λ number. ⊥)
         sourced_at_last
+
+    -- what its states note of their guesses is so
+    pub asked_at_last : EachState explored.rows.items explored.ends.items (λ number state chain.
+        AreAskedAlong code program entry budgets last_names explored.rows.items state chain)
+    asked_at_last = are_asked code program entry budgets last_names rules explored.rows.items explored.ends.items (λ number. ⊥) sourced_at_last
+
+    -- and these guesses are real
+    pub real_at_last : IsLoweredEntry code program entry
+        → EachState explored.rows.items explored.ends.items (λ number state chain. HasRealGuesses program entry budgets last_names state)
+    real_at_last lowered =
+        are_real code program entry budgets last_names rules explored.rows.items explored.ends.items (λ number. ⊥) sourced_at_last lowered

@@ -1,5 +1,5 @@
 -- What an exploration says of runs is so: of its rows and ends, and of the cuts that it lists. A part of it is in the contract of `explore`
--- (`IsExactOnIntegers` and `HasOwnOnIntegers` of `Exploring`); no contract says the whole.
+-- (`IsExactOnIntegers`, `HasOwnOnIntegers` and `NotesGuessesOnIntegers` of `Exploring`); no contract says the whole.
 use Rattle.std.specs.Prelude.{ℕ, List, All}
 use Rattle.cs_ast.specs.TypedProgram.{TypedProgram}
 use Rattle.cs_cfg.specs.Graph.{Code}

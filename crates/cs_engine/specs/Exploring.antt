@@ -13,9 +13,11 @@ use Rattle.cs_coverage.specs.Covering.{HasAllNodes}
 use Rattle.cs_coverage.specs.Positions.{CoversPositions, CoversOwn}
 use Rattle.cs_exactness.specs.Distinct.{AreDistinct}
 use Rattle.cs_exactness.specs.Exact.{IsExact}
-use Rattle.cs_exactness.specs.Noted.{EachNotesEvents}
+use Rattle.cs_exactness.specs.Noted.{EachState, EachNotesEvents}
 use Rattle.cs_exactness.specs.OwnRuns.{HasOwnRuns}
 use Rattle.cs_exactness.specs.Sources.{AreSourced, IsSourcedGraph, UnderNames}
+use Rattle.cs_guesses.specs.Asking.{AreAskedAlong}
+use Rattle.cs_guesses.specs.Real.{HasRealGuesses, IsLoweredEntry}
 
 -- the program that is explored
 abbrev pub program_of : Exploration → TypedProgram
@@ -87,3 +89,17 @@ abbrev pub HasOwnOnIntegers : Exploration → ℕ → Explored → Type 0
 HasOwnOnIntegers exploration entry explored =
     ExploresIntegers exploration entry
     → HasOwnRuns (code_of exploration) (program_of exploration) entry (limits_of exploration) (naming explored.tables) explored.rows.items explored.ends.items
+
+-- what each state notes of its guesses is so, if the entry works with integers alone
+abbrev pub NotesGuessesOnIntegers : Exploration → ℕ → Explored → Type 0
+NotesGuessesOnIntegers exploration entry explored =
+    ExploresIntegers exploration entry
+    → EachState explored.rows.items explored.ends.items (λ number state chain.
+    AreAskedAlong (code_of exploration) (program_of exploration) entry (limits_of exploration) (naming explored.tables) explored.rows.items state chain)
+
+-- the guesses of the runs for which rows and ends stand are real, if besides the code is the lowering of the program
+abbrev pub HasRealGuessesOnIntegers : Exploration → ℕ → Explored → Type 0
+HasRealGuessesOnIntegers exploration entry explored =
+    ExploresIntegers exploration entry → IsLoweredEntry (code_of exploration) (program_of exploration) entry
+    → EachState explored.rows.items explored.ends.items (λ number state chain.
+    HasRealGuesses (program_of exploration) entry (limits_of exploration) (naming explored.tables) state)

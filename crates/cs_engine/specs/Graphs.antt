@@ -7,7 +7,7 @@ use Rattle.cs_state.specs.Naming.{Naming}
 use Rattle.cs_explored.specs.declared.explored.End.{End}
 use Rattle.cs_explored.specs.declared.explored.Row.{Row}
 use Rattle.cs_explored.specs.declared.watch.Rule.{Rule}
-use Rattle.cs_engine.specs.Asking.{AreAskedAlong}
+use Rattle.cs_guesses.specs.Asking.{AreAskedAlong}
 use Rattle.cs_exactness.specs.Distinct.{AreDistinct}
 use Rattle.cs_exactness.specs.Exact.{IsExact}
 use Rattle.cs_exactness.specs.Noted.{EachState}

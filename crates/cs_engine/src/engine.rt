@@ -7,6 +7,7 @@ ghost use Rattle.cs_coverage.specs.Closing.{Waits, IsOpen};
 ghost use Rattle.cs_engine.specs.Exploring.{ExploresIntegers, IsFull, IsKept, IsDone};
 ghost use Rattle.cs_engine.specs.Exploring.{CoversIntegers, CoversOwnOnIntegers, IsExactOnIntegers};
 ghost use Rattle.cs_engine.specs.Exploring.{HasOwnOnIntegers};
+ghost use Rattle.cs_engine.specs.Exploring.{NotesGuessesOnIntegers, HasRealGuessesOnIntegers};
 
 use crate::entry::start;
 use crate::numbering::have_each_once;
@@ -41,6 +42,12 @@ pub fn explore(
     ensures own { IfOk result (λ explored.
         HasEveryKind (λ b. kind_of b) checkers.old.items
         → HasOwnOnIntegers exploration.now entry explored) }
+    ensures asked { IfOk result (λ explored.
+        HasEveryKind (λ b. kind_of b) checkers.old.items
+        → NotesGuessesOnIntegers exploration.now entry explored) }
+    ensures real { IfOk result (λ explored.
+        HasEveryKind (λ b. kind_of b) checkers.old.items
+        → HasRealGuessesOnIntegers exploration.now entry explored) }
     ensures kinds { map (λ b. kind_of b) checkers.new.items
         ≡ map (λ b. kind_of b) checkers.old.items }
 {

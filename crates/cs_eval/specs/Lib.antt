@@ -9,5 +9,6 @@ pub mod ProductTests
 pub mod Questions
 pub mod Ready
 pub mod Splits
+pub mod Noted
 pub mod Truths
 pub mod Wraps

@@ -1,5 +1,5 @@
 use Rattle.cs_engine.proofs.Exploring.{covered, own_covered}
-use Rattle.cs_engine.proofs.Sourcing.{exact_at_last, own_at_last}
+use Rattle.cs_engine.proofs.Sourcing.{exact_at_last, own_at_last, asked_at_last, real_at_last}
 use Rattle.cs_engine.proofs.engine.explore.Goals as goal
 
 pub returns-clause-covers : goal.returns-clause-covers
@@ -25,6 +25,18 @@ returns-clause-own g c every explores =
     own_at_last c.args.exploration.now c.args.entry explores c.expand_all.new.findings c.explored.result c.have_each_once.ensures.bases
     c.have_each_once.ensures.syms c.explored.ensures.rows c.explored.ensures.all_ends c.explored.ensures.tables
     (c.in_ok-expand_all.ensures.done every c.args.entry explores (c.in_ok-findings.ensures.begins explores))
+
+pub returns-clause-asked : goal.returns-clause-asked
+returns-clause-asked g c every explores =
+    asked_at_last c.args.exploration.now c.args.entry explores c.expand_all.new.findings c.explored.result c.have_each_once.ensures.bases
+    c.have_each_once.ensures.syms c.explored.ensures.rows c.explored.ensures.all_ends c.explored.ensures.tables
+    (c.in_ok-expand_all.ensures.done every c.args.entry explores (c.in_ok-findings.ensures.begins explores))
+
+pub returns-clause-real : goal.returns-clause-real
+returns-clause-real g c every explores lowered =
+    real_at_last c.args.exploration.now c.args.entry explores c.expand_all.new.findings c.explored.result c.have_each_once.ensures.bases
+    c.have_each_once.ensures.syms c.explored.ensures.rows c.explored.ensures.all_ends c.explored.ensures.tables
+    (c.in_ok-expand_all.ensures.done every c.args.entry explores (c.in_ok-findings.ensures.begins explores)) lowered
 
 pub explored-requires : goal.explored-requires
 explored-requires g c = c.in_ok-expand_all.ensures.grows.sound c.in_ok-findings.ensures.sound

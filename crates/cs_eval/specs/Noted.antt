@@ -1,21 +1,24 @@
--- The operation of a guess, which isn't followed exactly.
-use Rattle.std.specs.Prelude.{◌≡◌, ℕ, pos, List, Option, Some, None, IsSome, IsNone}
+-- What is noted of a guess.
+use Rattle.std.specs.Prelude.{◌≡◌, ℕ, ℤ, pos, List, Option, Some, None, IsSome, IsNone}
 use Rattle.cs_types.specs.declared.data_model.DataModel.{DataModel}
 use Rattle.cs_ranges.specs.declared.range_set.Interval.{Interval}
 use Rattle.cs_ranges.specs.RangeSet.{IsLeast, IsGreatest}
 use Rattle.cs_terms.specs.declared.symbol.Sym.{Sym}
 use Rattle.cs_terms.specs.declared.term.Lin.{Lin}
 use Rattle.cs_terms.specs.Term.{Valuation, value_of_sum}
-use Rattle.cs_constraints.specs.Constraints.{Sets, set_of, AreInhabited}
+use Rattle.cs_constraints.specs.Constraints.{Sets, set_of, Fits}
 use Rattle.cs_events.specs.Operations.{own_result, truth_number, compares}
-use Rattle.cs_state.specs.declared.asked.Asked.{Asked}
 use Rattle.cs_state.specs.declared.asked.Asks.{Asks}
 use Rattle.cs_state.specs.declared.asked.Asks.TheVariants as asks
+use Rattle.cs_state.specs.declared.asked.Ends.{Ends}
 use Rattle.cs_state.specs.declared.asked.Fact.{Fact}
+use Rattle.cs_eval.specs.declared.piece.Guessed.{Guessed}
+use Rattle.cs_eval.specs.declared.piece.Piece.{Piece}
 use Rattle.cs_eval.specs.declared.question.Question.{Question}
 use Rattle.cs_eval.specs.declared.question.Question.TheVariants as question
 use Rattle.cs_eval.specs.Followed.{IsFollowed, IsGuess}
 use Rattle.cs_eval.specs.Questions.{operation_of}
+use Rattle.cs_eval.specs.Ready.{HasReadyOperands}
 
 -- the question of an operation on two operands. How many bytes the elements have that a pointer is moved by, or that lie between two, isn't noted
 abbrev pub IsQuestionOf : Asks → Lin → Lin → Question → Type 0
@@ -43,13 +46,27 @@ abbrev pub IsRangeOf : Sets → Option Sym → Interval → Type 0
 IsRangeOf sets symbol ends = (sym : Sym) → symbol ≡ Some sym
     → (set : List Interval) × (set_of sets sym.0 ≡ Some set) × IsLeast set ends.low × IsGreatest set ends.high
 
--- ranges of symbols, each with some number, of which those of the operands' symbols have the ends that were noted
-pub record AreRanges (asked : Asked) (sets : Sets) : Type 0 where
-  pub inhabited : AreInhabited sets
-  pub left : IsRangeOf sets asked.left.sym asked.ends.left
-  pub right : IsRangeOf sets asked.right.sym asked.ends.right
+-- where there is no symbol, 0 stands for both ends
+abbrev pub HasNoEnds : Option Sym → Interval → Type 0
+HasNoEnds symbol ends = symbol ≡ None → ends ≡ record { low = pos 0; high = pos 0 }
 
--- whatever ranges have these ends: the operation isn't followed exactly, and the number of the guess symbol may be guessed in place of its result
-abbrev pub IsInexact : DataModel → Asked → Question → Valuation → Type 0
-IsInexact model asked meant v = (sets : Sets) → AreRanges asked sets
-    → ¬ IsFollowed model sets meant v × IsGuess model sets meant v (v asked.guess.0)
+-- what is noted of a guess, where a question is asked under these sets: a question with the same operation under each valuation that fits, in the form
+-- in which it was decided
+pub record IsNoted (model : DataModel) (sets : Sets) (given : Question) (what : Asks) (left right : Lin) (ends : Ends) (fact : Option Fact) : Type 0 where
+  pub meant : Question
+  pub asked : IsQuestionOf what left right meant
+  pub operands : HasReadyOperands sets meant
+  pub same : (v : Valuation) → Fits v sets → operation_of v meant ≡ operation_of v given
+  pub followed : (v : Valuation) → Fits v sets → IsFollowed model sets meant v → IsFollowed model sets given v
+  pub guesses : (v : Valuation) (number : ℤ) → Fits v sets → IsGuess model sets given v number → IsGuess model sets meant v number
+  pub has_fact : HasFact what left right fact
+  pub told : (v : Valuation) → Fits v sets → TellsResult model fact meant v
+  pub left_range : IsRangeOf sets left.sym ends.left
+  pub right_range : IsRangeOf sets right.sym ends.right
+  pub left_ends : HasNoEnds left.sym ends.left
+  pub right_ends : HasNoEnds right.sym ends.right
+
+-- a piece with a guess notes it
+abbrev pub NotesGuess : DataModel → Sets → Question → Piece → Type 0
+NotesGuess model sets given piece = (noted : Guessed) → piece.guessed ≡ Some noted
+    → IsNoted model sets given noted.asks noted.left noted.right noted.ends noted.fact

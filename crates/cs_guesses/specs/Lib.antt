@@ -1,0 +1,3 @@
+pub mod Inexact
+pub mod Asking
+pub mod Real
