@@ -2,6 +2,7 @@ pub mod Cases
 pub mod Followed
 pub mod Forms
 pub mod Guesses
+pub mod Noted
 pub mod Offsets
 pub mod Operands
 pub mod Parts
@@ -9,6 +10,5 @@ pub mod ProductTests
 pub mod Questions
 pub mod Ready
 pub mod Splits
-pub mod Noted
 pub mod Truths
 pub mod Wraps

@@ -11,6 +11,7 @@ use Rattle.cs_state.specs.declared.asked.Asked.{Asked}
 use Rattle.cs_eval.specs.Noted.{IsRangeOf}
 use Rattle.cs_corners.proofs.Moving.{is_over}
 use Rattle.cs_guesses.specs.Asking.{IsMoved}
+use Rattle.cs_guesses.proofs.SameEnds.{named}
 
 -- each number may be a symbol's own
 pub moved_nowhere : (asked : Asked) (v : Valuation) → IsMoved asked v v
@@ -27,9 +28,6 @@ moved_fits sets asked v w left right fits moved n set known = elim (is_over aske
   ]
 ]
   where
-    named : ℕ → Sym
-    named k = record { 0 = k }
-
     own : w n ≡ v n → IsTrue (contains set (w n))
     own same = subst (λ (x : ℤ). IsTrue (contains set x)) (sym same) (fits n set known)
 

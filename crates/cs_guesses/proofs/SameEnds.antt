@@ -34,6 +34,10 @@ use Rattle.cs_corners.proofs.Rectangles.{AreOf, which_of, corner, corner_left, c
 use Rattle.cs_corners.proofs.Terms.{IsStretched, fixed_or_movable, stretched}
 use Rattle.cs_guesses.proofs.Operands.{IsNoProduct}
 
+-- the symbol with a number
+abbrev pub named : ℕ → Sym
+named number = record { 0 = number }
+
 -- a number that lies between two of those that it has under valuations that fit
 pub record LiesBetween (others : Sets) (number : Numbers) (value : ℤ) : Type 0 where
   pub low : Valuation
@@ -245,9 +249,6 @@ module _ (sets others : Sets) (inhabited : AreInhabited sets) (there_inhabited :
       ]
     ]
   ]
-    where
-      named : ℕ → Sym
-      named k = record { 0 = k }
 
   compared : IsOperand sets left → IsOperand sets right → (op : CmpOp)
       → AreOverOne others left right ⊎ IsDecided others op (λ w. value_of w left -ℤ value_of w right)
@@ -275,9 +276,6 @@ module _ (sets others : Sets) (inhabited : AreInhabited sets) (there_inhabited :
       let found = even w fits_there in
       (found.0, ap2 same_left same_right ∙ found.1)
     where
-      named : ℕ → Sym
-      named k = record { 0 = k }
-
       w : Valuation
       w = moved (AreOf left right) (which_of left right) v base
 
