@@ -2,6 +2,7 @@ pub mod Cases
 pub mod Followed
 pub mod Forms
 pub mod Guesses
+pub mod Noted
 pub mod Offsets
 pub mod Operands
 pub mod Parts

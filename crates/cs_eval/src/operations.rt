@@ -5,7 +5,9 @@ ghost use Rattle.cs_events.specs.Operations as operations;
 ghost use Rattle.cs_values.specs.Results.{IsOwn};
 ghost use Rattle.cs_eval.specs.Followed.{AreAnswers};
 ghost use Rattle.cs_eval.specs.Forms.{AreConstants, operation_pieces};
+ghost use Rattle.cs_eval.specs.Noted.{NotesGuess};
 ghost use Rattle.cs_eval.specs.Ready.{HasReadyOperands};
+ghost use Rattle.cs_eval.specs.Splits.{Each};
 
 use crate::checked::check_adds;
 use crate::integers::{binary, conversion, unary};
@@ -33,8 +35,10 @@ pub fn answers(
     question: &Question,
     guess: Sym,
 ) -> Result<Vec<Piece>, AllocError>
-    ensures { IfOk result (λ pieces.
+    ensures answers { IfOk result (λ pieces.
         AreAnswers model constraints.now guess.0 question.now pieces.items) }
+    ensures notes { IfOk result (λ pieces.
+        Each (NotesGuess model constraints.now question.now) pieces.items) }
 {
     if constraints.range_of(guess).is_some() {
         return Err(AllocError);
