@@ -7,6 +7,7 @@ ghost use Rattle.cs_eval.specs.Followed.{AreAnswers};
 ghost use Rattle.cs_eval.specs.Forms.{AreConstants, operation_pieces};
 ghost use Rattle.cs_eval.specs.Noted.{NotesGuess};
 ghost use Rattle.cs_eval.specs.Ready.{HasReadyOperands};
+ghost use Rattle.cs_eval.specs.Recorded.{AreRecordedAnswers};
 ghost use Rattle.cs_eval.specs.Splits.{Each};
 
 use crate::checked::check_adds;
@@ -97,8 +98,9 @@ fn followed(setting: &Setting, question: Question) -> Result<Vec<Piece>, AllocEr
     requires ready { HasReadyOperands setting.now.constraints.now question }
     requires mixed { ¬ AreConstants question }
     requires fresh { set_of setting.now.constraints.now setting.now.guess.0 ≡ None }
-    ensures { IfOk result (λ pieces. AreAnswers setting.now.model setting.now.constraints.now
-        setting.now.guess.0 question pieces.items) }
+    ensures { IfOk result (λ pieces. AreRecordedAnswers setting.now.model
+        setting.now.constraints.now setting.now.guess.0 question
+        pieces.items) }
 {
     match question {
         Question::Binary(op, ty, left, right) => binary(setting, op, ty, left, right),
