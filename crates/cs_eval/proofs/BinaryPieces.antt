@@ -31,7 +31,7 @@ use Rattle.cs_eval.specs.Wraps.{asked_of, IsWholeGuess, AreOfProduct, AreSummed,
 use Rattle.cs_eval.proofs.Comparisons.{over_one, not_over_one}
 use Rattle.cs_eval.proofs.OperandValues.{value_of-none}
 use Rattle.cs_eval.proofs.Conversions.{converted_split, no_symbol, type_guesses}
-use Rattle.cs_eval.proofs.Records.{binary_is, question_records, whole_records, product_records, converted_records}
+use Rattle.cs_eval.proofs.Records.{binary_is, recorded, whole_records, product_records, converted_records}
 use Rattle.cs_eval.proofs.WrapPieces.{IsWrap, AreGuesses, IsFarGuessed, whole_split, product_split}
 
 abbrev pub binary_asking : DataModel → Sets → BinOp → IntType → Lin → Lin → Asking
@@ -58,18 +58,16 @@ module _ (model : DataModel) (sets : Sets) (guess : ℕ) (op : BinOp) (ty : IntT
   wrap : IsWrap model asking
   wrap = record { shown = λ v. refl; shown_guess = λ v number. refl }
 
-  recorded : (pieces : List Piece) → IsSplit model sets guess asking pieces → Each (RecordsInexact sets (asked_of op ty left right)) pieces
+  with_records : (pieces : List Piece) → IsSplit model sets guess asking pieces → Each (RecordsInexact sets (asked_of op ty left right)) pieces
       → AreRecordedAnswers model sets guess (question.Binary op ty left right) pieces
-  recorded pieces split records = record {
-    answers = split;
-    records = question_records model sets (question.Binary op ty left right) (asked_of op ty left right) (asks.Binary op ty) left right None refl
-        (binary_is model sets left right op ty) pieces records;
-  }
+  with_records =
+      recorded model sets (question.Binary op ty left right) (asked_of op ty left right) (asks.Binary op ty) left right None refl
+      (binary_is model sets left right op ty) guess
 
   pub guessed_split : ¬ IsFollowedNear sets op left right → (pieces : List Piece) → IsWholeGuess model sets guess (asked_of op ty left right) pieces
       → AreRecordedAnswers model sets guess (question.Binary op ty left right) pieces
   guessed_split not pieces h =
-      recorded pieces
+      with_records pieces
       (whole_split model sets guess asking wrap (asked_of op ty left right) pieces given.fresh
       (λ v fits followed. elim followed [ inl both ↦ not_both sets guess left right given both | inr near ↦ not near.0 ])
       guesses h)
@@ -96,7 +94,7 @@ module _ (model : DataModel) (sets : Sets) (guess : ℕ) (op : BinOp) (ty : IntT
       guessed_split
       (λ near. not_over_one sets left right right.sym refl given.left_ready.several given.right_ready.several (s.none refl) (from near)) pieces h
   summed_split number same to from (Some sum) pieces s h =
-      recorded pieces
+      with_records pieces
       (converted_split model sets guess asking ty sum (Some (asked_of op ty left right))
       (record {
         wrap = wrap;
@@ -118,7 +116,7 @@ module _ (model : DataModel) (sets : Sets) (guess : ℕ) (op : BinOp) (ty : IntT
       → AreOfProduct model sets guess ty term factor (Some (asked_of op ty left right)) pieces
       → AreRecordedAnswers model sets guess (question.Binary op ty left right) pieces
   multiplied_split term factor same followed mentioned pieces h =
-      recorded pieces
+      with_records pieces
       (product_split model sets guess asking ty term factor (Some (asked_of op ty left right)) pieces given.fresh
       (λ s range over known.
       let at : (v : Valuation) → exact model op ty (value_of v left) (value_of v right) ≡ value_at term (v s.0) *ℤ factor =

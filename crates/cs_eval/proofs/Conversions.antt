@@ -34,7 +34,7 @@ use Rattle.cs_eval.specs.Splits.{Asking, IsSplit}
 use Rattle.cs_eval.specs.Wraps.{IsNearOrUnasked, AreConverted, IsExactOfOne}
 use Rattle.cs_eval.proofs.OperandValues.{value_of-none}
 use Rattle.cs_eval.proofs.PartPieces.{raised_value, times_one}
-use Rattle.cs_eval.proofs.Records.{conversion_is, converted_records, question_records}
+use Rattle.cs_eval.proofs.Records.{conversion_is, converted_records, recorded}
 use Rattle.cs_eval.proofs.WrapPieces.{IsWrap, AreGuesses, IsFarGuessed, IsAskedFor, one_split, whole_split, product_split}
 
 -- an operation whose exact result is a term's value
@@ -154,29 +154,27 @@ pub conversion_split : (model : DataModel) (sets : Sets) (guess : ℕ) (ty : Int
 conversion_split model sets guess ty term zero pieces ready symbol constant fresh h =
     let inexact : Inexact = record { asks = asks.Convert ty; left = term; right = zero; fact = None } in
     let asking : Asking = asking_of model sets (question.Convert ty term) in
-    record {
-      answers = converted_split model sets guess asking ty term (Some inexact)
-          (record {
-            wrap = record { shown = λ v. refl; shown_guess = λ v number. refl };
-            quotient = λ v. refl;
-            own = λ v. refl;
-            near = λ v near. inr near;
-            mentioned = λ s e. e;
-            asked_for = record {
-              far = λ v fits far followed. elim followed [
-                | inl fixed ↦ symbol (no_symbol sets term ready.several fixed)
-                | inr near ↦ near far
-              ];
-              guesses = λ numbers are.
-                  type_guesses model sets asking ty (λ v n r. r) (λ v n r. r) (λ v. wrapped-InRange model ty (value_of v term)) numbers are.are;
-            };
-            unasked = λ e. absurd (cc);
-          })
-          fresh pieces h;
-      records = question_records model sets (question.Convert ty term) inexact (asks.Convert ty) term zero None refl
-          (conversion_is model sets term zero ty constant) pieces
-          (converted_records model sets guess inexact ty term pieces h);
-    }
+    recorded model sets (question.Convert ty term) inexact (asks.Convert ty) term zero None refl (conversion_is model sets term zero ty constant) guess
+    pieces
+    (converted_split model sets guess asking ty term (Some inexact)
+    (record {
+      wrap = record { shown = λ v. refl; shown_guess = λ v number. refl };
+      quotient = λ v. refl;
+      own = λ v. refl;
+      near = λ v near. inr near;
+      mentioned = λ s e. e;
+      asked_for = record {
+        far = λ v fits far followed. elim followed [
+          | inl fixed ↦ symbol (no_symbol sets term ready.several fixed)
+          | inr near ↦ near far
+        ];
+        guesses = λ numbers are.
+            type_guesses model sets asking ty (λ v n r. r) (λ v n r. r) (λ v. wrapped-InRange model ty (value_of v term)) numbers are.are;
+      };
+      unasked = λ e. absurd (cc);
+    })
+    fresh pieces h)
+    (converted_records model sets guess inexact ty term pieces h)
 
 -- an operator of one integer
 pub unary_split : (model : DataModel) (sets : Sets) (guess : ℕ) (op : UnOp) (ty : IntType) (term exact : Lin) (pieces : List Piece)

@@ -39,7 +39,7 @@ use Rattle.cs_eval.proofs.Comparisons.{over_one, not_over_one}
 use Rattle.cs_eval.proofs.OperandForms.{fits_fixed, fixed_none}
 use Rattle.cs_eval.proofs.OperandValues.{decide, value_between, value_of-none, with_number-same, with_number-other}
 use Rattle.cs_eval.proofs.OnePiece.{one_exact_split, one_guess_split}
-use Rattle.cs_eval.proofs.Records.{difference_is, question_records, unguessed_records, whole_records}
+use Rattle.cs_eval.proofs.Records.{difference_is, recorded, unguessed_records, whole_records}
 use Rattle.cs_eval.proofs.PartPieces.{times_one}
 
 quotient_neg : (a d : ℕ) → int_div (neg_ℤ (pos a)) (pos d) ≡ neg_ℤ (pos (a / d))
@@ -267,8 +267,8 @@ pub difference_guess : (model : DataModel) (sets : Sets) (guess : ℕ) (left rig
     → IsTermOfOffsets model sets left → IsTermOfOffsets model sets right
     → inexact ≡ record { asks = asks.Difference; left = left; right = right; fact = None } → set_of sets guess ≡ None
     → IsWholeGuess model sets guess inexact pieces → AreRecordedAnswers model sets guess (question.Difference left right size) pieces
-difference_guess model sets guess left right size inexact pieces l r some h lo ro same fresh whole = record {
-  answers = difference_guessed model sets guess left right size inexact pieces l r some h lo ro (ap (λ (i : Inexact). i.asks) same) fresh whole;
-  records = question_records model sets (question.Difference left right size) inexact asks.Difference left right None same
-      (difference_is model sets left right size) pieces (whole_records model sets guess inexact pieces whole);
-}
+difference_guess model sets guess left right size inexact pieces l r some h lo ro same fresh whole =
+    recorded model sets (question.Difference left right size) inexact asks.Difference left right None same
+    (difference_is model sets left right size) guess pieces
+    (difference_guessed model sets guess left right size inexact pieces l r some h lo ro (ap (λ (i : Inexact). i.asks) same) fresh whole)
+    (whole_records model sets guess inexact pieces whole)

@@ -28,7 +28,7 @@ use Rattle.cs_eval.specs.Wraps.{IsSumOf, IsWholeGuess}
 use Rattle.cs_eval.proofs.Comparisons.{over_one, not_over_one}
 use Rattle.cs_eval.proofs.OperandValues.{value_between}
 use Rattle.cs_eval.proofs.OnePiece.{one_exact_split, one_guess_split}
-use Rattle.cs_eval.proofs.Records.{question_records, sum_is, unguessed_records, whole_records}
+use Rattle.cs_eval.proofs.Records.{recorded, sum_is, unguessed_records, whole_records}
 
 -- a number times one above 0 is 0 only if it is
 factor_zero : (n : ℤ) (k : ℕ) → n *ℤ pos (suc k) ≡ pos 0 → n ≡ pos 0
@@ -155,8 +155,6 @@ module _ (model : DataModel) (sets : Sets) (guess : ℕ) (offset amount : Lin) (
   pub sum_guess : (inexact : Inexact) (pieces : List Piece) → sum ≡ None
       → inexact ≡ record { asks = asks.Sum; left = offset; right = amount; fact = None } → set_of sets guess ≡ None
       → IsWholeGuess model sets guess inexact pieces → AreRecordedAnswers model sets guess (question.Sum offset amount size) pieces
-  sum_guess inexact pieces e same fresh whole = record {
-    answers = sum_guessed inexact pieces e (ap (λ (i : Inexact). i.asks) same) fresh whole;
-    records = question_records model sets (question.Sum offset amount size) inexact asks.Sum offset amount None same
-        (sum_is model sets offset amount size) pieces (whole_records model sets guess inexact pieces whole);
-  }
+  sum_guess inexact pieces e same fresh whole =
+      recorded model sets (question.Sum offset amount size) inexact asks.Sum offset amount None same (sum_is model sets offset amount size) guess
+      pieces (sum_guessed inexact pieces e (ap (λ (i : Inexact). i.asks) same) fresh whole) (whole_records model sets guess inexact pieces whole)

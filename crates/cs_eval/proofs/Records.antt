@@ -79,21 +79,13 @@ exact_recorded model sets guess asked followed pieces split = record {
   records = followed_records (IsRecordOfQuestion model sets asked) model sets guess (asking_of model sets asked) followed pieces split.each;
 }
 
--- what is recorded of a term's symbol
-pub no_symbol_ends : (sets : Sets) (symbol : Option Sym) → symbol ≡ None → AreEndsOf sets symbol (record { low = pos 0; high = pos 0 })
-no_symbol_ends sets symbol none = record { range = λ declared s some. absurd (none-some s (sym none ∙ some)); none = λ e. refl }
-
-module _ (sets : Sets) (symbol : Option Sym) (s : Sym) (is : symbol ≡ Some s) where
-  pub undeclared_ends : (ends : Interval) → set_of sets s.0 ≡ None → AreEndsOf sets symbol ends
-  undeclared_ends ends unknown = record { range = λ declared. absurd (declared s is unknown); none = λ e. absurd (none-some s (sym e ∙ is)) }
-
-  pub range_ends : (ends : Interval) (set : List Interval) → set_of sets s.0 ≡ Some set → IsLeast set ends.low → IsGreatest set ends.high
-      → AreEndsOf sets symbol ends
-  range_ends ends set known least greatest = record {
-    range = λ declared t e.
-        (set, subst (λ (x : Sym). set_of sets x.0 ≡ Some set) (same_Some s t (sym is ∙ e)) known, least, greatest);
-    none = λ e. absurd (none-some s (sym e ∙ is));
-  }
+-- the ends of a declared symbol's range
+pub range_ends : (sets : Sets) (symbol : Option Sym) (s : Sym) (ends : Interval) (set : List Interval) → symbol ≡ Some s
+    → set_of sets s.0 ≡ Some set → IsLeast set ends.low → IsGreatest set ends.high → AreEndsOf sets symbol ends
+range_ends sets symbol s ends set is known least greatest = record {
+  range = λ declared t e. (set, subst (λ (x : Sym). set_of sets x.0 ≡ Some set) (same_Some s t (sym is ∙ e)) known, least, greatest);
+  none = λ e. absurd (none-some s (sym e ∙ is));
+}
 
 -- a guess of the operation
 module _ (model : DataModel) (sets : Sets) (guess : ℕ) (inexact : Inexact) where
@@ -157,9 +149,13 @@ module _ (model : DataModel) (sets : Sets) (asked : Question) (inexact : Inexact
   with_question None h = tt
   with_question (Some noted) h = of_question noted h
 
-  pub question_records : (pieces : List Piece) → Each (RecordsInexact sets inexact) pieces → Each (RecordsQuestion model sets asked) pieces
+  question_records : (pieces : List Piece) → Each (RecordsInexact sets inexact) pieces → Each (RecordsQuestion model sets asked) pieces
   question_records [] h = tt
   question_records (piece ∷ pieces) h = (with_question piece.guessed h.0, question_records pieces h.1)
+
+  pub recorded : (guess : ℕ) (pieces : List Piece) → AreAnswers model sets guess asked pieces → Each (RecordsInexact sets inexact) pieces
+      → AreRecordedAnswers model sets guess asked pieces
+  recorded guess pieces split records = record { answers = split; records = question_records pieces records }
 
 -- the operations that may be guessed
 module _ (model : DataModel) (sets : Sets) (left right : Lin) where
