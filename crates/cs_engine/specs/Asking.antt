@@ -1,7 +1,6 @@
 -- What is said of each guess of a state: the operation whose result it stands for comes at its event, with the operands that were noted, and isn't followed
 -- exactly.
-use Rattle.std.specs.Prelude.{◌≡◌, ◌≢◌, ◌⊎◌, ◌<◌, ℕ, suc, nat_lt, ℤ, pos, List, [], ◌∷◌, ◌++◌, length, filter, Option, Some}
-use Rattle.std.specs.Prelude.{None}
+use Rattle.std.specs.Prelude.{◌≡◌, ◌≢◌, ◌⊎◌, ◌<◌, ℕ, suc, nat_lt, ℤ, List, [], ◌∷◌, ◌++◌, length, filter, Option, Some}
 use Rattle.std.specs.Prelude.{slice_get, Contains}
 use Rattle.std.specs.FinMap as finite
 use Rattle.cs_types.specs.declared.data_model.DataModel.{DataModel}
@@ -26,16 +25,13 @@ use Rattle.cs_state.specs.declared.state.State.{State}
 use Rattle.cs_state.specs.Naming.{Naming}
 use Rattle.cs_state.specs.Meaning.{setting_of}
 use Rattle.cs_eval.specs.declared.question.Question.{Question}
+use Rattle.cs_eval.specs.Noted.{IsQuestionOf, HasFact, TellsResult, HasNoEnds}
 use Rattle.cs_eval.specs.Questions.{operation_of}
 use Rattle.cs_explored.specs.declared.explored.Row.{Row}
 use Rattle.cs_exactness.specs.Chains.{IsChain}
 use Rattle.cs_successors.specs.EntryRuns.{events_of, setting_with, HasLeft, PassesTo}
-use Rattle.cs_engine.specs.Inexact.{IsQuestionOf, HasFact, TellsResult, AreRanges, IsInexact}
+use Rattle.cs_engine.specs.Inexact.{AreRanges, IsInexact}
 use Rattle.cs_coverage.specs.OwnNumbers.{own_valuation, ListsOwn}
-
--- where there is no symbol, 0 stands for both ends
-abbrev pub HasNoEnds : Option Sym → Interval → Type 0
-HasNoEnds symbol ends = symbol ≡ None → ends ≡ record { low = pos 0; high = pos 0 }
 
 -- by another valuation the symbol, where there is one, has its own number or one of the ends
 abbrev pub HasOwnOrEnd : Option Sym → Interval → Valuation → Valuation → Type 0

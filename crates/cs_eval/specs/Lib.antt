@@ -2,12 +2,14 @@ pub mod Cases
 pub mod Followed
 pub mod Forms
 pub mod Guesses
+pub mod Noted
 pub mod Offsets
 pub mod Operands
 pub mod Parts
 pub mod ProductTests
 pub mod Questions
 pub mod Ready
+pub mod Recorded
 pub mod Splits
 pub mod Truths
 pub mod Wraps
