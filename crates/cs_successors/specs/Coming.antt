@@ -154,6 +154,7 @@ module _ (code : Code) (program : TypedProgram) (budgets : RunBudgets) (names : 
     pub named : (symbol : Sym) → child.guess ≡ Some symbol
         → slice_get names.syms symbol.0 ≡ Some (GuessAt child.state.value.counters.events)
     pub asked : AreGuessesAfter child.state.value.counters.events child.guess before.asked child.state.value.asked
+    pub blocks : child.state.value.blocks ≡ before.blocks
     pub fits : (valuation : Valuation) → Fits valuation child.state.value.constraints → Fits valuation before.constraints
     pub passes : (setting : Setting) (valuation : Valuation) (left : Act CodeState) (log : Log) → GoesBy setting
         → IsAt before setting valuation left log → Fits valuation child.state.value.constraints → GuessesAs setting child valuation
@@ -172,6 +173,7 @@ module _ (code : Code) (program : TypedProgram) (budgets : RunBudgets) (names : 
     pub fits : (valuation : Valuation) → Fits valuation end.1.value.constraints → Fits valuation before.constraints
     pub phase : end.1.value.phase ≡ before.phase
     pub asked : end.1.value.asked ≡ before.asked
+    pub blocks : end.1.value.blocks ≡ before.blocks
     pub mentions : MentionsNoOthers before end.1.value
     pub locals : HasLocalsAlone program names.bases (is_declared end.1.value.constraints) end.1.value
     pub integers : HasIntegerCode code program end.1.value.frame.spot.function
@@ -217,6 +219,7 @@ module _ (code : Code) (program : TypedProgram) (budgets : RunBudgets) (names : 
     pub events : state.counters.events ≡ before.counters.events
     pub phase : state.phase ≡ before.phase
     pub asked : state.asked ≡ before.asked
+    pub blocks : state.blocks ≡ before.blocks
     pub mentions : MentionsNoOthers before state
     pub fits : (valuation : Valuation) → Fits valuation state.constraints → Fits valuation before.constraints
     pub endings : All (IsEndOf before) ends
