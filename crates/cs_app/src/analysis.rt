@@ -19,7 +19,6 @@ use cs_ast::typed::program::{Function, Program};
 use cs_cfg::Code;
 use cs_checker::Checker;
 use cs_entries::{entry_of, number_of};
-use cs_generate::generate_text;
 use cs_lower::lower;
 use cs_objects::prepared::Prepared;
 use cs_report::summary;
@@ -85,14 +84,16 @@ fn analysis_of(
 }
 
 /// The summary of the analysis of each function that has a body, under the budgets that hold where none are named. The program is that
-/// of the file which these words generate.
+/// of the file which these words generate, of so many bytes.
 pub fn summarized(
     alloc: Global,
     words: &GenerateWords,
+    bytes: usize,
     program: &Program,
     checkers: &mut Vec<Box<dyn Checker>>,
 ) -> Result<Answer, AllocError>
-    requires { IsWellFormed (typed_program program.now) }
+    requires well_formed { IsWellFormed (typed_program program.now) }
+    requires bytes { bytes ≡ length (generated_file words.now.seed words.now.size) }
     ensures answer { IfOk result (λ answer. IsSummary (map (λ b. kind_of b) checkers.old.items)
         (length (generated_file words.now.seed words.now.size)) (typed_program program.now)
         answer.status answer.text.items) }
@@ -108,8 +109,7 @@ pub fn summarized(
     };
     let entries = bodies(alloc, program)?;
     let results = results_of(alloc, program, budgets, &entries, checkers)?;
-    let file = generate_text(alloc, u64::from(words.seed), u64::from(words.size))?;
-    let text = summary(alloc, file.as_slice().len(), &results)?;
+    let text = summary(alloc, bytes, &results)?;
     let kinds = every_kind();
     Ok(Answer {
         status: results_status(&results, &kinds),

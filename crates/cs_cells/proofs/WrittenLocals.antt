@@ -8,6 +8,7 @@ use Rattle.cs_regions.specs.declared.base.Base.{Base}
 use Rattle.cs_regions.specs.declared.base.Base.TheVariants.{Local}
 use Rattle.cs_regions.specs.Numbering.{IsNumbered}
 use Rattle.cs_store.specs.declared.value.Value.{Value}
+use Rattle.cs_terms.specs.declared.symbol.Sym.{Sym}
 use Rattle.cs_store.specs.declared.value.Fill as store
 use Rattle.cs_store.specs.declared.value.Fill.TheVariants.{Unset}
 use Rattle.cs_store.specs.declared.value.Found.{Found}
@@ -22,6 +23,7 @@ use Rattle.cs_state.specs.Naming.{Naming}
 use Rattle.cs_state.specs.Cells.{object_of, cell_of}
 use Rattle.cs_state.specs.Meaning.{meaning}
 use Rattle.cs_state.specs.Objects.{Owner, owner}
+use Rattle.cs_state.specs.ReadCells.{read_at}
 use Rattle.cs_state.specs.Writes.{with_memory}
 use Rattle.cs_state.proofs.ReceivedMore.{direct_no_fill}
 use Rattle.cs_progress.specs.Locals.{HasLocalsAlone, IsIn, IsUnfilled}
@@ -41,6 +43,9 @@ place_tells b base o offset = elim (eqb_tells b base) [
 
 same_direct : (value given : Value) → Direct value ≡ Direct given → value ≡ given
 same_direct value given e = cc
+
+not_read : {A : Type 0} (symbol : Sym) → None ≡ Some symbol → A
+not_read symbol e = cc
 
 same_fill : (fill given : store.Fill) → Fill fill ≡ Fill given → given ≡ fill
 same_fill fill given e = cc
@@ -65,15 +70,19 @@ module _ (before after : State) (rest : after ≡ with_memory after.store after.
         (sym rest) refl
 
     module _ (known : ℕ → Bool) (alone : HasLocalsAlone program names.bases known before) where
-      -- what is held after it was held before, or may be in the frame
+      -- what is held after it was held before, or may be in the frame; what was read was so before
       locals_written : ((b o : ℕ) (given : Value) → held after.store b o ≡ Direct given → IsIn program names.bases known before.frame given)
-          → ((b o : ℕ) → IsUnfilled after.store b o) → HasLocalsAlone program names.bases known after
-      locals_written stored filled = subst (HasLocalsAlone program names.bases known) (sym rest) (record {
+          → ((b o : ℕ) → IsUnfilled after.store b o)
+          → ((b o : ℕ) (symbol : Sym) → read_at after.read b o ≡ Some symbol → read_at before.read b o ≡ Some symbol)
+          → HasLocalsAlone program names.bases known after
+      locals_written stored filled read = subst (HasLocalsAlone program names.bases known) (sym rest) (record {
         callers = alone.callers;
         answers = alone.answers;
         temporaries = alone.temporaries;
         stored = stored;
         filled = filled;
+        result = alone.result;
+        read = λ b o symbol is. alone.read b o symbol (read b o symbol is);
       })
 
       module _ (base offset : ℕ) (value : Value) (here : held after.store base offset ≡ Direct value)
@@ -85,8 +94,10 @@ module _ (before after : State) (rest : after ≡ with_memory after.store after.
             sym here ∙ (λ i. held after.store (base_is i) (offset_is i))
 
         -- a value was bound that may be in the frame
-        pub locals_bound : IsIn program names.bases known before.frame value → HasLocalsAlone program names.bases known after
-        locals_bound inside =
+        pub locals_bound : read_at after.read base offset ≡ None
+            → ((b o : ℕ) → (b ≢ base) ⊎ (o ≢ offset) → read_at after.read b o ≡ read_at before.read b o)
+            → IsIn program names.bases known before.frame value → HasLocalsAlone program names.bases known after
+        locals_bound gone others inside =
             locals_written
             (λ b o given is. elim (place_tells b base o offset) [
               | inl same ↦ subst (IsIn program names.bases known before.frame) (same_direct value given (here_is b o same ∙ is)) inside
@@ -95,6 +106,10 @@ module _ (before after : State) (rest : after ≡ with_memory after.store after.
             (λ b o fill is. elim (place_tells b base o offset) [
               | inl same ↦ absurd (direct_no_fill value fill (here_is b o same ∙ is))
               | inr other ↦ alone.filled b o fill (sym (elsewhere b o other) ∙ is)
+            ])
+            (λ b o symbol is. elim (place_tells b base o offset) [
+              | inl same ↦ not_read symbol (sym gone ∙ (λ i. read_at after.read (sym same.0 i) (sym same.1 i)) ∙ is)
+              | inr other ↦ sym (others b o other) ∙ is
             ])
 
         -- a cell was written
@@ -109,8 +124,9 @@ module _ (before after : State) (rest : after ≡ with_memory after.store after.
       module _ (base : ℕ) (none : (o : ℕ) → held after.store base o ≡ Fill Unset)
           (elsewhere : (b o : ℕ) → b ≢ base → held after.store b o ≡ held before.store b o) where
         -- nothing is bound in a base region any more
-        pub locals_unbound : HasLocalsAlone program names.bases known after
-        locals_unbound =
+        pub locals_unbound : ((o : ℕ) → read_at after.read base o ≡ None)
+            → ((b o : ℕ) → b ≢ base → read_at after.read b o ≡ read_at before.read b o) → HasLocalsAlone program names.bases known after
+        locals_unbound gone others =
             locals_written
             (λ b o given is. elim (eqb_tells b base) [
               | inl same ↦ absurd (direct_no_fill given Unset (sym is ∙ ap (λ n. held after.store n o) same.1 ∙ none o))
@@ -119,6 +135,10 @@ module _ (before after : State) (rest : after ≡ with_memory after.store after.
             (λ b o fill is. elim (eqb_tells b base) [
               | inl same ↦ same_fill Unset fill (sym (none o) ∙ ap (λ n. held after.store n o) (sym same.1) ∙ is)
               | inr other ↦ alone.filled b o fill (sym (elsewhere b o other.1) ∙ is)
+            ])
+            (λ b o symbol is. elim (eqb_tells b base) [
+              | inl same ↦ not_read symbol (sym (gone o) ∙ ap (λ n. read_at after.read n o) (sym same.1) ∙ is)
+              | inr other ↦ sym (others b o other.1) ∙ is
             ])
 
         -- a local holds nothing any more

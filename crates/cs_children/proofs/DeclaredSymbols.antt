@@ -122,6 +122,8 @@ module _ (known other : ℕ → Bool) (more : (symbol : ℕ) → known symbol �
     stored = λ base offset given held.
         points_more bases before.frame.number (count_of_locals program before.frame.spot.function) given (have.stored base offset given held);
     filled = have.filled;
+    result = λ given is. points_more bases before.frame.number (count_of_locals program before.frame.spot.function) given (have.result given is);
+    read = λ base offset symbol is. more symbol.0 (have.read base offset symbol is);
   })
 
   pub answers_more : (answers : List Lin) → All (IsOver known) answers → All (IsOver other) answers

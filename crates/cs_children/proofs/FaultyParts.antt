@@ -72,6 +72,8 @@ module _ (code : Code) (program : TypedProgram) (budgets : RunBudgets) (names : 
       temporaries = mentioned.temporaries;
       stored = mentioned.stored;
       filled = mentioned.filled;
+      result = mentioned.result;
+      read = mentioned.read;
     })
 
     -- and is a state of integers alone
@@ -144,6 +146,7 @@ module _ (code : Code) (program : TypedProgram) (budgets : RunBudgets) (names : 
         fits = λ v fits. part_fits test part.state is_part v (faulty_fits v fits);
         phase = ap (λ (s : State). s.phase) is_end.1 ∙ ap (λ (s : State). s.phase) is_part.rest;
         asked = ap (λ (s : State). s.asked) is_end.1 ∙ ap (λ (s : State). s.asked) is_part.rest;
+        blocks = ap (λ (s : State). s.blocks) is_end.1 ∙ ap (λ (s : State). s.blocks) is_part.rest;
         mentions = λ known mentioned.
             subst (HasLocalsAlone program names.bases known) (sym is_end.1) (part_mentions test part.state is_part known mentioned);
         locals = subst (λ (s : State). HasLocalsAlone program names.bases (is_declared s.constraints) s) (sym is_end.1)
@@ -246,6 +249,7 @@ module _ (code : Code) (program : TypedProgram) (budgets : RunBudgets) (names : 
                 events = refl;
                 phase = refl;
                 asked = refl;
+                blocks = refl;
                 mentions = λ known mentioned. mentioned;
                 fits = λ v fits. fits;
                 endings = end_each;
@@ -259,6 +263,7 @@ module _ (code : Code) (program : TypedProgram) (budgets : RunBudgets) (names : 
                 events = ap (λ (s : State). s.counters.events) is_part.rest;
                 phase = ap (λ (s : State). s.phase) is_part.rest;
                 asked = ap (λ (s : State). s.asked) is_part.rest;
+                blocks = ap (λ (s : State). s.blocks) is_part.rest;
                 mentions = part_mentions test part.value is_part;
                 fits = part_fits test part.value is_part;
                 endings = end_each;

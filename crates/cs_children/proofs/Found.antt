@@ -132,6 +132,7 @@ module _ (code : graph.Code) (program : TypedProgram) (budgets : RunBudgets) (na
       fits = λ v fits. fits;
       phase = refl;
       asked = refl;
+      blocks = refl;
       mentions = λ known mentioned. mentioned;
       locals = is.locals;
       integers = is.integers;

@@ -510,6 +510,7 @@ module _ (code : Code) (program : TypedProgram) (budgets : RunBudgets) (names : 
         phase = of.phase;
         named = λ symbol has. by_guess symbol has piece.guessed refl is_piece.meaning;
         asked = subst (λ (n : ℕ). AreGuessesAfter n child.guess state.asked after.asked) (sym number_is) of.asked;
+        blocks = ap (λ (s : State). s.blocks) of.state;
         fits = fits_state;
         passes = λ setting v left log goes here fits agrees. child_passes setting v left log goes here fits agrees;
         mentions = child_mentions;
@@ -638,6 +639,7 @@ module _ (code : Code) (program : TypedProgram) (budgets : RunBudgets) (names : 
       fits = λ v fits. fits;
       phase = refl;
       asked = refl;
+      blocks = refl;
       mentions = λ known mentioned. mentioned;
       locals = is.locals;
       integers = is.integers;

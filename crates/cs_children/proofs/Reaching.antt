@@ -113,6 +113,7 @@ module _ (code : Code) (program : TypedProgram) (budgets : RunBudgets) (names : 
     events = refl;
     phase = refl;
     asked = refl;
+    blocks = refl;
     mentions = λ known mentioned. mentioned;
     fits = λ valuation fits. fits;
     endings = All-nil (IsEndOf code program budgets names state);
@@ -129,6 +130,7 @@ module _ (code : Code) (program : TypedProgram) (budgets : RunBudgets) (names : 
       fits = λ valuation fits. reached.fits valuation (is.fits valuation fits);
       phase = is.phase ∙ reached.phase;
       asked = is.asked ∙ reached.asked;
+      blocks = is.blocks ∙ reached.blocks;
       mentions = λ known mentioned. is.mentions known (reached.mentions known mentioned);
       locals = is.locals;
       integers = is.integers;
@@ -152,6 +154,7 @@ module _ (code : Code) (program : TypedProgram) (budgets : RunBudgets) (names : 
       events = next.events ∙ reached.events;
       phase = next.phase ∙ reached.phase;
       asked = next.asked ∙ reached.asked;
+      blocks = next.blocks ∙ reached.blocks;
       mentions = λ known mentioned. next.mentions known (reached.mentions known mentioned);
       fits = λ valuation fits. reached.fits valuation (next.fits valuation fits);
       endings = ends_of_first more next.endings;
@@ -212,6 +215,7 @@ module _ (code : Code) (program : TypedProgram) (budgets : RunBudgets) (names : 
       named = is.named;
       asked = subst (λ (guesses : Guesses). AreGuessesAfter child.state.value.counters.events child.guess guesses child.state.value.asked) reached.asked
           is.asked;
+      blocks = is.blocks ∙ reached.blocks;
       fits = λ valuation fits. reached.fits valuation (is.fits valuation fits);
       passes = λ setting valuation left log goes at fits guesses.
           let way = reached.comes setting valuation left log goes at (is.fits valuation fits) in

@@ -134,6 +134,7 @@ module _ (code : Code) (program : TypedProgram) (budgets : RunBudgets) (names : 
       events = ap (λ (counters : Counters). counters.events) known.counters;
       phase = known.phase;
       asked = known.asked;
+      blocks = known.blocks;
       mentions = mentions;
       fits = fits_before;
       endings = All-nil (IsEndOf code program budgets names before);

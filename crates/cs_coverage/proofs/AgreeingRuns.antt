@@ -1,9 +1,10 @@
 -- A run comes to a child, and to a row with an equal live part, under its own numbers of what is mentioned: for `CoversOwn`.
-use Rattle.std.proofs.Common.{◌≡◌, ◌≢◌, ◌⊎◌, inl, inr, ℕ, suc, ℤ, pos, Bool, true, false, List, [], ◌∷◌, ◌++◌, Option, None}
+use Rattle.std.proofs.Common.{◌≡◌, ◌≢◌, inl, inr, ℕ, suc, ℤ, pos, Bool, true, false, List, [], ◌∷◌, ◌++◌, Option, None}
 use Rattle.std.proofs.Common.{Some, length, slice_get, refl}
 use Rattle.std.proofs.Common.{sym, ap, ◌∙◌, subst}
 use Rattle.std.specs.Prelude.{◌||◌, nat_eq, option_map, unwrap_or}
-use Rattle.std.specs.Ordering.{int_eq}
+use Rattle.std.specs.FinMap as finite
+use Rattle.std.proofs.lemmas.List.Elements.{All-weaker}
 use Rattle.std.proofs.lemmas.Bool.{eq-eqb}
 use Rattle.std.proofs.lemmas.Bool.Decides.{eqb_tells, Decides-int_eq}
 use Rattle.cs_inputs.specs.declared.path.Path.{Path}
@@ -11,23 +12,26 @@ use Rattle.cs_ast.specs.TypedProgram.{TypedProgram}
 use Rattle.cs_terms.specs.declared.symbol.Sym.{Sym}
 use Rattle.cs_terms.specs.declared.symbol.SymName.TheVariants.{Guess as GuessAt}
 use Rattle.cs_terms.specs.Term.{Valuation}
-use Rattle.cs_constraints.specs.Constraints.{Fits}
+use Rattle.cs_constraints.specs.Constraints.{set_of, Fits}
 use Rattle.cs_events.specs.declared.guess.Guess.{Guess}
 use Rattle.cs_events.specs.declared.outcome.RunBudgets.{RunBudgets}
 use Rattle.cs_events.specs.Runs.{Log, guess_at}
 use Rattle.cs_event_runs.specs.First.{Step}
 use Rattle.cs_regions.specs.declared.base.Base.{Base}
 use Rattle.cs_cfg.specs.Graph.{Code}
+use Rattle.cs_state.specs.declared.block.Block.{Block}
 use Rattle.cs_state.specs.declared.state.State.{State}
+use Rattle.cs_state.specs.Cells.{Blocks}
 use Rattle.cs_state.specs.Naming.{Naming}
 use Rattle.cs_explored.specs.declared.child.Child.{Child}
 use Rattle.cs_keys.specs.Live.{live_part}
 use Rattle.cs_progress.specs.Locals.{HasLocalsAlone}
 use Rattle.cs_successors.specs.EntryRuns.{setting_with}
 use Rattle.cs_successors.specs.Coming.{Includes, MentionsGuess}
-use Rattle.cs_coverage.specs.Agreeing.{AgreesOnMentioned}
+use Rattle.cs_coverage.specs.Agreeing.{agreeing, IsBlockOver, AreBlocksOver, AgreesOnMentioned}
 use Rattle.cs_coverage.specs.OwnNumbers.{received_by, own_valuation, number_of, answer_at}
-use Rattle.cs_coverage.proofs.Mentioned.{mentioned_alike}
+use Rattle.cs_coverage.proofs.AllEntries.{all_entries}
+use Rattle.cs_coverage.proofs.Mentioned.{blocks_mentioned, mentioned_alike}
 use Rattle.cs_coverage.proofs.Merging.{SaysAll}
 use Rattle.cs_coverage.proofs.Patched.{patched, patched_agrees}
 
@@ -70,20 +74,55 @@ has_guess known (Some guess) symbol is =
     let same : symbol.0 ≡ guess.0 = cc in
     or_right (known symbol.0) (nat_eq symbol.0 guess.0) (eq-eqb symbol.0 guess.0 same)
 
+-- blocks over symbols that are known are over more
+blocks_more : (known more : ℕ → Bool) → ((symbol : ℕ) → known symbol ≡ true → more symbol ≡ true) → (blocks : Blocks)
+    → AreBlocksOver known blocks → AreBlocksOver more blocks
+blocks_more known more includes blocks =
+    All-weaker (λ (entry : (ℕ × ℕ) × Block). IsBlockOver known entry.1) (λ (entry : (ℕ × ℕ) × Block). IsBlockOver more entry.1)
+    (λ entry is. (λ symbol over. includes symbol.0 (is.0 symbol over), includes entry.1.sym.0 is.1)) (finite.entries blocks)
+
+-- a valuation agrees with itself on all blocks
+pub blocks_themselves : (valuation : Valuation) (blocks : Blocks) → AreBlocksOver (agreeing valuation valuation) blocks
+blocks_themselves valuation blocks =
+    all_entries (λ key block. IsBlockOver (agreeing valuation valuation) block) blocks
+    (λ key block is. (λ symbol over. equal symbol.0, equal block.sym.0))
+  where
+    equal : (symbol : ℕ) → agreeing valuation valuation symbol ≡ true
+    equal symbol = (Decides-int_eq (valuation symbol) (valuation symbol)).1 refl
+
 -- a child's valuation agrees, if it differs at the guess symbol alone and gives that the run's own number
 pub child_agrees : (code : Code) (program : TypedProgram) (budgets : RunBudgets) (names : Naming) (before : State) (child : Child)
-    → MentionsGuess code program budgets names before child → (own valuation after : Valuation)
+    → MentionsGuess code program budgets names before child → child.state.value.blocks ≡ before.blocks → (own valuation after : Valuation)
     → AgreesOnMentioned program names.bases before own valuation
     → ((symbol : Sym) → child.guess ≢ Some symbol → after symbol.0 ≡ valuation symbol.0)
     → ((symbol : Sym) → child.guess ≡ Some symbol → after symbol.0 ≡ own symbol.0)
     → AgreesOnMentioned program names.bases child.state.value own after
-child_agrees code program budgets names before child mentions own valuation after agrees others guess = record {
+child_agrees code program budgets names before child mentions same_blocks own valuation after agrees others guess = record {
   known = known_with agrees.known child.guess;
   mentions = mentions agrees.known (known_with agrees.known child.guess) agrees.mentions (includes agrees.known child.guess)
       (has_guess agrees.known child.guess);
   agrees = λ symbol. by child.guess refl symbol;
+  blocks = subst (AreBlocksOver (agreeing own after)) (sym same_blocks) (blocks_more (agreeing own valuation) (agreeing own after) still before.blocks
+      agrees.blocks);
 }
   where
+    -- what agreed before agrees yet
+    still : (symbol : ℕ) → agreeing own valuation symbol ≡ true → agreeing own after symbol ≡ true
+    still symbol is = (Decides-int_eq (after symbol) (own symbol)).1 (by_guess child.guess refl)
+      where
+        by_guess : (given : Option Sym) → child.guess ≡ given → after symbol ≡ own symbol
+        by_guess None none =
+            others (record { 0 = symbol }) (λ some. let wrong : None ≡ Some (record { 0 = symbol }) = sym none ∙ some in cc)
+            ∙ (Decides-int_eq (valuation symbol) (own symbol)).0 is
+        by_guess (Some one) some = elim (eqb_tells symbol one.0) [
+          | inl same ↦ subst (λ (s : ℕ). after s ≡ own s) (sym same.1) (guess one some)
+          | inr apart ↦
+              others (record { 0 = symbol }) (λ that.
+              let both : one ≡ record { 0 = symbol } = cc in
+              apart.1 (sym (ap (λ (s : Sym). s.0) both)))
+              ∙ (Decides-int_eq (valuation symbol) (own symbol)).0 is
+        ]
+
     by : (given : Option Sym) → child.guess ≡ given → (symbol : ℕ) → known_with agrees.known given symbol ≡ true → after symbol ≡ own symbol
     by None none symbol is =
         others (record { 0 = symbol }) (λ some. let wrong : None ≡ Some (record { 0 = symbol }) = sym none ∙ some in cc) ∙ agrees.agrees symbol is
@@ -107,13 +146,17 @@ pub merged_agrees : (program : TypedProgram) (bases : List Base) (one two : Stat
     → AgreesOnMentioned program bases two own (patched two.constraints valuation possible)
 merged_agrees program bases one two same says tells declared has own valuation possible fits agrees = record {
   known = kept;
-  mentions =
-      mentioned_alike one two agrees.known kept (λ symbol is sets.
-      (Decides-int_eq (patched two.constraints valuation possible symbol) (own symbol)).1
-      (patched_agrees two.constraints one.constraints valuation possible fits symbol sets ∙ agrees.agrees symbol is)) program bases declared same says
-      tells agrees.mentions has possible;
+  mentions = mentioned_alike one two agrees.known kept (λ symbol is. still symbol (agrees.agrees symbol is)) program bases declared same says tells
+      agrees.mentions has possible;
   agrees = λ symbol is. (Decides-int_eq (patched two.constraints valuation possible symbol) (own symbol)).0 is;
+  blocks = blocks_mentioned one two (agreeing own valuation) kept
+      (λ symbol is. still symbol ((Decides-int_eq (valuation symbol) (own symbol)).0 is)) same agrees.blocks;
 }
   where
     kept : ℕ → Bool
-    kept symbol = int_eq (patched two.constraints valuation possible symbol) (own symbol)
+    kept = agreeing own (patched two.constraints valuation possible)
+
+    still : (symbol : ℕ) → valuation symbol ≡ own symbol → set_of one.constraints symbol ≡ set_of two.constraints symbol → kept symbol ≡ true
+    still symbol is sets =
+        (Decides-int_eq (patched two.constraints valuation possible symbol) (own symbol)).1
+        (patched_agrees two.constraints one.constraints valuation possible fits symbol sets ∙ is)

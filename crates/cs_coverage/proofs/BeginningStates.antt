@@ -44,6 +44,9 @@ use Rattle.cs_coverage.specs.IntegerEntries.{HasIntegerParameters, IsIntegerEntr
 use Rattle.cs_coverage.proofs.Beginnings.{own, fits_own}
 use Rattle.cs_coverage.proofs.LiveMeaning.{none_there}
 
+nothing_there : {A V : Type 0} (v : V) → None ≡ Some v → A
+nothing_there v e = cc
+
 -- no answer is left to be used
 uses_none : (cells : Path → InputKind → Cell) (act : Act CodeState) → UsesAll cells [] act
 unfolding UsesAll
@@ -99,6 +102,8 @@ module _ (code : Code) (program : TypedProgram) (entry : ℕ) (budgets : RunBudg
         (All-nil (AreIn program names.bases (is_declared state.constraints) state.frame));
     stored = stored;
     filled = start.received.unfilled;
+    result = λ value is. nothing_there value (sym start.result ∙ is);
+    read = λ base offset symbol is. nothing_there symbol (sym (start.received.read base offset) ∙ is);
   }
 
   pub begins_integer : IsIntegerState code program budgets names state

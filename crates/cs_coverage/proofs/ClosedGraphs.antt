@@ -101,7 +101,7 @@ module _ (code : Code) (program : TypedProgram) (entry : ℕ) (budgets : RunBudg
       children = λ place child there. row_kept rows more child (is.children place child there);
       listed = λ place one there.
           let listed = is.listed place one there in
-          record { place = listed.place; there = kept_place ends others listed.place _ listed.there };
+          record { place = listed.place; there = kept_place ends others listed.place _ listed.there; plain = listed.plain };
     }
 
     pub closed_with_ends : (rows : List Row) (ends others : List End) (Are : ℕ → Type 0)
@@ -119,7 +119,7 @@ module _ (code : Code) (program : TypedProgram) (entry : ℕ) (budgets : RunBudg
             children = parts.children;
             listed = λ place one there.
                 let listed = parts.listed place one there in
-                record { place = listed.place; there = kept_place ends others listed.place _ listed.there };
+                record { place = listed.place; there = kept_place ends others listed.place _ listed.there; plain = listed.plain };
           };
     }
 

@@ -27,11 +27,12 @@ use Rattle.cs_successors.specs.EntryRuns.{events_of, setting_with, step_of, star
 use Rattle.cs_successors.specs.EntryRuns.{EndsAfter}
 use Rattle.cs_successors.specs.Coming.{is_declared, IsChildOf, IsEndOf, ComesToChild, ComesToEnd}
 use Rattle.cs_keys.specs.Live.{LivePart}
+use Rattle.cs_coverage.specs.Agreeing.{agreeing, AreBlocksOver}
 use Rattle.cs_coverage.specs.Closing.{AreNames, IsClosed}
 use Rattle.cs_coverage.specs.OwnNumbers.{own_valuation}
 use Rattle.cs_coverage.specs.Phases.{IsPhaseAlong, begins as phase_begins, follows}
 use Rattle.cs_coverage.specs.Standing.{StandsAtRow, StandsAtEnd}
-use Rattle.cs_coverage.proofs.AgreeingRuns.{gives_own, child_agrees, merged_agrees}
+use Rattle.cs_coverage.proofs.AgreeingRuns.{gives_own, blocks_themselves, child_agrees, merged_agrees}
 use Rattle.cs_coverage.proofs.Merging.{merged}
 use Rattle.cs_successors.proofs.Passing.{passes_some, as_proceeds, after_one, ends_after_one, leaves_no_end, ends_alone}
 use Rattle.cs_successors.proofs.Proceeding.{proceeds_on}
@@ -89,6 +90,7 @@ module _ (code : Code) (program : TypedProgram) (entry : ℕ) (budgets : RunBudg
           known = is_declared closed.first.row.state.value.constraints;
           mentions = ((closed.states 0 closed.first.row closed.first.there).integer names are).locals;
           agrees = λ symbol known. refl;
+          blocks = blocks_themselves own closed.first.row.state.value.blocks;
         };
       }
 
@@ -133,7 +135,7 @@ module _ (code : Code) (program : TypedProgram) (entry : ℕ) (budgets : RunBudg
             merged_agrees program names.bases child.child.state.value found.row.state.value found.same
             (record { plain = found.plain; blocks = is.integer.blocks }) (record { plain = state.plain; blocks = integer.blocks })
             (is_declared found.row.state.value.constraints) integer.locals own child.after possible.0 child.to.comes.fits
-            (child_agrees code program budgets names at.row.state.value child.child is.mentions own at.valuation child.after at.agrees child.others
+            (child_agrees code program budgets names at.row.state.value child.child is.mentions is.blocks own at.valuation child.after at.agrees child.others
             (λ symbol guessed. child.guess symbol guessed
             ∙ sym (gives_own program entry budgets names inputs [] all last child.child.state.value.counters.events symbol (is.named symbol guessed)
             passed more child.to.one all_are (is.number ∙ ap suc at.count))));
@@ -215,7 +217,13 @@ module _ (code : Code) (program : TypedProgram) (entry : ℕ) (budgets : RunBudg
                   (subst (IsPhaseAlong rules (events_of passed)) (sym one.phase) at.phase);
               locals = one.locals;
               integers = one.integers;
-              agrees = record { known = at.agrees.known; mentions = one.mentions at.agrees.known at.agrees.mentions; agrees = at.agrees.agrees };
+              agrees = record {
+                known = at.agrees.known;
+                mentions = one.mentions at.agrees.known at.agrees.mentions;
+                agrees = at.agrees.agrees;
+                blocks = subst (AreBlocksOver (agreeing own at.valuation)) (sym one.blocks) at.agrees.blocks;
+              };
+              plain = listed.plain;
               returned =
                   subst (λ o. HasReturned o (result_in names.bases end.end.1.value.blocks at.valuation end.end.1.value.result)) (sym that.outcome_is)
                   end.ending.returned;

@@ -23,8 +23,7 @@ use Rattle.cs_explored.specs.declared.explored.End.{End}
 use Rattle.cs_explored.specs.declared.explored.Row.{Row}
 use Rattle.cs_explored.specs.declared.watch.Rule.{Rule}
 use Rattle.cs_successors.specs.Coming.{IsChildOf, ComesOfState}
-use Rattle.cs_store.specs.Held.{HasPlainKeys}
-use Rattle.cs_explored.specs.Placing.{RowGraph, PlacesRow, PlacesAll, end_of_row}
+use Rattle.cs_explored.specs.Placing.{RowGraph, PlacesRow, PlacesAll, end_of_row, IsPlain}
 use Rattle.cs_coverage.specs.Closing.{Waits, IsOpen, AreNames, IsBeginning, IsListed, IsRowState, IsExpanded, IsClosed, IsClosedGraph}
 use Rattle.cs_coverage.proofs.Coverage.{element}
 use Rattle.cs_coverage.proofs.ClosedGraphs.{kept_place, closed_later, closed_with_ends, closed_but, closed_given, closed_expanded}
@@ -78,7 +77,8 @@ module _ (code : Code) (program : TypedProgram) (entry : ℕ) (budgets : RunBudg
   -- what comes of a state, with all that a graph needs
   pub record IsFound (given : Naming) (state : State) (made : List Child) (endings : List (Outcome × Box State)) : Type 0 where
     pub comes : (names : Naming) → AreNames given names → ComesOfState code program budgets names rules state made endings
-    pub plain : (place : ℕ) (child : Child) → slice_get made place ≡ Some child → HasPlainKeys child.state.value.store
+    pub plain : (place : ℕ) (child : Child) → slice_get made place ≡ Some child → IsPlain child.state.value
+    pub ends_plain : (place : ℕ) (one : Outcome × Box State) → slice_get endings place ≡ Some one → IsPlain one.1.value
 
   module _ (exact : KeysAreExact) (given : Naming) (before after : RowGraph) (ends : List End) (row : ℕ) (from : Row)
       (there : slice_get before.rows row ≡ Some from) (made : List Child) (endings : List (Outcome × Box State))
@@ -95,8 +95,8 @@ module _ (code : Code) (program : TypedProgram) (entry : ℕ) (budgets : RunBudg
         → IsListed (ends ++ map (end_of_row row) endings) row one
     listed_behind place one at =
         let at_map = slice_get-map (end_of_row row) endings place ∙ ap (option_map (end_of_row row)) at in
-        let found = behind ends (map (end_of_row row) endings) place (end_of_row row one) at_map in
-        record { place = found.0; there = found.1 }
+        let listed = behind ends (map (end_of_row row) endings) place (end_of_row row one) at_map in
+        record { place = listed.0; there = listed.1; plain = found.ends_plain place one at }
 
     -- all ends and children are there
     pub graph_expanded : PlacesAll row made before after → IsGraph given before (ends ++ map (end_of_row row) endings) (IsOpen row)

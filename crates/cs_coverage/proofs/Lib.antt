@@ -4,11 +4,14 @@ pub mod AlikeEntries
 pub mod LiveTerms
 pub mod LiveMeaning
 pub mod Merging
+pub mod AllEntries
 pub mod Mentioned
 pub mod AgreeingRuns
 pub mod Coverage
 pub mod ReadingNothing
 pub mod LocalsRead
+pub mod LiveSame
+pub mod LiveAgreement
 pub mod Positions
 pub mod OwnBeginnings
 pub mod Beginnings

@@ -1,5 +1,5 @@
 -- What a state mentions is mentioned alike by each one with an equal live part: for the merging of rows.
-use Rattle.std.proofs.Common.{◌≡◌, ℕ, Bool, true, false, List, [], ◌∷◌, Option, None, Some, map, All, refl, sym, ap, ◌∙◌, subst}
+use Rattle.std.proofs.Common.{◌≡◌, ℕ, Bool, true, List, [], ◌∷◌, Option, None, Some, map, All, refl, sym, ap, ◌∙◌, subst}
 use Rattle.std.specs.Prelude.{option_map}
 use Rattle.std.specs.Option.{option_map_or}
 use Rattle.std.specs.FinMap as finite
@@ -9,20 +9,27 @@ use Rattle.cs_ast.specs.TypedProgram.{TypedProgram}
 use Rattle.cs_terms.specs.declared.symbol.Sym.{Sym}
 use Rattle.cs_terms.specs.declared.term.Lin.{Lin}
 use Rattle.cs_terms.specs.Term.{Valuation}
+use Rattle.cs_pmap.specs.Keys.{EntryList}
 use Rattle.cs_constraints.specs.Constraints.{set_of}
 use Rattle.cs_regions.specs.declared.base.Base.{Base}
 use Rattle.cs_store.specs.declared.value.Value.{Value}
 use Rattle.cs_store.specs.declared.value.Value.TheVariants as value
 use Rattle.cs_store.specs.declared.value.Found.TheVariants.{Direct, Fill}
 use Rattle.cs_store.specs.Held.{contents_of, held}
+use Rattle.cs_state.specs.declared.block.Block.{Block}
+use Rattle.cs_state.specs.declared.read_cells.ReadCell.{ReadCell}
 use Rattle.cs_state.specs.declared.state.State.{State}
+use Rattle.cs_state.specs.ReadCells.{read_at}
+use Rattle.cs_state.specs.ReadLists.{cells_in_order}
 use Rattle.cs_state.specs.declared.temporary.Temporary.{Temporary}
 use Rattle.cs_state.specs.declared.temporary.Temporary.TheVariants as temporary
 use Rattle.cs_cfg.specs.IntegerCode.{count_of_locals}
-use Rattle.cs_keys.specs.Live.{LiveSymbol, LiveFrame, LivePart, live_symbol, live_term, live_value, live_temporary, live_part}
+use Rattle.cs_keys.specs.Live.{LiveSymbol, LiveBlock, LiveRead, LivePart, live_symbol, live_term, live_value, live_temporary, live_entry, live_read, live_part}
 use Rattle.cs_keys.proofs.Lines.{same_values}
-use Rattle.cs_progress.specs.Locals.{IsOver, PointsToLocal, PointToLocals, AreIn, HasLocalsAlone}
+use Rattle.cs_progress.specs.Locals.{IsOver, PointsToLocal, PointToLocals, HasLocalsAlone}
+use Rattle.cs_coverage.specs.Agreeing.{IsBlockOver, AreBlocksOver}
 use Rattle.cs_coverage.proofs.AlikeEntries.{FindsAlike}
+use Rattle.cs_coverage.proofs.AllEntries.{all_read, each_read}
 use Rattle.cs_coverage.proofs.Beginnings.{bound_in}
 use Rattle.cs_coverage.proofs.LiveMeaning.{SameValue, direct_alike}
 use Rattle.cs_coverage.proofs.Merging.{SaysAll, contents_alike}
@@ -84,6 +91,53 @@ module _ (one two : State) (known kept : ℕ → Bool)
       All-cons (IsOver kept) y ys (over_alike x y first (All-head (IsOver known) x xs over))
       (answers_alike xs ys rest (All-tail (IsOver known) x xs over))
 
+  returned_alike : (bases : List Base) (declared : ℕ → Bool) (frame count other number : ℕ) (x y : Option Value)
+      → option_map (live_value one.constraints) x ≡ option_map (live_value two.constraints) y
+      → ((given : Value) → x ≡ Some given → PointsToLocal bases known frame count given)
+      → ((given : Value) → y ≡ Some given → PointsToLocal bases declared other number given) → (given : Value) → y ≡ Some given
+      → PointsToLocal bases kept other number given
+  returned_alike bases declared frame count other number x None same over has given is = cc
+  returned_alike bases declared frame count other number None (Some y) same over has given is = cc
+  returned_alike bases declared frame count other number (Some x) (Some y) same over has given is =
+      let values : live_value one.constraints x ≡ live_value two.constraints y = cc in
+      subst (PointsToLocal bases kept other number) (same_Some y given is)
+      (points_alike bases declared frame count other number x y values (over x refl) (has y refl))
+
+  -- symbols of blocks and of what was read
+  symbol_alike : (x y : Sym) → live_symbol one.constraints x ≡ live_symbol two.constraints y → known x.0 ≡ true → kept y.0 ≡ true
+  symbol_alike x y same is =
+      let numbers : x.0 ≡ y.0 = ap (λ (l : LiveSymbol). l.number) same in
+      let sets : set_of one.constraints x.0 ≡ set_of two.constraints y.0 = ap (λ (l : LiveSymbol). l.set) same in
+      keeps y.0 (ap known (sym numbers) ∙ is) (ap (set_of one.constraints) (sym numbers) ∙ sets)
+
+  blocks_over : (xs ys : EntryList Block) → map (live_entry one.constraints) xs ≡ map (live_entry two.constraints) ys
+      → All (λ (entry : (ℕ × ℕ) × Block). IsBlockOver known entry.1) xs → All (λ (entry : (ℕ × ℕ) × Block). IsBlockOver kept entry.1) ys
+  blocks_over xs [] same over = All-nil (λ (entry : (ℕ × ℕ) × Block). IsBlockOver kept entry.1)
+  blocks_over [] (y ∷ ys) same over = cc
+  blocks_over (x ∷ xs) (y ∷ ys) same over =
+      let first : live_entry one.constraints x ≡ live_entry two.constraints y = cc in
+      let rest : map (live_entry one.constraints) xs ≡ map (live_entry two.constraints) ys = cc in
+      let is = All-head (λ (entry : (ℕ × ℕ) × Block). IsBlockOver known entry.1) x xs over in
+      All-cons (λ (entry : (ℕ × ℕ) × Block). IsBlockOver kept entry.1) y ys (
+        over_alike x.1.extent y.1.extent (ap (λ (l : LiveBlock). l.extent) first) is.0,
+        symbol_alike x.1.sym y.1.sym (ap (λ (l : LiveBlock). l.symbol) first) is.1,
+      )
+      (blocks_over xs ys rest (All-tail (λ (entry : (ℕ × ℕ) × Block). IsBlockOver known entry.1) x xs over))
+
+  pub blocks_mentioned : live_part one ≡ live_part two → AreBlocksOver known one.blocks → AreBlocksOver kept two.blocks
+  blocks_mentioned same = blocks_over (finite.entries one.blocks) (finite.entries two.blocks) (ap (λ (l : LivePart). l.blocks) same)
+
+  reads_over : (xs ys : List ReadCell) → map (live_read one.constraints) xs ≡ map (live_read two.constraints) ys
+      → All (λ (cell : ReadCell). known cell.sym.0 ≡ true) xs → All (λ (cell : ReadCell). kept cell.sym.0 ≡ true) ys
+  reads_over xs [] same over = All-nil (λ (cell : ReadCell). kept cell.sym.0 ≡ true)
+  reads_over [] (y ∷ ys) same over = cc
+  reads_over (x ∷ xs) (y ∷ ys) same over =
+      let first : live_read one.constraints x ≡ live_read two.constraints y = cc in
+      let rest : map (live_read one.constraints) xs ≡ map (live_read two.constraints) ys = cc in
+      All-cons (λ (cell : ReadCell). kept cell.sym.0 ≡ true) y ys
+      (symbol_alike x.sym y.sym (ap (λ (l : LiveRead). l.symbol) first) (All-head (λ (cell : ReadCell). known cell.sym.0 ≡ true) x xs over))
+      (reads_over xs ys rest (All-tail (λ (cell : ReadCell). known cell.sym.0 ≡ true) x xs over))
+
   module _ (bases : List Base) (declared : ℕ → Bool) (frame count other number : ℕ) where
     temporaries_alike : (xs ys : List Temporary) → map (live_temporary one.constraints) xs ≡ map (live_temporary two.constraints) ys
         → All (PointToLocals bases known frame count) xs → All (PointToLocals bases declared other number) ys
@@ -115,8 +169,8 @@ module _ (one two : State) (known kept : ℕ → Bool)
         by (finite.get (contents_of one.store base).direct (offset, 0)) refl
         (subst (λ found. FindsAlike (SameValue one.constraints two.constraints) (finite.get (contents_of one.store base).direct (offset, 0)) found)
         bound
-        (direct_alike one.constraints two.constraints (contents_of one.store base) (contents_of two.store base) (says.plain.bindings base)
-        (tells.plain.bindings base) (contents_alike one two same says tells possible possible (λ symbol equal. refl) base) offset))
+        (direct_alike one.constraints two.constraints (contents_of one.store base) (contents_of two.store base) (says.plain.store.bindings base)
+        (tells.plain.store.bindings base) (contents_alike one two same says tells possible possible (λ symbol equal. refl) base) offset))
       where
         bound : finite.get (contents_of two.store base).direct (offset, 0) ≡ Some given
         bound = bound_in (finite.get (contents_of two.store base).direct (offset, 0)) (contents_of two.store base).fill given is
@@ -133,6 +187,12 @@ module _ (one two : State) (known kept : ℕ → Bool)
             (ap (λ found. option_map_or (λ given. Direct given) found (Fill (contents_of one.store base).fill)) there))
             (has.stored base offset given is)
 
+    read : (base offset : ℕ) (symbol : Sym) → read_at two.read base offset ≡ Some symbol → kept symbol.0 ≡ true
+    read =
+        each_read (λ symbol. kept symbol ≡ true) two.read
+        (reads_over (cells_in_order one.read) (cells_in_order two.read) (ap (λ (l : LivePart). l.read) same)
+        (all_read (λ symbol. known symbol ≡ true) one.read says.plain.read mentioned.read))
+
     pub mentioned_alike : HasLocalsAlone program bases kept two
     mentioned_alike = record {
       callers = has.callers;
@@ -142,4 +202,8 @@ module _ (one two : State) (known kept : ℕ → Bool)
           one.frame.temporaries two.frame.temporaries (ap (λ (l : LivePart). l.frame.temporaries) same) mentioned.temporaries has.temporaries;
       stored = stored;
       filled = has.filled;
+      result =
+          returned_alike bases declared frame count two.frame.number (count_of_locals program two.frame.spot.function) one.result two.result
+          (ap (λ (l : LivePart). l.returned) same) mentioned.result has.result;
+      read = read;
     }

@@ -4,7 +4,6 @@ use Rattle.std.specs.Prelude.{option_map, unwrap_or, is_some, IsTrue, reverse}
 use Rattle.std.specs.Option.{option_and_then}
 use Rattle.std.specs.FinMap as finite
 use Rattle.std.proofs.lemmas.Simd.{map-map}
-use Rattle.cs_pmap.specs.Keys.{key_cmp}
 use Rattle.cs_inputs.specs.declared.path.Path.{Path}
 use Rattle.cs_ast.specs.TypedProgram.{TypedProgram}
 use Rattle.cs_events.specs.declared.input.InputKind.{InputKind}
@@ -33,7 +32,7 @@ use Rattle.cs_state.specs.Naming.{Naming}
 use Rattle.cs_state.specs.Objects.{Owner, owner, owner_numbered, local_of, block_there, written_over, contents_in, number_of, unwritten, memory_of}
 use Rattle.cs_keys.specs.Live.{LiveFrame, LiveRegion, LivePart, live_term, live_temporary, live_frame, live_binding, live_region}
 use Rattle.cs_keys.specs.Live.{live_part}
-use Rattle.cs_store.specs.Held.{HasPlainKeys}
+use Rattle.cs_explored.specs.Placing.{IsPlain}
 use Rattle.cs_progress.specs.Stepping.{next_left}
 use Rattle.cs_successors.specs.Coming.{IsAt}
 use Rattle.cs_coverage.proofs.AlikeEntries.{FindsAlike, said_alike, get_alike, map_keyed, map_alike}
@@ -51,7 +50,7 @@ some_found (Some v) h = (v, refl)
 
 -- a state whose live part says all: it has no block, and plain keys
 pub record SaysAll (state : State) : Type 0 where
-  pub plain : HasPlainKeys state.store
+  pub plain : IsPlain state
   pub blocks : (base : ℕ) → block_of state.blocks base ≡ None
 
 module _ (one two : State) (same : live_part one ≡ live_part two) (says : SaysAll one) (tells : SaysAll two) (valuation other : Valuation)
@@ -117,8 +116,8 @@ module _ (one two : State) (same : live_part one ≡ live_part two) (says : Says
       (λ (e : (ℕ × ℕ) × Contents). live_region two.constraints (e.0.0, e.1)) (λ l. l.base) (SameContents one.constraints two.constraints) (λ e. refl)
       (λ e. refl) (λ e f is. (ap (λ (l : LiveRegion). l.fill) is, ap (λ (l : LiveRegion). l.bindings) is)) (finite.entries one.store)
       (finite.entries two.store)
-      (map_keyed one.store (λ key there. let found = some_found (finite.get one.store key) there in says.plain.regions key found.0 found.1))
-      (map_keyed two.store (λ key there. let found = some_found (finite.get two.store key) there in tells.plain.regions key found.0 found.1))
+      (map_keyed one.store (λ key there. let found = some_found (finite.get one.store key) there in says.plain.store.regions key found.0 found.1))
+      (map_keyed two.store (λ key there. let found = some_found (finite.get two.store key) there in tells.plain.store.regions key found.0 found.1))
       (sym fused_one ∙ ap (λ (l : LivePart). l.regions) same ∙ fused_two))
 
   nothing_alike : SameContents one.constraints two.constraints (filled UnsetFill) (filled UnsetFill)
@@ -144,7 +143,7 @@ module _ (one two : State) (same : live_part one ≡ live_part two) (says : Says
         (filled UnsetFill) (filled UnsetFill) no_offsets no_offsets nothing_alike block
     written_alike (Some base) block =
         same_written one.constraints two.constraints valuation other agrees names.bases one.blocks two.blocks blocks_there
-        (contents_of one.store base) (contents_of two.store base) (says.plain.bindings base) (tells.plain.bindings base) (contents_alike base) block
+        (contents_of one.store base) (contents_of two.store base) (says.plain.store.bindings base) (tells.plain.store.bindings base) (contents_alike base) block
 
     base_alike : (object : Object) (base : Option ℕ)
         → option_and_then (block_there program names (map owner (one.frame ∷ one.callers)) one.blocks valuation object) base

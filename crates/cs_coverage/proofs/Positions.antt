@@ -1,4 +1,4 @@
--- A closed graph covers all positions of runs without guesses, under their own numbers: for `CoversPositions` and `CoversOwn`.
+-- A closed graph covers all positions of runs without guesses, under their own numbers: for `CoversPositions`, `CoversOwn` and `Covers`.
 use Rattle.std.proofs.Common.{ℕ, List, [], refl, ◌∙◌}
 use Rattle.std.specs.Prelude.{Bool}
 use Rattle.cs_ast.specs.TypedProgram.{TypedProgram}
@@ -21,9 +21,10 @@ use Rattle.cs_progress.specs.Locals.{HasLocalsAlone}
 use Rattle.cs_successors.specs.EntryRuns.{setting_with}
 use Rattle.cs_successors.specs.Coming.{IsAt}
 use Rattle.cs_coverage.specs.Closing.{AreNames, IsClosed}
-use Rattle.cs_coverage.specs.Covering.{HasAllNodes}
+use Rattle.cs_coverage.specs.Covering.{HasAllNodes, Covers}
 use Rattle.cs_coverage.specs.Positions.{CoversPositions, CoversOwn}
 use Rattle.cs_coverage.proofs.Coverage.{stands_at_row, stands_at_end}
+use Rattle.cs_coverage.proofs.LiveAgreement.{agrees_on_live}
 use Rattle.cs_coverage.proofs.LocalsRead.{any_cells}
 
 -- names extend themselves
@@ -96,6 +97,47 @@ module _ (code : Code) (program : TypedProgram) (entry : ℕ) (budgets : RunBudg
           };
           phase = at.phase;
           agrees = at.agrees;
+        };
+  }
+
+  -- and so of all symbols of their live parts
+  pub covers_live : Covers code program entry budgets rules explored
+  covers_live = record {
+    positions = λ all inputs steps left log has none.
+        let at = stands_at_row code program entry budgets rules names explored.rows.items explored.ends.items (closed all) names are inputs steps log steps
+        left log refl has in
+        let row = (closed all).states at.number at.row at.there in
+        let state = row.integer names are in
+        record {
+          number = at.number;
+          row = at.row;
+          there = at.there;
+          stands = record {
+            valuation = at.valuation;
+            stands = stands_for code program budgets names at.row.state.value state.locals state.integers (setting_with program budgets inputs []) at.valuation
+                left log at.at;
+            agrees = agrees_on_live program names.bases at.row.state.value _ at.valuation row.plain at.agrees;
+            phase = at.phase;
+          };
+        };
+    endings = λ all inputs steps outcome log runs none.
+        let at = stands_at_end code program entry budgets rules names explored.rows.items explored.ends.items (closed all) names are inputs steps log steps
+        outcome log refl runs in
+        record {
+          number = at.number;
+          end = at.end;
+          there = at.there;
+          ended = at.ended;
+          last = at.last;
+          before = at.before;
+          ends_with = at.ends_with;
+          stands = record {
+            valuation = at.valuation;
+            stands = stands_for code program budgets names at.end.state.value at.locals at.integers (setting_with program budgets inputs []) at.valuation
+                at.last at.before at.at;
+            agrees = agrees_on_live program names.bases at.end.state.value _ at.valuation at.plain at.agrees;
+            phase = at.phase;
+          };
         };
   }
 

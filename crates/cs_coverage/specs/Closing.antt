@@ -27,8 +27,7 @@ use Rattle.cs_explored.specs.declared.watch.Rule.{Rule}
 use Rattle.cs_successors.specs.EntryRuns.{setting_with}
 use Rattle.cs_successors.specs.Coming.{IsIntegerState, ComesOfState}
 use Rattle.cs_coverage.specs.OwnNumbers.{own_valuation}
-use Rattle.cs_store.specs.Held.{HasPlainKeys}
-use Rattle.cs_explored.specs.Placing.{RowGraph}
+use Rattle.cs_explored.specs.Placing.{RowGraph, IsPlain}
 
 -- a row has the live part of a child
 pub record HasRowFor (rows : List Row) (child : Child) : Type 0 where
@@ -36,12 +35,13 @@ pub record HasRowFor (rows : List Row) (child : Child) : Type 0 where
   pub row : Row
   pub there : slice_get rows number ≡ Some row
   pub same : live_part child.state.value ≡ live_part row.state.value
-  pub plain : HasPlainKeys child.state.value.store
+  pub plain : IsPlain child.state.value
 
--- an end is listed with the number of its row
+-- an end is listed with the number of its row, and its live part has all that its state holds
 pub record IsListed (ends : List End) (number : ℕ) (one : Outcome × Box State) : Type 0 where
   pub place : ℕ
   pub there : slice_get ends place ≡ Some (record { row = number; outcome = one.0; state = one.1 })
+  pub plain : IsPlain one.1.value
 
 -- these names extend the given ones
 pub record AreNames (given names : Naming) : Type 0 where
@@ -81,7 +81,7 @@ module _ (code : Code) (program : TypedProgram) (entry : ℕ) (budgets : RunBudg
   -- a state of integer code, whose live part says all of it
   pub record IsRowState (state : State) : Type 0 where
     pub integer : (names : Naming) → AreNames given names → IsIntegerState code program budgets names state
-    pub plain : HasPlainKeys state.store
+    pub plain : IsPlain state
 
   -- the first row stands for the beginnings of all runs of the entry
   pub record BeginsAtRow (rows : List Row) : Type 0 where

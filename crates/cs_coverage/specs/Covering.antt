@@ -1,4 +1,4 @@
--- What an exploration is to find of the runs of an entry: their positions and their ends. No contract says this so far.
+-- What an exploration is to find of the runs of an entry: their positions and their ends, under their own numbers of live symbols.
 use Rattle.std.specs.Prelude.{◌≡◌, ◌≢◌, ℕ, ℤ, List, [], ◌∷◌, Some, slice_get, Contains}
 use Rattle.cs_inputs.specs.declared.path.Path.{Path}
 use Rattle.cs_ast.specs.declared.place.Place.{Place}

@@ -1,6 +1,5 @@
 -- A part of what an exploration is to find of the runs of an entry (`Covering`): some state of a row or end stands for a run at each of its positions, with the
--- phase that the rules give the run's events, and under the run's own numbers of the symbols that operands, answers and memory mention. Of the rest of a
--- state's live part, as what was read and returned, that isn't said.
+-- phase that the rules give the run's events, and under the run's own numbers of the symbols that it mentions.
 use Rattle.std.specs.Prelude.{◌≡◌, ℕ, ℤ, List, [], Some, slice_get}
 use Rattle.cs_inputs.specs.declared.path.Path.{Path}
 use Rattle.cs_ast.specs.TypedProgram.{TypedProgram}

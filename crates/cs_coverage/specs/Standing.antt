@@ -13,6 +13,7 @@ use Rattle.cs_state.specs.Naming.{Naming}
 use Rattle.cs_explored.specs.declared.explored.End.{End}
 use Rattle.cs_explored.specs.declared.explored.Row.{Row}
 use Rattle.cs_explored.specs.declared.watch.Rule.{Rule}
+use Rattle.cs_explored.specs.Placing.{IsPlain}
 use Rattle.cs_cfg.specs.IntegerCode.{HasIntegerCode}
 use Rattle.cs_progress.specs.Locals.{HasLocalsAlone}
 use Rattle.cs_progress.specs.Stepping.{end_of, result_in, HasReturned}
@@ -49,4 +50,5 @@ module _ (code : Code) (program : TypedProgram) (entry : ℕ) (budgets : RunBudg
     pub agrees : AgreesOnMentioned program names.bases end.state.value own valuation
     pub locals : HasLocalsAlone program names.bases (is_declared end.state.value.constraints) end.state.value
     pub integers : HasIntegerCode code program end.state.value.frame.spot.function
+    pub plain : IsPlain end.state.value
     pub returned : HasReturned outcome (result_in names.bases end.state.value.blocks valuation end.state.value.result)

@@ -12,7 +12,6 @@ use Rattle.cs_meaning.specs.Machine.{routine_of}
 use Rattle.cs_meaning.specs.Steps.{parameters_of}
 use Rattle.cs_results.specs.declared.result.Cut.{Cut}
 use Rattle.cs_results.specs.declared.result.Cut.TheVariants.{Nodes}
-use Rattle.cs_store.specs.Held.{HasPlainKeys}
 use Rattle.cs_state.specs.declared.state.State.{State}
 use Rattle.cs_state.specs.declared.tables.Tables.{Tables}
 use Rattle.cs_state.specs.Naming.{Naming, naming, Extends}
@@ -29,18 +28,18 @@ use Rattle.cs_explored.specs.declared.explored.Row.{Row}
 use Rattle.cs_explored.specs.declared.findings.Findings.{Findings}
 use Rattle.cs_explored.specs.declared.watch.Rule.{Rule}
 use Rattle.cs_explored.specs.Found.{IsPlaced}
-use Rattle.cs_explored.specs.Placing.{RowGraph, first_row, end_of_row, PlacesAll, PlacesChildren, KeepsEnds, AddsEnds, AddsCuts}
+use Rattle.cs_explored.specs.Placing.{IsPlain, RowGraph, first_row, end_of_row, PlacesAll, PlacesChildren, KeepsEnds, AddsEnds, AddsCuts}
 use Rattle.cs_successors.specs.Coming.{StateEnd, IsIntegerState, ComesOfState}
 use Rattle.cs_children.specs.declared.exploration.Exploration.{Exploration}
 use Rattle.cs_children.specs.Finding.{code_of, limits_of, Explores}
 use Rattle.cs_coverage.specs.Closing.{Waits, IsOpen, IsRowState, IsClosed, IsClosedGraph}
-use Rattle.cs_coverage.specs.Covering.{HasAllNodes}
+use Rattle.cs_coverage.specs.Covering.{HasAllNodes, Covers}
 use Rattle.cs_coverage.specs.Positions.{CoversPositions, CoversOwn}
 use Rattle.cs_coverage.proofs.OwnStarts.{is_beginning}
 use Rattle.cs_coverage.proofs.BeginningStates.{begins_integer}
 use Rattle.cs_coverage.proofs.Coverage.{element}
 use Rattle.cs_coverage.proofs.ExpandedRows.{IsFound, graph_given, graph_later, graph_expanded, graph_done, graph_begun}
-use Rattle.cs_coverage.proofs.Positions.{covers_positions, covers_own}
+use Rattle.cs_coverage.proofs.Positions.{covers_positions, covers_own, covers_live}
 use Rattle.cs_coverage.proofs.StartBlocks.{no_blocks}
 use Rattle.cs_engine.specs.Exploring.{program_of, ExploresIntegers, IsOpenGraph, IsClosedAtLast}
 
@@ -74,7 +73,7 @@ module _ (exploration : Exploration) (entry : ℕ) (explores : ExploresIntegers 
   -- the first row
   module _ (before after : Findings) (state : Box State) (start : IsStart code program entry (naming before.tables) state.value)
       (differ : DifferInName (parameters_of (routine_of program entry))) (once : HasEachOnce (naming before.tables).syms)
-      (plain : HasPlainKeys state.value.store) where
+      (plain : IsPlain state.value) where
     first_state : IsRowState code program entry budgets rules (naming before.tables) state.value
     first_state = record {
       integer = λ names are.
@@ -129,16 +128,17 @@ module _ (exploration : Exploration) (entry : ℕ) (explores : ExploresIntegers 
     cuts_are = cutting.cuts ∙ ap (λ (l : List Cut). l ++ cuts) adds.cuts
 
     found_of : (graph : IsGraph (naming tables) before.graph (before.ends.items ++ map (end_of_row row) endings) (IsOpen row))
-        → ((place : ℕ) (child : Child) → slice_get made place ≡ Some child → HasPlainKeys child.state.value.store)
+        → ((place : ℕ) (child : Child) → slice_get made place ≡ Some child → IsPlain child.state.value)
         → IsFound code program entry budgets rules (naming tables) from.state.value made endings
     found_of graph plain = record {
       comes = λ names are.
           comes names program (record { model = refl; limit = explores.limit; extends = are.extend; numbered = are.numbered })
           ((graph.closed.states row from there).integer names are);
       plain = plain;
+      ends_plain = λ place one at. element (λ (one : StateEnd). IsPlain one.1.value) endings place one at adds.plain;
     }
 
-    expanded : (plain : (place : ℕ) (child : Child) → slice_get made place ≡ Some child → HasPlainKeys child.state.value.store)
+    expanded : (plain : (place : ℕ) (child : Child) → slice_get made place ≡ Some child → IsPlain child.state.value)
         → PlacesAll row made before.graph after.graph → IsGraph (naming before.tables) before.graph before.ends.items (IsOpen row)
         → IsGraph (naming tables) after.graph (before.ends.items ++ map (end_of_row row) endings) Waits
     expanded plain places graph =
@@ -156,7 +156,7 @@ module _ (exploration : Exploration) (entry : ℕ) (explores : ExploresIntegers 
         subst (λ (later : Tables). IsGraph (naming later) after.graph after.ends.items Waits) (sym tables_are)
         (subst (λ (ends : List End). IsGraph (naming tables) after.graph ends Waits) (sym ends_are)
         (expanded
-        (λ place child at. element (λ (child : Child). HasPlainKeys child.state.value.store) made place child at places.2)
+        (λ place child at. element (λ (child : Child). IsPlain child.state.value) made place child at places.2)
         (subst (λ (graph : RowGraph). PlacesAll row made graph after.graph) graph_is places.0) (open_graph before_all)))
 
   -- a closed graph covers all positions
@@ -181,3 +181,7 @@ module _ (exploration : Exploration) (entry : ℕ) (explores : ExploresIntegers 
       -- with the phases of their events, and the runs' own numbers
       pub own_covered : CoversOwn code program entry budgets rules explored
       own_covered = covers_own code program entry budgets rules explored last_numbered closed_at_last
+
+      -- those of all symbols of their live parts
+      pub live_covered : Covers code program entry budgets rules explored
+      live_covered = covers_live code program entry budgets rules explored last_numbered closed_at_last

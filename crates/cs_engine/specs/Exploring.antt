@@ -9,7 +9,7 @@ use Rattle.cs_children.specs.declared.exploration.Exploration.{Exploration}
 use Rattle.cs_children.specs.Finding.{code_of, limits_of}
 use Rattle.cs_coverage.specs.IntegerEntries.{IsIntegerEntry}
 use Rattle.cs_coverage.specs.Closing.{IsClosed, IsClosedGraph}
-use Rattle.cs_coverage.specs.Covering.{HasAllNodes}
+use Rattle.cs_coverage.specs.Covering.{HasAllNodes, Covers}
 use Rattle.cs_coverage.specs.Positions.{CoversPositions, CoversOwn}
 use Rattle.cs_exactness.specs.Distinct.{AreDistinct}
 use Rattle.cs_exactness.specs.Exact.{IsExact}
@@ -72,6 +72,12 @@ abbrev pub CoversOwnOnIntegers : Exploration → ℕ → Explored → Type 0
 CoversOwnOnIntegers exploration entry explored =
     ExploresIntegers exploration entry
     → CoversOwn (code_of exploration) (program_of exploration) entry (limits_of exploration) exploration.rules.now explored
+
+-- and that under the runs' own numbers of all symbols on which the live parts of rows and ends depend
+abbrev pub CoversLiveOnIntegers : Exploration → ℕ → Explored → Type 0
+CoversLiveOnIntegers exploration entry explored =
+    ExploresIntegers exploration entry
+    → Covers (code_of exploration) (program_of exploration) entry (limits_of exploration) exploration.rules.now explored
 
 -- rows and ends stand for the runs of just their valuations
 abbrev pub IsExactFor : Exploration → ℕ → Explored → Type 0

@@ -5,7 +5,8 @@ ghost use Rattle.cs_explored.specs.Found.{IsSound, Grows, AreLinked, AreOfRows};
 ghost use Rattle.cs_operators.specs.Asking.{HasEveryKind};
 ghost use Rattle.cs_coverage.specs.Closing.{Waits, IsOpen};
 ghost use Rattle.cs_engine.specs.Exploring.{ExploresIntegers, IsFull, IsKept, IsDone};
-ghost use Rattle.cs_engine.specs.Exploring.{CoversIntegers, CoversOwnOnIntegers, IsExactOnIntegers};
+ghost use Rattle.cs_engine.specs.Exploring.{CoversIntegers, CoversOwnOnIntegers, CoversLiveOnIntegers};
+ghost use Rattle.cs_engine.specs.Exploring.{IsExactOnIntegers};
 ghost use Rattle.cs_engine.specs.Exploring.{HasOwnOnIntegers};
 ghost use Rattle.cs_engine.specs.Exploring.{NotesGuessesOnIntegers, HasRealGuessesOnIntegers};
 
@@ -36,6 +37,9 @@ pub fn explore(
     ensures agrees { IfOk result (λ explored.
         HasEveryKind (λ b. kind_of b) checkers.old.items
         → CoversOwnOnIntegers exploration.now entry explored) }
+    ensures live { IfOk result (λ explored.
+        HasEveryKind (λ b. kind_of b) checkers.old.items
+        → CoversLiveOnIntegers exploration.now entry explored) }
     ensures exact { IfOk result (λ explored.
         HasEveryKind (λ b. kind_of b) checkers.old.items
         → IsExactOnIntegers exploration.now entry explored) }

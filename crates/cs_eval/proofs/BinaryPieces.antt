@@ -18,17 +18,20 @@ use Rattle.cs_terms.specs.Term.{Valuation, value_of, value_at}
 use Rattle.cs_constraints.specs.Constraints.{Sets, set_of}
 use Rattle.cs_constraints.proofs.Assuming.{value_of-symbol}
 use Rattle.cs_events.specs.Operations.{exact, power}
+use Rattle.cs_state.specs.declared.asked.Asks.TheVariants as asks
 use Rattle.cs_eval.specs.declared.piece.Piece.{Piece}
 use Rattle.cs_eval.specs.declared.question.Question.TheVariants as question
-use Rattle.cs_eval.specs.Followed.{asking_of, AreAnswers, AreFixed, IsFollowedNear}
+use Rattle.cs_eval.specs.Followed.{asking_of, AreFixed, IsFollowedNear}
 use Rattle.cs_eval.specs.Guesses.{HasNumbers}
 use Rattle.cs_eval.specs.Operands.{AreOverOne, HaveSymbol, IsFixed, IsReadyOperand, constant_with, constant_of}
 use Rattle.cs_eval.specs.Ready.{IsBinary}
-use Rattle.cs_eval.specs.Splits.{Asking}
+use Rattle.cs_eval.specs.Recorded.{RecordsInexact, AreRecordedAnswers}
+use Rattle.cs_eval.specs.Splits.{Asking, Each, IsSplit}
 use Rattle.cs_eval.specs.Wraps.{asked_of, IsWholeGuess, AreOfProduct, AreSummed, IsSumOf}
 use Rattle.cs_eval.proofs.Comparisons.{over_one, not_over_one}
 use Rattle.cs_eval.proofs.OperandValues.{value_of-none}
 use Rattle.cs_eval.proofs.Conversions.{converted_split, no_symbol, type_guesses}
+use Rattle.cs_eval.proofs.Records.{binary_is, recorded, whole_records, product_records, converted_records}
 use Rattle.cs_eval.proofs.WrapPieces.{IsWrap, AreGuesses, IsFarGuessed, whole_split, product_split}
 
 abbrev pub binary_asking : DataModel → Sets → BinOp → IntType → Lin → Lin → Asking
@@ -55,17 +58,25 @@ module _ (model : DataModel) (sets : Sets) (guess : ℕ) (op : BinOp) (ty : IntT
   wrap : IsWrap model asking
   wrap = record { shown = λ v. refl; shown_guess = λ v number. refl }
 
+  with_records : (pieces : List Piece) → IsSplit model sets guess asking pieces → Each (RecordsInexact sets (asked_of op ty left right)) pieces
+      → AreRecordedAnswers model sets guess (question.Binary op ty left right) pieces
+  with_records =
+      recorded model sets (question.Binary op ty left right) (asked_of op ty left right) (asks.Binary op ty) left right None refl
+      (binary_is model sets left right op ty) guess
+
   pub guessed_split : ¬ IsFollowedNear sets op left right → (pieces : List Piece) → IsWholeGuess model sets guess (asked_of op ty left right) pieces
-      → AreAnswers model sets guess (question.Binary op ty left right) pieces
+      → AreRecordedAnswers model sets guess (question.Binary op ty left right) pieces
   guessed_split not pieces h =
-      whole_split model sets guess asking wrap (asked_of op ty left right) pieces given.fresh
+      with_records pieces
+      (whole_split model sets guess asking wrap (asked_of op ty left right) pieces given.fresh
       (λ v fits followed. elim followed [ inl both ↦ not_both sets guess left right given both | inr near ↦ not near.0 ])
-      guesses h
+      guesses h)
+      (whole_records model sets guess (asked_of op ty left right) pieces h)
 
   -- the same of what a call answers
   pub guessed_answers : {E : Type 0} → ¬ IsFollowedNear sets op left right → (result : Result (Vec Piece Global) E)
       → IfOk result (λ pieces. IsWholeGuess model sets guess (asked_of op ty left right) pieces.items)
-      → IfOk result (λ pieces. AreAnswers model sets guess (question.Binary op ty left right) pieces.items)
+      → IfOk result (λ pieces. AreRecordedAnswers model sets guess (question.Binary op ty left right) pieces.items)
   guessed_answers not result made = IfOk-weaker {X = Vec Piece Global} result _ _ (λ pieces. guessed_split not pieces.items) made
 
   far_guessed : IsFarGuessed model sets asking (asked_of op ty left right)
@@ -78,12 +89,13 @@ module _ (model : DataModel) (sets : Sets) (guess : ℕ) (op : BinOp) (ty : IntT
   pub summed_split : (number : Valuation → ℤ) → ((v : Valuation) → exact model op ty (value_of v left) (value_of v right) ≡ number v)
       → (AreOverOne sets left right → IsFollowedNear sets op left right) → (IsFollowedNear sets op left right → AreOverOne sets left right)
       → (sum : Option Lin) (pieces : List Piece) → IsSumOf left right number sum → AreSummed model sets guess ty sum (asked_of op ty left right) pieces
-      → AreAnswers model sets guess (question.Binary op ty left right) pieces
+      → AreRecordedAnswers model sets guess (question.Binary op ty left right) pieces
   summed_split number same to from None pieces s h =
       guessed_split
       (λ near. not_over_one sets left right right.sym refl given.left_ready.several given.right_ready.several (s.none refl) (from near)) pieces h
   summed_split number same to from (Some sum) pieces s h =
-      converted_split model sets guess asking ty sum (Some (asked_of op ty left right))
+      with_records pieces
+      (converted_split model sets guess asking ty sum (Some (asked_of op ty left right))
       (record {
         wrap = wrap;
         quotient = λ v. ap (wrap_quotient model ty) (same v ∙ sym (s.value sum v refl));
@@ -93,7 +105,8 @@ module _ (model : DataModel) (sets : Sets) (guess : ℕ) (op : BinOp) (ty : IntT
         asked_for = far_guessed;
         unasked = λ e. absurd (cc);
       })
-      given.fresh pieces h
+      given.fresh pieces h)
+      (converted_records model sets guess (asked_of op ty left right) ty sum pieces h)
 
   -- an operator that is a product of a term and a constant
   pub multiplied_split : (term : Lin) (factor : ℤ)
@@ -101,9 +114,10 @@ module _ (model : DataModel) (sets : Sets) (guess : ℕ) (op : BinOp) (ty : IntT
       → IsFollowedNear sets op left right → ((s : Sym) → term.sym ≡ Some s → (left.sym ≡ Some s) ⊎ (right.sym ≡ Some s))
       → (pieces : List Piece)
       → AreOfProduct model sets guess ty term factor (Some (asked_of op ty left right)) pieces
-      → AreAnswers model sets guess (question.Binary op ty left right) pieces
+      → AreRecordedAnswers model sets guess (question.Binary op ty left right) pieces
   multiplied_split term factor same followed mentioned pieces h =
-      product_split model sets guess asking ty term factor (Some (asked_of op ty left right)) pieces given.fresh
+      with_records pieces
+      (product_split model sets guess asking ty term factor (Some (asked_of op ty left right)) pieces given.fresh
       (λ s range over known.
       let at : (v : Valuation) → exact model op ty (value_of v left) (value_of v right) ≡ value_at term (v s.0) *ℤ factor =
       λ v. same v ∙ ap (λ (n : ℤ). n *ℤ factor) (value_of-symbol v term s over) in
@@ -116,7 +130,8 @@ module _ (model : DataModel) (sets : Sets) (guess : ℕ) (op : BinOp) (ty : IntT
         near = λ v fits near. inr (followed, near);
         mentioned = mentioned s over;
       })
-      far_guessed h
+      far_guessed h)
+      (product_records model sets guess (asked_of op ty left right) ty term factor pieces h)
 
 module _ (model : DataModel) (sets : Sets) (ty : IntType) (left right : Lin) where
   own_in_type : (op : BinOp) (v : Valuation) → InRange model ty (wrapped model ty (exact model op ty (value_of v left) (value_of v right)))
@@ -181,7 +196,7 @@ module _ (model : DataModel) (sets : Sets) (guess : ℕ) (ty : IntType) (left ri
   -- products
   pub times_right : (factor : ℤ) → constant_of right ≡ Some factor → (pieces : List Piece)
       → AreOfProduct model sets guess ty left factor (Some (asked_of Mul ty left right)) pieces
-      → AreAnswers model sets guess (question.Binary Mul ty left right) pieces
+      → AreRecordedAnswers model sets guess (question.Binary Mul ty left right) pieces
   times_right factor e pieces h =
       let c = constant_is right factor e in
       multiplied_split model sets guess Mul ty left right given (mul_guesses model sets ty left right) left factor
@@ -189,7 +204,7 @@ module _ (model : DataModel) (sets : Sets) (guess : ℕ) (ty : IntType) (left ri
 
   pub times_left : (factor : ℤ) → constant_of left ≡ Some factor → (pieces : List Piece)
       → AreOfProduct model sets guess ty right factor (Some (asked_of Mul ty left right)) pieces
-      → AreAnswers model sets guess (question.Binary Mul ty left right) pieces
+      → AreRecordedAnswers model sets guess (question.Binary Mul ty left right) pieces
   times_left factor e pieces h =
       let c = constant_is left factor e in
       multiplied_split model sets guess Mul ty left right given (mul_guesses model sets ty left right) right factor
@@ -197,7 +212,7 @@ module _ (model : DataModel) (sets : Sets) (guess : ℕ) (ty : IntType) (left ri
       (inl (inl c.0)) (λ s k. inr k) pieces h
 
   pub times_neither : constant_of left ≡ None → constant_of right ≡ None → (pieces : List Piece)
-      → IsWholeGuess model sets guess (asked_of Mul ty left right) pieces → AreAnswers model sets guess (question.Binary Mul ty left right) pieces
+      → IsWholeGuess model sets guess (asked_of Mul ty left right) pieces → AreRecordedAnswers model sets guess (question.Binary Mul ty left right) pieces
   times_neither e f pieces h =
       let s = symbol_is left e in
       let t = symbol_is right f in
@@ -211,7 +226,7 @@ module _ (model : DataModel) (sets : Sets) (guess : ℕ) (ty : IntType) (left ri
   -- shifts to the left
   pub shifted_by : (count factor : ℤ) → constant_of right ≡ Some count → factor ≡ pos (power count) → (pieces : List Piece)
       → AreOfProduct model sets guess ty left factor (Some (asked_of Shl ty left right)) pieces
-      → AreAnswers model sets guess (question.Binary Shl ty left right) pieces
+      → AreRecordedAnswers model sets guess (question.Binary Shl ty left right) pieces
   shifted_by count factor e f pieces h =
       let c = constant_is right count e in
       multiplied_split model sets guess Shl ty left right given (shl_guesses model sets ty left right) left factor
@@ -220,7 +235,7 @@ module _ (model : DataModel) (sets : Sets) (guess : ℕ) (ty : IntType) (left ri
       (inl c.0) (λ s k. inl k) pieces h
 
   pub shifted_by_symbol : constant_of right ≡ None → (pieces : List Piece) → IsWholeGuess model sets guess (asked_of Shl ty left right) pieces
-      → AreAnswers model sets guess (question.Binary Shl ty left right) pieces
+      → AreRecordedAnswers model sets guess (question.Binary Shl ty left right) pieces
   shifted_by_symbol e pieces h =
       let s = symbol_is right e in
       guessed_split model sets guess Shl ty left right given (shl_guesses model sets ty left right)

@@ -29,10 +29,12 @@ use Rattle.cs_eval.specs.Followed.{asking_of, AreAnswers}
 use Rattle.cs_eval.specs.Guesses.{AreOfType}
 use Rattle.cs_eval.specs.Operands.{IsBetween, IsFixed, IsRaised, IsSeveral, IsReadyOperand}
 use Rattle.cs_eval.specs.Parts.{number_term}
+use Rattle.cs_eval.specs.Recorded.{AreRecordedAnswers}
 use Rattle.cs_eval.specs.Splits.{Asking, IsSplit}
 use Rattle.cs_eval.specs.Wraps.{IsNearOrUnasked, AreConverted, IsExactOfOne}
 use Rattle.cs_eval.proofs.OperandValues.{value_of-none}
 use Rattle.cs_eval.proofs.PartPieces.{raised_value, times_one}
+use Rattle.cs_eval.proofs.Records.{conversion_is, converted_records, recorded}
 use Rattle.cs_eval.proofs.WrapPieces.{IsWrap, AreGuesses, IsFarGuessed, IsAskedFor, one_split, whole_split, product_split}
 
 -- an operation whose exact result is a term's value
@@ -146,13 +148,15 @@ no_symbol sets term several (inl none) = none
 no_symbol sets term several (inr one) = absurd (several one.0 one.1)
 
 pub conversion_split : (model : DataModel) (sets : Sets) (guess : ℕ) (ty : IntType) (term zero : Lin) (pieces : List Piece) → IsReadyOperand sets term
-    → term.sym ≢ None → set_of sets guess ≡ None
+    → term.sym ≢ None → zero.sym ≡ None → set_of sets guess ≡ None
     → AreConverted model sets guess ty term (Some (record { asks = asks.Convert ty; left = term; right = zero; fact = None })) pieces
-    → AreAnswers model sets guess (question.Convert ty term) pieces
-conversion_split model sets guess ty term zero pieces ready symbol fresh h =
+    → AreRecordedAnswers model sets guess (question.Convert ty term) pieces
+conversion_split model sets guess ty term zero pieces ready symbol constant fresh h =
     let inexact : Inexact = record { asks = asks.Convert ty; left = term; right = zero; fact = None } in
     let asking : Asking = asking_of model sets (question.Convert ty term) in
-    converted_split model sets guess asking ty term (Some inexact)
+    recorded model sets (question.Convert ty term) inexact (asks.Convert ty) term zero None refl (conversion_is model sets term zero ty constant) guess
+    pieces
+    (converted_split model sets guess asking ty term (Some inexact)
     (record {
       wrap = record { shown = λ v. refl; shown_guess = λ v number. refl };
       quotient = λ v. refl;
@@ -169,7 +173,8 @@ conversion_split model sets guess ty term zero pieces ready symbol fresh h =
       };
       unasked = λ e. absurd (cc);
     })
-    fresh pieces h
+    fresh pieces h)
+    (converted_records model sets guess inexact ty term pieces h)
 
 -- an operator of one integer
 pub unary_split : (model : DataModel) (sets : Sets) (guess : ℕ) (op : UnOp) (ty : IntType) (term exact : Lin) (pieces : List Piece)

@@ -33,11 +33,13 @@ use Rattle.cs_eval.specs.Offsets.{IsDividedTerm, IsMultiple, AreElements, HasRes
 use Rattle.cs_eval.specs.Offsets.{half_difference_of, IsTermOfOffsets}
 use Rattle.cs_eval.specs.Operands.{IsBetween, IsReadyOperand, AreOverOne, HaveSymbol}
 use Rattle.cs_eval.specs.Parts.{with_number, unguessed}
+use Rattle.cs_eval.specs.Recorded.{IsRecordOfQuestion, AreRecordedAnswers}
 use Rattle.cs_eval.specs.Wraps.{IsSumOf, IsWholeGuess}
 use Rattle.cs_eval.proofs.Comparisons.{over_one, not_over_one}
 use Rattle.cs_eval.proofs.OperandForms.{fits_fixed, fixed_none}
 use Rattle.cs_eval.proofs.OperandValues.{decide, value_between, value_of-none, with_number-same, with_number-other}
 use Rattle.cs_eval.proofs.OnePiece.{one_exact_split, one_guess_split}
+use Rattle.cs_eval.proofs.Records.{difference_is, recorded, unguessed_records, whole_records}
 use Rattle.cs_eval.proofs.PartPieces.{times_one}
 
 quotient_neg : (a d : ℕ) → int_div (neg_ℤ (pos a)) (pos d) ≡ neg_ℤ (pos (a / d))
@@ -126,19 +128,21 @@ no_elements left right made size e value =
 
 module _ (model : DataModel) (sets : Sets) (guess : ℕ) (left right : Lin) (size : ℕ) (l : IsReadyOperand sets left) (r : IsReadyOperand sets right) where
   pub difference_split : (made : Lin) (pieces : List Piece) → AreElements left right size made → AreInhabited sets
-      → pieces ≡ unguessed (label.Wrap Same) made sets ∷ [] → AreAnswers model sets guess (question.Difference left right size) pieces
-  difference_split made pieces h inhabited shape =
-      one_exact_split model sets guess (asking_of model sets (question.Difference left right size)) (label.Wrap Same) made pieces
-      (record {
-        inhabited = inhabited;
-        followed = λ v fits. elim h.followed [
-          | inl none ↦ inr (inr none)
-          | inr divided ↦ inr (inl (over_one sets left right right.sym refl divided.0, λ w fixed. divided.1 w))
-        ];
-        shown = λ v fits. refl;
-        own = λ v fits. h.value v;
-      })
-      shape
+      → pieces ≡ unguessed (label.Wrap Same) made sets ∷ [] → AreRecordedAnswers model sets guess (question.Difference left right size) pieces
+  difference_split made pieces h inhabited shape = record {
+    answers = one_exact_split model sets guess (asking_of model sets (question.Difference left right size)) (label.Wrap Same) made pieces
+        (record {
+          inhabited = inhabited;
+          followed = λ v fits. elim h.followed [
+            | inl none ↦ inr (inr none)
+            | inr divided ↦ inr (inl (over_one sets left right right.sym refl divided.0, λ w fixed. divided.1 w))
+          ];
+          shown = λ v fits. refl;
+          own = λ v fits. h.value v;
+        })
+        shape;
+    records = unguessed_records (IsRecordOfQuestion model sets (question.Difference left right size)) (label.Wrap Same) made sets pieces shape;
+  }
 
   -- a term over two numbers of a symbol has a rest at one of two of them
   module _ (rest : HasRest left right size) (v : Valuation) (fits : Fits v sets) where
@@ -222,11 +226,11 @@ own_between Ilp32 a b (suc n) some h k =
     let q : FitsSigned w32 (int_div (a -ℤ b) (pos (suc n))) = quot_fits w32 (a -ℤ b) (pos (suc n)) fits (omega (arith, ints)) in
     (omega (arith, ints, q), omega (arith, ints, q))
 
-pub difference_guess : (model : DataModel) (sets : Sets) (guess : ℕ) (left right : Lin) (size : ℕ) (inexact : Inexact) (pieces : List Piece)
+difference_guessed : (model : DataModel) (sets : Sets) (guess : ℕ) (left right : Lin) (size : ℕ) (inexact : Inexact) (pieces : List Piece)
     → IsReadyOperand sets left → IsReadyOperand sets right → HaveSymbol left right → AreElementsBetween left right size None
     → IsTermOfOffsets model sets left → IsTermOfOffsets model sets right → inexact.asks ≡ asks.Difference → set_of sets guess ≡ None
     → IsWholeGuess model sets guess inexact pieces → AreAnswers model sets guess (question.Difference left right size) pieces
-difference_guess model sets guess left right size inexact pieces l r some h lo ro asked fresh whole =
+difference_guessed model sets guess left right size inexact pieces l r some h lo ro asked fresh whole =
     let numbers = whole.guessed.numbers in
     let are : AreNumbers model asks.Difference inexact.left inexact.right numbers =
     subst (λ k. AreNumbers model k inexact.left inexact.right numbers) asked whole.guessed.are.are in
@@ -257,3 +261,14 @@ difference_guess model sets guess left right size inexact pieces l r some h lo r
           );
     })
     whole.piece whole.guessed.piece_is fresh pieces whole.made
+
+pub difference_guess : (model : DataModel) (sets : Sets) (guess : ℕ) (left right : Lin) (size : ℕ) (inexact : Inexact) (pieces : List Piece)
+    → IsReadyOperand sets left → IsReadyOperand sets right → HaveSymbol left right → AreElementsBetween left right size None
+    → IsTermOfOffsets model sets left → IsTermOfOffsets model sets right
+    → inexact ≡ record { asks = asks.Difference; left = left; right = right; fact = None } → set_of sets guess ≡ None
+    → IsWholeGuess model sets guess inexact pieces → AreRecordedAnswers model sets guess (question.Difference left right size) pieces
+difference_guess model sets guess left right size inexact pieces l r some h lo ro same fresh whole =
+    recorded model sets (question.Difference left right size) inexact asks.Difference left right None same
+    (difference_is model sets left right size) guess pieces
+    (difference_guessed model sets guess left right size inexact pieces l r some h lo ro (ap (λ (i : Inexact). i.asks) same) fresh whole)
+    (whole_records model sets guess inexact pieces whole)

@@ -9,6 +9,7 @@ pub mod Differences
 pub mod Ends
 pub mod Masks
 pub mod Negated
+pub mod NotedGuesses
 pub mod Offsets
 pub mod OnePiece
 pub mod OperandForms
@@ -16,6 +17,7 @@ pub mod OperandValues
 pub mod PartPieces
 pub mod PieceLists
 pub mod ProductTests
+pub mod Records
 pub mod Remainders
 pub mod SameAsking
 pub mod SameQuestions

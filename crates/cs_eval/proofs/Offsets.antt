@@ -23,10 +23,12 @@ use Rattle.cs_eval.specs.Guesses.{AreNumbers}
 use Rattle.cs_eval.specs.Offsets.{IsMovedOffset}
 use Rattle.cs_eval.specs.Operands.{IsBetween, IsTermBetween, IsReadyOperand}
 use Rattle.cs_eval.specs.Parts.{unguessed}
+use Rattle.cs_eval.specs.Recorded.{IsRecordOfQuestion, AreRecordedAnswers}
 use Rattle.cs_eval.specs.Wraps.{IsSumOf, IsWholeGuess}
 use Rattle.cs_eval.proofs.Comparisons.{over_one, not_over_one}
 use Rattle.cs_eval.proofs.OperandValues.{value_between}
 use Rattle.cs_eval.proofs.OnePiece.{one_exact_split, one_guess_split}
+use Rattle.cs_eval.proofs.Records.{recorded, sum_is, unguessed_records, whole_records}
 
 -- a number times one above 0 is 0 only if it is
 factor_zero : (n : ℤ) (k : ℕ) → n *ℤ pos (suc k) ≡ pos 0 → n ≡ pos 0
@@ -103,28 +105,30 @@ module _ (model : DataModel) (sets : Sets) (guess : ℕ) (offset amount : Lin) (
     (o : IsReadyOperand sets offset) (a : IsReadyOperand sets amount) (moved : IsMovedOffset offset amount size sum) where
   pub sum_split : (exact : Lin) (pieces : List Piece) → sum ≡ Some exact
       → IsTermBetween sets (neg_ℤ (pos (offset_bound_of model))) (pos (offset_bound_of model)) exact → AreInhabited sets
-      → pieces ≡ unguessed (label.Wrap Same) exact sets ∷ [] → AreAnswers model sets guess (question.Sum offset amount size) pieces
-  sum_split exact pieces e within inhabited made =
-      one_exact_split model sets guess (asking_of model sets (question.Sum offset amount size)) (label.Wrap Same) exact pieces
-      (record {
-        inhabited = inhabited;
-        followed = λ v fits. elim (moved.one exact e) [
-          | inl none ↦ inr none
-          | inr one ↦ inl (over_one sets offset amount amount.sym refl one)
-        ];
-        shown = λ v fits. refl;
-        own = λ v fits.
-            let same = moved.value exact v e in
-            same
-            ∙ sym (within_itself model (value_of v offset +ℤ value_of v amount *ℤ pos size)
-            (subst (λ (n : ℤ). IsBetween (neg_ℤ (pos (offset_bound_of model))) (pos (offset_bound_of model)) n) same
-            (value_between sets (neg_ℤ (pos (offset_bound_of model))) (pos (offset_bound_of model)) exact v within fits)));
-      })
-      made
+      → pieces ≡ unguessed (label.Wrap Same) exact sets ∷ [] → AreRecordedAnswers model sets guess (question.Sum offset amount size) pieces
+  sum_split exact pieces e within inhabited made = record {
+    answers = one_exact_split model sets guess (asking_of model sets (question.Sum offset amount size)) (label.Wrap Same) exact pieces
+        (record {
+          inhabited = inhabited;
+          followed = λ v fits. elim (moved.one exact e) [
+            | inl none ↦ inr none
+            | inr one ↦ inl (over_one sets offset amount amount.sym refl one)
+          ];
+          shown = λ v fits. refl;
+          own = λ v fits.
+              let same = moved.value exact v e in
+              same
+              ∙ sym (within_itself model (value_of v offset +ℤ value_of v amount *ℤ pos size)
+              (subst (λ (n : ℤ). IsBetween (neg_ℤ (pos (offset_bound_of model))) (pos (offset_bound_of model)) n) same
+              (value_between sets (neg_ℤ (pos (offset_bound_of model))) (pos (offset_bound_of model)) exact v within fits)));
+        })
+        made;
+    records = unguessed_records (IsRecordOfQuestion model sets (question.Sum offset amount size)) (label.Wrap Same) exact sets pieces made;
+  }
 
-  pub sum_guess : (inexact : Inexact) (pieces : List Piece) → sum ≡ None → inexact.asks ≡ asks.Sum → set_of sets guess ≡ None
+  sum_guessed : (inexact : Inexact) (pieces : List Piece) → sum ≡ None → inexact.asks ≡ asks.Sum → set_of sets guess ≡ None
       → IsWholeGuess model sets guess inexact pieces → AreAnswers model sets guess (question.Sum offset amount size) pieces
-  sum_guess inexact pieces e asked fresh whole =
+  sum_guessed inexact pieces e asked fresh whole =
       let none = moved.none e in
       let numbers = whole.guessed.numbers in
       let are : AreNumbers model asks.Sum inexact.left inexact.right numbers =
@@ -147,3 +151,10 @@ module _ (model : DataModel) (sets : Sets) (guess : ℕ) (offset amount : Lin) (
     where
       bounds : (a b c d n : ℤ) → a ≡ b → c ≡ d → IsBetween a c n → IsBetween b d n
       bounds a b c d n e f h = (subst (λ (x : ℤ). x ≤ℤ n) e h.0, subst (λ (x : ℤ). n ≤ℤ x) f h.1)
+
+  pub sum_guess : (inexact : Inexact) (pieces : List Piece) → sum ≡ None
+      → inexact ≡ record { asks = asks.Sum; left = offset; right = amount; fact = None } → set_of sets guess ≡ None
+      → IsWholeGuess model sets guess inexact pieces → AreRecordedAnswers model sets guess (question.Sum offset amount size) pieces
+  sum_guess inexact pieces e same fresh whole =
+      recorded model sets (question.Sum offset amount size) inexact asks.Sum offset amount None same (sum_is model sets offset amount size) guess
+      pieces (sum_guessed inexact pieces e (ap (λ (i : Inexact). i.asks) same) fresh whole) (whole_records model sets guess inexact pieces whole)

@@ -307,7 +307,7 @@ module _ (model : DataModel) (sets : Sets) (given made : Question) (ready : HasR
       subst (λ (q : Question). IsSameAsking sets (asking_of model sets q) (asking_of model sets given)) (sym h.is)
       (same h.operand (ready_form sets term h.operand h.form one.several w fits))
 
-question_same : (model : DataModel) (sets : Sets) (given made : Question) → IsFormOfQuestion sets given made → HasReadyOperands sets made
+pub question_same : (model : DataModel) (sets : Sets) (given made : Question) → IsFormOfQuestion sets given made → HasReadyOperands sets made
     → (w : Valuation) → Fits w sets → IsSameAsking sets (asking_of model sets made) (asking_of model sets given)
 question_same model sets (question.Binary op ty left right) made h ready w fits =
     of_two model sets (question.Binary op ty left right) made ready w fits left right (λ l r. question.Binary op ty l r) h (λ l r both. both)

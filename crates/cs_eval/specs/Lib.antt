@@ -9,6 +9,7 @@ pub mod Parts
 pub mod ProductTests
 pub mod Questions
 pub mod Ready
+pub mod Recorded
 pub mod Splits
 pub mod Truths
 pub mod Wraps

@@ -24,6 +24,7 @@ use Rattle.cs_eval.specs.declared.guesses.Inexact.{Inexact}
 use Rattle.cs_eval.specs.declared.piece.Piece.{Piece}
 use Rattle.cs_eval.specs.Guesses.{IsGuessPiece, HasNumbers}
 use Rattle.cs_eval.specs.Parts.{number_term, unguessed}
+use Rattle.cs_eval.specs.Recorded.{RecordsInexact}
 
 -- what a guess of an operator of two integers is asked for
 abbrev pub asked_of : BinOp → IntType → Lin → Lin → Inexact
@@ -60,12 +61,14 @@ pub record IsWholeGuess (model : DataModel) (sets : Sets) (guess : ℕ) (inexact
   pub piece : Piece
   pub made : pieces ≡ piece ∷ []
   pub guessed : IsWrapGuess model sets guess inexact piece
+  pub records : RecordsInexact sets inexact piece
 
 -- the piece of the far wrap quotients: just these numbers of the symbol are left, and the result is guessed
 pub record IsFarGuess (model : DataModel) (sets : Sets) (guess : ℕ) (sym : Sym) (far : List Interval) (inexact : Inexact) (piece : Piece) : Type 0 where
   pub between : Sets
   pub narrowed : IsNarrowed sets sym.0 far between
   pub guessed : IsWrapGuess model between guess inexact piece
+  pub records : RecordsInexact sets inexact piece
 
 -- the piece of the far wrap quotients, none where no number has one. Where nothing is asked for, no number has
 abbrev pub IsOfFar : DataModel → Sets → ℕ → Sym → List Interval → Option Inexact → List Piece → Type 0

@@ -2,6 +2,7 @@
 ghost use Rattle.std.specs.Prelude.{◌≡◌, None, IfOk, IfSome};
 ghost use Rattle.cs_ranges.specs.Interval.{IsProper};
 ghost use Rattle.cs_eval.specs.Guesses.{HasNumbers, AreNumbers, AreOfBinary, AreOfType, AreRemainders};
+ghost use Rattle.cs_eval.specs.Recorded.{AreEndsOf, IsRecordOf};
 
 use crate::checked::check_interval;
 use crate::operands::number;
@@ -38,7 +39,9 @@ impl Inexact {
     }
 
     /// What is recorded of its guess.
-    pub fn guessed(&self, constraints: &Constraints) -> Guessed {
+    pub fn guessed(&self, constraints: &Constraints) -> Guessed
+        ensures { IsRecordOf constraints.now self.now result }
+    {
         Guessed {
             asks: self.asks,
             left: self.left,
@@ -79,7 +82,9 @@ impl Inexact {
 }
 
 // The numbers of a term's symbol, from the least to the greatest; 0 to 0 where there is none.
-fn ends_of(constraints: &Constraints, term: Lin) -> Interval {
+fn ends_of(constraints: &Constraints, term: Lin) -> Interval
+    ensures { AreEndsOf constraints.now term.sym result }
+{
     let no_symbol = Interval { low: 0, high: 0 };
     let Some(sym) = term.sym else {
         return no_symbol;

@@ -7,6 +7,7 @@ ghost use Rattle.cs_eval.specs.declared.question.Question.{Question};
 ghost use Rattle.cs_eval.specs.Followed.{AreAnswers};
 ghost use Rattle.cs_eval.specs.Operands.{HaveSymbol, IsReadyOperand};
 ghost use Rattle.cs_eval.specs.Ready.{IsBinary};
+ghost use Rattle.cs_eval.specs.Recorded.{AreRecordedAnswers};
 ghost use Rattle.cs_eval.specs.Wraps.{asked_of, AreOfProduct, AreSummed, IsExactOfOne, IsSumOf, IsWholeGuess};
 
 use crate::checked::{
@@ -35,8 +36,9 @@ pub(crate) fn binary(
     requires right { IsReadyOperand setting.now.constraints.now right }
     requires symbol { HaveSymbol left right }
     requires fresh { set_of setting.now.constraints.now setting.now.guess.0 ≡ None }
-    ensures { IfOk result (λ pieces. AreAnswers setting.now.model setting.now.constraints.now
-        setting.now.guess.0 (Question.Binary op ty left right) pieces.items) }
+    ensures { IfOk result (λ pieces. AreRecordedAnswers setting.now.model
+        setting.now.constraints.now setting.now.guess.0 (Question.Binary op ty left right)
+        pieces.items) }
 {
     match op {
         BinOp::Add => plus(setting, ty, left, right),
@@ -54,8 +56,9 @@ pub(crate) fn binary(
 
 fn plus(setting: &Setting, ty: IntType, left: Lin, right: Lin) -> Result<Vec<Piece>, AllocError>
     requires { IsBinary setting.now.constraints.now setting.now.guess.0 left right }
-    ensures { IfOk result (λ pieces. AreAnswers setting.now.model setting.now.constraints.now
-        setting.now.guess.0 (Question.Binary BinOp.Add ty left right) pieces.items) }
+    ensures { IfOk result (λ pieces. AreRecordedAnswers setting.now.model
+        setting.now.constraints.now setting.now.guess.0 (Question.Binary BinOp.Add ty left right)
+        pieces.items) }
 {
     let inexact = Inexact::new(Asks::Binary(BinOp::Add, ty), left, right);
     let exact = added(left, right)?;
@@ -64,8 +67,9 @@ fn plus(setting: &Setting, ty: IntType, left: Lin, right: Lin) -> Result<Vec<Pie
 
 fn minus(setting: &Setting, ty: IntType, left: Lin, right: Lin) -> Result<Vec<Piece>, AllocError>
     requires { IsBinary setting.now.constraints.now setting.now.guess.0 left right }
-    ensures { IfOk result (λ pieces. AreAnswers setting.now.model setting.now.constraints.now
-        setting.now.guess.0 (Question.Binary BinOp.Sub ty left right) pieces.items) }
+    ensures { IfOk result (λ pieces. AreRecordedAnswers setting.now.model
+        setting.now.constraints.now setting.now.guess.0 (Question.Binary BinOp.Sub ty left right)
+        pieces.items) }
 {
     let inexact = Inexact::new(Asks::Binary(BinOp::Sub, ty), left, right);
     let exact = difference(left, right)?;
@@ -75,8 +79,9 @@ fn minus(setting: &Setting, ty: IntType, left: Lin, right: Lin) -> Result<Vec<Pi
 // A product, which is followed with a constant.
 fn times(setting: &Setting, ty: IntType, left: Lin, right: Lin) -> Result<Vec<Piece>, AllocError>
     requires { IsBinary setting.now.constraints.now setting.now.guess.0 left right }
-    ensures { IfOk result (λ pieces. AreAnswers setting.now.model setting.now.constraints.now
-        setting.now.guess.0 (Question.Binary BinOp.Mul ty left right) pieces.items) }
+    ensures { IfOk result (λ pieces. AreRecordedAnswers setting.now.model
+        setting.now.constraints.now setting.now.guess.0 (Question.Binary BinOp.Mul ty left right)
+        pieces.items) }
 {
     let inexact = Inexact::new(Asks::Binary(BinOp::Mul, ty), left, right);
     if let Some(factor) = number(right) {
@@ -91,8 +96,9 @@ fn times(setting: &Setting, ty: IntType, left: Lin, right: Lin) -> Result<Vec<Pi
 // A shift to the left, which is followed by a constant: it is a product with a power of two.
 fn shifted(setting: &Setting, ty: IntType, left: Lin, right: Lin) -> Result<Vec<Piece>, AllocError>
     requires { IsBinary setting.now.constraints.now setting.now.guess.0 left right }
-    ensures { IfOk result (λ pieces. AreAnswers setting.now.model setting.now.constraints.now
-        setting.now.guess.0 (Question.Binary BinOp.Shl ty left right) pieces.items) }
+    ensures { IfOk result (λ pieces. AreRecordedAnswers setting.now.model
+        setting.now.constraints.now setting.now.guess.0 (Question.Binary BinOp.Shl ty left right)
+        pieces.items) }
 {
     let inexact = Inexact::new(Asks::Binary(BinOp::Shl, ty), left, right);
     let Some(count) = number(right) else {
@@ -110,8 +116,9 @@ fn remainder(
     right: Lin,
 ) -> Result<Vec<Piece>, AllocError>
     requires { IsBinary setting.now.constraints.now setting.now.guess.0 left right }
-    ensures { IfOk result (λ pieces. AreAnswers setting.now.model setting.now.constraints.now
-        setting.now.guess.0 (Question.Binary BinOp.Rem ty left right) pieces.items) }
+    ensures { IfOk result (λ pieces. AreRecordedAnswers setting.now.model
+        setting.now.constraints.now setting.now.guess.0 (Question.Binary BinOp.Rem ty left right)
+        pieces.items) }
 {
     check_in_type(setting, ty, left)?;
     check_in_type(setting, ty, right)?;
@@ -121,8 +128,9 @@ fn remainder(
 // The bits that both numbers have, which are guessed. A constant mask, which lies in the type, bounds the guess.
 fn masked(setting: &Setting, ty: IntType, left: Lin, right: Lin) -> Result<Vec<Piece>, AllocError>
     requires { IsBinary setting.now.constraints.now setting.now.guess.0 left right }
-    ensures { IfOk result (λ pieces. AreAnswers setting.now.model setting.now.constraints.now
-        setting.now.guess.0 (Question.Binary BinOp.And ty left right) pieces.items) }
+    ensures { IfOk result (λ pieces. AreRecordedAnswers setting.now.model
+        setting.now.constraints.now setting.now.guess.0 (Question.Binary BinOp.And ty left right)
+        pieces.items) }
 {
     check_in_type(setting, ty, left)?;
     check_in_type(setting, ty, right)?;
@@ -182,8 +190,9 @@ pub(crate) fn conversion(
     requires ready { IsReadyOperand setting.now.constraints.now term }
     requires symbol { term.sym ≢ None }
     requires fresh { set_of setting.now.constraints.now setting.now.guess.0 ≡ None }
-    ensures { IfOk result (λ pieces. AreAnswers setting.now.model setting.now.constraints.now
-        setting.now.guess.0 (Question.Convert ty term) pieces.items) }
+    ensures { IfOk result (λ pieces. AreRecordedAnswers setting.now.model
+        setting.now.constraints.now setting.now.guess.0 (Question.Convert ty term)
+        pieces.items) }
 {
     let inexact = Inexact::new(Asks::Convert(ty), term, constant(0));
     converted(setting, ty, term, Some(&inexact))

@@ -5,7 +5,10 @@ ghost use Rattle.cs_events.specs.Operations as operations;
 ghost use Rattle.cs_values.specs.Results.{IsOwn};
 ghost use Rattle.cs_eval.specs.Followed.{AreAnswers};
 ghost use Rattle.cs_eval.specs.Forms.{AreConstants, operation_pieces};
+ghost use Rattle.cs_eval.specs.Noted.{NotesGuess};
 ghost use Rattle.cs_eval.specs.Ready.{HasReadyOperands};
+ghost use Rattle.cs_eval.specs.Recorded.{AreRecordedAnswers};
+ghost use Rattle.cs_eval.specs.Splits.{Each};
 
 use crate::checked::check_adds;
 use crate::integers::{binary, conversion, unary};
@@ -33,8 +36,10 @@ pub fn answers(
     question: &Question,
     guess: Sym,
 ) -> Result<Vec<Piece>, AllocError>
-    ensures { IfOk result (λ pieces.
+    ensures answers { IfOk result (λ pieces.
         AreAnswers model constraints.now guess.0 question.now pieces.items) }
+    ensures notes { IfOk result (λ pieces.
+        Each (NotesGuess model constraints.now question.now) pieces.items) }
 {
     if constraints.range_of(guess).is_some() {
         return Err(AllocError);
@@ -93,8 +98,9 @@ fn followed(setting: &Setting, question: Question) -> Result<Vec<Piece>, AllocEr
     requires ready { HasReadyOperands setting.now.constraints.now question }
     requires mixed { ¬ AreConstants question }
     requires fresh { set_of setting.now.constraints.now setting.now.guess.0 ≡ None }
-    ensures { IfOk result (λ pieces. AreAnswers setting.now.model setting.now.constraints.now
-        setting.now.guess.0 question pieces.items) }
+    ensures { IfOk result (λ pieces. AreRecordedAnswers setting.now.model
+        setting.now.constraints.now setting.now.guess.0 question
+        pieces.items) }
 {
     match question {
         Question::Binary(op, ty, left, right) => binary(setting, op, ty, left, right),

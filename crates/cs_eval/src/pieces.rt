@@ -1,5 +1,5 @@
 //! The ways to make a piece.
-ghost use Rattle.std.specs.Prelude.{◌≡◌, ◌≤ℤ◌, [], ◌∷◌, ◌++◌, IfOk, OnOk};
+ghost use Rattle.std.specs.Prelude.{◌≡◌, ◌≤ℤ◌, [], ◌∷◌, ◌++◌, Some, IfOk, OnOk};
 ghost use Rattle.cs_ranges.specs.Interval.{IsInside};
 ghost use Rattle.cs_ranges.specs.RangeSet.{IsInhabited};
 ghost use Rattle.cs_constraints.specs.Constraints.{AreInhabited, IsNarrowed};
@@ -103,7 +103,8 @@ pub(crate) fn guessed_piece(
     requires low { IsInside numbers.low }
     requires high { IsInside numbers.high }
     requires ordered { numbers.low ≤ℤ numbers.high }
-    ensures { IfOk result (IsGuessPiece constraints setting.now.guess.0 label numbers) }
+    ensures piece { IfOk result (IsGuessPiece constraints setting.now.guess.0 label numbers) }
+    ensures guessed { IfOk result (λ piece. piece.guessed ≡ Some guessed) }
 {
     let numbers = RangeSet::of(setting.alloc, numbers.low, numbers.high)?;
     constraints.declare(setting.guess, numbers)?;

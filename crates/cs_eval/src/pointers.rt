@@ -3,9 +3,9 @@ ghost use Rattle.std.specs.Prelude.{◌≡◌, pos, ◌*ℤ◌, ◌<ℤ◌, None
 ghost use Rattle.cs_terms.specs.Term.{IsTerm};
 ghost use Rattle.cs_constraints.specs.Constraints.{set_of};
 ghost use Rattle.cs_eval.specs.declared.question.Question.{Question};
-ghost use Rattle.cs_eval.specs.Followed.{AreAnswers};
 ghost use Rattle.cs_eval.specs.Offsets.{AreElementsBetween, IsDividedTerm, IsMovedOffset, IsMultiple, IsTermOfBounds, IsTermOfOffsets, half_difference_of};
 ghost use Rattle.cs_eval.specs.Operands.{HaveSymbol, IsReadyOperand};
+ghost use Rattle.cs_eval.specs.Recorded.{AreRecordedAnswers};
 ghost use Rattle.cs_eval.specs.Wraps.{IsWholeGuess};
 
 use crate::checked::{check_between, check_scales};
@@ -31,8 +31,9 @@ pub(crate) fn pointer_sum(
     requires offset { IsReadyOperand setting.now.constraints.now offset }
     requires amount { IsReadyOperand setting.now.constraints.now amount }
     requires fresh { set_of setting.now.constraints.now setting.now.guess.0 ≡ None }
-    ensures { IfOk result (λ pieces. AreAnswers setting.now.model setting.now.constraints.now
-        setting.now.guess.0 (Question.Sum offset amount size) pieces.items) }
+    ensures { IfOk result (λ pieces. AreRecordedAnswers setting.now.model
+        setting.now.constraints.now setting.now.guess.0 (Question.Sum offset amount size)
+        pieces.items) }
 {
     let moved = moved_offset(offset, amount, size)?;
     match moved {
@@ -78,8 +79,9 @@ pub(crate) fn pointer_difference(
     requires right { IsReadyOperand setting.now.constraints.now right }
     requires symbol { HaveSymbol left right }
     requires fresh { set_of setting.now.constraints.now setting.now.guess.0 ≡ None }
-    ensures { IfOk result (λ pieces. AreAnswers setting.now.model setting.now.constraints.now
-        setting.now.guess.0 (Question.Difference left right size) pieces.items) }
+    ensures { IfOk result (λ pieces. AreRecordedAnswers setting.now.model
+        setting.now.constraints.now setting.now.guess.0 (Question.Difference left right size)
+        pieces.items) }
 {
     let elements = elements_between(left, right, size)?;
     match elements {

@@ -5,10 +5,11 @@ ghost use Rattle.cs_terms.specs.Conditions.{CanAdd};
 ghost use Rattle.cs_terms.specs.Term.{value_at, IsTerm};
 ghost use Rattle.cs_constraints.specs.Constraints.{set_of, AreInhabited};
 ghost use Rattle.cs_eval.specs.declared.question.Question.{Question};
-ghost use Rattle.cs_eval.specs.Followed.{AreAnswers};
 ghost use Rattle.cs_eval.specs.Operands.{IsBetween, IsTermBetween, LOWEST, HIGHEST};
 ghost use Rattle.cs_eval.specs.Operands.{HasEnds, HasEndsOver, IsEndsOfSum, IsReadyOperand, IsSeveral};
 ghost use Rattle.cs_eval.specs.ProductTests.{IsTermOfCounts, IsFollowedByEnds, IsFollowedByFactor, IsFollowedByProduct};
+ghost use Rattle.cs_eval.specs.Recorded.{AreRecordedAnswers, RecordsInexact};
+ghost use Rattle.cs_eval.specs.Splits.{Each};
 ghost use Rattle.cs_events.specs.Operations.{truth_number};
 ghost use Rattle.cs_eval.specs.Truths.{IsReady, ArePiecesOf, AreOfGuess, IsGuessOf, IsFollowedBySign};
 
@@ -50,8 +51,9 @@ pub(crate) fn comparison(
     requires right { IsReadyOperand setting.now.constraints.now right }
     requires fresh { set_of setting.now.constraints.now setting.now.guess.0 ≡ None }
     requires inhabited { AreInhabited setting.now.constraints.now }
-    ensures { IfOk result (λ pieces. AreAnswers setting.now.model setting.now.constraints.now
-        setting.now.guess.0 (Question.Compare op left right) pieces.items) }
+    ensures { IfOk result (λ pieces. AreRecordedAnswers setting.now.model
+        setting.now.constraints.now setting.now.guess.0 (Question.Compare op left right)
+        pieces.items) }
 {
     let term = diff(left, right);
     let followed = followed_by_sign(setting.constraints, op, term);
@@ -77,8 +79,9 @@ pub(crate) fn order_test(
         × IsSeveral setting.now.constraints.now second }
     requires fresh { set_of setting.now.constraints.now setting.now.guess.0 ≡ None }
     requires inhabited { AreInhabited setting.now.constraints.now }
-    ensures { IfOk result (λ pieces. AreAnswers setting.now.model setting.now.constraints.now
-        setting.now.guess.0 (Question.Order first second) pieces.items) }
+    ensures { IfOk result (λ pieces. AreRecordedAnswers setting.now.model
+        setting.now.constraints.now setting.now.guess.0 (Question.Order first second)
+        pieces.items) }
 {
     let term = Lin2 { first, second };
     let followed = followed_by_sign(setting.constraints, CmpOp::AtLeast, term);
@@ -103,8 +106,9 @@ pub(crate) fn product_test(
     requires count { IsSeveral setting.now.constraints.now count }
     requires size { IsSeveral setting.now.constraints.now size }
     requires fresh { set_of setting.now.constraints.now setting.now.guess.0 ≡ None }
-    ensures { IfOk result (λ pieces. AreAnswers setting.now.model setting.now.constraints.now
-        setting.now.guess.0 (Question.Product count size) pieces.items) }
+    ensures { IfOk result (λ pieces. AreRecordedAnswers setting.now.model
+        setting.now.constraints.now setting.now.guess.0 (Question.Product count size)
+        pieces.items) }
 {
     check_counts(setting.constraints, count)?;
     check_counts(setting.constraints, size)?;
@@ -120,8 +124,10 @@ fn truth_split(
     inexact: &Inexact,
 ) -> Result<Vec<Piece>, AllocError>
     requires { IsReady setting.now.constraints.now followed }
-    ensures { IfOk result (λ pieces.
+    ensures pieces { IfOk result (λ pieces.
         ArePiecesOf setting.now.constraints.now setting.now.guess.0 followed pieces.items) }
+    ensures records { IfOk result (λ pieces.
+        Each (RecordsInexact setting.now.constraints.now inexact.now) pieces.items) }
 {
     match followed {
         Followed::Where(op, term) => {
@@ -137,8 +143,10 @@ fn truth_split(
 
 // A piece for each truth, with the guess of it.
 fn guessed_truths(setting: &Setting, inexact: &Inexact) -> Result<Vec<Piece>, AllocError>
-    ensures { IfOk result (λ pieces.
+    ensures pieces { IfOk result (λ pieces.
         AreOfGuess setting.now.constraints.now setting.now.guess.0 pieces.items) }
+    ensures records { IfOk result (λ pieces.
+        Each (RecordsInexact setting.now.constraints.now inexact.now) pieces.items) }
 {
     let yes = guessed_truth(setting, true, inexact)?;
     let no = guessed_truth(setting, false, inexact)?;
@@ -149,8 +157,9 @@ fn guessed_truths(setting: &Setting, inexact: &Inexact) -> Result<Vec<Piece>, Al
 }
 
 fn guessed_truth(setting: &Setting, holds: bool, inexact: &Inexact) -> Result<Piece, AllocError>
-    ensures { IfOk result
+    ensures piece { IfOk result
         (IsGuessOf setting.now.constraints.now setting.now.guess.0 holds) }
+    ensures records { IfOk result (RecordsInexact setting.now.constraints.now inexact.now) }
 {
     let numbers = only(holds);
     let constraints = setting.constraints.copy()?;

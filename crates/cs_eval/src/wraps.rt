@@ -8,6 +8,7 @@ ghost use Rattle.cs_terms.specs.Term.{value_at, IsTerm};
 ghost use Rattle.cs_constraints.specs.Constraints.{AreInhabited};
 ghost use Rattle.cs_events.specs.Operations as operations;
 ghost use Rattle.cs_eval.specs.Operands.{IsRaised};
+ghost use Rattle.cs_eval.specs.Recorded.{RecordsInexact};
 ghost use Rattle.cs_eval.specs.Wraps.{IsExtended, IsOfPart, IsOfFar, AreOfParts, IsWrapGuess, IsWholeGuess};
 ghost use Rattle.cs_eval.specs.Wraps.{IsConvertedConstant, AreConverted, constant_pieces};
 
@@ -92,8 +93,9 @@ fn guess_of(
     constraints: Constraints,
     inexact: &Inexact,
 ) -> Result<Piece, AllocError>
-    ensures { IfOk result (IsWrapGuess setting.now.model constraints setting.now.guess.0
+    ensures piece { IfOk result (IsWrapGuess setting.now.model constraints setting.now.guess.0
         inexact.now) }
+    ensures records { IfOk result (RecordsInexact setting.now.constraints.now inexact.now) }
 {
     let numbers = inexact.numbers(setting.model)?;
     let guessed = inexact.guessed(setting.constraints);

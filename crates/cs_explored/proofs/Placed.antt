@@ -16,8 +16,7 @@ use Rattle.cs_explored.specs.Found.{Grows, IsPlaced}
 use Rattle.cs_keys.specs.Live.{live_part}
 use Rattle.cs_keys.specs.Words.{words_of}
 use Rattle.cs_explored.specs.Placing.{RowGraph, child_row, end_of_row, PlacesRow, PlacesAll, PlacesChildren, KeepsEnds, KeepsRows, AddsEnds, AddsCuts}
-use Rattle.cs_explored.specs.Placing.{HavePlainKeys}
-use Rattle.cs_store.specs.Held.{HasPlainKeys}
+use Rattle.cs_explored.specs.Placing.{IsPlain, ArePlainChildren}
 use Rattle.cs_explored.proofs.Growing.{grows_not, grows_on, grows_same, grows_end}
 
 -- so many children were placed, and nothing was cut
@@ -26,7 +25,7 @@ pub record PlacedSoFar (row : ℕ) (made : List Child) (before after : Findings)
   pub placed : PlacesAll row made before.graph after.graph
   pub cuts : after.cuts.items ≡ before.cuts.items
   pub rest : KeepsEnds before after
-  pub plain : HavePlainKeys made
+  pub plain : ArePlainChildren made
 
 -- so many ends were added
 pub record EndedSoFar (row : ℕ) (new : List (Outcome × Box State)) (before after : Findings) : Type 0 where
@@ -45,13 +44,18 @@ placed_none row findings = record {
   placed = refl;
   cuts = refl;
   rest = record { ends = refl; tables = refl };
-  plain = All-nil (λ (child : Child). HasPlainKeys child.state.value.store);
+  plain = All-nil (λ (child : Child). IsPlain child.state.value);
 }
 
 pub ended_none : (row : ℕ) (findings : Findings) → EndedSoFar row [] findings findings
 ended_none row findings = record {
   grows = grows_not findings;
-  adds = record { ends = sym (append-nil findings.ends.items); cuts = refl; rows = record { graph = refl; tables = refl } };
+  adds = record {
+    ends = sym (append-nil findings.ends.items);
+    plain = All-nil (λ (one : Outcome × Box State). IsPlain one.1.value);
+    cuts = refl;
+    rows = record { graph = refl; tables = refl };
+  };
 }
 
 pub cut_none : (findings : Findings) → CutSoFar [] findings findings
@@ -73,12 +77,13 @@ keeps_on first second third one other = record { ends = other.ends ∙ one.ends;
 -- one more end
 pub end_more : (row : ℕ) (new : List (Outcome × Box State)) (one : Outcome × Box State) (before between after : Findings)
     → AddsEnds row new before between → after.ends.items ≡ between.ends.items ++ end_of_row row one ∷ [] → after.cuts.items ≡ between.cuts.items
-    → KeepsRows between after → AddsEnds row (new ++ one ∷ []) before after
-end_more row new one before between after adds ends cuts rows = record {
+    → KeepsRows between after → IsPlain one.1.value → AddsEnds row (new ++ one ∷ []) before after
+end_more row new one before between after adds ends cuts rows plain = record {
   ends =
       ends ∙ ap (λ (l : List End). l ++ end_of_row row one ∷ []) adds.ends
       ∙ append_assoc before.ends.items (map (end_of_row row) new) (end_of_row row one ∷ [])
       ∙ ap (λ (l : List End). before.ends.items ++ l) (sym (map-append (end_of_row row) new (one ∷ [])));
+  plain = All-push (λ (e : Outcome × Box State). IsPlain e.1.value) new one adds.plain plain;
   cuts = cuts ∙ adds.cuts;
   rows = record { graph = rows.graph ∙ adds.rows.graph; tables = rows.tables ∙ adds.rows.tables };
 }
@@ -96,7 +101,7 @@ cut_more new one before between after adds cuts ends rows = record {
 -- one more child was placed
 pub place_next : (row : ℕ) (made : List Child) (child : Child) (before between after : Findings) (new : Row) (room : Bool) → new ≡ child_row row child
     → room ≡ true → IsPlaced (words_of (live_part new.state.value)) new room between after → Grows between after → KeepsEnds between after
-    → HasPlainKeys new.state.value.store → PlacedSoFar row made before between → PlacedSoFar row (made ++ child ∷ []) before after
+    → IsPlain new.state.value → PlacedSoFar row made before between → PlacedSoFar row (made ++ child ∷ []) before after
 place_next row made child before between after new false is there placed grows rest plain so_far = cc
 place_next row made child before between after new true is there placed grows rest plain so_far = record {
   grows = grows_on before between after so_far.grows grows;
@@ -104,8 +109,8 @@ place_next row made child before between after new true is there placed grows re
       (subst (λ (r : Row). PlacesRow r between.graph after.graph) is placed.0);
   cuts = placed.1 ∙ so_far.cuts;
   rest = keeps_on before between after so_far.rest rest;
-  plain = All-push (λ (child : Child). HasPlainKeys child.state.value.store) made child so_far.plain
-      (subst (λ (r : Row). HasPlainKeys r.state.value.store) is plain);
+  plain = All-push (λ (child : Child). IsPlain child.state.value) made child so_far.plain
+      (subst (λ (r : Row). IsPlain r.state.value) is plain);
 }
 
 -- the next child was refused, since the graph was full
@@ -127,14 +132,14 @@ placed_first row made taken before between after new false full placed so_far ar
 -- one more end was added
 pub end_next : (row : ℕ) (new : List (Outcome × Box State)) (one : Outcome × Box State) (before between after : Findings) → after.nodes ≡ between.nodes
     → after.graph ≡ between.graph → after.cuts.items ≡ between.cuts.items → after.tables ≡ between.tables
-    → after.ends.items ≡ between.ends.items ++ end_of_row row one ∷ [] → row < length before.graph.rows → EndedSoFar row new before between
-    → EndedSoFar row (new ++ one ∷ []) before after
-end_next row new one before between after nodes graph cuts tables ends there so_far =
+    → after.ends.items ≡ between.ends.items ++ end_of_row row one ∷ [] → row < length before.graph.rows → IsPlain one.1.value
+    → EndedSoFar row new before between → EndedSoFar row (new ++ one ∷ []) before after
+end_next row new one before between after nodes graph cuts tables ends there plain so_far =
     let longer = so_far.grows.rows in
     record {
       grows = grows_on before between after so_far.grows
           (grows_end between after (end_of_row row one) nodes graph ends (omega (arith, longer, there)));
-      adds = end_more row new one before between after so_far.adds ends cuts (record { graph = graph; tables = tables });
+      adds = end_more row new one before between after so_far.adds ends cuts (record { graph = graph; tables = tables }) plain;
     }
 
 -- one more cut was added

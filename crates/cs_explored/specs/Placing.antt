@@ -6,6 +6,7 @@ use Rattle.cs_events.specs.declared.outcome.Outcome.{Outcome}
 use Rattle.cs_results.specs.declared.result.Cut.{Cut}
 use Rattle.cs_results.specs.declared.result.Cut.TheVariants.{Nodes}
 use Rattle.cs_state.specs.declared.state.State.{State}
+use Rattle.cs_state.specs.ReadCells.{HasPlainCells}
 use Rattle.cs_store.specs.Held.{HasPlainKeys}
 use Rattle.cs_keys.specs.Live.{live_part}
 use Rattle.cs_keys.specs.Words.{words_of}
@@ -54,9 +55,19 @@ pub record KeepsRows (before after : Findings) : Type 0 where
   pub graph : after.graph ≡ before.graph
   pub tables : after.tables ≡ before.tables
 
+-- what a state holds and what it has read is kept under numbers beside zeros, so that its live part has all of it
+pub record IsPlain (state : State) : Type 0 where
+  pub store : HasPlainKeys state.store
+  pub read : HasPlainCells state.read
+
+-- the same of the states of ends
+abbrev pub ArePlainEnds : List (Outcome × Box State) → Type 0
+ArePlainEnds ends = All (λ (one : Outcome × Box State). IsPlain one.1.value) ends
+
 -- ends of a row are added, and nothing else changes
 pub record AddsEnds (row : ℕ) (new : List (Outcome × Box State)) (before after : Findings) : Type 0 where
   pub ends : after.ends.items ≡ before.ends.items ++ map (end_of_row row) new
+  pub plain : ArePlainEnds new
   pub cuts : after.cuts.items ≡ before.cuts.items
   pub rows : KeepsRows before after
 
@@ -66,9 +77,9 @@ pub record AddsCuts (new : List Cut) (before after : Findings) : Type 0 where
   pub ends : after.ends.items ≡ before.ends.items
   pub rows : KeepsRows before after
 
--- what the states of children hold is kept under numbers beside zeros
-abbrev pub HavePlainKeys : List Child → Type 0
-HavePlainKeys made = All (λ (child : Child). HasPlainKeys child.state.value.store) made
+-- and of the states of children
+abbrev pub ArePlainChildren : List Child → Type 0
+ArePlainChildren made = All (λ (child : Child). IsPlain child.state.value) made
 
 -- the first of a row's children are placed
 pub record PlacesFirst (parent : ℕ) (made : List Child) (before after : RowGraph) : Type 0 where
@@ -80,5 +91,5 @@ pub record PlacesFirst (parent : ℕ) (made : List Child) (before after : RowGra
 -- all children of a row are placed, and nothing is cut; or the first of them, and then the graph was full, which is a cut
 abbrev pub PlacesChildren : ℕ → List Child → Bool → Findings → Findings → Type 0
 PlacesChildren parent made true before after =
-    PlacesAll parent made before.graph after.graph × (after.cuts.items ≡ before.cuts.items) × HavePlainKeys made
+    PlacesAll parent made before.graph after.graph × (after.cuts.items ≡ before.cuts.items) × ArePlainChildren made
 PlacesChildren parent made false before after = PlacesFirst parent made before.graph after.graph × Contains after.cuts.items (Nodes before.nodes)

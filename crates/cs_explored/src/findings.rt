@@ -1,10 +1,9 @@
 //! What an exploration has found so far.
 ghost use Rattle.std.specs.Prelude.{◌≡◌, ◌≤◌, ◌<◌, [], length, IfOk, OnOk};
 ghost use Rattle.cs_graph.specs.Adding.{empty};
-ghost use Rattle.cs_store.specs.Held.{HasPlainKeys};
 ghost use Rattle.cs_keys.specs.Live.{live_part};
 ghost use Rattle.cs_keys.specs.Words.{words_of};
-ghost use Rattle.cs_explored.specs.Placing.{child_row, first_row, KeepsEnds, AddsEnds, AddsCuts, PlacesChildren};
+ghost use Rattle.cs_explored.specs.Placing.{child_row, first_row, IsPlain, KeepsEnds, AddsEnds, AddsCuts, PlacesChildren};
 ghost use Rattle.cs_explored.specs.Found.{ComesFromBefore, IsSound, Grows, AreLinked, AreOfRows, IsPlaced};
 
 use crate::child::Child;
@@ -55,7 +54,7 @@ impl Findings {
         ensures placed { IfOk result (λ room.
             IsPlaced (words_of (live_part state.value)) (first_row state) room self.old self.new) }
         ensures rest { OnOk result (KeepsEnds self.old self.new) }
-        ensures plain { OnOk result (HasPlainKeys state.value.store) }
+        ensures plain { OnOk result (IsPlain state.value) }
     {
         self.add(
             alloc,
@@ -75,9 +74,9 @@ impl Findings {
             IsPlaced (words_of (live_part row.state.value)) row room self.old self.new) }
         ensures grows { OnOk result (Grows self.old self.new) }
         ensures rest { OnOk result (KeepsEnds self.old self.new) }
-        ensures plain { OnOk result (HasPlainKeys row.state.value.store) }
+        ensures plain { OnOk result (IsPlain row.state.value) }
     {
-        has_plain_keys(&row);
+        is_plain(&row.state);
         let mut row = row;
         list(&mut row)?;
         let key = key(alloc, &*row.state)?;
@@ -115,6 +114,7 @@ impl Findings {
         ensures adds { OnOk result (AddsEnds row ends.items self.old self.new) }
     {
         for (outcome, state) in ends {
+            is_plain(&state);
             self.ends.push(End {
                 row,
                 outcome,
@@ -162,11 +162,12 @@ impl Findings {
     }
 }
 
-// What a row's state holds is kept under numbers beside zeros, of which a key has all.
-fn has_plain_keys(row: &Row)
-    ensures { HasPlainKeys row.now.state.value.store }
+// What a state holds and what it has read is kept under numbers beside zeros, of which a key has all.
+fn is_plain(state: &Box<State>)
+    ensures { IsPlain state.now.value }
 {
-    row.state.store.has_plain_keys();
+    state.store.has_plain_keys();
+    state.read.has_plain_cells();
 }
 
 // Lists the large tables of a row's state, so that the states after it share what was listed.

@@ -64,6 +64,8 @@ module _ (program : TypedProgram) (bases : List Base) (known : ℕ → Bool) whe
     temporaries = all;
     stored = have.stored;
     filled = have.filled;
+    result = have.result;
+    read = have.read;
   })
 
   pub pushed_locals : (given : Temporary) (before after : State) → AreIn program bases known before.frame given → IsPushed given before after

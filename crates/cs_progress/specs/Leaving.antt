@@ -1,11 +1,12 @@
 -- What is left of a frame that has ended.
-use Rattle.std.specs.Prelude.{◌≡◌, ◌<◌, ℕ, List, Some, length, slice_get, Result, Err}
+use Rattle.std.specs.Prelude.{◌≡◌, ◌<◌, ℕ, List, Option, None, Some, length, slice_get, Result, Err}
 use Rattle.cs_ast.specs.declared.typed.program.Function.{Function}
 use Rattle.cs_regions.specs.declared.base.Base.{Base}
 use Rattle.cs_regions.specs.declared.base.Base.TheVariants.{Local}
 use Rattle.cs_regions.specs.Numbering.{IsNumbered}
 use Rattle.cs_store.specs.declared.value.Fill.TheVariants.{Unset}
 use Rattle.cs_store.specs.declared.value.Found.TheVariants.{Fill}
+use Rattle.cs_store.specs.declared.value.Value.{Value}
 use Rattle.cs_store.specs.Held.{Regions, held}
 use Rattle.cs_terms.specs.Term.{Valuation}
 use Rattle.cs_events.specs.declared.outcome.Outcome.TheVariants.{Done}
@@ -14,6 +15,7 @@ use Rattle.cs_meaning.specs.Calls.{returned_of}
 use Rattle.cs_state.specs.declared.frame.Frame.{Frame}
 use Rattle.cs_state.specs.declared.state.State.{State}
 use Rattle.cs_state.specs.declared.temporary.Temporary.{Temporary}
+use Rattle.cs_state.specs.declared.temporary.Temporary.TheVariants as temporary
 use Rattle.cs_state.specs.Cells.{Blocks, operand_of}
 use Rattle.cs_state.specs.Writes.{with_result}
 use Rattle.cs_progress.specs.declared.context.Context.{Context}
@@ -44,6 +46,12 @@ AreUnset functions bases frame store =
     → (declaration base offset : ℕ) → declaration < length function.locals.items → IsLocalOf bases frame.number declaration base
     → held store base offset ≡ Fill Unset
 
+-- the entry has returned what its frame gives: the same scalar, or nothing. Of a struct that isn't said
+abbrev pub IsReturned : Temporary → Option Value → Type 0
+IsReturned (temporary.Scalar value) result = result ≡ Some value
+IsReturned (temporary.Whole values) result = Unit {0}
+IsReturned temporary.Nothing result = result ≡ None
+
 -- the run ends, which is waited for: the state has what the frame has given as the entry's result, and nothing else has changed
 pub record EndsRun {T : Type 0} (before after : State) (first : Next) (answer : Result T Pause) (given : Temporary) : Type 0 where
   pub waits : answer ≡ Err pause.Waits
@@ -51,3 +59,4 @@ pub record EndsRun {T : Type 0} (before after : State) (first : Next) (answer : 
   pub unchanged : after ≡ with_result after.result before
   pub has_returned : (bases : List Base) (blocks : Blocks) (valuation : Valuation)
       → returned_of (operand_of bases blocks valuation given) ≡ returned_of (result_in bases blocks valuation after.result)
+  pub same : IsReturned given after.result

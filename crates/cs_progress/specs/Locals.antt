@@ -17,6 +17,7 @@ use Rattle.cs_state.specs.declared.frame.Frame.{Frame}
 use Rattle.cs_state.specs.declared.state.State.{State}
 use Rattle.cs_state.specs.declared.temporary.Temporary.{Temporary}
 use Rattle.cs_state.specs.declared.temporary.Temporary.TheVariants as temporary
+use Rattle.cs_state.specs.ReadCells.{read_at}
 
 -- nothing was filled with anything at an offset of a base region
 abbrev pub IsUnfilled : Regions → ℕ → ℕ → Type 0
@@ -59,14 +60,16 @@ module _ (program : TypedProgram) (bases : List Base) (known : ℕ → Bool) whe
   abbrev pub AreIn : Frame → Temporary → Type 0
   AreIn frame temporary = PointToLocals bases known frame.number (count_of_locals program frame.spot.function) temporary
 
-  -- one frame runs, and its pointers, in temporaries and in memory, point to its locals, of which none was filled with anything. The
-  -- symbols that the state mentions are known
+  -- one frame runs, and its pointers, in temporaries, in memory and in what the entry has returned, point to its locals, of which none was filled
+  -- with anything. The symbols that the state mentions are known, those of cells that were read from inputs too
   pub record HasLocalsAlone (state : State) : Type 0 where
     pub callers : state.callers ≡ []
     pub answers : All (IsOver known) state.answers
     pub temporaries : All (AreIn state.frame) state.frame.temporaries
     pub stored : (base offset : ℕ) (value : Value) → held state.store base offset ≡ Direct value → IsIn state.frame value
     pub filled : (base offset : ℕ) → IsUnfilled state.store base offset
+    pub result : (value : Value) → state.result ≡ Some value → IsIn state.frame value
+    pub read : (base offset : ℕ) (symbol : Sym) → read_at state.read base offset ≡ Some symbol → known symbol.0 ≡ true
 
 -- in each state of locals alone, the symbol of a term is known
 abbrev pub IsOverKnown : State → Lin → Type 0

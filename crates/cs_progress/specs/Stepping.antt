@@ -180,6 +180,7 @@ pub record Leaves {T : Type 0} (code : Code) (names : Naming) (program : TypedPr
   pub function : OnOk answer (after.frame.spot.function ≡ before.frame.spot.function)
   pub locals : OnOk answer (HasLocalsAlone program names.bases known after)
   pub unchanged : IfErr answer (λ why. why ≡ pause.Waits → after ≡ with_result after.result before)
+  pub rests : IfErr answer (λ why. why ≡ pause.Waits → HasLocalsAlone program names.bases known after)
   pub waits : IfErr answer (λ why. why ≡ pause.Waits → (cells : Path → InputKind → Cell) (valuation : Valuation)
       → Fits valuation before.constraints
       → UsesAll cells (answers_left before earlier.used valuation) (act (meaning code names program before valuation))

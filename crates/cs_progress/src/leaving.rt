@@ -6,7 +6,7 @@ ghost use Rattle.cs_terms.specs.Term.{Valuation};
 ghost use Rattle.cs_meaning.specs.Calls.{returned_of};
 ghost use Rattle.cs_state.specs.Cells.{Blocks, operand_of};
 ghost use Rattle.cs_state.specs.Naming.{naming, Extends};
-ghost use Rattle.cs_progress.specs.Leaving.{functions_of, AreLocals, AreUnset, EndsRun};
+ghost use Rattle.cs_progress.specs.Leaving.{functions_of, AreLocals, AreUnset, IsReturned, EndsRun};
 ghost use Rattle.cs_progress.specs.Stepping.{result_in};
 
 use crate::context::Context;
@@ -48,9 +48,10 @@ pub fn leave(
 
 // What the entry has returned, where this is what its frame gives.
 fn returned(given: &Temporary) -> Option<Value>
-    ensures { (bases : List regions.Base) (blocks : Blocks) (valuation : Valuation)
+    ensures means { (bases : List regions.Base) (blocks : Blocks) (valuation : Valuation)
         → returned_of (operand_of bases blocks valuation given.now)
         ≡ returned_of (result_in bases blocks valuation result) }
+    ensures same { IsReturned given.now result }
 {
     match given {
         Temporary::Nothing => None,

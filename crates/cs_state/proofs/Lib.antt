@@ -1,5 +1,6 @@
 pub mod Depths
 pub mod Reading
+pub mod PlainCells
 pub mod Places
 pub mod Inhabited
 pub mod Received

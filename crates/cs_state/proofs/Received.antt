@@ -113,6 +113,7 @@ pub record IsGiven (program : TypedProgram) (names : Naming) (shape : Shape) (pa
     : Type 0 where
   pub holds : HoldsValue program names shape path count value new
   pub store : new.store ≡ old.store
+  pub read : new.read ≡ old.read
   pub block_new : (b : ℕ) (block : Block) → block_of new.blocks b ≡ Some block
       → (block_of old.blocks b ≡ Some block) ⊎ ((slice_get names.bases b ≡ Some (Entry path)) × IsPointer shape)
   pub block_kept : (b : ℕ) → slice_get names.bases b ≢ Some (Entry path) → block_of new.blocks b ≡ block_of old.blocks b
@@ -139,6 +140,7 @@ module _ (program : TypedProgram) (names : Naming) (path : Path) (count : Option
   given_unset shape holds same = record {
     holds = holds;
     store = ap (λ (s : State). s.store) same;
+    read = ap (λ (s : State). s.read) same;
     block_new = λ b block there. inl (sym (ap (λ (s : State). block_of s.blocks b) same) ∙ there);
     block_kept = λ b other. ap (λ (s : State). block_of s.blocks b) same;
     symbol_new = λ s set there. inl (sym (ap (λ (t : State). set_of t.constraints s) same) ∙ there);
@@ -150,6 +152,7 @@ module _ (program : TypedProgram) (names : Naming) (path : Path) (count : Option
   given_number ty g = record {
     holds = record { sym = g.sym; value_is = g.value_is; ranges = g.declares.ranges };
     store = ap (λ (s : State). s.store) g.rest;
+    read = ap (λ (s : State). s.read) g.rest;
     block_new = λ b block there. inl (sym (ap (λ (s : State). block_of s.blocks b) g.rest) ∙ there);
     block_kept = λ b other. ap (λ (s : State). block_of s.blocks b) g.rest;
     symbol_new = declared_new g.declares;
@@ -171,6 +174,7 @@ module _ (program : TypedProgram) (names : Naming) (path : Path) (count : Option
           there = ap (λ m. block_of m g.base) blocks ∙ get_here old.blocks g.base g.block;
         };
         store = ap (λ (s : State). s.store) g.rest;
+        read = ap (λ (s : State). s.read) g.rest;
         block_new = λ b block there.
             elim (eqb_tells b g.base) [
               | inl same ↦

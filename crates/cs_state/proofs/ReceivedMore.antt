@@ -20,6 +20,7 @@ use Rattle.cs_state.specs.declared.block.Block.{Block}
 use Rattle.cs_state.specs.declared.state.State.{State}
 use Rattle.cs_state.specs.Cells.{block_of}
 use Rattle.cs_state.specs.Naming.{Naming, Extends}
+use Rattle.cs_state.specs.ReadCells.{read_at}
 use Rattle.cs_state.specs.Starting.{HoldsValue, HoldsInput, IsParameter, HasReceived, DifferInName, Receives, Gives, IsPointer}
 use Rattle.cs_types.specs.Shape.{Shape, void, integer, pointer, array, struct}
 use Rattle.cs_state.specs.Writes.{with_memory, with_known}
@@ -144,6 +145,20 @@ module _ (program : TypedProgram) {names after : Naming} (e : Extends names afte
         | inr other ↦ h.unfilled b o fill (sym (held_before b o (inl other.1)) ∙ here)
       ]
 
+  read_more : (b o : ℕ) → read_at new.read b o ≡ None
+  read_more b o =
+      elim (eqb_tells b r.base) [
+        | inl same ↦
+            elim (eqb_tells o 0) [
+              | inl zero ↦ (λ i. read_at new.read (same.1 i) (zero.1 i)) ∙ r.unread
+              | inr other ↦ r.read b o (inr other.1) ∙ before
+            ]
+        | inr other ↦ r.read b o (inl other.1) ∙ before
+      ]
+    where
+      before : read_at r.between.read b o ≡ None
+      before = ap (λ m. read_at m b o) is.read ∙ h.read b o
+
   abbrev Blocked : ℕ → Type 0
   Blocked b = (number : ℕ) × (w : Variable) × IsParameter variables (count + 1) w number × (slice_get after.bases b ≡ Some (Entry (parameter_path w)))
       × IsPointer w.ty
@@ -170,7 +185,14 @@ module _ (program : TypedProgram) {names after : Naming} (e : Extends names afte
       ]
 
   pub received_more : HasReceived program after variables (count + 1) new
-  received_more = record { each = each_more; bound = bound_more; unfilled = unfilled_more; blocks = blocks_more; symbols = symbols_more }
+  received_more = record {
+    each = each_more;
+    bound = bound_more;
+    unfilled = unfilled_more;
+    read = read_more;
+    blocks = blocks_more;
+    symbols = symbols_more;
+  }
 
 -- what a parameter's input gave changes what is known alone
 known_given : (program : TypedProgram) (names : Naming) (shape : Shape) (path : Path) (count : Option ℕ) (value : Value) (old new : State)

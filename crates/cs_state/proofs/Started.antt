@@ -42,6 +42,7 @@ none_received code model entry program names variables state f = record {
   each = λ number v p. absurd (omega (arith, p.early));
   bound = λ b o value here. absurd (direct_no_fill value UnsetFill (sym here ∙ f.store b o));
   unfilled = λ b o fill here. same_fill fill UnsetFill (sym here ∙ f.store b o);
+  read = f.read;
   blocks = λ b block here.
       absurd (no_some block (sym (ap (λ m. block_of m b) f.blocks ∙ finite.get-empty {X = Block} key_cmp (b, 0)) ∙ here));
   symbols = λ s set here. absurd (no_some set (sym (f.constraints s) ∙ here));
@@ -67,5 +68,6 @@ started code program entry names variables fresh state f known parameters receiv
   counters = ap (λ (s : State). s.counters) known ∙ f.counters;
   asked = ap (λ (s : State). s.asked) known ∙ f.asked;
   phase = ap (λ (s : State). s.phase) known ∙ f.phase;
+  result = ap (λ (s : State). s.result) known ∙ f.result;
   received = subst (λ (vs : List Variable). HasReceived program names vs (length vs) state) parameters received;
 }

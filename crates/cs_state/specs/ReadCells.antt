@@ -1,5 +1,5 @@
 -- The cells that were read from inputs, by base region and offset.
-use Rattle.std.specs.Prelude.{ℕ, nat_eq, Bool, List, [], ◌∷◌, map, Option, None, Some, if◌then◌else◌}
+use Rattle.std.specs.Prelude.{◌≡◌, ℕ, nat_eq, Bool, List, [], ◌∷◌, map, Option, None, Some, if◌then◌else◌}
 use Rattle.std.specs.Coded.{Coded, coded×, coded_ℕ, code_by}
 use Rattle.std.specs.Prelude.{refl}
 use Rattle.std.specs.FinMap as finite
@@ -33,6 +33,14 @@ cells_of read base = unwrap_or (finite.get read (base, 0)) finite.empty
 -- the symbol that was read at an offset of a base region
 abbrev pub read_at : ReadMap → ℕ → ℕ → Option Sym
 read_at read base offset = finite.get (cells_of read base) (offset, 0)
+
+-- each symbol is kept under an offset beside a zero
+abbrev pub AreOffsets : SymMap → Type 0
+AreOffsets cells = (key : ℕ × ℕ) (sym : Sym) → finite.get cells key ≡ Some sym → key.1 ≡ 0
+
+-- each base region and each cell is kept under a number beside a zero
+abbrev pub HasPlainCells : ReadMap → Type 0
+HasPlainCells read = (key : ℕ × ℕ) (cells : SymMap) → finite.get read key ≡ Some cells → (key.1 ≡ 0) × AreOffsets cells
 
 -- offsets with their symbols as entries, keyed by the offset beside a zero
 abbrev pub keyed : List (ℕ × Sym) → EntryList Sym

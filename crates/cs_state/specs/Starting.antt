@@ -87,6 +87,7 @@ pub record IsFresh (code : Code) (model : DataModel) (entry : ℕ) (state : Stat
   pub counters : state.counters ≡ record { frames = 1; allocations = 0; calls = 0; events = 0 }
   pub asked : state.asked ≡ finite.empty
   pub phase : state.phase ≡ 0
+  pub result : state.result ≡ None
 
 -- a symbol as a term, and a number as one
 abbrev pub own : Sym → Lin
@@ -174,6 +175,8 @@ module _ (program : TypedProgram) (names : Naming) where
     pub named : slice_get names.bases base ≡ Some (Local 0 number)
     pub here : held after.store base 0 ≡ Direct value
     pub elsewhere : (b o : ℕ) → (b ≢ base) ⊎ (o ≢ 0) → held after.store b o ≡ held between.store b o
+    pub unread : read_at after.read base 0 ≡ None
+    pub read : (b o : ℕ) → (b ≢ base) ⊎ (o ≢ 0) → read_at after.read b o ≡ read_at between.read b o
     pub rest : after ≡ with_memory after.store after.read between
 
   -- a value is what the input at a path may give
@@ -191,12 +194,13 @@ module _ (program : TypedProgram) (names : Naming) where
     pub here : held state.store base 0 ≡ Direct value
     pub holds : HoldsValue v.ty (parameter_path v) v.block value state
 
-  -- the first so many parameters hold their inputs, and nothing else is known
+  -- the first so many parameters hold their inputs, and nothing else is known or was read
   pub record HasReceived (variables : List Variable) (count : ℕ) (state : State) : Type 0 where
     pub each : (number : ℕ) (v : Variable) → IsParameter variables count v number → HoldsInput number v state
     pub bound : (b o : ℕ) (value : Value) → held state.store b o ≡ Direct value
         → (o ≡ 0) × (number : ℕ) × (v : Variable) × IsParameter variables count v number × (slice_get names.bases b ≡ Some (Local 0 number))
     pub unfilled : (b o : ℕ) (fill : store.Fill) → held state.store b o ≡ Fill fill → fill ≡ UnsetFill
+    pub read : (b o : ℕ) → read_at state.read b o ≡ None
     pub blocks : (b : ℕ) (block : Block) → block_of state.blocks b ≡ Some block
         → (number : ℕ) × (v : Variable) × IsParameter variables count v number × (slice_get names.bases b ≡ Some (Entry (parameter_path v)))
         × IsPointer v.ty
@@ -212,6 +216,7 @@ pub record IsStart (code : Code) (program : TypedProgram) (entry : ℕ) (names :
   pub counters : state.counters ≡ record { frames = 1; allocations = 0; calls = 0; events = 0 }
   pub asked : state.asked ≡ finite.empty
   pub phase : state.phase ≡ 0
+  pub result : state.result ≡ None
   pub received : HasReceived program names (parameters_of (routine_of program entry)) (length (parameters_of (routine_of program entry))) state
 
 -- the state stands for the beginning of all runs of an entry: under each valuation that fits for the beginning of its run, and each run's

@@ -1,9 +1,10 @@
 //! The cells that were read from inputs.
 ghost use Rattle.std.specs.Prelude.{◌≡◌, ◌≢◌, ◌⊎◌, ◌++◌, ℕ, nat_eq, if◌then◌else◌, None, Some, IfOk, OnOk, OnErr};
+ghost use Rattle.cs_terms.specs.declared.symbol.Sym as terms;
 ghost use Rattle.std.specs.FinMap.{get};
 ghost use Rattle.std.specs.List.{Contains, list_any};
 ghost use Rattle.std.specs.Option.{option_or};
-ghost use Rattle.cs_state.specs.ReadCells.{cells_of, read_at, keyed, last_read, has_leaf};
+ghost use Rattle.cs_state.specs.ReadCells.{SymMap, cells_of, read_at, keyed, last_read, has_leaf, HasPlainCells};
 ghost use Rattle.cs_state.specs.ReadLists.{cells_at, cells_in_order};
 
 use cs_pmap::PMap;
@@ -63,7 +64,11 @@ impl Model for ReadCells {
 
     ghost coded = { read_map_code };
 
+    ghost use Rattle.cs_state.specs.ReadCells.{HasPlainCells};
+
     ghost view = { λ r. r.bases };
+
+    ghost invariant = { λ r. HasPlainCells r.bases };
 }
 
 impl ReadCells {
@@ -191,6 +196,13 @@ impl ReadCells {
         })
     }
 
+    /// Each base region and each cell is kept under a number beside a zero.
+    pub fn has_plain_cells(&self)
+        ensures { HasPlainCells self.now }
+    {
+        let _ = &self.bases;
+    }
+
     // Those of a base region.
     fn cells(&self, base: u64) -> Result<Cells, AllocError>
         ensures { IfOk result (λ cells. cells ≡ cells_of self.now base) }
@@ -206,9 +218,11 @@ impl ReadCells {
 
 // The cells of other base regions.
 fn without(cells: &PMap<Cells>, bases: &[u64]) -> Result<PMap<Cells>, AllocError>
-    ensures { IfOk result (λ others.
+    ensures others { IfOk result (λ others.
         (b : ℕ) → get others (b, 0)
         ≡ (if list_any (λ x. nat_eq b x) bases.now then None else get cells.now (b, 0))) }
+    ensures kept { IfOk result (λ others. (key : ℕ × ℕ) (found : SymMap)
+        → get others key ≡ Some found → get cells.now key ≡ Some found) }
 {
     let mut others = cells.copy()?;
     for base in bases {
@@ -219,9 +233,11 @@ fn without(cells: &PMap<Cells>, bases: &[u64]) -> Result<PMap<Cells>, AllocError
 
 // The cells at other offsets than those of leaves.
 fn without_leaves(syms: &PMap<Sym>, leaves: &[(u64, Value)]) -> Result<PMap<Sym>, AllocError>
-    ensures { IfOk result (λ others.
+    ensures others { IfOk result (λ others.
         (o : ℕ) → get others (o, 0)
         ≡ (if has_leaf leaves.now o then None else get syms.now (o, 0))) }
+    ensures kept { IfOk result (λ others. (key : ℕ × ℕ) (sym : terms.Sym)
+        → get others key ≡ Some sym → get syms.now key ≡ Some sym) }
 {
     let mut others = syms.copy()?;
     for (offset, _) in leaves {

@@ -67,9 +67,11 @@ impl Clone for Answers {
     ghost is_clone = { λ answers copy. copy ≡ answers };
 
     fn clone(&self) -> Result<Answers, AllocError> {
-        Ok(Answers {
-            list: Vec::from_slice(*self.list.allocator(), self.list.as_slice())?,
-        })
+        // Most copies get one more.
+        let room = self.list.len().saturating_add(1);
+        let mut list = Vec::with_capacity(*self.list.allocator(), room)?;
+        list.extend_from_slice(self.list.as_slice())?;
+        Ok(Answers { list })
     }
 }
 

@@ -135,8 +135,10 @@ impl Clone for Temporaries {
     ghost is_clone = { λ temporaries copy. copy ≡ temporaries };
 
     fn clone(&self) -> Result<Temporaries, AllocError> {
-        Ok(Temporaries {
-            list: Vec::from_clones(*self.list.allocator(), self.list.as_slice())?,
-        })
+        // Most copies get one more.
+        let room = self.list.len().saturating_add(1);
+        let mut list = Vec::with_capacity(*self.list.allocator(), room)?;
+        list.extend_with_clones(self.list.as_slice())?;
+        Ok(Temporaries { list })
     }
 }

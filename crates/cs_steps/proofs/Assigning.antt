@@ -28,6 +28,7 @@ use Rattle.cs_state.specs.declared.temporary.Temporary.{Temporary}
 use Rattle.cs_state.specs.Cells.{operand_of}
 use Rattle.cs_state.specs.Meaning.{meaning}
 use Rattle.cs_state.specs.Naming.{Naming}
+use Rattle.cs_state.specs.ReadCells.{read_at}
 use Rattle.cs_state.specs.Writes as writes
 use Rattle.cs_progress.specs.declared.next.Next.{Next}
 use Rattle.cs_progress.specs.declared.pause.Pause.{Pause}
@@ -114,9 +115,10 @@ module _ (code : Code) (names : Naming) (program : TypedProgram) (before : State
     -- a local that becomes unset
     pub clear_works : HasLocalsAlone program names.bases known before → middle ≡ writes.with_memory middle.store middle.read before
         → ((o : ℕ) → held middle.store base o ≡ Fill Unset) → ((b o : ℕ) → b ≢ base → held middle.store b o ≡ held before.store b o)
+        → ((o : ℕ) → read_at middle.read base o ≡ None) → ((b o : ℕ) → b ≢ base → read_at middle.read b o ≡ read_at before.read b o)
         → {T : Type 0} (answer : Result T Pause) → IfErr answer (λ why. why ≡ pause.Memory)
         → Works code names program known before middle progress progress answer (do_work code program budgets at (Clear declaration scalar))
-    clear_works alone rest none elsewhere {T} answer memory =
+    clear_works alone rest none elsewhere gone others {T} answer memory =
         works_done code names program known before middle progress progress answer act (done answer) memory
       where
         act : CodeState → Act CodeState
@@ -125,7 +127,7 @@ module _ (code : Code) (names : Naming) (program : TypedProgram) (before : State
         it : IsDone code names program known before middle progress progress answer act
         it = record {
           stays = written_stays before middle rest;
-          locals = locals_unbound before middle rest program names known alone base none elsewhere;
+          locals = locals_unbound before middle rest program names known alone base none elsewhere gone others;
           goes = λ todo cells v fits.
               let m = stands code names program before todo v in
               let touch = λ (local : ℕ). Clears before.frame.number local at in

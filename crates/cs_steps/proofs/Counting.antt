@@ -124,6 +124,8 @@ module _ (code : Code) (names : Naming) (program : TypedProgram) (known : â„• â†
       temporaries = have.temporaries;
       stored = have.stored;
       filled = have.filled;
+      result = have.result;
+      read = have.read;
     })
 
     -- the counted point is reached, and the frame goes on

@@ -1,18 +1,21 @@
 -- States that differ in their position: what they share, and that states of locals alone stay such. For the contracts of steps.
 use Rattle.std.proofs.Common.{◌≡◌, ℕ, Bool, List, [], take, refl, sym, ◌∙◌, subst}
-use Rattle.std.specs.Prelude.{Option}
+use Rattle.std.specs.Prelude.{Option, None, Some}
 use Rattle.std.specs.List.{All}
 use Rattle.std.proofs.lemmas.List.Elements.{All-nil, All-take}
+use Rattle.std.proofs.lemmas.Option.{same_Some}
 use Rattle.cs_ast.specs.TypedProgram.{TypedProgram}
 use Rattle.cs_cfg.specs.declared.code.Spot.{Spot}
 use Rattle.cs_cfg.specs.Graph.{BlockEnd, Jump, Branch, Switch, Return, Finish}
 use Rattle.cs_regions.specs.declared.base.Base.{Base}
 use Rattle.cs_state.specs.declared.state.State.{State}
 use Rattle.cs_state.specs.declared.temporary.Temporary.{Temporary}
+use Rattle.cs_state.specs.declared.temporary.Temporary.TheVariants as temporary
 use Rattle.cs_state.specs.Writes.{at_spot, with_answers, with_result, with_temporaries}
 use Rattle.cs_store.specs.declared.value.Value.{Value}
 use Rattle.cs_cfg.specs.IntegerCode.{count_of_locals}
-use Rattle.cs_progress.specs.Locals.{PointToLocals, AreIn, IsOver, HasLocalsAlone, PointsToLocal}
+use Rattle.cs_progress.specs.Leaving.{IsReturned}
+use Rattle.cs_progress.specs.Locals.{PointToLocals, IsIn, AreIn, IsOver, HasLocalsAlone, PointsToLocal}
 use Rattle.cs_progress.specs.Stepping.{KeepsKnown, IsCutTo, IsCutForEnd}
 use Rattle.cs_progress.proofs.KeptLocals.{locals_kept}
 
@@ -61,6 +64,9 @@ module _ (program : TypedProgram) (bases : List Base) (known : ℕ → Bool) whe
     stored = λ base offset value held. subst (λ function. PointsToLocal bases known state.frame.number (count_of_locals program function) value)
         (sym same) (have.stored base offset value held);
     filled = have.filled;
+    result = λ value is. subst (λ function. PointsToLocal bases known state.frame.number (count_of_locals program function) value)
+        (sym same) (have.result value is);
+    read = have.read;
   }
 
   -- an operation that is done
@@ -71,17 +77,28 @@ module _ (program : TypedProgram) (bases : List Base) (known : ℕ → Bool) whe
     temporaries = have.temporaries;
     stored = have.stored;
     filled = have.filled;
+    result = have.result;
+    read = have.read;
   }
 
-  pub locals_returned : (result : Option Value) (state : State) → HasLocalsAlone program bases known state
-      → HasLocalsAlone program bases known (with_result result state)
-  locals_returned result state have = record {
+  -- the entry has returned a value that its frame gives
+  pub locals_returned : (given : Temporary) (result : Option Value) (state : State) → IsReturned given result → AreIn program bases known state.frame given
+      → HasLocalsAlone program bases known state → HasLocalsAlone program bases known (with_result result state)
+  locals_returned given result state is inside have = record {
     callers = have.callers;
     answers = have.answers;
     temporaries = have.temporaries;
     stored = have.stored;
     filled = have.filled;
+    result = λ value some. by given is inside value some;
+    read = have.read;
   }
+    where
+      by : (given : Temporary) → IsReturned given result → AreIn program bases known state.frame given → (value : Value) → result ≡ Some value
+          → IsIn program bases known state.frame value
+      by (temporary.Scalar one) is inside value some = subst (IsIn program bases known state.frame) (same_Some one value (sym is ∙ some)) inside
+      by (temporary.Whole values) is inside value some = absurd inside
+      by temporary.Nothing is inside value some = let wrong : None ≡ Some value = sym is ∙ some in cc
 
   -- temporaries that were dropped
   pub locals_cut : (number : ℕ) (before after : State) → IsCutTo number before after → HasLocalsAlone program bases known before

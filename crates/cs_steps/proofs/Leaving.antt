@@ -32,7 +32,7 @@ use Rattle.cs_progress.specs.declared.progress.Progress.{Progress}
 use Rattle.cs_progress.specs.Acting.{UsesAll, Leads}
 use Rattle.cs_progress.specs.Answering.{answers_left}
 use Rattle.cs_progress.specs.Leaving.{EndsRun}
-use Rattle.cs_progress.specs.Locals.{HasLocalsAlone}
+use Rattle.cs_progress.specs.Locals.{AreIn, HasLocalsAlone}
 use Rattle.cs_progress.specs.Operands.{IsDropped}
 use Rattle.cs_progress.specs.Stepping.{BeginsIn, KeepsKnown, GoesTo, Leaves, result_in}
 use Rattle.cs_progress.proofs.Carrying.{no_wait}
@@ -40,7 +40,7 @@ use Rattle.cs_progress.proofs.Composing.{leads_on}
 use Rattle.cs_progress.proofs.KeptLocals.{dropped_locals}
 use Rattle.cs_progress.proofs.Looks.{leads_same}
 use Rattle.cs_steps.proofs.Going.{jumps_stay}
-use Rattle.cs_steps.proofs.KeptStates.{knows_on, knows_cut, knows_moved, locals_moved}
+use Rattle.cs_steps.proofs.KeptStates.{knows_on, knows_cut, knows_moved, locals_moved, locals_returned}
 
 module _ (code : Code) (names : Naming) (program : TypedProgram) (known : ℕ → Bool) (before after : State) (earlier later : Progress)
     {T : Type 0} (answer : Result T Pause) (act : CodeState → Act CodeState) where
@@ -55,9 +55,9 @@ module _ (code : Code) (names : Naming) (program : TypedProgram) (known : ℕ �
 
   -- an error that is handed on is a wait, or want of memory
   pub waits_there : (why : Pause) → IsErr answer × IsErrAnd answer (λ e. e ≡ why)
-      → (why ≡ pause.Waits → (after ≡ with_result after.result before) × BeginsFirst)
+      → HasLocalsAlone program names.bases known after → (why ≡ pause.Waits → (after ≡ with_result after.result before) × BeginsFirst)
       → Leaves code names program known before after earlier later answer act
-  waits_there why is waits = by_case answer is
+  waits_there why is have waits = by_case answer is
     where
       by_case : (r : Result T Pause) → IsErr r × IsErrAnd r (λ e. e ≡ why) → Leaves code names program known before after earlier later r act
       by_case (Ok done) is = absurd (true≢false (sym is.0))
@@ -67,12 +67,9 @@ module _ (code : Code) (names : Naming) (program : TypedProgram) (known : ℕ �
         function = tt;
         locals = tt;
         unchanged = λ so. (waits (sym is.1 ∙ so)).0;
+        rests = λ so. have;
         waits = λ so. (waits (sym is.1 ∙ so)).1;
       }
-
-  pub no_memory : (why : Pause) → IsErr answer × IsErrAnd answer (λ e. e ≡ why) → why ≡ pause.Memory
-      → Leaves code names program known before after earlier later answer act
-  no_memory why is memory = waits_there why is (no_wait why memory)
 
   -- the run goes on to a block
   pub goes_there : (block : ℕ) (middle : State) → KeepsKnown before middle → middle.frame.spot ≡ before.frame.spot
@@ -96,6 +93,7 @@ module _ (code : Code) (names : Naming) (program : TypedProgram) (known : ℕ �
         function = tt;
         locals = tt;
         unchanged = no_wait e memory;
+        rests = no_wait e memory;
         waits = no_wait e memory;
       }
       by_case (Ok done) goes memory =
@@ -113,6 +111,7 @@ module _ (code : Code) (names : Naming) (program : TypedProgram) (known : ℕ �
             locals = subst (HasLocalsAlone program names.bases known) (sym goes.moved)
                 (locals_moved program names.bases known after.frame.spot middle function have);
             unchanged = tt;
+            rests = tt;
             waits = tt;
           }
 
@@ -144,15 +143,19 @@ module _ (code : Code) (names : Naming) (program : TypedProgram) (before : State
   -- the run ends with the frame, where no other frame waits
   pub runs_out : (known : ℕ → Bool) (after : State) (earlier later : Progress) {T : Type 0} (answer : Result T Pause)
       → ((v : Valuation) → value (ending v) ≡ operand_of names.bases before.blocks v given)
-      → HasLocalsAlone program names.bases known before → EndsRun before after later.first answer given
+      → HasLocalsAlone program names.bases known before → AreIn program names.bases known before.frame given
+      → EndsRun before after later.first answer given
       → Leaves code names program known before after earlier later answer ends_act
-  runs_out known after earlier later {T} answer is have ends =
+  runs_out known after earlier later {T} answer is have inside ends =
       subst (λ (r : Result T Pause). Leaves code names program known before after earlier later r ends_act) (sym ends.waits) (record {
         done = tt;
         keeps = tt;
         function = tt;
         locals = tt;
         unchanged = λ so. ends.unchanged;
+        rests = λ so.
+            subst (HasLocalsAlone program names.bases known) (sym ends.unchanged)
+            (locals_returned program names.bases known given after.result before ends.same inside have);
         waits = λ so cells v fits uses.
             subst (λ (first : Next). BeginsIn code names.bases after v first (left_of cells (answers_left before earlier.used v) (ends_act (ending v))))
             (sym ends.ends) (record {

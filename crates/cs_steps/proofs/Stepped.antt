@@ -34,7 +34,7 @@ use Rattle.cs_steps.specs.AtSpots.{StandsAt, EndsAt, TakesStep}
 use Rattle.cs_steps.proofs.Beginning.{begins_in}
 use Rattle.cs_steps.proofs.CutMeanings.{cut_once, cut_means, cut_shared, end_cut}
 use Rattle.cs_steps.proofs.Going.{jumps_stay, next_jumps}
-use Rattle.cs_steps.proofs.KeptStates.{knows_on, knows_cut, knows_moved, knows_returned, knows_answered, locals_moved, locals_answered, locals_returned}
+use Rattle.cs_steps.proofs.KeptStates.{knows_on, knows_cut, knows_moved, knows_returned, knows_answered, locals_moved, locals_answered}
 
 -- an act is what another is, after the same answers
 module _ (cells : Path → InputKind → Cell) (one two : List ℤ) (first second : Act CodeState) (answers : one ≡ two) (same : first ≡ second) where
@@ -193,10 +193,9 @@ module _ (code : Code) (names : Naming) (program : TypedProgram) (budgets : RunB
             locals_answered program names.bases known final leaves.locals,
           )
 
-      waits_left : {T : Type 0} (why : Pause) → HasLocalsAlone program names.bases known kept
-          → Leaves {T = T} code names program known kept final earlier later (Err why) (do_end code end) → why ≡ pause.Waits
-          → Waits code names program budgets before final later.first × HasLocalsAlone program names.bases known final
-      waits_left why have leaves so =
+      waits_left : {T : Type 0} (why : Pause) → Leaves {T = T} code names program known kept final earlier later (Err why) (do_end code end)
+          → why ≡ pause.Waits → Waits code names program budgets before final later.first × HasLocalsAlone program names.bases known final
+      waits_left why leaves so =
           let unchanged : final ≡ with_result final.result kept = leaves.unchanged so in
           let same_answers = ap (λ (s : State). s.answers) shared.1 in
           let same_sets = sym (ap (λ (s : State). s.constraints) shared.1) in (
@@ -210,13 +209,12 @@ module _ (code : Code) (names : Naming) (program : TypedProgram) (budgets : RunB
                   subst (BeginsIn code names.bases final v later.first) (sym (left_same cells _ _ _ _ answers (end_before v)))
                   (leaves.waits so cells v (subst (Fits v) same_sets fits) (uses_same cells _ _ _ _ answers (end_before v) uses));
             },
-            subst (HasLocalsAlone program names.bases known) (sym unchanged)
-                (locals_returned program names.bases known final.result kept have),
+            leaves.rests so,
           )
 
       -- the end of a block is left, or waited for
-      pub ends_step : {T : Type 0} (answer : Result T Pause) → HasLocalsAlone program names.bases known kept
+      pub ends_step : {T : Type 0} (answer : Result T Pause)
           → Leaves code names program known kept final earlier later answer (do_end code end)
           → TakesStep code names program budgets known before final later answer
-      ends_step (Ok done) have leaves = record { done = is_left done leaves; waits = tt }
-      ends_step {T} (Err why) have leaves = record { done = tt; waits = waits_left {T = T} why have leaves }
+      ends_step (Ok done) leaves = record { done = is_left done leaves; waits = tt }
+      ends_step {T} (Err why) leaves = record { done = tt; waits = waits_left {T = T} why leaves }

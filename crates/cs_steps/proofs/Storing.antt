@@ -32,6 +32,7 @@ use Rattle.cs_state.specs.declared.temporary.Temporary.{Temporary}
 use Rattle.cs_state.specs.declared.temporary.Temporary.TheVariants as temporary
 use Rattle.cs_state.specs.Cells.{object_of, operand_of, pointer_to}
 use Rattle.cs_state.specs.Naming.{Naming}
+use Rattle.cs_state.specs.ReadCells.{read_at}
 use Rattle.cs_state.specs.Writes.{with_memory}
 use Rattle.cs_progress.specs.declared.next.Next.{Next}
 use Rattle.cs_progress.specs.declared.pause.Pause.{Pause}
@@ -132,16 +133,18 @@ module _ (program : TypedProgram) (names : Naming) (known : ℕ → Bool) (befor
   -- a scalar was written
   pub scalar_written : (after : State) (ty : Shape) (reached : Reached) (stored : Temporary) (given : Value) → stored ≡ temporary.Scalar given
       → after ≡ with_memory after.store after.read before → held after.store reached.base reached.offset ≡ Direct given
-      → ((b o : ℕ) → (b ≢ reached.base) ⊎ (o ≢ reached.offset) → held after.store b o ≡ held before.store b o) → IsNumbered names.bases
+      → ((b o : ℕ) → (b ≢ reached.base) ⊎ (o ≢ reached.offset) → held after.store b o ≡ held before.store b o)
+      → read_at after.read reached.base reached.offset ≡ None
+      → ((b o : ℕ) → (b ≢ reached.base) ⊎ (o ≢ reached.offset) → read_at after.read b o ≡ read_at before.read b o) → IsNumbered names.bases
       → HasLocalsAlone program names.bases known before → AreIn program names.bases known before.frame stored
       → IsWritten program names known before after ty reached stored
-  scalar_written after ty reached stored given is rest here elsewhere once alone inside =
+  scalar_written after ty reached stored given is rest here elsewhere gone others once alone inside =
       subst (λ (t : Temporary). AreIn program names.bases known before.frame t → IsWritten program names known before after ty reached t) (sym is)
       (λ within. record {
         memory = λ region named v.
             memory_bound before after rest program names known alone reached.base reached.offset given here elsewhere region once named v;
         rest = rest;
-        locals = locals_bound before after rest program names known alone reached.base reached.offset given here elsewhere within;
+        locals = locals_bound before after rest program names known alone reached.base reached.offset given here elsewhere gone others within;
       }) inside
 
   -- no struct is

@@ -203,6 +203,7 @@ module _ (code : Code) (program : TypedProgram) (budgets : RunBudgets) (names : 
     pub asked : AreGuessesAfter child.state.value.counters.events child.guess before.asked child.state.value.asked
     pub notes : (symbol : Sym) (asked : Asked) → child.guess ≡ Some symbol
         → finite.get child.state.value.asked (child.state.value.counters.events, 0) ≡ Some asked → IsNotedAt before child asked
+    pub blocks : child.state.value.blocks ≡ before.blocks
     pub fits : (valuation : Valuation) → Fits valuation child.state.value.constraints → Fits valuation before.constraints
     pub passes : (setting : Setting) (valuation : Valuation) (left : Act CodeState) (log : Log) → GoesBy setting
         → IsAt before setting valuation left log → Fits valuation child.state.value.constraints → GuessesAs setting child valuation
@@ -221,6 +222,7 @@ module _ (code : Code) (program : TypedProgram) (budgets : RunBudgets) (names : 
     pub fits : (valuation : Valuation) → Fits valuation end.1.value.constraints → Fits valuation before.constraints
     pub phase : end.1.value.phase ≡ before.phase
     pub asked : end.1.value.asked ≡ before.asked
+    pub blocks : end.1.value.blocks ≡ before.blocks
     pub mentions : MentionsNoOthers before end.1.value
     pub locals : HasLocalsAlone program names.bases (is_declared end.1.value.constraints) end.1.value
     pub integers : HasIntegerCode code program end.1.value.frame.spot.function
@@ -266,6 +268,7 @@ module _ (code : Code) (program : TypedProgram) (budgets : RunBudgets) (names : 
     pub events : state.counters.events ≡ before.counters.events
     pub phase : state.phase ≡ before.phase
     pub asked : state.asked ≡ before.asked
+    pub blocks : state.blocks ≡ before.blocks
     pub mentions : MentionsNoOthers before state
     pub fits : (valuation : Valuation) → Fits valuation state.constraints → Fits valuation before.constraints
     pub endings : All (IsEndOf before) ends

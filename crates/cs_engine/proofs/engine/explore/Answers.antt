@@ -1,4 +1,4 @@
-use Rattle.cs_engine.proofs.Exploring.{covered, own_covered}
+use Rattle.cs_engine.proofs.Exploring.{covered, own_covered, live_covered}
 use Rattle.cs_engine.proofs.Sourcing.{exact_at_last, own_at_last, asked_at_last, real_at_last}
 use Rattle.cs_engine.proofs.engine.explore.Goals as goal
 
@@ -11,6 +11,12 @@ returns-clause-covers g c every explores =
 pub returns-clause-agrees : goal.returns-clause-agrees
 returns-clause-agrees g c every explores =
     own_covered c.args.exploration.now c.args.entry explores c.expand_all.new.findings c.explored.result c.have_each_once.ensures.bases
+    c.explored.ensures.rows c.explored.ensures.all_ends c.explored.ensures.cuts c.explored.ensures.tables
+    (c.in_ok-expand_all.ensures.done every c.args.entry explores (c.in_ok-findings.ensures.begins explores)).closed
+
+pub returns-clause-live : goal.returns-clause-live
+returns-clause-live g c every explores =
+    live_covered c.args.exploration.now c.args.entry explores c.expand_all.new.findings c.explored.result c.have_each_once.ensures.bases
     c.explored.ensures.rows c.explored.ensures.all_ends c.explored.ensures.cuts c.explored.ensures.tables
     (c.in_ok-expand_all.ensures.done every c.args.entry explores (c.in_ok-findings.ensures.begins explores)).closed
 

@@ -1,5 +1,6 @@
-use Rattle.std.proofs.Common.{Some, subst, Vec, Global}
+use Rattle.std.proofs.Common.{Some, ap, subst, Vec, Global}
 use Rattle.std.proofs.lemmas.Result.{IfOk-weaker}
+use Rattle.cs_terms.specs.declared.term.Lin.{Lin}
 use Rattle.cs_eval.specs.declared.guesses.Inexact.{Inexact}
 use Rattle.cs_eval.specs.declared.piece.Piece.{Piece}
 use Rattle.cs_eval.specs.Wraps.{AreConverted}
@@ -13,6 +14,7 @@ returns c =
     let guess = c.args.setting.now.guess.0 in
     IfOk-weaker {X = Vec Piece Global} _ _ _
     (λ (pieces : Vec Piece Global). λ made.
-    conversion_split model sets guess c.args.ty c.args.term c.constant.result pieces.items c.requires.ready c.requires.symbol c.requires.fresh
+    conversion_split model sets guess c.args.ty c.args.term c.constant.result pieces.items c.requires.ready c.requires.symbol
+    (ap (λ (t : Lin). t.sym) c.constant.ensures) c.requires.fresh
     (subst (λ (inexact : Inexact). AreConverted model sets guess c.args.ty c.args.term (Some inexact) pieces.items) c.new-inexact.ensures made))
     c.converted.ensures

@@ -11,8 +11,8 @@ declare-requires c =
     let ordered = c.requires.ordered in
     (c.args.numbers.low, grind (arith, ints))
 
-pub returns : goal.returns
-returns c =
+pub returns-clause-piece : goal.returns-clause-piece
+returns-clause-piece c =
     let low : to_z w128 (of_z w128 c.args.numbers.low) ≡ c.args.numbers.low = search rules in
     let high : to_z w128 (of_z w128 c.args.numbers.high) ≡ c.args.numbers.high = search rules in
     record {

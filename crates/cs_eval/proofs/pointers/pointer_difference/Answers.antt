@@ -1,10 +1,9 @@
-use Rattle.std.proofs.Common.{Vec, Global, Option, ap, subst}
+use Rattle.std.proofs.Common.{Vec, Global, Option, subst}
 use Rattle.std.proofs.lemmas.Result.{IfOk-weaker}
 use Rattle.cs_events.specs.declared.event.Label.TheVariants as label
 use Rattle.cs_events.specs.declared.event.Wrap.TheVariants.{Same}
 use Rattle.cs_terms.specs.declared.term.Lin.{Lin}
 use Rattle.cs_eval.specs.Offsets.{AreElementsBetween}
-use Rattle.cs_eval.specs.declared.guesses.Inexact.{Inexact}
 use Rattle.cs_eval.specs.declared.piece.Piece.{Piece}
 use Rattle.cs_eval.proofs.Differences.{difference_split, difference_guess}
 use Rattle.cs_eval.proofs.OnePiece.{shown_pieces}
@@ -29,5 +28,5 @@ returns-in_ok-check_offset-in-None-2 c =
     (λ (pieces : Vec Piece Global). λ whole.
     difference_guess c.args.setting.now.model c.args.setting.now.constraints.now c.args.setting.now.guess.0 c.args.left c.args.right c.args.size
     c.new-inexact.result pieces.items c.requires.left c.requires.right c.requires.symbol elements c.in_ok-check_offset-in-None.ensures
-    c.in_ok-check_offset-in-None-2.ensures (ap (λ (i : Inexact). i.asks) c.new-inexact.ensures) c.requires.fresh whole)
+    c.in_ok-check_offset-in-None-2.ensures c.new-inexact.ensures c.requires.fresh whole)
     c.wrap_guess.ensures

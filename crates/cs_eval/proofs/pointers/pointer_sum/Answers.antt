@@ -1,8 +1,7 @@
-use Rattle.std.proofs.Common.{Vec, Global, ap}
+use Rattle.std.proofs.Common.{Vec, Global}
 use Rattle.std.proofs.lemmas.Result.{IfOk-weaker}
 use Rattle.cs_events.specs.declared.event.Label.TheVariants as label
 use Rattle.cs_events.specs.declared.event.Wrap.TheVariants.{Same}
-use Rattle.cs_eval.specs.declared.guesses.Inexact.{Inexact}
 use Rattle.cs_eval.specs.declared.piece.Piece.{Piece}
 use Rattle.cs_eval.proofs.Offsets.{sum_split, sum_guess}
 use Rattle.cs_eval.proofs.OnePiece.{shown_pieces}
@@ -25,5 +24,5 @@ returns-in-None c =
     (λ (pieces : Vec Piece Global). λ whole.
     sum_guess c.args.setting.now.model c.args.setting.now.constraints.now c.args.setting.now.guess.0 c.args.offset c.args.amount c.args.size
     c.in_ok-moved.moved c.requires.offset c.requires.amount c.in_ok-moved.ensures c.new-inexact.result pieces.items c.in-None.is
-    (ap (λ (i : Inexact). i.asks) c.new-inexact.ensures) c.requires.fresh whole)
+    c.new-inexact.ensures c.requires.fresh whole)
     c.wrap_guess.ensures

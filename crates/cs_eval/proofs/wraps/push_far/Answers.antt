@@ -11,5 +11,6 @@ returns c =
     c.in_ok-push.ensures.items (record {
       between = c.in_ok-constraints.constraints;
       narrowed = c.in_ok-constraints.ensures.narrowed;
-      guessed = c.in_ok-piece.ensures;
+      guessed = c.in_ok-piece.ensures.piece;
+      records = c.in_ok-piece.ensures.records;
     })

@@ -8,5 +8,6 @@ returns c = record {
   piece = c.in_ok-piece.piece;
   made = search rules;
   guessed = subst (λ (sets : Sets). IsWrapGuess c.args.setting.now.model sets c.args.setting.now.guess.0 c.args.inexact.now c.in_ok-piece.piece)
-      c.in_ok-constraints.ensures.same c.in_ok-piece.ensures;
+      c.in_ok-constraints.ensures.same c.in_ok-piece.ensures.piece;
+  records = c.in_ok-piece.ensures.records;
 }

@@ -6,4 +6,4 @@ pub returns-in-Scalar-clause-written : goal.returns-in-Scalar-clause-written
 returns-in-Scalar-clause-written c = λ program names known once alone inside.
     let bound = c.in_ok-bind-in-Scalar.ensures in
     scalar_written program names known c.args.state.now c.bind.new.self (shape_of c.args.ty.now) c.args.reached c.args.operand c.in-Scalar.value
-    c.in-Scalar.is bound.rest bound.here bound.elsewhere once alone inside
+    c.in-Scalar.is bound.rest bound.here bound.elsewhere bound.written bound.others once alone inside

@@ -14,7 +14,7 @@ returns-in_err-holds c = λ temporary given few names program known extends have
     let state = c.args.state.now in
     let named = c.in_ok-value.ensures.named names.bases (have_names program names.bases known state have) in
     waits_there code names program known state state c.args.progress.now c.test.new.progress c.from_residual-in_err-holds.result
-    (do_end code (graph.Branch c.args.at temporary c.args.one c.args.other)) c.in_err-holds.field-0.0 c.from_residual-in_err-holds.ensures
+    (do_end code (graph.Branch c.args.at temporary c.args.one c.args.other)) c.in_err-holds.field-0.0 c.from_residual-in_err-holds.ensures have
     (λ waits. (
       refl,
       test_shows code names program state c.args.at temporary c.args.one c.args.other few c.in_ok-value.field-0 c.in_ok-value.ensures.value

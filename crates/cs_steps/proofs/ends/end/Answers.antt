@@ -1,4 +1,4 @@
-use Rattle.std.proofs.Common.{◌+◌, refl, sym, ap, ◌∙◌}
+use Rattle.std.proofs.Common.{◌+◌, refl, sym, ap, ◌∙◌, subst}
 use Rattle.cs_events.specs.Objects.{UnsetCell}
 use Rattle.cs_meaning.specs.Machine.{Scalar, operand_at}
 use Rattle.cs_cfg.specs.Graph as graph
@@ -10,6 +10,7 @@ use Rattle.cs_state.specs.declared.temporary.Temporary.TheVariants as temporary
 use Rattle.cs_state.specs.Cells.{operand_of}
 use Rattle.cs_state.specs.Naming.{naming}
 use Rattle.cs_store.specs.declared.value.Value.TheVariants as value
+use Rattle.cs_progress.specs.Locals.{AreIn}
 use Rattle.cs_progress.proofs.Looks.{leads_same}
 use Rattle.cs_steps.proofs.CutMeanings.{uncut_means}
 use Rattle.cs_steps.proofs.KeptStates.{knows_cut}
@@ -44,11 +45,14 @@ returns-in_ok-given-in-Return-clause-leaves c = rw c.in-Return.is (λ stands few
     ap (λ m. operand_at m 0) (uncut_means code names program v number state few)
     ∙ c.in_ok-operand-in-Return.ensures.operand code names program v
     ∙ ap (λ (given : Temporary). operand_of names.bases state.blocks v given) (sym c.in_ok-given-in-Return.ensures.cases))
-    have (c.leave.ensures.last have.callers))
+    have
+    (subst (AreIn program names.bases known state.frame) (sym c.in_ok-given-in-Return.ensures.cases)
+    (c.in_ok-operand-in-Return.ensures.within program names.bases known have))
+    (c.leave.ensures.last have.callers))
 
 pub returns-in-Finish-clause-leaves : goal.returns-in-Finish-clause-leaves
 returns-in-Finish-clause-leaves c = rw c.in-Finish.is (λ stands few names program known extends have.
     let code = view.code c.args.context.now.code.now in
     let state = c.args.state.now in
     runs_out code names program state (temporary.Scalar value.Unset) (λ m. Scalar UnsetCell) known c.leave-in-Finish.new.state
-    c.args.progress.now c.leave-in-Finish.new.progress c.leave-in-Finish.result (λ v. refl) have (c.leave-in-Finish.ensures.last have.callers))
+    c.args.progress.now c.leave-in-Finish.new.progress c.leave-in-Finish.result (λ v. refl) have tt (c.leave-in-Finish.ensures.last have.callers))

@@ -18,7 +18,7 @@ returns-in_err-select c = λ temporary given stands few names program known exte
     let cases = map view.switch_case c.args.cases.now in
     let act = do_end code (graph.Switch c.args.at temporary cases c.args.otherwise) in
     waits_there code names program known state state c.args.progress.now c.select.new.self c.from_residual-in_err-select.result act
-    c.in_err-select.field-0.0 c.from_residual-in_err-select.ensures
+    c.in_err-select.field-0.0 c.from_residual-in_err-select.ensures have
     (λ waits. (
       refl,
       λ cells v fits uses.

@@ -19,5 +19,5 @@ returns-clause-steps c = λ stands names program known model extends numbered ha
     let shared = cut_shared end state kept is in
     let kept_stands = subst (λ (s : Spot). EndsAt code end s) (sym (ap (λ (s : State). s.frame.spot) shared.1)) stands in
     ends_step code names program c.args.context.now.setting.now.budgets known state end kept is stands c.end.new.state
-    c.args.progress.now c.end.new.progress fresh c.end.result have_kept
+    c.args.progress.now c.end.new.progress fresh c.end.result
     (c.end.ensures.leaves kept_stands (cut_for end state kept is) names program known extends have_kept)

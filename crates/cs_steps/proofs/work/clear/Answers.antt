@@ -9,4 +9,5 @@ returns-clause-work c = λ model at scalar progress code names program budgets k
     let unbound = c.in_ok-unbind.ensures in
     clear_works code names program c.args.state.now known once budgets at progress c.args.decl base named
     scalar c.unbind.new.self alone unbound.rest (λ o. unbound.dropped base o (is_listed base))
-    (λ b o differs. unbound.kept b o (not_listed base b differs)) (Ok tt) tt
+    (λ b o differs. unbound.kept b o (not_listed base b differs)) (λ o. unbound.gone base o (is_listed base))
+    (λ b o differs. unbound.others b o (not_listed base b differs)) (Ok tt) tt

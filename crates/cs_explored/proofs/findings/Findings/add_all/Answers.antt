@@ -3,7 +3,7 @@ use Rattle.std.proofs.lemmas.List.{map-id}
 use Rattle.std.proofs.lemmas.Iterator.Adapters.{YieldsList-from_vec}
 use Rattle.std.proofs.lemmas.Iterator.Consumers.{YieldsList-end, YieldsList-so_far}
 use Rattle.cs_explored.specs.declared.child.Child.{Child}
-use Rattle.cs_explored.specs.Placing.{PlacesAll, HavePlainKeys}
+use Rattle.cs_explored.specs.Placing.{PlacesAll, ArePlainChildren}
 use Rattle.cs_explored.proofs.Placed.{placed_none, placed_first, place_next, keeps_on}
 use Rattle.cs_explored.proofs.findings.Findings.add_all.Goals as goal
 
@@ -30,7 +30,7 @@ returns-clause-all c =
       subst (λ (made : List Child). PlacesAll c.args.row made c.args.self.now.graph c.loop-child.self.graph) (sym (map-id c.loop-child.yielded) ∙ all.0)
           c.loop-child.invariant.placed,
       c.loop-child.invariant.cuts,
-      subst HavePlainKeys (sym (map-id c.loop-child.yielded) ∙ all.0) c.loop-child.invariant.plain,
+      subst ArePlainChildren (sym (map-id c.loop-child.yielded) ∙ all.0) c.loop-child.invariant.plain,
     )
 
 pub returns-clause-rest : goal.returns-clause-rest

@@ -15,7 +15,8 @@ loop-outcome-init c = ended_none c.args.row c.args.self.now
 pub loop-outcome-preserved : goal.loop-outcome-preserved
 loop-outcome-preserved c =
     end_next c.args.row c.loop-outcome.yielded (c.in-Some.outcome, c.in-Some.state) c.args.self.now c.loop-outcome.self
-    (record c.loop-outcome.self { ends = c.push.new.self }) refl refl refl refl c.in_ok-push.ensures.items c.requires c.loop-outcome.invariant
+    (record c.loop-outcome.self { ends = c.push.new.self }) refl refl refl refl c.in_ok-push.ensures.items c.requires c.is_plain.ensures
+    c.loop-outcome.invariant
 
 pub returns-clause-adds : goal.returns-clause-adds
 returns-clause-adds c =

@@ -16,5 +16,7 @@ returns-clause-ok c = record {
   named = c.in_ok-base.ensures.named;
   here = c.in_ok-bind.ensures.here;
   elsewhere = c.in_ok-bind.ensures.elsewhere;
+  unread = c.in_ok-bind.ensures.written;
+  read = c.in_ok-bind.ensures.others;
   rest = c.in_ok-bind.ensures.rest;
 }
