@@ -1,5 +1,5 @@
--- The guesses of the run of each valuation that fits a row or an end are real: by induction over the chain, since the other runs are those of valuations with noted
--- ends, and these fit the row before the question. For `HasRealGuesses`.
+-- The guesses of the run of each valuation that fits a row or an end are real: by induction over the chain, since the other runs are those of valuations with
+-- noted ends, and these fit the row before the question. For `HasRealGuesses`.
 use Rattle.std.proofs.Common.{◌≡◌, ◌<◌, ◌≤◌, inl, inr, ℕ, zero, suc, Bool, true, false, List, ◌∷◌, length, All, None, Some}
 use Rattle.std.proofs.Common.{slice_get, refl, sym, ap, ◌∙◌, subst, arith}
 use Rattle.std.specs.Prelude.{◌&&◌, is_some, nat_lt, Contains}
