@@ -3,6 +3,5 @@ pub mod Exploring
 pub mod Inexact
 pub mod Asking
 pub mod Recorded
-pub mod Graphs
 pub mod Cuts
 pub mod Exactness
