@@ -37,14 +37,17 @@ use Rattle.cs_exactness.specs.Chains.{IsChain}
 use Rattle.cs_exactness.specs.FoundFaults.{FindsFaults}
 use Rattle.cs_exactness.specs.Graphs.{IsExactGraph}
 use Rattle.cs_engine.specs.Cuts.{IsCutForNodes}
+use Rattle.cs_guesses.specs.Graphs.{IsGuessedGraph}
+use Rattle.cs_guesses.specs.Real.{run_at as valued_run, IsLoweredEntry}
 use Rattle.cs_integer_functions.specs.IntegerFunctions.{IsIntegerFunction}
 use Rattle.cs_integer_functions.proofs.Parameters.{has_body}
 use Rattle.cs_findings.specs.Runs.{run_budgets}
 use Rattle.cs_findings.specs.EveryRun.{HasFinding}
 use Rattle.cs_findings.specs.OutOfNodes.{HasLonger, PassesAlong, IsOutOfNodes}
+use Rattle.cs_findings.specs.RealGuesses.{AreReal}
 use Rattle.cs_analysis.specs.Whole.{IsAllOf}
 use Rattle.cs_analysis.proofs.PrefixTrees.{has_child, prefix_tree}
-use Rattle.cs_analysis.proofs.RunsOfRows.{run_of, passes_along}
+use Rattle.cs_analysis.proofs.RunsOfRows.{passes_along}
 
 -- the events and the run of each row
 module _ (code : Code) (program : TypedProgram) (entry : ℕ) (budgets : RunBudgets) (names : Naming) (rules : List Rule) (rows : List Row) (ends : List End)
@@ -55,7 +58,7 @@ module _ (code : Code) (program : TypedProgram) (entry : ℕ) (budgets : RunBudg
 
   abbrev run_at : (number : ℕ) (found : Option Row) → slice_get rows number ≡ found → ProgramRun
   run_at number None is = record { inputs = []; guesses = [] }
-  run_at number (Some row) is = run_of names row.state.value (exact.exact.of_rows number row is).possible.0
+  run_at number (Some row) is = valued_run names row.state.value (exact.exact.of_rows number row is).possible.0
 
   leads_at : (number : ℕ) (found : Option Row) (is : slice_get rows number ≡ found) (row : Row) → found ≡ Some row
       → IsChain rows number (chain_at number found is)
@@ -63,6 +66,9 @@ module _ (code : Code) (program : TypedProgram) (entry : ℕ) (budgets : RunBudg
   leads_at number (Some other) is row some = (exact.exact.of_rows number other is).leads
 
   module _ (lowered : IsLowered code program) (body : Statement) (has : (routine_of program entry).body ≡ Some body) where
+    lowered_entry : IsLoweredEntry code program entry
+    lowered_entry = record { lowered = lowered; body = body; has_body = has }
+
     passes_at : (number : ℕ) (found : Option Row) (is : slice_get rows number ≡ found) (row : Row) → found ≡ Some row
         → PassesAlong program entry budgets (run_at number found is) (chain_at number found is)
     passes_at number None is row some = cc
@@ -70,9 +76,18 @@ module _ (code : Code) (program : TypedProgram) (entry : ℕ) (budgets : RunBudg
         let one = exact.exact.of_rows number other is in
         passes_along code program entry budgets names rows lowered body has number other one (exact.noted.of_rows number other one.chain is one.leads).guesses
 
+    module _ (guesses : IsGuessedGraph code program entry budgets names rows ends) where
+      real_at : (number : ℕ) (found : Option Row) (is : slice_get rows number ≡ found) (row : Row) → found ≡ Some row
+          → AreReal program entry budgets (run_at number found is)
+      real_at number None is row some = cc
+      real_at number (Some other) is row some =
+          let one = exact.exact.of_rows number other is in
+          (guesses.real lowered_entry).of_rows number other one.chain is one.leads one.possible.0 one.possible.1
+
 -- the reason for a cut
 module _ (code : Code) (program : TypedProgram) (limits : Budgets) (given : EntryResult) (names : Naming) (rules : List Rule) (rows : List Row)
     (ends : List End) (exact : IsExactGraph code program given.entry (run_budgets limits) names rules rows ends)
+    (guesses : IsGuessedGraph code program given.entry (run_budgets limits) names rows ends)
     (finds : FindsFaults code program given.entry (run_budgets limits) rows ends) (lowered : IsLowered code program)
     (integer : IsIntegerFunction program given.entry) (all : All (λ (end : End). HasFinding given end.outcome) ends) (nodes : ℕ)
     (many : length rows ≡ suc nodes) where
@@ -118,6 +133,9 @@ module _ (code : Code) (program : TypedProgram) (limits : Budgets) (given : Entr
     passed = λ number within.
         let row = there number within in
         passes_at code program given.entry budgets names rules rows ends exact lowered body.0 body.1 number (slice_get rows number) refl row.0 row.1;
+    real = λ number within.
+        let row = there number within in
+        real_at code program given.entry budgets names rules rows ends exact lowered body.0 body.1 guesses number (slice_get rows number) refl row.0 row.1;
   }
 
 pub has_reasons : (code : Code) (program : TypedProgram) (limits : Budgets) (explored : Explored) (given : EntryResult) (names : Naming) (rules : List Rule)
@@ -134,4 +152,4 @@ has_reasons code program limits explored given names rules lowered integer reaso
     let longer = length-append explored.rows.items (why.refused ∷ []) in
     let many : length rows ≡ suc cut.nodes = let full = why.full in omega (arith, longer, full) in
     subst (IsOutOfNodes program limits given) same
-    (out_of_nodes code program limits given names rules rows explored.ends.items why.exact why.finds lowered integer all.ends cut.nodes many why.budget)
+    (out_of_nodes code program limits given names rules rows explored.ends.items why.exact why.guesses why.finds lowered integer all.ends cut.nodes many why.budget)

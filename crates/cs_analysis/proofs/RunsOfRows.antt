@@ -1,31 +1,19 @@
 -- The runs of a program that pass the chains of an exact graph's rows: for `PassesAlong`.
-use Rattle.std.proofs.Common.{◌≡◌, ◌≤◌, inr, ℕ, suc, ℤ, pos, Bool, true, false, List, [], ◌∷◌, ◌++◌, map, length, Some, slice_get}
-use Rattle.std.proofs.Common.{refl, sym, ap, ◌∙◌, subst, get_or, cond}
-use Rattle.std.specs.Prelude.{All, Contains, unwrap_or}
+use Rattle.std.proofs.Common.{◌≡◌, ◌≤◌, inr, ℕ, List, ◌∷◌, ◌++◌, length, Some}
+use Rattle.std.proofs.Common.{refl, sym, ap, ◌∙◌, subst, get_or}
 use Rattle.std.specs.FinMap as finite
-use Rattle.std.specs.Map.{lookup}
-use Rattle.std.specs.BTreeMap.{is_at}
-use Rattle.std.specs.Ordering.{is_eq}
-use Rattle.std.specs.declared.cmp.Ordering.{Ordering}
-use Rattle.std.specs.declared.cmp.Ordering.TheVariants.{Less, Equal, Greater}
 use Rattle.std.proofs.lemmas.List.{map-append}
 use Rattle.std.proofs.lemmas.List.Elements.{All-map, All-contains_itself}
-use Rattle.cs_inputs.specs.declared.path.Path.{Path}
 use Rattle.cs_inputs.specs.Inputs.{number_at}
-use Rattle.cs_inputs.specs.PathOrder.{path_order}
 use Rattle.cs_ast.specs.TypedProgram.{TypedProgram}
 use Rattle.cs_ast.specs.TypedTree.{Statement}
-use Rattle.cs_terms.specs.declared.symbol.SymName.{SymName}
-use Rattle.cs_terms.specs.declared.symbol.SymName.TheVariants.{Input, Guess as GuessAt}
 use Rattle.cs_terms.specs.Term.{Valuation}
-use Rattle.cs_events.specs.declared.event.Event.{Event}
 use Rattle.cs_events.specs.declared.guess.Guess.{Guess}
 use Rattle.cs_events.specs.declared.outcome.Outcome.{Outcome}
 use Rattle.cs_events.specs.declared.outcome.RunBudgets.{RunBudgets}
 use Rattle.cs_events.specs.Acts.{Act}
-use Rattle.cs_events.specs.Objects.{is_equal}
 use Rattle.cs_events.specs.Runs.{Setting, Log, empty}
-use Rattle.cs_event_runs.specs.First.{Step, First, Silent, Shown, first_of}
+use Rattle.cs_event_runs.specs.First.{Step, First, Silent, first_of}
 use Rattle.cs_event_runs.specs.ByEvents.{RunsTo, ends, shows, silently}
 use Rattle.cs_event_runs.proofs.EventLaws.{events_by_end, events_shown}
 use Rattle.cs_meaning.specs.Machine.{routine_of}
@@ -38,39 +26,15 @@ use Rattle.cs_cfg.specs.Lowered.{IsLowered}
 use Rattle.cs_state.specs.declared.state.State.{State}
 use Rattle.cs_state.specs.Meaning.{setting_of as valued}
 use Rattle.cs_state.specs.Naming.{Naming}
-use Rattle.cs_state.specs.Valuations.{input_of, guess_of, guesses_of}
+use Rattle.cs_state.specs.Valuations.{guess_of, guesses_of}
 use Rattle.cs_explored.specs.declared.explored.Row.{Row}
 use Rattle.cs_successors.specs.EntryRuns.{events_of, LeavesAfter, now, later, unseen, HasLeft, begins, passes}
 use Rattle.cs_exactness.specs.Exact.{IsExactRow}
 use Rattle.cs_exactness.specs.Noted.{RecordsGuesses}
 use Rattle.cs_findings.specs.OutOfNodes.{PassesAlong}
+use Rattle.cs_guesses.specs.Real.{run_at}
+use Rattle.cs_guesses.proofs.ProgramRuns.{same_inputs}
 use Rattle.cs_analysis.proofs.PrefixTrees.{guessed_within}
-
--- the inputs of a valuation as a list
-abbrev pub inputs_of : List SymName → Valuation → List (Path × ℤ)
-inputs_of [] valuation = []
-inputs_of (Input path ∷ names) valuation = (path, valuation 0) ∷ inputs_of names (λ symbol. valuation (suc symbol))
-inputs_of (GuessAt event ∷ names) valuation = inputs_of names (λ symbol. valuation (suc symbol))
-
-same_test : (order : Ordering) → is_eq order ≡ is_equal order
-same_test Less = refl
-same_test Equal = refl
-same_test Greater = refl
-
-chosen : (is : Bool) (number : ℤ) (entries : List (Path × ℤ)) (path : Path)
-    → unwrap_or (cond is (Some number) (lookup (is_at (path_order path)) entries)) (pos 0) ≡ cond is number (number_at entries path)
-chosen true number entries path = refl
-chosen false number entries path = refl
-
-inputs_are : (names : List SymName) (valuation : Valuation) (path : Path) → number_at (inputs_of names valuation) path ≡ input_of names valuation path
-inputs_are [] valuation path = refl
-inputs_are (Input other ∷ names) valuation path =
-    let rest = inputs_of names (λ symbol. valuation (suc symbol)) in
-    ap (λ is. unwrap_or (cond is (Some (valuation 0)) (lookup (is_at (path_order path)) rest)) (pos 0)) (same_test (path_order path other))
-    ∙ chosen (is_equal (path_order path other)) (valuation 0) rest path
-    ∙ ap (λ number. cond (is_equal (path_order path other)) (valuation 0) number) (inputs_are names (λ symbol. valuation (suc symbol)) path)
-inputs_are (GuessAt event ∷ names) valuation path = inputs_are names (λ symbol. valuation (suc symbol)) path
-
 module _ {M : Type 0} (step : M → Act M) (setting : Setting) where
   -- a run that ends passes first what it has passed on the way
   passed_first : {first : First M} {steps all : List Step} {left : Act M} {log end : Log} {outcome : Outcome} → LeavesAfter step setting first steps left log
@@ -95,10 +59,6 @@ module _ {M : Type 0} (step : M → Act M) (setting : Setting) where
       let nexts : next' ≡ next = cc in
       let logs : log' ≡ log = cc in
       passed_first rest (subst (λ (first : First M). RunsTo step setting first steps outcome end) (λ i. first_of setting (logs i) (step (nexts i))) onward)
-
--- the run of a valuation that fits a state
-abbrev pub run_of : Naming → State → Valuation → ProgramRun
-run_of names state valuation = record { inputs = inputs_of names.syms valuation; guesses = guesses_of valuation state.asked }
 
 module _ (code : Code) (program : TypedProgram) (entry : ℕ) (budgets : RunBudgets) (names : Naming) (rows : List Row)
     (lowered : IsLowered code program) (body : Statement) (has_body : (routine_of program entry).body ≡ Some body) where
@@ -128,10 +88,10 @@ module _ (code : Code) (program : TypedProgram) (entry : ℕ) (budgets : RunBudg
       )
 
   setting_is : (state : State) (valuation : Valuation) → state.model ≡ program.model
-      → valued names budgets state valuation ≡ setting_of program (run_of names state valuation) budgets
+      → valued names budgets state valuation ≡ setting_of program (run_at names state valuation) budgets
   setting_is state valuation model = λ i. record {
     model = model i;
-    inputs = λ path. sym (inputs_are names.syms valuation path) i;
+    inputs = sym (same_inputs names.syms valuation) i;
     guesses = guesses_of valuation state.asked;
     budgets = budgets;
   }
@@ -139,14 +99,14 @@ module _ (code : Code) (program : TypedProgram) (entry : ℕ) (budgets : RunBudg
   -- passes the chain of a row that it fits, and guesses nothing after it
   pub passes_along : (number : ℕ) (row : Row) (exact : IsExactRow code program entry budgets names rows number row)
       → RecordsGuesses rows number row.state.value
-      → PassesAlong program entry budgets (run_of names row.state.value exact.possible.0) exact.chain
+      → PassesAlong program entry budgets (run_at names row.state.value exact.possible.0) exact.chain
   passes_along number row exact notes =
       let state = row.state.value in
       let valuation = exact.possible.0 in
       let comes = exact.comes valuation exact.possible.1 in
       record {
-        passes = subst (RunPasses program entry (run_of names state valuation) budgets) comes.passes
-            (run_passes (run_of names state valuation) comes.steps comes.left comes.log
+        passes = subst (RunPasses program entry (run_at names state valuation) budgets) comes.passes
+            (run_passes (run_at names state valuation) comes.steps comes.left comes.log
             (subst (λ (setting : Setting). HasLeft code program entry budgets setting comes.steps comes.left comes.log)
             (setting_is state valuation exact.model) comes.has_left));
         within = All-map (λ (guess : Guess). guess.event ≤ length exact.chain) (guess_of valuation) (finite.values state.asked)

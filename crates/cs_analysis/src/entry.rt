@@ -39,7 +39,7 @@ pub struct Analysis {
 /// Explores the runs of an entry, and gives what is shown of its ends: each end that the exploration finds is replayed and judged, so
 /// nothing has to be known of it for the findings to be true.
 ///
-/// Of an entry that works with integers alone, no run is left out. The exploration covers its runs, since its code works with integers alone
+/// Of an entry that works with integers alone, no run is missed. The exploration covers its runs, since its code works with integers alone
 /// too; that each end which is a fault or a budget was shown is asked here. No test has met a no, which would be want of memory.
 pub fn analyze(
     alloc: Global,

@@ -37,6 +37,8 @@ use Rattle.cs_coverage.specs.Closing.{Waits, IsOpen}
 use Rattle.cs_coverage.proofs.Positions.{themselves}
 use Rattle.cs_exactness.specs.Sources.{AreSourced}
 use Rattle.cs_exactness.proofs.ExactGraphs.{exact_graph, finds_faults}
+use Rattle.cs_guesses.proofs.Asked.{are_asked}
+use Rattle.cs_guesses.proofs.Real.{are_real}
 use Rattle.cs_engine.specs.Cuts.{IsCutForNodes}
 use Rattle.cs_engine.specs.Exploring.{program_of, ExploresIntegers, HasReasons, IsUncut, IsKept, IsDone, LeadsOn, HasReasonsOnIntegers}
 use Rattle.cs_engine.proofs.Exploring.{ComesOf, full_for_nodes, begun_graph, given_graph, expanded_graph, done_graph}
@@ -167,6 +169,14 @@ module _ (exploration : Exploration) (entry : ℕ) (explores : ExploresIntegers 
             exact =
                 exact_graph code program entry budgets (naming findings.tables) rules (findings.graph.rows ++ refused.refused ∷ []) findings.ends.items
                 (λ number. ⊥) sourced;
+            guesses = record {
+              asked =
+                  are_asked code program entry budgets (naming findings.tables) rules (findings.graph.rows ++ refused.refused ∷ []) findings.ends.items
+                  (λ number. ⊥) sourced;
+              real =
+                  are_real code program entry budgets (naming findings.tables) rules (findings.graph.rows ++ refused.refused ∷ []) findings.ends.items
+                  (λ number. ⊥) sourced;
+            };
             finds =
                 finds_faults code program entry budgets (naming findings.tables) rules (findings.graph.rows ++ refused.refused ∷ []) findings.ends.items
                 (λ number. ⊥) sourced;

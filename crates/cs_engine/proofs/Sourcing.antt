@@ -41,6 +41,9 @@ use Rattle.cs_exactness.proofs.FirstStates.{first_state}
 use Rattle.cs_exactness.proofs.SourcedGraphs.{sources_given, sources_expanded, sources_refused, sources_nothing, sources_begun, sourced_first}
 use Rattle.cs_exactness.proofs.SourcedRows.{sourced_but}
 use Rattle.cs_exactness.proofs.Walking.{integer_row}
+use Rattle.cs_guesses.specs.Graphs.{IsGuessedGraph}
+use Rattle.cs_guesses.proofs.Asked.{are_asked}
+use Rattle.cs_guesses.proofs.Real.{are_real}
 use Rattle.cs_engine.specs.Exploring.{program_of, ExploresIntegers, HasSources, HasRefused, IsDone}
 use Rattle.cs_engine.proofs.Exploring.{ComesOf}
 
@@ -199,3 +202,10 @@ module _ (exploration : Exploration) (entry : ℕ) (explores : ExploresIntegers 
     -- so it is exact
     pub graph_at_last : IsExactGraph code program entry budgets last_names rules explored.rows.items explored.ends.items
     graph_at_last = exact_graph code program entry budgets last_names rules explored.rows.items explored.ends.items (λ number. ⊥) sourced_at_last
+
+    -- and so is what is said of its guesses
+    pub guesses_at_last : IsGuessedGraph code program entry budgets last_names explored.rows.items explored.ends.items
+    guesses_at_last = record {
+      asked = are_asked code program entry budgets last_names rules explored.rows.items explored.ends.items (λ number. ⊥) sourced_at_last;
+      real = are_real code program entry budgets last_names rules explored.rows.items explored.ends.items (λ number. ⊥) sourced_at_last;
+    }

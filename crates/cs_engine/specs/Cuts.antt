@@ -23,6 +23,7 @@ use Rattle.cs_successors.specs.EntryRuns.{PassesTo}
 use Rattle.cs_exactness.specs.Chains.{IsChain}
 use Rattle.cs_exactness.specs.FoundFaults.{FindsFaults}
 use Rattle.cs_exactness.specs.Graphs.{IsExactGraph}
+use Rattle.cs_guesses.specs.Graphs.{IsGuessedGraph}
 
 module _ (code : Code) (program : TypedProgram) (entry : ℕ) (budgets : RunBudgets) (names : Naming) where
   -- there are as many rows as nodes may be, and one more was refused. Of these rows with the refused one all that is said of rows is so, and where others come
@@ -32,6 +33,7 @@ module _ (code : Code) (program : TypedProgram) (entry : ℕ) (budgets : RunBudg
     pub full : length rows ≡ nodes
     pub refused : Row
     pub exact : IsExactGraph code program entry budgets names rules (rows ++ refused ∷ []) ends
+    pub guesses : IsGuessedGraph code program entry budgets names (rows ++ refused ∷ []) ends
     pub finds : FindsFaults code program entry budgets (rows ++ refused ∷ []) ends
 
   -- after these events the run of a valuation is about to reach an offset in an object, by the access at a place

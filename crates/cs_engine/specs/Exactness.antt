@@ -1,5 +1,6 @@
 -- What an exploration says of runs is so: of its rows and ends, and of the cuts that it lists. The contract of `explore` says a part of it, of entries that
--- work with integers alone (`IsExactOnIntegers`, `HasOwnOnIntegers` and `HasReasonsOnIntegers` of `Exploring`); no contract says the whole.
+-- work with integers alone (`IsExactOnIntegers`, `HasOwnOnIntegers`, `HasGuessesOnIntegers` and `HasReasonsOnIntegers` of `Exploring`), whose states have no heap blocks; no contract says
+-- the whole.
 use Rattle.std.specs.Prelude.{ℕ, List, All}
 use Rattle.cs_ast.specs.TypedProgram.{TypedProgram}
 use Rattle.cs_events.specs.declared.outcome.RunBudgets.{RunBudgets}
@@ -11,22 +12,22 @@ use Rattle.cs_explored.specs.declared.explored.End.{End}
 use Rattle.cs_explored.specs.declared.explored.Explored.{Explored}
 use Rattle.cs_explored.specs.declared.explored.Row.{Row}
 use Rattle.cs_explored.specs.declared.watch.Rule.{Rule}
-use Rattle.cs_engine.specs.Asking.{AreAskedAlong}
 use Rattle.cs_engine.specs.Cuts.{IsCutFor}
 use Rattle.cs_engine.specs.Recorded.{RecordsAllocations}
 use Rattle.cs_exactness.specs.Graphs.{IsExactGraph}
 use Rattle.cs_exactness.specs.Noted.{EachState}
+use Rattle.cs_guesses.specs.Graphs.{IsGuessedGraph}
 
--- what is said of each state's guesses, and of where its heap blocks were made
-pub record RecordsOperations (code : Code) (program : TypedProgram) (entry : ℕ) (budgets : RunBudgets) (names : Naming) (rows : List Row) (ends : List End)
-    : Type 0 where
-  pub asked : EachState rows ends (λ number state chain. AreAskedAlong code program entry budgets names rows state chain)
-  pub allocations : EachState rows ends (λ number state chain. RecordsAllocations code program entry budgets names state chain)
+-- what is said of where each state's heap blocks were made
+abbrev pub EachRecordsAllocations : Code → TypedProgram → ℕ → RunBudgets → Naming → List Row → List End → Type 0
+EachRecordsAllocations code program entry budgets names rows ends =
+    EachState rows ends (λ number state chain. RecordsAllocations code program entry budgets names state chain)
 
--- rows and ends say just what is so of runs, with what states record of operations, and each cut has its reason
+-- rows and ends say just what is so of runs, with what states record of guesses and allocations, and each cut has its reason
 pub record IsExactExploration (code : Code) (program : TypedProgram) (entry : ℕ) (limits : Budgets) (rules : List Rule) (explored : Explored)
     : Type 0 where
   pub graph : IsExactGraph code program entry (run_budgets limits) (naming explored.tables) rules explored.rows.items explored.ends.items
-  pub operations : RecordsOperations code program entry (run_budgets limits) (naming explored.tables) explored.rows.items explored.ends.items
+  pub guesses : IsGuessedGraph code program entry (run_budgets limits) (naming explored.tables) explored.rows.items explored.ends.items
+  pub allocations : EachRecordsAllocations code program entry (run_budgets limits) (naming explored.tables) explored.rows.items explored.ends.items
   pub cuts : All (IsCutFor code program entry (run_budgets limits) (naming explored.tables) rules explored.rows.items explored.ends.items limits)
       explored.cuts.items

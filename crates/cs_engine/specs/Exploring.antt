@@ -16,9 +16,10 @@ use Rattle.cs_coverage.specs.Covering.{HasAllNodes, Covers}
 use Rattle.cs_coverage.specs.Positions.{CoversPositions, CoversOwn}
 use Rattle.cs_exactness.specs.Distinct.{AreDistinct}
 use Rattle.cs_exactness.specs.Exact.{IsExact}
-use Rattle.cs_exactness.specs.Noted.{EachNotesEvents}
+use Rattle.cs_exactness.specs.Noted.{EachState, EachNotesEvents}
 use Rattle.cs_exactness.specs.OwnRuns.{HasOwnRuns}
 use Rattle.cs_exactness.specs.Sources.{AreSourced, IsSourcedGraph, UnderNames}
+use Rattle.cs_guesses.specs.Graphs.{IsGuessedGraph}
 use Rattle.cs_engine.specs.Cuts.{IsCutForNodes}
 
 -- the program that is explored
@@ -125,3 +126,10 @@ HasReasonsOnIntegers exploration entry explored =
     ExploresIntegers exploration entry
     → All (IsCutForNodes (code_of exploration) (program_of exploration) entry (limits_of exploration) (naming explored.tables) exploration.rules.now
     explored.rows.items explored.ends.items exploration.budgets.nodes) explored.cuts.items
+
+-- what is said of the guesses of rows and ends is so, if the entry works with integers alone
+abbrev pub HasGuessesOnIntegers : Exploration → ℕ → Explored → Type 0
+HasGuessesOnIntegers exploration entry explored =
+    ExploresIntegers exploration entry
+    → IsGuessedGraph (code_of exploration) (program_of exploration) entry (limits_of exploration) (naming explored.tables) explored.rows.items
+    explored.ends.items

@@ -7,7 +7,7 @@ ghost use Rattle.cs_coverage.specs.Closing.{Waits, IsOpen};
 ghost use Rattle.cs_engine.specs.Exploring.{ExploresIntegers, IsKept, IsDone, LeadsOn};
 ghost use Rattle.cs_engine.specs.Exploring.{CoversIntegers, CoversOwnOnIntegers, CoversLiveOnIntegers};
 ghost use Rattle.cs_engine.specs.Exploring.{IsExactOnIntegers};
-ghost use Rattle.cs_engine.specs.Exploring.{HasOwnOnIntegers, HasReasonsOnIntegers};
+ghost use Rattle.cs_engine.specs.Exploring.{HasOwnOnIntegers, HasReasonsOnIntegers, HasGuessesOnIntegers};
 
 use crate::entry::start;
 use crate::numbering::have_each_once;
@@ -48,6 +48,9 @@ pub fn explore(
     ensures cuts { IfOk result (λ explored.
         HasEveryKind (λ b. kind_of b) checkers.old.items
         → HasReasonsOnIntegers exploration.now entry explored) }
+    ensures guesses { IfOk result (λ explored.
+        HasEveryKind (λ b. kind_of b) checkers.old.items
+        → HasGuessesOnIntegers exploration.now entry explored) }
     ensures kinds { map (λ b. kind_of b) checkers.new.items
         ≡ map (λ b. kind_of b) checkers.old.items }
 {

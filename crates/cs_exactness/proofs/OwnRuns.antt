@@ -175,7 +175,7 @@ module _ (code : Code) (program : TypedProgram) (entry : ℕ) (budgets : RunBudg
     pub has_left : HasLeft code program entry budgets setting earlier between before
     pub leaves : LeavesAfter step setting (first_of setting before between) (one ∷ []) left log
 
-  left_before : (setting : Setting) (earlier : List Step) (one : Step) (left : Act CodeState) (log : Log)
+  pub left_before : (setting : Setting) (earlier : List Step) (one : Step) (left : Act CodeState) (log : Log)
       → HasLeft code program entry budgets setting (earlier ++ one ∷ []) left log → HasLeftBefore setting earlier one left log
   left_before setting earlier one left log has = by earlier (earlier ++ one ∷ []) refl has
     where
@@ -344,7 +344,7 @@ module _ (code : Code) (program : TypedProgram) (entry : ℕ) (budgets : RunBudg
     own = own_valuation program entry names setting all last
 
     -- along a chain, the run comes to where each row stands
-    along : {number : ℕ} {chain : List Event} → IsChain rows number chain → (row : Row) → slice_get rows number ≡ Some row
+    pub along : {number : ℕ} {chain : List Event} → IsChain rows number chain → (row : Row) → slice_get rows number ≡ Some row
         → ListsSoFar row.state.value chain guesses → (steps more : List Step) (left : Act CodeState) (log : Log) → all ≡ steps ++ more
         → HasLeft code program entry budgets setting steps left log → events_of steps ≡ chain
         → IsAt code program budgets names row.state.value setting own left log

@@ -16,6 +16,7 @@ use Rattle.cs_results.specs.declared.result.EntryResult.{EntryResult}
 use Rattle.cs_integer_functions.specs.IntegerFunctions.{IsIntegerFunction}
 use Rattle.cs_findings.specs.Runs.{run_budgets}
 use Rattle.cs_findings.specs.EveryRun.{HasFinding}
+use Rattle.cs_findings.specs.RealGuesses.{AreReal}
 
 -- lists of events, by numbers up to the last one: they are the nodes of a prefix tree. The first is empty, each other one is an earlier one with one event at its
 -- end, and no two are alike
@@ -34,8 +35,8 @@ pub record PassesAlong (program : TypedProgram) (entry : ℕ) (budgets : RunBudg
   pub passes : RunPasses program entry run budgets events
   pub within : All (λ (guess : Guess). guess.event ≤ length events) run.guesses
 
--- the budget of nodes is so many, and there is a prefix tree with one node more, each of which some run passes. Where a run without guesses ends in a fault
--- directly after the events of a node that isn't a leaf, the fault has a report
+-- the budget of nodes is so many, and there is a prefix tree with one node more, each of which some run passes whose guesses are real. Where a run without
+-- guesses ends in a fault directly after the events of a node that isn't a leaf, the fault has a report
 pub record IsOutOfNodes (program : TypedProgram) (budgets : Budgets) (given : EntryResult) (nodes : ℕ) : Type 0 where
   pub budget : nodes ≡ budgets.nodes
   pub events : ℕ → List Event
@@ -45,6 +46,7 @@ pub record IsOutOfNodes (program : TypedProgram) (budgets : Budgets) (given : En
       → HasFinding given (Fault kind at)
   pub runs : ℕ → ProgramRun
   pub passed : (number : ℕ) → number ≤ nodes → PassesAlong program given.entry (run_budgets budgets) (runs number) (events number)
+  pub real : (number : ℕ) → number ≤ nodes → AreReal program given.entry (run_budgets budgets) (runs number)
 
 -- if the entry works with integers alone, a cut for want of nodes is listed for this reason
 abbrev pub HasReasons : TypedProgram → Budgets → EntryResult → Type 0

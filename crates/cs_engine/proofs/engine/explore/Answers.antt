@@ -1,6 +1,6 @@
 use Rattle.std.proofs.Common.{◌∙◌}
 use Rattle.cs_engine.proofs.Exploring.{covered, own_covered, live_covered}
-use Rattle.cs_engine.proofs.Sourcing.{graph_at_last}
+use Rattle.cs_engine.proofs.Sourcing.{graph_at_last, guesses_at_last}
 use Rattle.cs_engine.proofs.Keeping.{reasons_at_last}
 use Rattle.cs_engine.proofs.engine.explore.Goals as goal
 
@@ -41,6 +41,12 @@ returns-clause-cuts g c every explores =
     c.have_each_once.ensures.syms (c.in_ok-expand_all.ensures.grows.sound c.in_ok-findings.ensures.sound)
     (c.in_ok-expand_all.ensures.grows.nodes ∙ c.in_ok-findings.ensures.nodes) c.explored.ensures.rows c.explored.ensures.all_ends c.explored.ensures.cuts
     c.explored.ensures.tables (c.in_ok-expand_all.ensures.done every c.args.entry explores (c.in_ok-findings.ensures.begins explores)).reasons
+
+pub returns-clause-guesses : goal.returns-clause-guesses
+returns-clause-guesses g c every explores =
+    guesses_at_last c.args.exploration.now c.args.entry explores c.expand_all.new.findings c.explored.result c.have_each_once.ensures.bases
+    c.have_each_once.ensures.syms c.explored.ensures.rows c.explored.ensures.all_ends c.explored.ensures.tables
+    (c.in_ok-expand_all.ensures.done every c.args.entry explores (c.in_ok-findings.ensures.begins explores))
 
 pub explored-requires : goal.explored-requires
 explored-requires g c = c.in_ok-expand_all.ensures.grows.sound c.in_ok-findings.ensures.sound
