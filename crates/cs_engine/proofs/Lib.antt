@@ -1,4 +1,4 @@
 pub mod Parameters
-pub mod Moved
 pub mod Exploring
 pub mod Sourcing
+pub mod Keeping

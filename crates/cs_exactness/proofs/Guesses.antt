@@ -53,7 +53,7 @@ guessed_at : (v : Valuation) (guesses : Guesses) → AreNumbered (finite.entries
 guessed_at v guesses are event = listed v event (finite.entries guesses) are ∙ ap (number_in v) (sym (finite.get-entries guesses (event, 0)))
 
 -- nothing is listed at an event after all those at which something was guessed
-none_listed : (v : Valuation) (event : ℕ) (asked : List Asked) → All (λ (one : Asked). one.event < event) asked
+pub none_listed : (v : Valuation) (event : ℕ) (asked : List Asked) → All (λ (one : Asked). one.event < event) asked
     → guess_at (map (guess_of v) asked) event ≡ None
 none_listed v event [] all = refl
 none_listed v event (one ∷ asked) all = elim (eqb_tells one.event event) [

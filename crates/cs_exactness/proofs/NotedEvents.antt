@@ -92,7 +92,7 @@ found_under key asked (entry ∷ entries) are found =
     by false tied rest is = rest is
 
 -- the values once one more was guessed
-values_after : (event : ℕ) (one : Asked) (before after : Guesses) → AreNumbered (finite.entries before)
+pub values_after : (event : ℕ) (one : Asked) (before after : Guesses) → AreNumbered (finite.entries before)
     → ((asked : Asked) → Contains (finite.values before) asked → asked.event < event) → after ≡ finite.insert before (event, 0) one
     → finite.values after ≡ finite.values before ++ one ∷ []
 values_after event one before after are early same =

@@ -1,7 +1,7 @@
 -- What is said of each guess of a state: the operation whose result it stands for comes at its event, with the operands that were noted, and isn't followed
 -- exactly.
 use Rattle.std.specs.Prelude.{◌≡◌, ◌≢◌, ◌⊎◌, ◌<◌, ℕ, suc, nat_lt, ℤ, List, [], ◌∷◌, ◌++◌, length, filter, Option, Some}
-use Rattle.std.specs.Prelude.{slice_get, Contains}
+use Rattle.std.specs.Prelude.{IsTrue, slice_get, Contains}
 use Rattle.std.specs.FinMap as finite
 use Rattle.cs_types.specs.declared.data_model.DataModel.{DataModel}
 use Rattle.cs_inputs.specs.declared.path.Path.{Path}
@@ -28,9 +28,14 @@ use Rattle.cs_eval.specs.declared.question.Question.{Question}
 use Rattle.cs_eval.specs.Noted.{IsQuestionOf, HasFact, TellsResult, HasNoEnds}
 use Rattle.cs_eval.specs.Questions.{operation_of}
 use Rattle.cs_explored.specs.declared.explored.Row.{Row}
+use Rattle.cs_results.specs.declared.run.Others.{Others}
+use Rattle.cs_findings.specs.Grounds.{Pair, has_ground}
+use Rattle.cs_findings.specs.Narrower.{may_be_used, fits_left, fits_right}
+use Rattle.cs_findings.specs.Runs.{each_other}
+use Rattle.cs_corners.specs.Corners.{EachIs, operands_under}
 use Rattle.cs_exactness.specs.Chains.{IsChain}
 use Rattle.cs_successors.specs.EntryRuns.{events_of, setting_with, HasLeft, PassesTo}
-use Rattle.cs_engine.specs.Inexact.{AreRanges, IsInexact}
+use Rattle.cs_guesses.specs.Inexact.{AreRanges, IsInexact}
 use Rattle.cs_coverage.specs.OwnNumbers.{own_valuation, ListsOwn}
 
 -- by another valuation the symbol, where there is one, has its own number or one of the ends
@@ -42,6 +47,22 @@ pub record IsMoved (asked : Asked) (v w : Valuation) : Type 0 where
   pub left : HasOwnOrEnd asked.left.sym asked.ends.left v w
   pub right : HasOwnOrEnd asked.right.sym asked.ends.right v w
   pub others : (other : Sym) → asked.left.sym ≢ Some other → asked.right.sym ≢ Some other → w other.0 ≡ v other.0
+
+-- one or two such valuations give the ground to guess
+pub record HasGround (model : DataModel) (asked : Asked) (meant : Question) (v : Valuation) : Type 0 where
+  pub others : Others Valuation
+  pub moved : EachIs (IsMoved asked v) others
+  pub has_reason : IsTrue (has_ground model (operation_of v meant) (each_other (operands_under meant) others))
+
+-- under such a valuation an operand differs
+abbrev pub HasOther : Asked → Question → Valuation → (Pair → ℤ) → Type 0
+HasOther asked meant v operand = (w : Valuation) × IsMoved asked v w × (operand (operands_under meant w) ≢ operand (operands_under meant v))
+
+-- the guessed number may be used, also with an operand that is the same under all of them
+pub record IsUsable (model : DataModel) (asked : Asked) (meant : Question) (v : Valuation) : Type 0 where
+  pub used : IsTrue (may_be_used model (operation_of v meant) (v asked.guess.0))
+  pub left : IsTrue (fits_left (operation_of v meant) (v asked.guess.0)) ⊎ HasOther asked meant v (λ pair. pair.0)
+  pub right : IsTrue (fits_right (operation_of v meant) (v asked.guess.0)) ⊎ HasOther asked meant v (λ pair. pair.1)
 
 -- what a run goes by that lists just the guesses before an event
 abbrev pub before_event : ℕ → Setting → Setting
@@ -96,6 +117,8 @@ module _ (code : Code) (program : TypedProgram) (entry : ℕ) (budgets : RunBudg
     pub own : ComeOwn state asked meant before event
     pub has_ranges : (sets : Sets) × AreRanges asked sets
     pub inexact : (v : Valuation) → Fits v state.constraints → IsInexact program.model asked meant v
+    pub grounds : (v : Valuation) → Fits v state.constraints → HasGround program.model asked meant v
+    pub usable : (v : Valuation) → Fits v state.constraints → IsUsable program.model asked meant v
 
   -- all guesses of the state
   abbrev pub AreAskedAlong : List Row → State → List Event → Type 0
