@@ -1,1 +1,4 @@
 mod EveryRun
+mod PrefixTrees
+mod RunsOfRows
+mod CutNodes

@@ -7,8 +7,10 @@ ghost use Rattle.cs_coverage.specs.IntegerEntries.{IsIntegerEntry};
 ghost use Rattle.cs_coverage.specs.Positions.{CoversPositions};
 ghost use Rattle.cs_findings.specs.EveryRun.{MissesNothing};
 ghost use Rattle.cs_findings.specs.GoodEntries.{IsGoodEntry};
+ghost use Rattle.cs_findings.specs.OutOfNodes.{HasReasons};
 ghost use Rattle.cs_findings.specs.Runs.{run_budgets};
 ghost use Rattle.cs_operators.specs.Asking.{HasEveryKind};
+ghost use Rattle.cs_analysis.specs.Cuts.{AreCutForNodes};
 ghost use Rattle.cs_analysis.specs.Integers.{KeepsToIntegers};
 ghost use Rattle.cs_analysis.specs.Whole.{IsAllOf};
 ghost use Rattle.cs_witness.specs.Entries.{CanRun};
@@ -37,7 +39,7 @@ pub struct Analysis {
 /// Explores the runs of an entry, and gives what is shown of its ends: each end that the exploration finds is replayed and judged, so
 /// nothing has to be known of it for the findings to be true.
 ///
-/// Of an entry that works with integers alone, no run is left out. The exploration covers its runs, since its code works with integers alone
+/// Of an entry that works with integers alone, no run is missed. The exploration covers its runs, since its code works with integers alone
 /// too; that each end which is a fault or a budget was shown is asked here. No test has met a no, which would be want of memory.
 pub fn analyze(
     alloc: Global,
@@ -52,6 +54,9 @@ pub fn analyze(
         (typed_program entry.now.program.now) entry.now.budgets analysis.witnessed.result) }
     ensures complete { IfOk result (λ analysis.
         HasEveryKind (λ b. kind_of b) checkers.old.items → MissesNothing
+        (typed_program entry.now.program.now) entry.now.budgets analysis.witnessed.result) }
+    ensures reasons { IfOk result (λ analysis.
+        HasEveryKind (λ b. kind_of b) checkers.old.items → HasReasons
         (typed_program entry.now.program.now) entry.now.budgets analysis.witnessed.result) }
     ensures entry { IfOk result (λ analysis.
         analysis.witnessed.result.entry ≡ entry.now.function) }
@@ -93,6 +98,9 @@ fn explored(
         entry.now.function → CoversPositions (view.code entry.now.code.now)
         (typed_program entry.now.program.now) entry.now.function
         (run_budgets entry.now.budgets) explored) }
+    ensures cuts { IfOk result (λ explored. HasEveryKind (λ b. kind_of b) checkers.old.items
+        → AreCutForNodes (view.code entry.now.code.now) (typed_program entry.now.program.now)
+        entry.now.function entry.now.budgets explored) }
     ensures rows { IfOk result (λ explored.
         length explored.rows.items ≤ entry.now.budgets.nodes) }
     ensures kinds { map (λ b. kind_of b) checkers.new.items
@@ -125,6 +133,9 @@ fn explored_in(
         entry.now.function → CoversPositions (view.code entry.now.code.now)
         (typed_program entry.now.program.now) entry.now.function
         (run_budgets entry.now.budgets) explored) }
+    ensures cuts { IfOk result (λ explored. HasEveryKind (λ b. kind_of b) checkers.old.items
+        → AreCutForNodes (view.code entry.now.code.now) (typed_program entry.now.program.now)
+        entry.now.function entry.now.budgets explored) }
     ensures rows { IfOk result (λ explored.
         length explored.rows.items ≤ entry.now.budgets.nodes) }
     ensures kinds { map (λ b. kind_of b) checkers.new.items

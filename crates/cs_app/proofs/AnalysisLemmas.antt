@@ -11,6 +11,7 @@ use Rattle.cs_ast.specs.declared.typed.program.Function.{Function}
 use Rattle.cs_ast.specs.declared.typed.program.Program.{Program}
 use Rattle.cs_ast.specs.TypedProgram.{TypedProgram, Routine, routine, typed_program}
 use Rattle.cs_findings.specs.EveryRun.{MissesNothing}
+use Rattle.cs_findings.specs.OutOfNodes.{HasReasons}
 use Rattle.cs_findings.specs.GoodEntries.{IsGoodEntry}
 use Rattle.cs_meaning.specs.Machine.{NOWHERE, no_routine}
 use Rattle.cs_model.specs.declared.kind.Kind.{Kind}
@@ -71,14 +72,16 @@ alone P one holds (suc k) d below = absurd (omega (arith, below))
 -- one more result
 pub results_more : (checked : List Kind) (program : TypedProgram) (budgets : Budgets) (entries : List ℕ) (results : List EntryResult) (i d : ℕ)
     (one : EntryResult) → i < length entries → AreGoodResults checked program budgets (take i entries) results → one.entry ≡ get_or entries i d
-    → IsGoodEntry program budgets one → (AreAllKinds checked → MissesNothing program budgets one)
+    → IsGoodEntry program budgets one → (AreAllKinds checked → MissesNothing program budgets one) → (AreAllKinds checked → HasReasons program budgets one)
     → AreGoodResults checked program budgets (take (i + 1) entries) (results ++ one ∷ [])
-results_more checked program budgets entries results i d one there before named good misses = record {
+results_more checked program budgets entries results i d one there before named good misses explains = record {
   in_order = map-append (λ (r : EntryResult). r.entry) results (one ∷ []) ∙ ap (λ (es : List ℕ). es ++ one.entry ∷ []) before.in_order
       ∙ ap (λ (n : ℕ). take i entries ++ n ∷ []) named ∙ sym (take_more entries i d there);
   good = All-append (IsGoodEntry program budgets) results (one ∷ []) before.good (alone (IsGoodEntry program budgets) one good);
   complete = λ all. All-append (MissesNothing program budgets) results (one ∷ []) (before.complete all)
       (alone (MissesNothing program budgets) one (misses all));
+  reasons = λ all. All-append (HasReasons program budgets) results (one ∷ []) (before.reasons all)
+      (alone (HasReasons program budgets) one (explains all));
 }
 
 -- the function with the name is the one that is analyzed

@@ -6,6 +6,7 @@ use Rattle.cs_ast.specs.TypedProgram.{TypedProgram}
 use Rattle.cs_checker.specs.Kinds.{AreAllKinds}
 use Rattle.cs_findings.specs.EveryRun.{MissesNothing}
 use Rattle.cs_findings.specs.GoodEntries.{IsGoodEntry}
+use Rattle.cs_findings.specs.OutOfNodes.{HasReasons}
 use Rattle.cs_meaning.specs.Machine.{routine_of}
 use Rattle.cs_model.specs.declared.kind.Kind.{Kind}
 use Rattle.cs_report.specs.SummaryLines.{summary_text}
@@ -42,11 +43,12 @@ LacksEntry (Some name) program text = (entry_of name program ≡ None) × (text 
 -- what an analysis answers that asks checkers of these kinds
 module _ (checked : List Kind) where
   -- a result for each of these functions, in order, and each of them good: what it reports happens. With a checker of each kind, a result of a function
-  -- that works with integers alone leaves no run out, if nothing is cut
+  -- that works with integers alone misses no run, if nothing is cut; and what is cut has its reason
   pub record AreGoodResults (program : TypedProgram) (budgets : Budgets) (entries : List ℕ) (results : List EntryResult) : Type 0 where
     pub in_order : map (λ (r : EntryResult). r.entry) results ≡ entries
     pub good : All (IsGoodEntry program budgets) results
     pub complete : AreAllKinds checked → All (MissesNothing program budgets) results
+    pub reasons : AreAllKinds checked → All (HasReasons program budgets) results
 
   -- the analysis of the program's functions
   pub record IsAnalysis (words : AnalyzeWords) (program : TypedProgram) (status : Status) (text : List ℕ) : Type 0 where

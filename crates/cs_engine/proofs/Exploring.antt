@@ -43,16 +43,21 @@ use Rattle.cs_coverage.proofs.Positions.{covers_positions, covers_own, covers_li
 use Rattle.cs_coverage.proofs.StartBlocks.{no_blocks}
 use Rattle.cs_engine.specs.Exploring.{program_of, ExploresIntegers, IsOpenGraph, IsClosedAtLast}
 
--- these children and ends are all that comes of a state, if it is one of integer code
-abbrev pub ComesOf : Exploration → Naming → State → List Child → List StateEnd → Type 0
-ComesOf exploration given state made ends =
+-- these children and ends are all that comes of a state, and nothing is cut there, if it is one of integer code
+abbrev pub ComesOf : Exploration → Naming → State → List Child → List StateEnd → List Cut → Type 0
+ComesOf exploration given state made ends cuts =
     (names : Naming) (program : TypedProgram) → Explores exploration given names program
     → IsIntegerState (code_of exploration) program (limits_of exploration) names state
-    → ComesOfState (code_of exploration) program (limits_of exploration) names exploration.rules.now state made ends
+    → ComesOfState (code_of exploration) program (limits_of exploration) names exploration.rules.now state made ends × (cuts ≡ [])
 
 -- nodes that are there later were there before
 all_before : (cuts more : List Cut) → HasAllNodes (cuts ++ more) → HasAllNodes cuts
 all_before cuts more all nodes is = all nodes (Contains-append_left cuts more (Nodes nodes) is)
+
+-- where a row was refused, something was left out
+pub full_for_nodes : (before after : Findings) → after.cuts.items ≡ before.cuts.items ++ Nodes before.nodes ∷ [] → ¬ HasAllNodes after.cuts.items
+full_for_nodes before after cuts all =
+    all before.nodes (subst (λ (l : List Cut). Contains l (Nodes before.nodes)) (sym cuts) (Contains-push before.cuts.items (Nodes before.nodes)))
 
 module _ (exploration : Exploration) (entry : ℕ) (explores : ExploresIntegers exploration entry) where
   abbrev code : Code
@@ -84,9 +89,7 @@ module _ (exploration : Exploration) (entry : ℕ) (explores : ExploresIntegers 
 
     pub begun_graph : (room : Bool) → before.graph.keys ≡ [] → before.graph.rows ≡ [] → before.ends.items ≡ [] → KeepsEnds before after
         → IsPlaced (words_of (live_part state.value)) (first_row state) room before after → IsOpenGraph exploration entry Waits after
-    begun_graph false no_keys no_rows no_ends keeps placed all =
-        absurd (all before.nodes (subst (λ (cuts : List Cut). Contains cuts (Nodes before.nodes)) (sym placed.1)
-        (Contains-push before.cuts.items (Nodes before.nodes))))
+    begun_graph false no_keys no_rows no_ends keeps placed all = absurd (full_for_nodes before after placed.1 all)
     begun_graph true no_keys no_rows no_ends keeps placed all =
         subst (λ (tables : Tables). IsGraph (naming tables) after.graph after.ends.items Waits) (sym keeps.tables)
         (subst (λ (ends : List End). IsGraph (naming before.tables) after.graph ends Waits) (sym (keeps.ends ∙ no_ends))
@@ -114,7 +117,7 @@ module _ (exploration : Exploration) (entry : ℕ) (explores : ExploresIntegers 
   module _ (exact : KeysAreExact) (before ended cut after : Findings) (tables : Tables) (row : ℕ) (from : Row)
       (there : slice_get before.graph.rows row ≡ Some from) (made : List Child) (endings : List StateEnd) (cuts : List Cut)
       (extends : Extends (naming before.tables) (naming tables)) (adds : AddsEnds row endings (record before { tables = tables }) ended)
-      (cutting : AddsCuts cuts ended cut) (keeps : KeepsEnds cut after) (comes : ComesOf exploration (naming tables) from.state.value made endings) where
+      (cutting : AddsCuts cuts ended cut) (keeps : KeepsEnds cut after) (comes : ComesOf exploration (naming tables) from.state.value made endings cuts) where
     ends_are : after.ends.items ≡ before.ends.items ++ map (end_of_row row) endings
     ends_are = keeps.ends ∙ cutting.ends ∙ adds.ends
 
@@ -132,8 +135,8 @@ module _ (exploration : Exploration) (entry : ℕ) (explores : ExploresIntegers 
         → IsFound code program entry budgets rules (naming tables) from.state.value made endings
     found_of graph plain = record {
       comes = λ names are.
-          comes names program (record { model = refl; limit = explores.limit; extends = are.extend; numbered = are.numbered })
-          ((graph.closed.states row from there).integer names are);
+          (comes names program (record { model = refl; limit = explores.limit; extends = are.extend; numbered = are.numbered })
+          ((graph.closed.states row from there).integer names are)).0;
       plain = plain;
       ends_plain = λ place one at. element (λ (one : StateEnd). IsPlain one.1.value) endings place one at adds.plain;
     }
@@ -148,10 +151,9 @@ module _ (exploration : Exploration) (entry : ℕ) (explores : ExploresIntegers 
         graph_expanded code program entry budgets rules exact (naming tables) before.graph after.graph before.ends.items row from there made endings
         (found_of later plain) places later
 
-    pub expanded_graph : (room : Bool) → PlacesChildren row made room cut after → IsOpenGraph exploration entry (IsOpen row) before
+    pub expanded_graph : PlacesChildren row made true cut after → IsOpenGraph exploration entry (IsOpen row) before
         → IsOpenGraph exploration entry Waits after
-    expanded_graph false places open_graph all = absurd (all cut.nodes places.1)
-    expanded_graph true places open_graph all =
+    expanded_graph places open_graph all =
         let before_all = all_before before.cuts.items cuts (subst HasAllNodes (places.1 ∙ cuts_are) all) in
         subst (λ (later : Tables). IsGraph (naming later) after.graph after.ends.items Waits) (sym tables_are)
         (subst (λ (ends : List End). IsGraph (naming tables) after.graph ends Waits) (sym ends_are)

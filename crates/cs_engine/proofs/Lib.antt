@@ -1,3 +1,4 @@
 pub mod Parameters
 pub mod Exploring
 pub mod Sourcing
+pub mod Keeping

@@ -1,5 +1,5 @@
 -- What is found comes from rows, as an exploration goes on: for the contracts of `explore`, `begin`, `expand` and `expand_all`.
-use Rattle.std.proofs.Common.{◌≡◌, ℕ, Bool, true, false, List, [], ◌++◌, map, Some, slice_get, refl, sym, ap, ◌∙◌, subst}
+use Rattle.std.proofs.Common.{◌≡◌, ℕ, Bool, true, false, List, [], ◌∷◌, ◌++◌, map, Some, length, slice_get, refl, sym, ap, ◌∙◌, subst}
 use Rattle.std.specs.Global.{Box}
 use Rattle.std.proofs.lemmas.List.{append-nil}
 use Rattle.cs_ast.specs.TypedProgram.{TypedProgram}
@@ -25,32 +25,27 @@ use Rattle.cs_explored.specs.declared.explored.Row.{Row}
 use Rattle.cs_explored.specs.declared.findings.Findings.{Findings}
 use Rattle.cs_explored.specs.declared.watch.Rule.{Rule}
 use Rattle.cs_explored.specs.Found.{IsPlaced}
-use Rattle.cs_explored.specs.Placing.{RowGraph, first_row, end_of_row, PlacesFirst, PlacesChildren, KeepsEnds, AddsEnds, AddsCuts}
-use Rattle.cs_successors.specs.Coming.{StateEnd}
+use Rattle.cs_explored.specs.Placing.{RowGraph, child_row, first_row, end_of_row, PlacesFirst, PlacesUntilFull, PlacesChildren, KeepsEnds, AddsEnds}
+use Rattle.cs_explored.specs.Placing.{AddsCuts}
+use Rattle.cs_successors.specs.Coming.{StateEnd, ComesOfState}
 use Rattle.cs_children.specs.declared.exploration.Exploration.{Exploration}
 use Rattle.cs_children.specs.Finding.{code_of, limits_of}
 use Rattle.cs_coverage.specs.Closing.{Waits, IsOpen, AreNames}
 use Rattle.cs_coverage.proofs.ClosedGraphs.{earlier_names}
 use Rattle.cs_coverage.proofs.Positions.{themselves}
 use Rattle.cs_coverage.proofs.StartBlocks.{no_blocks}
-use Rattle.cs_exactness.specs.Distinct.{AreDistinct}
-use Rattle.cs_exactness.specs.Noted.{EachState, EachNotesEvents}
-use Rattle.cs_exactness.specs.OwnRuns.{HasOwnRuns}
-use Rattle.cs_exactness.specs.Sources.{IsFirstRow, AreSourced, IsSourcedGraph, UnderNames}
-use Rattle.cs_exactness.proofs.DifferentRows.{are_distinct}
-use Rattle.cs_exactness.proofs.ExactRows.{is_exact}
+use Rattle.cs_exactness.specs.Graphs.{IsExactGraph}
+use Rattle.cs_exactness.specs.Sources.{IsFirstRow, ComesOfRow, AreSourced, IsSourcedGraph, UnderNames}
+use Rattle.cs_exactness.proofs.ExactGraphs.{exact_graph}
 use Rattle.cs_exactness.proofs.FirstStates.{first_state}
-use Rattle.cs_exactness.proofs.NotedEvents.{each_notes}
-use Rattle.cs_exactness.proofs.OwnRuns.{has_own_runs}
-use Rattle.cs_exactness.proofs.SourcedGraphs.{sources_given, sources_expanded, sources_nothing, sources_begun}
+use Rattle.cs_exactness.proofs.SourcedGraphs.{sources_given, sources_expanded, sources_refused, sources_nothing, sources_begun, sourced_first}
 use Rattle.cs_exactness.proofs.SourcedRows.{sourced_but}
 use Rattle.cs_exactness.proofs.Walking.{integer_row}
-use Rattle.cs_guesses.specs.Asking.{AreAskedAlong}
-use Rattle.cs_guesses.specs.Real.{HasRealGuesses, IsLoweredEntry}
+use Rattle.cs_guesses.specs.Graphs.{IsGuessedGraph}
 use Rattle.cs_guesses.proofs.Asked.{are_asked}
 use Rattle.cs_guesses.proofs.Real.{are_real}
-use Rattle.cs_engine.specs.Exploring.{program_of, ExploresIntegers, IsFull, HasSources, IsKept, IsDone, IsExactFor}
-use Rattle.cs_engine.proofs.Exploring.{ComesOf, given_graph, done_graph}
+use Rattle.cs_engine.specs.Exploring.{program_of, ExploresIntegers, HasSources, HasRefused, IsDone}
+use Rattle.cs_engine.proofs.Exploring.{ComesOf}
 
 module _ (exploration : Exploration) (entry : ℕ) (explores : ExploresIntegers exploration entry) where
   abbrev code : Code
@@ -68,12 +63,17 @@ module _ (exploration : Exploration) (entry : ℕ) (explores : ExploresIntegers 
   abbrev IsGraph : Naming → RowGraph → List End → (List (ℕ × ℕ) → ℕ → Type 0) → Type 0
   IsGraph names graph ends Open = IsSourcedGraph code program entry budgets names rules graph ends Open
 
+  -- one more row was refused, which comes from a row too
+  abbrev pub IsRefused : Findings → Type 0
+  IsRefused findings = HasRefused exploration entry (naming findings.tables) findings.graph.rows findings.ends.items findings.graph.nodes
+
   -- the first row
   module _ (before after : Findings) (state : Box State) (start : IsStart code program entry (naming before.tables) state.value)
       (differ : DifferInName (parameters_of (routine_of program entry))) (once : HasEachOnce (naming before.tables).syms) where
     first_is : (names : Naming) → AreNames (naming before.tables) names → HasEachOnce names.syms
         → IsFirstRow code program entry budgets names rules (first_row state)
     first_is names are each = record {
+      itself = refl;
       no_event = refl;
       no_guess = refl;
       first =
@@ -96,8 +96,22 @@ module _ (exploration : Exploration) (entry : ℕ) (explores : ExploresIntegers 
         subst (λ (ends : List End). IsGraph names after.graph ends Waits) (sym (keeps.ends ∙ no_ends))
         (begun room no_keys no_rows placed names (subst (λ (tables : Tables). AreNames (naming tables) names) keeps.tables are) each)
 
+    -- or it was refused
+    pub begun_refused : before.graph.rows ≡ [] → before.ends.items ≡ [] → KeepsEnds before after
+        → IsPlaced (words_of (live_part state.value)) (first_row state) false before after → IsRefused after
+    begun_refused no_rows no_ends keeps placed = record {
+      full = subst (λ (graph : RowGraph). length graph.rows ≡ graph.nodes) (sym placed.0.2) placed.0.1;
+      refused = first_row state;
+      sources = λ names are each.
+          let rows : after.graph.rows ≡ [] = ap (λ (graph : RowGraph). graph.rows) placed.0.2 ∙ no_rows in
+          let known = subst (λ (tables : Tables). AreNames (naming tables) names) keeps.tables are in
+          subst (λ (rows : List Row). AreSourced code program entry budgets names rules (rows ++ first_row state ∷ []) after.ends.items (λ number. ⊥)) (sym rows)
+          (subst (λ (ends : List End). AreSourced code program entry budgets names rules (first_row state ∷ []) ends (λ number. ⊥)) (sym (keeps.ends ∙ no_ends))
+          (sourced_first code program entry budgets names rules (first_row state) (λ number. ⊥) (first_is names known each)));
+    }
+
   -- the next row is given
-  given_sources : (before : Findings) (graph : RowGraph) (row : ℕ) → IsGiven row before.graph.work graph.work
+  pub given_sources : (before : Findings) (graph : RowGraph) (row : ℕ) → IsGiven row before.graph.work graph.work
       → graph ≡ with_work graph.work before.graph
       → HasSources exploration entry Waits before → HasSources exploration entry (IsOpen row) (record before { graph = graph })
   given_sources before graph row given rest sources names are each =
@@ -107,7 +121,8 @@ module _ (exploration : Exploration) (entry : ℕ) (explores : ExploresIntegers 
   module _ (before ended cut after : Findings) (tables : Tables) (row : ℕ) (from : Row) (there : slice_get before.graph.rows row ≡ Some from)
       (made : List Child) (endings : List StateEnd) (cuts : List Cut) (extends : Extends (naming before.tables) (naming tables))
       (adds : AddsEnds row endings (record before { tables = tables }) ended) (cutting : AddsCuts cuts ended cut) (keeps : KeepsEnds cut after)
-      (comes : ComesOf exploration (naming tables) from.state.value made endings) (gone : ¬ Waits before.graph.work row) where
+      (comes : ComesOf exploration (naming tables) from.state.value made endings cuts) (gone : ¬ Waits before.graph.work row)
+      (sources : HasSources exploration entry (IsOpen row) before) where
     ends_are : after.ends.items ≡ before.ends.items ++ map (end_of_row row) endings
     ends_are = keeps.ends ∙ cutting.ends ∙ adds.ends
 
@@ -119,48 +134,55 @@ module _ (exploration : Exploration) (entry : ℕ) (explores : ExploresIntegers 
 
     first_placed : (room : Bool) → PlacesChildren row made room cut after → PlacesFirst row made cut.graph after.graph
     first_placed true places = record { some = made; left = []; all = sym (append-nil made); placed = places.0 }
-    first_placed false places = places.0
+    first_placed false places = places.0.first
 
-    pub expanded_sources : (room : Bool) → PlacesChildren row made room cut after → HasSources exploration entry (IsOpen row) before
-        → HasSources exploration entry Waits after
-    expanded_sources room places sources names are each =
+    -- all that comes of the row, under the names of the tables now
+    module _ (names : Naming) (known : AreNames (naming tables) names) (each : HasEachOnce names.syms) where
+      graph : IsGraph names before.graph before.ends.items (IsOpen row)
+      graph = sources names (earlier_names extends known) each
+
+      all : ComesOfState code program budgets names rules from.state.value made endings × (cuts ≡ [])
+      all =
+          comes names program (record { model = refl; limit = explores.limit; extends = known.extend; numbered = known.numbered })
+          (integer_row code program entry budgets names rules before.graph.rows graph.sourced.rows_come row from there)
+
+      from_row : ComesOfRow code program entry budgets names rules before.graph.rows row made endings
+      from_row = record { row = from; there = there; all = all.0 }
+
+    pub no_cuts : IsNumbered (naming tables).bases → HasEachOnce (naming tables).syms → cuts ≡ []
+    no_cuts numbered once = (all (naming tables) (themselves (naming tables) numbered) once).1
+
+    pub expanded_sources : (room : Bool) → PlacesChildren row made room cut after → HasSources exploration entry Waits after
+    expanded_sources room places names are each =
         let known : AreNames (naming tables) names = subst (λ (t : Tables). AreNames (naming t) names) tables_are are in
-        let graph = sources names (earlier_names extends known) each in
-        let integer = integer_row code program entry budgets names rules before.graph.rows graph.sourced.rows_come row from there in
-        let all = comes names program (record { model = refl; limit = explores.limit; extends = known.extend; numbered = known.numbered }) integer in
         subst (λ (ends : List End). IsGraph names after.graph ends Waits) (sym ends_are)
-        (sources_expanded code program entry budgets names rules row made endings before.graph after.graph before.ends.items
-        (record { row = from; there = there; all = all }) gone
-        (subst (λ (g : RowGraph). PlacesFirst row made g after.graph) graph_is (first_placed room places)) graph)
+        (sources_expanded code program entry budgets names rules row made endings before.graph after.graph before.ends.items (from_row names known each) gone
+        (subst (λ (g : RowGraph). PlacesFirst row made g after.graph) graph_is (first_placed room places)) (graph names known each))
+
+    -- the next child was refused
+    expanded_refused : (places : PlacesUntilFull row made before.graph after.graph) → IsRefused after
+    expanded_refused places = record {
+      full = places.full;
+      refused = child_row row places.refused;
+      sources = λ names are each.
+          let known : AreNames (naming tables) names = subst (λ (t : Tables). AreNames (naming t) names) tables_are are in
+          subst (λ (ends : List End). AreSourced code program entry budgets names rules (after.graph.rows ++ child_row row places.refused ∷ []) ends
+          (λ number. ⊥)) (sym ends_are)
+          (sources_refused code program entry budgets names rules row made endings before.graph after.graph before.ends.items (from_row names known each) gone
+          places.first (graph names known each) places.refused places.next places.unseen);
+    }
+
+    pub is_refused : PlacesChildren row made false cut after → IsRefused after
+    is_refused places = expanded_refused (subst (λ (g : RowGraph). PlacesUntilFull row made g after.graph) graph_is places.0)
 
   -- nothing more is added
-  done_sources : (findings : Findings) (graph : RowGraph) → graph.rows ≡ findings.graph.rows → HasSources exploration entry Waits findings
+  pub done_sources : (findings : Findings) (graph : RowGraph) → graph.rows ≡ findings.graph.rows → HasSources exploration entry Waits findings
       → UnderNames (naming findings.tables) (λ names.
       AreSourced code program entry budgets names rules graph.rows findings.ends.items (λ number. ⊥))
   done_sources findings graph same sources names are each =
       subst (λ (rows : List Row). AreSourced code program entry budgets names rules rows findings.ends.items (λ number. ⊥)) (sym same)
       (sourced_but code program entry budgets names rules findings.graph.rows findings.ends.items (λ number. ⊥) (Waits findings.graph.work)
       (λ number never. absurd never) (sources names are each).sourced)
-
-  -- what is found stays closed but for the open rows too
-  pub kept_given : (before : Findings) (graph : RowGraph) (row : ℕ) → IsGiven row before.graph.work graph.work
-      → graph ≡ with_work graph.work before.graph
-      → IsKept exploration entry Waits before → IsKept exploration entry (IsOpen row) (record before { graph = graph })
-  kept_given before graph row given rest kept = record {
-    closed = given_graph exploration entry explores before graph row given rest kept.closed;
-    sources = given_sources before graph row given rest kept.sources;
-  }
-
-  -- at last no row waits, or there was no room
-  pub done_empty : (findings : Findings) (graph : RowGraph) → findings.graph.work ≡ [] → graph ≡ with_work graph.work findings.graph
-      → IsKept exploration entry Waits findings → IsDone exploration entry (record findings { graph = graph })
-  done_empty findings graph none rest kept = record {
-    closed = done_graph exploration entry explores findings graph none rest kept.closed;
-    sources = done_sources findings graph (ap (λ (g : RowGraph). g.rows) rest) kept.sources;
-  }
-
-  pub done_full : (findings : Findings) → IsFull findings → IsKept exploration entry Waits findings → IsDone exploration entry findings
-  done_full findings full kept = record { closed = λ all. absurd (full all); sources = done_sources findings findings.graph refl kept.sources }
 
   -- what was found in the end comes from rows
   module _ (findings : Findings) (explored : Explored) (numbered : IsNumbered (naming findings.tables).bases)
@@ -178,28 +200,12 @@ module _ (exploration : Exploration) (entry : ℕ) (explores : ExploresIntegers 
         sourced))
 
     -- so it is exact
-    pub exact_at_last : IsExactFor exploration entry explored × AreDistinct explored.rows.items explored.ends.items
-        × EachNotesEvents rules explored.rows.items explored.ends.items
-    exact_at_last = (
-      is_exact code program entry budgets last_names rules explored.rows.items sourced_at_last.rows_come explored.ends.items (λ number. ⊥) sourced_at_last,
-      are_distinct code program entry budgets last_names rules explored.rows.items explored.ends.items (λ number. ⊥) sourced_at_last,
-      each_notes code program entry budgets last_names rules explored.rows.items sourced_at_last.rows_come explored.ends.items (λ number. ⊥)
-          sourced_at_last,
-    )
+    pub graph_at_last : IsExactGraph code program entry budgets last_names rules explored.rows.items explored.ends.items
+    graph_at_last = exact_graph code program entry budgets last_names rules explored.rows.items explored.ends.items (λ number. ⊥) sourced_at_last
 
-    -- and its runs fit it
-    pub own_at_last : HasOwnRuns code program entry budgets last_names explored.rows.items explored.ends.items
-    own_at_last =
-        has_own_runs code program entry budgets last_names rules explored.rows.items sourced_at_last.rows_come explored.ends.items (λ number. ⊥)
-        sourced_at_last
-
-    -- what its states note of their guesses is so
-    pub asked_at_last : EachState explored.rows.items explored.ends.items (λ number state chain.
-        AreAskedAlong code program entry budgets last_names explored.rows.items state chain)
-    asked_at_last = are_asked code program entry budgets last_names rules explored.rows.items explored.ends.items (λ number. ⊥) sourced_at_last
-
-    -- and these guesses are real
-    pub real_at_last : IsLoweredEntry code program entry
-        → EachState explored.rows.items explored.ends.items (λ number state chain. HasRealGuesses program entry budgets last_names state)
-    real_at_last lowered =
-        are_real code program entry budgets last_names rules explored.rows.items explored.ends.items (λ number. ⊥) sourced_at_last lowered
+    -- and so is what is said of its guesses
+    pub guesses_at_last : IsGuessedGraph code program entry budgets last_names explored.rows.items explored.ends.items
+    guesses_at_last = record {
+      asked = are_asked code program entry budgets last_names rules explored.rows.items explored.ends.items (λ number. ⊥) sourced_at_last;
+      real = are_real code program entry budgets last_names rules explored.rows.items explored.ends.items (λ number. ⊥) sourced_at_last;
+    }

@@ -1,22 +1,17 @@
 -- Why an exploration was cut: a row that was one too many, or an access with too many offsets.
-use Rattle.std.specs.Prelude.{◌≡◌, ◌≢◌, ◌<◌, ℕ, ℤ, List, [], ◌∷◌, ◌++◌, Some, length, slice_get, Contains}
-use Rattle.cs_inputs.specs.declared.path.Path.{Path}
+use Rattle.std.specs.Prelude.{◌≡◌, ◌<◌, ℕ, ℤ, List, [], ◌∷◌, ◌++◌, Some, length, slice_get, Contains}
 use Rattle.cs_ast.specs.declared.place.Place.{Place}
 use Rattle.cs_ast.specs.TypedProgram.{TypedProgram}
-use Rattle.cs_model.specs.declared.kind.Kind.{Kind}
 use Rattle.cs_terms.specs.Term.{Valuation}
 use Rattle.cs_constraints.specs.Constraints.{Fits}
 use Rattle.cs_events.specs.declared.event.Event.{Event}
-use Rattle.cs_events.specs.declared.outcome.Outcome.TheVariants.{Fault}
+use Rattle.cs_events.specs.declared.outcome.RunBudgets.{RunBudgets}
 use Rattle.cs_events.specs.Objects.{Object}
 use Rattle.cs_events.specs.PendingEvents.{Accesses}
-use Rattle.cs_events.specs.Runs.{Log}
-use Rattle.cs_event_runs.specs.First.{Step}
 use Rattle.cs_cfg.specs.Graph.{Code}
 use Rattle.cs_results.specs.declared.budgets.Budgets.{Budgets}
 use Rattle.cs_results.specs.declared.result.Cut.{Cut}
 use Rattle.cs_results.specs.declared.result.Cut.TheVariants.{Nodes, Splits}
-use Rattle.cs_results.specs.RunBudgets.{run_budgets}
 use Rattle.cs_state.specs.declared.state.State.{State}
 use Rattle.cs_state.specs.Meaning.{setting_of}
 use Rattle.cs_state.specs.Naming.{Naming}
@@ -24,43 +19,32 @@ use Rattle.cs_access.specs.Numbers.{IsAscending}
 use Rattle.cs_explored.specs.declared.explored.End.{End}
 use Rattle.cs_explored.specs.declared.explored.Row.{Row}
 use Rattle.cs_explored.specs.declared.watch.Rule.{Rule}
+use Rattle.cs_successors.specs.EntryRuns.{PassesTo}
 use Rattle.cs_exactness.specs.Chains.{IsChain}
-use Rattle.cs_successors.specs.EntryRuns.{events_of, setting_with, EndsAfter, PassesTo}
-use Rattle.cs_engine.specs.Graphs.{IsExactGraph}
+use Rattle.cs_exactness.specs.FoundFaults.{FindsFaults}
+use Rattle.cs_exactness.specs.Graphs.{IsExactGraph}
+use Rattle.cs_guesses.specs.Graphs.{IsGuessedGraph}
 
--- another row comes from the one with a number
-abbrev pub HasChild : List Row → ℕ → Type 0
-HasChild rows number = (other : ℕ) × (row : Row) × (slice_get rows other ≡ Some row) × (other ≢ number) × (row.parent ≡ number)
-
--- an end has the fault
-abbrev pub HasFaultEnd : List End → Kind → Place → Type 0
-HasFaultEnd ends kind at = (number : ℕ) × (end : End) × (slice_get ends number ≡ Some end) × (end.outcome ≡ Fault kind at)
-
-module _ (code : Code) (program : TypedProgram) (entry : ℕ) (limits : Budgets) (names : Naming) (rules : List Rule) where
-  -- each fault of a run without guesses that comes directly after the events of a row that others come from is the outcome of an end
-  abbrev pub FindsFaults : List Row → List End → Type 0
-  FindsFaults rows ends = (number : ℕ) (chain : List Event) → HasChild rows number → IsChain rows number chain
-      → (inputs : Path → ℤ) (steps : List Step) (kind : Kind) (at : Place) (log : Log) → events_of steps ≡ chain
-      → EndsAfter code program entry (run_budgets limits) (setting_with program (run_budgets limits) inputs []) steps (Fault kind at) log
-      → HasFaultEnd ends kind at
-
-  -- there are as many rows as there may be, and one more was refused, with which all that is said of rows holds too
-  pub record IsOutOfNodes (rows : List Row) (ends : List End) (nodes : ℕ) : Type 0 where
-    pub budget : nodes ≡ limits.nodes
+module _ (code : Code) (program : TypedProgram) (entry : ℕ) (budgets : RunBudgets) (names : Naming) where
+  -- there are as many rows as nodes may be, and one more was refused. Of these rows with the refused one all that is said of rows is so, and where others come
+  -- from a row, the faults directly after its events have been found
+  pub record IsOutOfNodes (rules : List Rule) (rows : List Row) (ends : List End) (most nodes : ℕ) : Type 0 where
+    pub budget : nodes ≡ most
     pub full : length rows ≡ nodes
     pub refused : Row
-    pub exact : IsExactGraph code program entry (run_budgets limits) names rules (rows ++ refused ∷ []) ends
-    pub finds : FindsFaults (rows ++ refused ∷ []) ends
+    pub exact : IsExactGraph code program entry budgets names rules (rows ++ refused ∷ []) ends
+    pub guesses : IsGuessedGraph code program entry budgets names (rows ++ refused ∷ []) ends
+    pub finds : FindsFaults code program entry budgets (rows ++ refused ∷ []) ends
 
   -- after these events the run of a valuation is about to reach an offset in an object, by the access at a place
   abbrev pub IsAboutToReach : State → List Event → Place → Object → Valuation → ℤ → Type 0
   IsAboutToReach state chain at object valuation offset =
-      PassesTo code program entry (run_budgets limits) (setting_of names (run_budgets limits) state valuation) chain (Accesses at object offset)
+      PassesTo code program entry budgets (setting_of names budgets state valuation) chain (Accesses at object offset)
 
   -- directly after the events of some row the access at a place reaches so many offsets in one object, one under each valuation that fits, which are more
   -- than are followed
-  pub record HasManyOffsets (rows : List Row) (at : Place) (count : ℕ) : Type 0 where
-    pub many : limits.splits < count
+  pub record HasManyOffsets (rows : List Row) (most : ℕ) (at : Place) (count : ℕ) : Type 0 where
+    pub many : most < count
     pub number : ℕ
     pub row : Row
     pub there : slice_get rows number ≡ Some row
@@ -76,6 +60,12 @@ module _ (code : Code) (program : TypedProgram) (entry : ℕ) (limits : Budgets)
         → (valuation : Valuation) × Fits valuation row.state.value.constraints × IsAboutToReach row.state.value chain at object valuation offset
 
   -- what a cut is listed for
-  abbrev pub IsCutFor : List Row → List End → Cut → Type 0
-  IsCutFor rows ends (Nodes nodes) = IsOutOfNodes rows ends nodes
-  IsCutFor rows ends (Splits at count) = HasManyOffsets rows at count
+  abbrev pub IsCutFor : List Rule → List Row → List End → Budgets → Cut → Type 0
+  IsCutFor rules rows ends limits (Nodes nodes) = IsOutOfNodes rules rows ends limits.nodes nodes
+  IsCutFor rules rows ends limits (Splits at count) = HasManyOffsets rows limits.splits at count
+
+  -- what a cut is listed for where the entry works with integers alone: no access is cut
+  pub record IsCutForNodes (rules : List Rule) (rows : List Row) (ends : List End) (most : ℕ) (cut : Cut) : Type 0 where
+    pub nodes : ℕ
+    pub is : cut ≡ Nodes nodes
+    pub reason : IsOutOfNodes rules rows ends most nodes

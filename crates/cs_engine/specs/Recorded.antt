@@ -1,4 +1,4 @@
--- What a state records of the events that lead to it: its guesses, the phase of a watched protocol, and where its heap blocks were made.
+-- What a state records of where its heap blocks were made. Its guesses and its phase are noted too (`NotesEvents` of `cs_exactness`).
 use Rattle.std.specs.Prelude.{◌≡◌, ℕ, suc, true, List, Some, slice_get}
 use Rattle.cs_ast.specs.TypedProgram.{TypedProgram}
 use Rattle.cs_terms.specs.Term.{Valuation}
@@ -19,11 +19,7 @@ use Rattle.cs_state.specs.declared.state.State.{State}
 use Rattle.cs_state.specs.Cells.{block_of}
 use Rattle.cs_state.specs.Meaning.{setting_of}
 use Rattle.cs_state.specs.Naming.{Naming}
-use Rattle.cs_explored.specs.declared.explored.Row.{Row}
-use Rattle.cs_explored.specs.declared.watch.Rule.{Rule}
-use Rattle.cs_exactness.specs.Noted.{IsInEventOrder, RecordsGuesses}
 use Rattle.cs_successors.specs.EntryRuns.{events_of, HasLeft}
-use Rattle.cs_coverage.specs.Phases.{IsPhaseAlong}
 
 -- at the event with a number, one of these steps, an allocation with a number gave a block
 pub record IsMadeAt (steps : List Step) (event allocation : ℕ) : Type 0 where
@@ -42,10 +38,3 @@ module _ (code : Code) (program : TypedProgram) (entry : ℕ) (budgets : RunBudg
       → HasLeft code program entry budgets (setting_of names budgets state valuation) steps left log → events_of steps ≡ chain
       → (base allocation : ℕ) (block : Block) → slice_get names.bases base ≡ Some (Heap allocation) → block_of state.blocks base ≡ Some block
       → IsMadeAt steps block.made_by allocation
-
-  -- all that the state of a row, or of an end of it, records of the row's events
-  pub record RecordsEvents (rules : List Rule) (rows : List Row) (number : ℕ) (state : State) (chain : List Event) : Type 0 where
-    pub in_order : IsInEventOrder state
-    pub guesses : RecordsGuesses rows number state
-    pub phase : IsPhaseAlong rules chain state.phase
-    pub allocations : RecordsAllocations state chain

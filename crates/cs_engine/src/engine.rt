@@ -1,14 +1,13 @@
 //! The exploration of an entry, row by row.
-ghost use Rattle.std.specs.Prelude.{◌≡◌, ◌≤◌, ℕ, false, map, length, IfOk, OnOk};
+ghost use Rattle.std.specs.Prelude.{◌≡◌, ◌≤◌, ℕ, map, length, IfOk, OnOk};
 ghost use Rattle.cs_objects.specs.Prepared.{IsReady};
 ghost use Rattle.cs_explored.specs.Found.{IsSound, Grows, AreLinked, AreOfRows};
 ghost use Rattle.cs_operators.specs.Asking.{HasEveryKind};
 ghost use Rattle.cs_coverage.specs.Closing.{Waits, IsOpen};
-ghost use Rattle.cs_engine.specs.Exploring.{ExploresIntegers, IsFull, IsKept, IsDone};
+ghost use Rattle.cs_engine.specs.Exploring.{ExploresIntegers, IsKept, IsDone, LeadsOn};
 ghost use Rattle.cs_engine.specs.Exploring.{CoversIntegers, CoversOwnOnIntegers, CoversLiveOnIntegers};
 ghost use Rattle.cs_engine.specs.Exploring.{IsExactOnIntegers};
-ghost use Rattle.cs_engine.specs.Exploring.{HasOwnOnIntegers};
-ghost use Rattle.cs_engine.specs.Exploring.{NotesGuessesOnIntegers, HasRealGuessesOnIntegers};
+ghost use Rattle.cs_engine.specs.Exploring.{HasOwnOnIntegers, HasReasonsOnIntegers, HasGuessesOnIntegers};
 
 use crate::entry::start;
 use crate::numbering::have_each_once;
@@ -46,12 +45,12 @@ pub fn explore(
     ensures own { IfOk result (λ explored.
         HasEveryKind (λ b. kind_of b) checkers.old.items
         → HasOwnOnIntegers exploration.now entry explored) }
-    ensures asked { IfOk result (λ explored.
+    ensures cuts { IfOk result (λ explored.
         HasEveryKind (λ b. kind_of b) checkers.old.items
-        → NotesGuessesOnIntegers exploration.now entry explored) }
-    ensures real { IfOk result (λ explored.
+        → HasReasonsOnIntegers exploration.now entry explored) }
+    ensures guesses { IfOk result (λ explored.
         HasEveryKind (λ b. kind_of b) checkers.old.items
-        → HasRealGuessesOnIntegers exploration.now entry explored) }
+        → HasGuessesOnIntegers exploration.now entry explored) }
     ensures kinds { map (λ b. kind_of b) checkers.new.items
         ≡ map (λ b. kind_of b) checkers.old.items }
 {
@@ -116,12 +115,11 @@ fn expand(
 ) -> Result<bool, AllocError>
     requires { IsReady exploration.now.context.now.setting.now }
     ensures grows { OnOk result (Grows findings.old findings.new) }
-    ensures expands { OnOk result (HasEveryKind (λ b. kind_of b) checkers.old.items
+    ensures expands { IfOk result (λ room. HasEveryKind (λ b. kind_of b) checkers.old.items
         → (entry : ℕ) → ExploresIntegers exploration.now entry
         → ¬ Waits findings.old.graph.work row
         → IsKept exploration.now entry (IsOpen row) findings.old
-        → IsKept exploration.now entry Waits findings.new) }
-    ensures full { IfOk result (λ room. room ≡ false → IsFull findings.new) }
+        → LeadsOn exploration.now entry room findings.new) }
     ensures kinds { map (λ b. kind_of b) checkers.new.items
         ≡ map (λ b. kind_of b) checkers.old.items }
 {
@@ -133,6 +131,7 @@ fn expand(
     let state = Box::new(alloc, from.state.copy()?)?;
     let mut children = Children::new(alloc);
     children.find(exploration, state, &mut findings.tables, checkers)?;
+    have_each_once(&findings.tables);
     let Children { made, ends, cuts } = children;
     findings.add_ends(row, ends)?;
     findings.add_cuts(&cuts)?;

@@ -32,7 +32,7 @@ use Rattle.cs_eval.specs.Parts.{unguessed, unguessed_if}
 use Rattle.cs_eval.specs.Recorded.{AreEndsOf, IsRecordOf, RecordsInexact, IsInexactOf, IsRecordOfQuestion, RecordsQuestion}
 use Rattle.cs_eval.specs.Recorded.{AreRecordedAnswers}
 use Rattle.cs_eval.specs.Splits.{Asking, IsPieceWith, IsPieceOf, Each}
-use Rattle.cs_eval.specs.Wraps.{IsOfPart, IsWholeGuess, IsOfFar, AreOfParts, AreOfProduct, IsConvertedConstant, AreConverted}
+use Rattle.cs_eval.specs.Wraps.{IsOfPart, IsWholeGuess, IsOfFar, AreOfParts, AreOfProduct, AreConverted}
 use Rattle.cs_eval.proofs.PieceLists.{each_append}
 use Rattle.cs_eval.proofs.Signs.{compares-diff}
 

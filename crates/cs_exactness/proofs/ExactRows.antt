@@ -63,6 +63,7 @@ module _ (code : Code) (program : TypedProgram) (entry : ℕ) (budgets : RunBudg
       let chain = chain_of number row there in
       let integer = integer_row code program entry budgets names rules rows come number row there in
       record {
+        model = integer.model;
         chain = chain.0;
         leads = chain.1;
         possible = integer.possible;
@@ -111,7 +112,7 @@ module _ (code : Code) (program : TypedProgram) (entry : ℕ) (budgets : RunBudg
         }
 
     exact_one : IsExactEnd code program entry budgets names rows (end_of_row number one)
-    exact_one = record { chain = chain; leads = leads; possible = is.possible; comes = ends_so }
+    exact_one = record { model = is.model; chain = chain; leads = leads; possible = is.possible; comes = ends_so }
 
   module _ (ends : List End) (Are : ℕ → Type 0) (sourced : AreSourced code program entry budgets names rules rows ends Are) where
     pub is_exact : IsExact code program entry budgets names rows ends

@@ -8,3 +8,4 @@ pub mod SourcedGraphs
 pub mod FirstStates
 pub mod NotedEvents
 pub mod OwnRuns
+pub mod ExactGraphs

@@ -34,7 +34,7 @@ use Rattle.cs_explored.specs.declared.watch.Rule.{Rule}
 use Rattle.cs_progress.specs.Stepping.{end_of, result_in, HasReturned}
 use Rattle.cs_successors.specs.EntryRuns.{events_of, setting_with, step_of, start_of, first_in, LeavesAfter, now, later, unseen, Proceeds, stays, HasLeft}
 use Rattle.cs_successors.specs.EntryRuns.{begins, passes, EndsAfter}
-use Rattle.cs_successors.specs.Coming.{StateEnd, IsTruth, ListsTruth, IsAt, IsEndOf, ListsNoneOrTruth}
+use Rattle.cs_successors.specs.Coming.{StateEnd, IsTruth, ListsTruth, IsAt, IsEndOf, ListsNoneOrTruth, ComesToEnd}
 use Rattle.cs_successors.proofs.Passing.{passes_some, as_proceeds, ends_after_one, ends_alone}
 use Rattle.cs_successors.proofs.Proceeding.{proceeds_on}
 use Rattle.cs_coverage.specs.OwnNumbers.{own_valuation, IsGuessedAt, ListsTruths, ListsOwn}
@@ -43,7 +43,7 @@ use Rattle.cs_coverage.proofs.Coverage.{element}
 use Rattle.cs_coverage.proofs.Positions.{stands_for}
 use Rattle.cs_exactness.specs.Chains.{IsChain, first, further}
 use Rattle.cs_exactness.specs.OwnRuns.{IsAny, EndsOwn, FitsAfter, HasOwnRuns}
-use Rattle.cs_exactness.specs.Sources.{HasSource, IsOfParent, IsOfRow, AreSourced}
+use Rattle.cs_exactness.specs.Sources.{HasSource, IsOfParent, ComesOfRow, IsOfRow, AreSourced}
 use Rattle.cs_exactness.proofs.Guesses.{AreNumbered}
 use Rattle.cs_exactness.proofs.NotedEvents.{passed, early, guess_kept, guess_new, guess_split, of_row, parent_there}
 use Rattle.cs_exactness.proofs.Walking.{child_is, first_is, integer_row, numbered}
@@ -211,7 +211,7 @@ module _ (code : Code) (program : TypedProgram) (entry : ℕ) (budgets : RunBudg
     pub has_left : HasLeft code program entry budgets setting steps left log
     pub rest : RunsTo step setting (first_of setting log left) [] outcome end
 
-  left_last : (setting : Setting) (steps : List Step) (outcome : Outcome) (end : Log) → EndsAfter code program entry budgets setting steps outcome end
+  pub left_last : (setting : Setting) (steps : List Step) (outcome : Outcome) (end : Log) → EndsAfter code program entry budgets setting steps outcome end
       → HasLeftLast setting steps outcome end
   left_last setting [] outcome end runs = by runs refl
     where
@@ -399,6 +399,30 @@ module _ (code : Code) (program : TypedProgram) (entry : ℕ) (budgets : RunBudg
       (own_valuation program entry names setting steps log) left log
       (along inputs guesses steps log leads row there (so_far row.state.value chain guesses lists) steps [] left log (sym (append-nil steps)) has shown)
 
+  -- directly after the events of a row's chain, a run that ends there comes to an end of the row
+  pub comes_to_end : (number : ℕ) (made : List Child) (endings : List StateEnd)
+      (from : ComesOfRow code program entry budgets names rules rows number made endings) (chain : List Event) → IsChain rows number chain
+      → (guesses : List Guess) → ListsSoFar from.row.state.value chain guesses
+      → guess_at guesses (suc from.row.state.value.counters.events) ≡ None → (inputs : Path → ℤ) (steps : List Step) (outcome : Outcome) (log : Log)
+      → (runs : EndsAfter code program entry budgets (setting_with program budgets inputs guesses) steps outcome log) → events_of steps ≡ chain
+      → let parts = left_last code program entry budgets (setting_with program budgets inputs guesses) steps outcome log runs in
+      ComesToEnd code program budgets names endings (setting_with program budgets inputs guesses)
+      (own_valuation program entry names (setting_with program budgets inputs guesses) steps log) parts.left parts.log
+  comes_to_end number made endings from chain leads guesses lists none inputs steps outcome log runs shown =
+      let setting : Setting = setting_with program budgets inputs guesses in
+      let parts = left_last code program entry budgets setting steps outcome log runs in
+      let here = along inputs guesses steps log leads from.row from.there lists steps [] parts.left parts.log (sym (append-nil steps)) parts.has_left shown in
+      elim (from.all.covers setting (own_valuation program entry names setting steps log) parts.left parts.log (record { model = refl; limits = refl }) here
+      none) [
+        | inl child ↦
+            let more = ends_after_one (step_of code program entry budgets) setting child.to.leaves parts.rest in
+            absurd (nothing child.to.one more.0 more.1)
+        | inr comes ↦ comes
+      ]
+    where
+      nothing : (one : Step) (more : List Step) → [] ≡ one ∷ more → ⊥
+      nothing one more e = cc
+
   -- and the end that it comes to
   module _ (end : End) (chain : List Event) (of : IsOfRow code program entry budgets names rules rows end) (leads : IsChain rows end.row chain)
       (guesses : List Guess) (lists : ListsOwn end.state.value chain IsAny guesses) where
@@ -450,44 +474,34 @@ module _ (code : Code) (program : TypedProgram) (entry : ℕ) (budgets : RunBudg
         let setting : Setting = setting_with program budgets inputs guesses in
         let numbers : Valuation = own_valuation program entry names setting steps log in
         let parts = left_last code program entry budgets setting steps outcome log runs in
-        let here = along inputs guesses steps log leads last_row of.from.there lists_in_row steps [] parts.left parts.log (sym (append-nil steps))
-        parts.has_left shown in
-        elim (of.from.all.covers setting numbers parts.left parts.log (record { model = refl; limits = refl }) here none_next) [
-          | inl child ↦
-              let more = ends_after_one (step_of code program entry budgets) setting child.to.leaves parts.rest in
-              absurd (nothing child.to.one more.0 more.1)
-          | inr comes ↦
-              let that = ends_alone (step_of code program entry budgets) setting comes.ending.proceeds comes.ending.ends parts.rest in
-              let outcome_is : comes.end.0 ≡ of.one.0
-              = comes.ending.same ∙ ap end_of (sym that.outcome_is) ∙ sym ended ∙ ap (λ (e : End). e.outcome) of.same in
-              let place = of.from.all.outcomes_differ comes.place of.place comes.end of.one comes.there of.at outcome_is in
-              let one_is : comes.end ≡ of.one = same_Some comes.end of.one (sym comes.there ∙ ap (slice_get of.endings) place ∙ of.at) in
-              let way = leads_there code program entry budgets setting steps parts.left parts.log parts.has_left in
-              let state = comes.end.1.value in
-              let end_state : state ≡ end.state.value = ap (λ (e : StateEnd). e.1.value) one_is ∙ sym state_is in
-              let is : IsEndOf code program budgets names last_row.state.value comes.end
-              = subst (IsEndOf code program budgets names last_row.state.value) (sym one_is) end_is in
-              subst (λ (s : State). EndsOwn code program entry budgets names s setting steps outcome log) end_state (record {
-                last = comes.ending.last;
-                before = comes.ending.before;
-                ends_with = record {
-                  proceeds =
-                      subst (λ (l : List Step). Proceeds (step_of code program entry budgets) setting
-                      (step_of code program entry budgets (start_of code program entry budgets setting)) empty l comes.ending.last comes.ending.before)
-                      (append-nil steps) (proceeds_on (step_of code program entry budgets) setting way comes.ending.proceeds);
-                  ends =
-                      subst (λ o. first_of setting comes.ending.before comes.ending.last ≡ Ended o log) (sym that.outcome_is)
-                      (subst (λ l. first_of setting comes.ending.before comes.ending.last ≡ Ended comes.ending.ended l) (sym that.log_is) comes.ending.ends);
-                };
-                stands = stands_for code program budgets names state is.locals is.integers setting numbers comes.ending.last comes.ending.before
-                    comes.ending.comes;
-                returned =
-                    subst (λ o. HasReturned o (result_in names.bases state.blocks numbers state.result)) (sym that.outcome_is) comes.ending.returned;
-              })
-        ]
-      where
-        nothing : (one : Step) (more : List Step) → [] ≡ one ∷ more → ⊥
-        nothing one more e = cc
+        let comes = comes_to_end end.row of.made of.endings of.from chain leads guesses lists_in_row none_next inputs steps outcome log runs shown in
+        let that = ends_alone (step_of code program entry budgets) setting comes.ending.proceeds comes.ending.ends parts.rest in
+        let outcome_is : comes.end.0 ≡ of.one.0
+        = comes.ending.same ∙ ap end_of (sym that.outcome_is) ∙ sym ended ∙ ap (λ (e : End). e.outcome) of.same in
+        let place = of.from.all.outcomes_differ comes.place of.place comes.end of.one comes.there of.at outcome_is in
+        let one_is : comes.end ≡ of.one = same_Some comes.end of.one (sym comes.there ∙ ap (slice_get of.endings) place ∙ of.at) in
+        let way = leads_there code program entry budgets setting steps parts.left parts.log parts.has_left in
+        let state = comes.end.1.value in
+        let end_state : state ≡ end.state.value = ap (λ (e : StateEnd). e.1.value) one_is ∙ sym state_is in
+        let is : IsEndOf code program budgets names last_row.state.value comes.end
+        = subst (IsEndOf code program budgets names last_row.state.value) (sym one_is) end_is in
+        subst (λ (s : State). EndsOwn code program entry budgets names s setting steps outcome log) end_state (record {
+          last = comes.ending.last;
+          before = comes.ending.before;
+          ends_with = record {
+            proceeds =
+                subst (λ (l : List Step). Proceeds (step_of code program entry budgets) setting
+                (step_of code program entry budgets (start_of code program entry budgets setting)) empty l comes.ending.last comes.ending.before)
+                (append-nil steps) (proceeds_on (step_of code program entry budgets) setting way comes.ending.proceeds);
+            ends =
+                subst (λ o. first_of setting comes.ending.before comes.ending.last ≡ Ended o log) (sym that.outcome_is)
+                (subst (λ l. first_of setting comes.ending.before comes.ending.last ≡ Ended comes.ending.ended l) (sym that.log_is) comes.ending.ends);
+          };
+          stands = stands_for code program budgets names state is.locals is.integers setting numbers comes.ending.last comes.ending.before
+              comes.ending.comes;
+          returned =
+              subst (λ o. HasReturned o (result_in names.bases state.blocks numbers state.result)) (sym that.outcome_is) comes.ending.returned;
+        })
 
   pub has_own_runs : (ends : List End) (Are : ℕ → Type 0) → AreSourced code program entry budgets names rules rows ends Are
       → HasOwnRuns code program entry budgets names rows ends

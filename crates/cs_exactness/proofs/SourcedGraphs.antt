@@ -6,12 +6,13 @@ use Rattle.std.specs.Prelude.{nat_eq}
 use Rattle.std.specs.Cmp.Lexicographic.{pointwise}
 use Rattle.std.proofs.lemmas.Option.{same_Some, slice_get_within}
 use Rattle.cs_ast.specs.TypedProgram.{TypedProgram}
+use Rattle.cs_events.specs.declared.event.Event.{Event}
 use Rattle.cs_events.specs.declared.outcome.RunBudgets.{RunBudgets}
 use Rattle.cs_cfg.specs.Graph.{Code}
 use Rattle.cs_state.specs.Naming.{Naming}
 use Rattle.cs_keys.specs.Live.{live_part}
 use Rattle.cs_keys.specs.Words.{words_of}
-use Rattle.cs_graph.specs.Adding.{IsAdded, with_work}
+use Rattle.cs_graph.specs.Adding.{IsAdded, IsUnseen, with_work}
 use Rattle.cs_graph.specs.declared.adding.Added.{Added}
 use Rattle.cs_graph.specs.declared.adding.Added.TheVariants.{New, Old}
 use Rattle.cs_graph.specs.Waiting.{IsWaiting, IsGiven}
@@ -21,11 +22,11 @@ use Rattle.cs_explored.specs.declared.explored.Row.{Row}
 use Rattle.cs_explored.specs.declared.watch.Rule.{Rule}
 use Rattle.cs_explored.specs.Placing.{RowGraph, child_row, end_of_row, PlacesRow, PlacesAll, PlacesFirst}
 use Rattle.cs_successors.specs.Coming.{StateEnd}
-use Rattle.cs_coverage.specs.Closing.{Waits, IsOpen}
+use Rattle.cs_coverage.specs.Closing.{Waits, IsOpen, IsListed}
 use Rattle.cs_coverage.proofs.ClosedGraphs.{kept_place}
 use Rattle.cs_coverage.proofs.RowKeys.{keys_joined, long_joined}
 use Rattle.cs_exactness.specs.Sources.{IsFirstRow, ComesOfRow, AreSourced, IsSourcedGraph}
-use Rattle.cs_exactness.proofs.SourcedRows.{AreFirst, sourced_but, comes_more, sourced_ends, first_none, sourced_child, firsts_more, unlike_all}
+use Rattle.cs_exactness.proofs.SourcedRows.{AreFirst, listed_there, sourced_but, comes_more, sourced_ends, first_none, sourced_child, firsts_more, unlike_all}
 
 -- an empty list has no element
 nowhere : {A : Type 0} (xs : List A) → xs ≡ [] → (place : ℕ) (x : A) → slice_get xs place ≡ Some x → ⊥
@@ -63,7 +64,7 @@ module _ (code : Code) (program : TypedProgram) (entry : ℕ) (budgets : RunBudg
 
   -- a row is worked on, of which these children and ends come
   module _ (row : ℕ) (made : List Child) (endings : List StateEnd) where
-    module _ (ends : List End) where
+    module _ (ends : List End) (listed : (place : ℕ) (one : StateEnd) → slice_get endings place ≡ Some one → IsListed ends row one) where
       -- so many of its children were placed
       record IsStage (count : ℕ) (graph : RowGraph) : Type 0 where
         sources : IsGraph graph ends Waits
@@ -97,14 +98,14 @@ module _ (code : Code) (program : TypedProgram) (entry : ℕ) (budgets : RunBudg
             long = long_joined before after (child_row row child) visits number is.sources.keys is.sources.long new;
             sourced = subst (λ (rows : List Row). Sourced rows ends (Waits after.work)) (sym new.rows)
                 (sourced_child code program entry budgets names rules row before.rows made endings is.from ends (Waits after.work) (Waits before.work)
-                is.sources.sourced count child at is.firsts still_gone fewer unlike);
+                is.sources.sourced count child at is.firsts still_gone fewer unlike listed);
           };
           from = subst (λ (rows : List Row). Comes rows row made endings) (sym new.rows)
               (comes_more code program entry budgets names rules before.rows (child_row row child ∷ []) row made endings is.from);
           gone = still_gone;
           firsts = subst (λ (rows : List Row). AreFirst code program entry budgets names rules rows row made (suc count)) (sym new.rows)
               (firsts_more code program entry budgets names rules row before.rows made endings is.from ends (Waits after.work) (Waits before.work)
-              is.sources.sourced count child at is.firsts still_gone fewer unlike);
+              is.sources.sourced count child at is.firsts still_gone fewer unlike listed);
         }
           where
             fewer : (n : ℕ) → n < length before.rows → Waits after.work n → Waits before.work n
@@ -121,35 +122,59 @@ module _ (code : Code) (program : TypedProgram) (entry : ℕ) (budgets : RunBudg
 
       place_all : (todo : List Child) (count : ℕ) (before after : RowGraph)
           → ((i : ℕ) (child : Child) → slice_get todo i ≡ Some child → slice_get made (count + i) ≡ Some child) → IsStage count before
-          → PlacesAll row todo before after → IsGraph after ends Waits
-      place_all [] count before after each is same = subst (λ (g : RowGraph). IsGraph g ends Waits) (sym same) is.sources
+          → PlacesAll row todo before after → IsStage (count + length todo) after
+      place_all [] count before after each is same =
+          subst (λ (n : ℕ). IsStage n after) (omega arith) (subst (IsStage count) (sym same) is)
       place_all (child ∷ todo) count before after each is (between, first, rest) =
           let none : count + 0 ≡ count = omega arith in
           let at : slice_get made count ≡ Some child = subst (λ (n : ℕ). slice_get made n ≡ Some child) none (each 0 child refl) in
-          place_all todo (suc count) between after
+          subst (λ (n : ℕ). IsStage n after) (omega arith)
+          (place_all todo (suc count) between after
           (λ i other there. subst (λ (n : ℕ). slice_get made n ≡ Some other) (omega arith) (each (suc i) other there))
-          (place_one count child at before is between first.0 first.1 first.2) rest
+          (place_one count child at before is between first.0 first.1 first.2) rest)
+
+      -- its next child would come from it too, if there were room
+      refused : (count : ℕ) (child : Child) → slice_get made count ≡ Some child → (graph : RowGraph) → IsStage count graph
+          → IsUnseen (pointwise nat_eq) (words_of (live_part child.state.value)) graph.keys
+          → Sourced (graph.rows ++ child_row row child ∷ []) ends (λ number. ⊥)
+      refused count child at graph is unseen =
+          sourced_child code program entry budgets names rules row graph.rows made endings is.from ends (λ number. ⊥) (Waits graph.work) is.sources.sourced
+          count child at is.firsts (λ never. never) (λ number within never. absurd never)
+          (unlike_all code program entry budgets names rules graph is.sources.keys is.sources.long (child_row row child) unseen) listed
 
     -- its ends were added, and the first of its children
-    pub sources_expanded : (before after : RowGraph) (ends : List End) → Comes before.rows row made endings → ¬ Waits before.work row
-        → PlacesFirst row made before after → IsGraph before ends (IsOpen row) → IsGraph after (ends ++ map (end_of_row row) endings) Waits
-    sources_expanded before after ends from gone places is =
-        place_all (ends ++ map (end_of_row row) endings) places.some 0 before after
-        (λ i child there.
-        subst (λ (n : ℕ). slice_get made n ≡ Some child) (omega arith)
-        (subst (λ (l : List Child). slice_get l i ≡ Some child) (sym places.all) (kept_place places.some places.left i child there)))
-        (record {
-          sources = record {
-            keys = is.keys;
-            long = is.long;
-            sourced = sourced_ends code program entry budgets names rules row before.rows made endings from ends (Waits before.work) (IsOpen row before.work)
+    module _ (before after : RowGraph) (ends : List End) (from : Comes before.rows row made endings) (gone : ¬ Waits before.work row)
+        (places : PlacesFirst row made before after) (is : IsGraph before ends (IsOpen row)) where
+      abbrev all_ends : List End
+      all_ends = ends ++ map (end_of_row row) endings
+
+      placed : IsStage all_ends (listed_there ends row endings) (length places.some) after
+      placed =
+          place_all all_ends (listed_there ends row endings) places.some 0 before after
+          (λ i child there.
+          subst (λ (n : ℕ). slice_get made n ≡ Some child) (omega arith)
+          (subst (λ (l : List Child). slice_get l i ≡ Some child) (sym places.all) (kept_place places.some places.left i child there)))
+          (record {
+            sources = record {
+              keys = is.keys;
+              long = is.long;
+              sourced = sourced_ends code program entry budgets names rules row before.rows made endings from ends (Waits before.work)
+                  (IsOpen row before.work) is.sourced (inr refl) (λ number waits. inl waits) gone;
+            };
+            from = from;
+            gone = gone;
+            firsts = first_none code program entry budgets names rules row before.rows made endings from ends (Waits before.work) (IsOpen row before.work)
                 is.sourced (inr refl) (λ number waits. inl waits) gone;
-          };
-          from = from;
-          gone = gone;
-          firsts = first_none code program entry budgets names rules row before.rows made endings from ends (Waits before.work) (IsOpen row before.work)
-              is.sourced (inr refl) (λ number waits. inl waits) gone;
-        }) places.placed
+          }) places.placed
+
+      pub sources_expanded : IsGraph after all_ends Waits
+      sources_expanded = placed.sources
+
+      -- and the next one was refused
+      pub sources_refused : (child : Child) → slice_get made (length places.some) ≡ Some child
+          → IsUnseen (pointwise nat_eq) (words_of (live_part child.state.value)) after.keys
+          → Sourced (after.rows ++ child_row row child ∷ []) all_ends (λ number. ⊥)
+      sources_refused child at unseen = refused all_ends (listed_there ends row endings) (length places.some) child at after placed unseen
 
   -- nothing is there
   pub sources_nothing : (graph : RowGraph) → graph.keys ≡ [] → graph.rows ≡ [] → IsGraph graph [] Waits
@@ -162,13 +187,14 @@ module _ (code : Code) (program : TypedProgram) (entry : ℕ) (budgets : RunBudg
       keys_differ = λ one other first second here there same. absurd (nowhere graph.rows no_rows one first here);
       siblings_differ = λ one other first second here there at too parents leads again labels. absurd (nowhere graph.rows no_rows one first at);
       ends_differ = λ one other first second here there. cc;
+      ends_listed = λ number row event there. absurd (nowhere graph.rows no_rows number row there);
       no_children = λ number row event there. absurd (nowhere graph.rows no_rows number row there);
       no_ends = λ number end there. cc;
     };
   }
 
   -- the first row alone
-  sourced_first : (row : Row) (Are : ℕ → Type 0) → IsFirstRow code program entry budgets names rules row → Sourced (row ∷ []) [] Are
+  pub sourced_first : (row : Row) (Are : ℕ → Type 0) → IsFirstRow code program entry budgets names rules row → Sourced (row ∷ []) [] Are
   sourced_first row Are first = record {
     rows_come = λ number found there.
         let one = alone row number found there in
@@ -177,13 +203,15 @@ module _ (code : Code) (program : TypedProgram) (entry : ℕ) (budgets : RunBudg
     keys_differ = λ one other found second here there same. (alone row one found here).0 ∙ sym (alone row other second there).0;
     siblings_differ = λ one other found second here there at too parents leads again labels. (alone row one found at).0 ∙ sym (alone row other second too).0;
     ends_differ = λ one other found second here there. cc;
-    no_children = λ number found event there leads.
-        let none = first.no_event in
-        let same = (alone row number found there).1 in
-        let wrong = sym none ∙ ap (λ (r : Row). r.event) same ∙ leads in
-        cc;
+    ends_listed = λ number found event there leads. absurd (no_event number found event there leads);
+    no_children = λ number found event there leads. absurd (no_event number found event there leads);
     no_ends = λ number end there. cc;
   }
+    where
+      no_event : (number : ℕ) (found : Row) (event : Event) → slice_get (row ∷ []) number ≡ Some found → found.event ≡ Some event → ⊥
+      no_event number found event there leads =
+          let wrong = sym first.no_event ∙ ap (λ (r : Row). r.event) (alone row number found there).1 ∙ leads in
+          cc
 
   -- the first row was added
   begun : (before after : RowGraph) (row : Row) → before.keys ≡ [] → before.rows ≡ [] → (visits : ℕ) (added : Added)

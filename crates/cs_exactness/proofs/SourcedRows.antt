@@ -2,9 +2,10 @@
 use Rattle.std.proofs.Common.{◌≡◌, ◌≢◌, ◌⊎◌, inl, inr, ◌<◌, ◌+◌, ℕ, zero, suc, List, [], ◌∷◌, ◌++◌, map, length, Some}
 use Rattle.std.proofs.Common.{slice_get, refl, sym, ap, ◌∙◌, subst}
 use Rattle.std.proofs.Common.{arith}
-use Rattle.std.specs.Prelude.{nat_eq}
+use Rattle.std.specs.Prelude.{nat_eq, option_map}
 use Rattle.std.specs.Cmp.Lexicographic.{pointwise, bytes_decides}
-use Rattle.std.proofs.lemmas.Option.{same_Some, slice_get_within}
+use Rattle.std.proofs.lemmas.List.{append-nil}
+use Rattle.std.proofs.lemmas.Option.{same_Some, slice_get_within, slice_get-map}
 use Rattle.cs_ast.specs.TypedProgram.{TypedProgram}
 use Rattle.cs_events.specs.declared.event.Event.{Event}
 use Rattle.cs_events.specs.declared.outcome.RunBudgets.{RunBudgets}
@@ -19,11 +20,11 @@ use Rattle.cs_explored.specs.declared.explored.Row.{Row}
 use Rattle.cs_explored.specs.declared.watch.Rule.{Rule}
 use Rattle.cs_explored.specs.Placing.{RowGraph, child_row, end_of_row}
 use Rattle.cs_successors.specs.Coming.{StateEnd}
-use Rattle.cs_coverage.specs.Closing.{HaveKeys}
+use Rattle.cs_coverage.specs.Closing.{HaveKeys, IsListed}
 use Rattle.cs_coverage.proofs.ClosedGraphs.{kept_place, last_or_before}
 use Rattle.cs_coverage.proofs.RowKeys.{some_there}
 use Rattle.cs_exactness.specs.Distinct.{KeysDiffer, SiblingsDiffer, EndsDiffer}
-use Rattle.cs_exactness.specs.Sources.{HasSource, ComesOfRow, IsOfRow, AreSourced}
+use Rattle.cs_exactness.specs.Sources.{HasSource, ComesOfRow, IsOfRow, HasEnds, AreSourced}
 
 -- an element of a list, or of one behind it
 behind_or_before : {A B : Type 0} (f : A → B) (xs : List B) (ys : List A) (place : ℕ) (z : B) → slice_get (xs ++ map f ys) place ≡ Some z
@@ -39,6 +40,15 @@ behind_or_before f (x ∷ xs) ys (suc place) z there = elim (behind_or_before f 
   | inl before ↦ inl before
   | inr found ↦ let at = found.2 in inr (found.0, found.1, omega (arith, at), found.3, found.4)
 ]
+
+-- the ends of a row that are added are listed
+pub listed_there : (ends : List End) (row : ℕ) (endings : List StateEnd) (place : ℕ) (one : StateEnd) → slice_get endings place ≡ Some one
+    → IsListed (ends ++ map (end_of_row row) endings) row one
+listed_there [] row endings place one at =
+    record { place = place; there = slice_get-map (end_of_row row) endings place ∙ ap (option_map (end_of_row row)) at }
+listed_there (end ∷ ends) row endings place one at =
+    let rest = listed_there ends row endings place one at in
+    record { place = suc rest.place; there = rest.there }
 
 module _ (code : Code) (program : TypedProgram) (entry : ℕ) (budgets : RunBudgets) (names : Naming) (rules : List Rule) where
   abbrev Comes : List Row → ℕ → List Child → List StateEnd → Type 0
@@ -60,6 +70,7 @@ module _ (code : Code) (program : TypedProgram) (entry : ℕ) (budgets : RunBudg
     keys_differ = is.keys_differ;
     siblings_differ = is.siblings_differ;
     ends_differ = is.ends_differ;
+    ends_listed = is.ends_listed;
     no_children = λ number row event there leads open_row. is.no_children number row event there leads (fewer row.parent open_row);
     no_ends = λ number end there open_row. is.no_ends number end there (fewer end.row open_row);
   }
@@ -96,6 +107,20 @@ module _ (code : Code) (program : TypedProgram) (entry : ℕ) (budgets : RunBudg
     one = of.one;
     at = of.at;
     same = of.same;
+  }
+
+  abbrev Listed : List Row → List End → ℕ → Type 0
+  Listed rows ends number = HasEnds code program entry budgets names rules rows ends number
+
+  -- the ends of a row stay listed with more rows and ends
+  listed_more : (rows more : List Row) (ends added : List End) (number : ℕ) → Listed rows ends number → Listed (rows ++ more) (ends ++ added) number
+  listed_more rows more ends added number has = record {
+    made = has.made;
+    endings = has.endings;
+    from = comes_more rows more number has.made has.endings has.from;
+    listed = λ place one at.
+        let is = has.listed place one at in
+        record { place = is.place; there = kept_place ends added is.place (end_of_row number one) is.there };
   }
 
   -- the children of a row that are there are some of the first so many
@@ -149,6 +174,9 @@ module _ (code : Code) (program : TypedProgram) (entry : ℕ) (budgets : RunBudg
         keys_differ = sourced.keys_differ;
         siblings_differ = sourced.siblings_differ;
         ends_differ = ends_differ;
+        ends_listed = λ number found event there leads.
+            subst (λ (l : List Row). Listed l all_ends found.parent) (append-nil rows)
+            (listed_more rows [] ends (map (end_of_row row) endings) found.parent (sourced.ends_listed number found event there leads));
         no_children = λ number found event there leads is_open. sourced.no_children number found event there leads (fewer found.parent is_open);
         no_ends = λ number end there is_open. elim (behind_or_before (end_of_row row) ends endings number end there) [
           | inl before ↦ sourced.no_ends number end before (fewer end.row is_open)
@@ -165,7 +193,8 @@ module _ (code : Code) (program : TypedProgram) (entry : ℕ) (budgets : RunBudg
         (at : slice_get made count ≡ Some child)
         (firsts : AreFirst rows row made count) (gone : ¬ Are row) (fewer : (number : ℕ) → number < length rows → Are number → Were number)
         (unlike : (number : ℕ) (found : Row) → slice_get rows number ≡ Some found
-        → live_part found.state.value ≢ live_part child.state.value) where
+        → live_part found.state.value ≢ live_part child.state.value)
+        (listed : (place : ℕ) (one : StateEnd) → slice_get endings place ≡ Some one → IsListed ends row one) where
       abbrev new : Row
       new = child_row row child
 
@@ -240,6 +269,17 @@ module _ (code : Code) (program : TypedProgram) (entry : ℕ) (budgets : RunBudg
         | inr last ↦ gone (subst Are (ap (λ (r : Row). r.parent) last.1) is_open)
       ]
 
+      ends_listed : (number : ℕ) (found : Row) (event : Event) → slice_get all_rows number ≡ Some found → found.event ≡ Some event
+          → Listed all_rows ends found.parent
+      ends_listed number found event there leads = elim (last_or_before rows new found number there) [
+        | inl before ↦
+            subst (λ (l : List End). Listed all_rows l found.parent) (append-nil ends)
+            (listed_more rows (new ∷ []) ends [] found.parent (sourced.ends_listed number found event before leads))
+        | inr last ↦
+            subst (Listed all_rows ends) (sym (ap (λ (r : Row). r.parent) last.1))
+            (record { made = made; endings = endings; from = comes_more rows (new ∷ []) row made endings from; listed = listed })
+      ]
+
       pub sourced_child : Sourced all_rows ends Are
       sourced_child = record {
         rows_come = row_comes;
@@ -247,6 +287,7 @@ module _ (code : Code) (program : TypedProgram) (entry : ℕ) (budgets : RunBudg
         keys_differ = keys_differ;
         siblings_differ = siblings_differ;
         ends_differ = sourced.ends_differ;
+        ends_listed = ends_listed;
         no_children = no_children;
         no_ends = λ number end there is_open.
             let of = sourced.ends_come number end there in

@@ -54,15 +54,17 @@ module _ (code : Code) (program : TypedProgram) (entry : ℕ) (budgets : RunBudg
     pub returned : HasReturned outcome (result_in names.bases end.state.value.blocks valuation end.state.value.result)
     pub stands : Stands end.state.value valuation last before
 
-  -- a row has a chain, by which the runs of all valuations that fit come to it; and there are some
+  -- a row has a chain, by which the runs of all valuations that fit come to it, under the program's data model; and there are some
   pub record IsExactRow (rows : List Row) (number : ℕ) (row : Row) : Type 0 where
+    pub model : row.state.value.model ≡ program.model
     pub chain : List Event
     pub leads : IsChain rows number chain
     pub possible : IsPossible row.state.value
     pub comes : (valuation : Valuation) → Fits valuation row.state.value.constraints → ComesToState row.state.value chain valuation
 
-  -- the runs of all valuations that fit an end pass its row's chain and end as it says; and there are some
+  -- the runs of all valuations that fit an end pass its row's chain and end as it says, under the program's data model; and there are some
   pub record IsExactEnd (rows : List Row) (end : End) : Type 0 where
+    pub model : end.state.value.model ≡ program.model
     pub chain : List Event
     pub leads : IsChain rows end.row chain
     pub possible : IsPossible end.state.value

@@ -4,3 +4,5 @@ pub mod Exact
 pub mod Noted
 pub mod Sources
 pub mod OwnRuns
+pub mod Graphs
+pub mod FoundFaults

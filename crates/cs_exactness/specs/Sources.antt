@@ -1,5 +1,5 @@
--- Where rows and ends come from: each row but the first is a child of the row that its parent number names, and each end is one of its row. These are facts
--- about single rows and ends, and hold of each graph on the way.
+-- Where rows and ends come from: each row but the first is a child of the row that its parent number names, all of whose ends are listed, and each end is one
+-- of its row. These are facts about single rows and ends, and hold of each graph on the way.
 use Rattle.std.specs.Prelude.{◌≡◌, ◌⊎◌, ◌<◌, ℕ, List, None, Some, length, slice_get}
 use Rattle.cs_ast.specs.TypedProgram.{TypedProgram}
 use Rattle.cs_events.specs.declared.event.Event.{Event}
@@ -15,7 +15,7 @@ use Rattle.cs_explored.specs.declared.explored.Row.{Row}
 use Rattle.cs_explored.specs.declared.watch.Rule.{Rule}
 use Rattle.cs_explored.specs.Placing.{RowGraph, child_row, end_of_row}
 use Rattle.cs_successors.specs.Coming.{StateEnd, IsIntegerState, ComesOfState}
-use Rattle.cs_coverage.specs.Closing.{AreNames, HaveKeys, BeginsOwn}
+use Rattle.cs_coverage.specs.Closing.{AreNames, HaveKeys, BeginsOwn, IsListed}
 use Rattle.cs_exactness.specs.Distinct.{KeysDiffer, SiblingsDiffer, EndsDiffer}
 
 module _ (code : Code) (program : TypedProgram) (entry : ℕ) (budgets : RunBudgets) (names : Naming) (rules : List Rule) where
@@ -26,8 +26,9 @@ module _ (code : Code) (program : TypedProgram) (entry : ℕ) (budgets : RunBudg
     pub own : BeginsOwn code program entry names state
     pub phase : state.phase ≡ 0
 
-  -- the first row: no event leads to it, and nothing was guessed there
+  -- the first row: it comes from itself, no event leads to it, and nothing was guessed there
   pub record IsFirstRow (row : Row) : Type 0 where
+    pub itself : row.parent ≡ 0
     pub no_event : row.event ≡ None
     pub no_guess : row.guess ≡ None
     pub first : IsFirstState row.state.value
@@ -63,13 +64,22 @@ module _ (code : Code) (program : TypedProgram) (entry : ℕ) (budgets : RunBudg
     pub at : slice_get endings place ≡ Some one
     pub same : end ≡ end_of_row end.row one
 
-  -- nothing has come of open rows so far, no two rows or ends are alike, and each comes from a row
+  -- all ends of a row are listed
+  pub record HasEnds (rows : List Row) (ends : List End) (number : ℕ) : Type 0 where
+    pub made : List Child
+    pub endings : List StateEnd
+    pub from : ComesOfRow rows number made endings
+    pub listed : (place : ℕ) (one : StateEnd) → slice_get endings place ≡ Some one → IsListed ends number one
+
+  -- nothing has come of open rows so far, no two rows or ends are alike, each comes from a row, and a row from which another one comes has all its ends
   pub record AreSourced (rows : List Row) (ends : List End) (Are : ℕ → Type 0) : Type 0 where
     pub rows_come : (number : ℕ) (row : Row) → slice_get rows number ≡ Some row → HasSource rows number row
     pub ends_come : (number : ℕ) (end : End) → slice_get ends number ≡ Some end → IsOfRow rows end
     pub keys_differ : KeysDiffer rows
     pub siblings_differ : SiblingsDiffer rows
     pub ends_differ : EndsDiffer ends
+    pub ends_listed : (number : ℕ) (row : Row) (event : Event) → slice_get rows number ≡ Some row → row.event ≡ Some event
+        → HasEnds rows ends row.parent
     pub no_children : (number : ℕ) (row : Row) (event : Event) → slice_get rows number ≡ Some row → row.event ≡ Some event → ¬ Are row.parent
     pub no_ends : (number : ℕ) (end : End) → slice_get ends number ≡ Some end → ¬ Are end.row
 

@@ -1,13 +1,16 @@
 -- Children, ends and cuts that are added one after another: for the contracts of `Findings`.
-use Rattle.std.proofs.Common.{◌≡◌, ◌<◌, ℕ, Bool, true, false, List, [], ◌∷◌, ◌++◌, map, length, take, refl, sym, ap, ◌∙◌, subst, arith}
-use Rattle.std.specs.Prelude.{drop, Contains}
+use Rattle.std.proofs.Common.{◌≡◌, ◌<◌, ℕ, Bool, true, false, List, [], ◌∷◌, ◌++◌, map, length, take, Some, slice_get, refl, sym, ap, ◌∙◌, subst}
+use Rattle.std.proofs.Common.{arith}
+use Rattle.std.specs.Prelude.{drop, nat_eq}
+use Rattle.std.specs.Cmp.Lexicographic.{pointwise}
 use Rattle.std.proofs.lemmas.List.{append-nil, append_assoc, map-append, map-id, take-append-drop}
-use Rattle.std.proofs.lemmas.List.Elements.{All-nil, All-push, Contains-push}
+use Rattle.std.proofs.lemmas.List.Elements.{All-nil, All-push}
 use Rattle.std.specs.Global.{Box}
 use Rattle.cs_results.specs.declared.result.Cut.{Cut}
 use Rattle.cs_results.specs.declared.result.Cut.TheVariants.{Nodes}
 use Rattle.cs_events.specs.declared.outcome.Outcome.{Outcome}
 use Rattle.cs_state.specs.declared.state.State.{State}
+use Rattle.cs_graph.specs.Adding.{IsUnseen}
 use Rattle.cs_explored.specs.declared.child.Child.{Child}
 use Rattle.cs_explored.specs.declared.explored.End.{End}
 use Rattle.cs_explored.specs.declared.findings.Findings.{Findings}
@@ -114,19 +117,26 @@ place_next row made child before between after new true is there placed grows re
 }
 
 -- the next child was refused, since the graph was full
-pub placed_first : (row : ℕ) (made taken : List Child) (before between after : Findings) (new : Row) (room : Bool) → room ≡ false
-    → IsPlaced (words_of (live_part new.state.value)) new room between after → PlacedSoFar row taken before between
-    → map (λ (child : Child). child) taken ≡ take (length taken) made → PlacesChildren row made false before after
-placed_first row made taken before between after new true full placed so_far are = cc
-placed_first row made taken before between after new false full placed so_far are = (
+pub placed_first : (row : ℕ) (made taken : List Child) (child : Child) (before between after : Findings) (new : Row) (room : Bool)
+    → new ≡ child_row row child → room ≡ false → IsPlaced (words_of (live_part new.state.value)) new room between after
+    → PlacedSoFar row taken before between → map (λ (child : Child). child) taken ≡ take (length taken) made
+    → slice_get made (length taken) ≡ Some child → PlacesChildren row made false before after
+placed_first row made taken child before between after new true is full placed so_far are next = cc
+placed_first row made taken child before between after new false is full placed so_far are next = (
   record {
-    some = taken;
-    left = drop (length taken) made;
-    all = sym (take-append-drop (length taken) made) ∙ ap (λ (l : List Child). l ++ drop (length taken) made) (sym are ∙ map-id taken);
-    placed = subst (λ (g : RowGraph). PlacesAll row taken before.graph g) (sym placed.0.2) so_far.placed;
+    first = record {
+      some = taken;
+      left = drop (length taken) made;
+      all = sym (take-append-drop (length taken) made) ∙ ap (λ (l : List Child). l ++ drop (length taken) made) (sym are ∙ map-id taken);
+      placed = subst (λ (g : RowGraph). PlacesAll row taken before.graph g) (sym placed.0.2) so_far.placed;
+    };
+    refused = child;
+    next = next;
+    unseen = subst (λ (g : RowGraph). IsUnseen (pointwise nat_eq) (words_of (live_part child.state.value)) g.keys) (sym placed.0.2)
+        (subst (λ (r : Row). IsUnseen (pointwise nat_eq) (words_of (live_part r.state.value)) between.graph.keys) is placed.0.0);
+    full = subst (λ (g : RowGraph). length g.rows ≡ g.nodes) (sym placed.0.2) placed.0.1;
   },
-  subst (λ (n : ℕ). Contains after.cuts.items (Nodes n)) so_far.grows.nodes
-      (subst (λ (l : List Cut). Contains l (Nodes between.nodes)) (sym placed.1) (Contains-push between.cuts.items (Nodes between.nodes))),
+  placed.1 ∙ (λ i. so_far.cuts i ++ Nodes (so_far.grows.nodes i) ∷ []),
 )
 
 -- one more end was added

@@ -1,5 +1,5 @@
 -- Children that are placed in a graph, one after another, each as a row unless one has its key.
-use Rattle.std.specs.Prelude.{◌≡◌, ℕ, nat_eq, Bool, true, false, List, [], ◌∷◌, ◌++◌, map, All, None, Some, Contains}
+use Rattle.std.specs.Prelude.{◌≡◌, ℕ, nat_eq, Bool, true, false, List, [], ◌∷◌, ◌++◌, map, All, None, Some, length, slice_get}
 use Rattle.std.specs.Global.{Box}
 use Rattle.std.specs.Cmp.Lexicographic.{pointwise}
 use Rattle.cs_events.specs.declared.outcome.Outcome.{Outcome}
@@ -10,7 +10,7 @@ use Rattle.cs_state.specs.ReadCells.{HasPlainCells}
 use Rattle.cs_store.specs.Held.{HasPlainKeys}
 use Rattle.cs_keys.specs.Live.{live_part}
 use Rattle.cs_keys.specs.Words.{words_of}
-use Rattle.cs_graph.specs.Adding.{IsAdded}
+use Rattle.cs_graph.specs.Adding.{IsAdded, IsUnseen}
 use Rattle.cs_graph.specs.Contents.{Contents}
 use Rattle.cs_graph.specs.declared.adding.Added.{Added}
 use Rattle.cs_explored.specs.declared.child.Child.{Child}
@@ -88,8 +88,17 @@ pub record PlacesFirst (parent : ℕ) (made : List Child) (before after : RowGra
   pub all : made ≡ some ++ left
   pub placed : PlacesAll parent some before after
 
--- all children of a row are placed, and nothing is cut; or the first of them, and then the graph was full, which is a cut
+-- the first of a row's children are placed, and the next one is refused: no row has its key, and there are as many rows as there may be
+pub record PlacesUntilFull (parent : ℕ) (made : List Child) (before after : RowGraph) : Type 0 where
+  pub first : PlacesFirst parent made before after
+  pub refused : Child
+  pub next : slice_get made (length first.some) ≡ Some refused
+  pub unseen : IsUnseen (pointwise nat_eq) (words_of (live_part refused.state.value)) after.keys
+  pub full : length after.rows ≡ after.nodes
+
+-- all children of a row are placed, and nothing is cut; or the first of them, and then the graph is full, which is a cut
 abbrev pub PlacesChildren : ℕ → List Child → Bool → Findings → Findings → Type 0
 PlacesChildren parent made true before after =
     PlacesAll parent made before.graph after.graph × (after.cuts.items ≡ before.cuts.items) × ArePlainChildren made
-PlacesChildren parent made false before after = PlacesFirst parent made before.graph after.graph × Contains after.cuts.items (Nodes before.nodes)
+PlacesChildren parent made false before after =
+    PlacesUntilFull parent made before.graph after.graph × (after.cuts.items ≡ before.cuts.items ++ Nodes before.nodes ∷ [])

@@ -7,3 +7,4 @@ pub mod Neighbours
 pub mod GoodFindings
 pub mod GoodEntries
 pub mod EveryRun
+pub mod OutOfNodes

@@ -1,3 +1,4 @@
 pub mod Inexact
 pub mod Asking
 pub mod Real
+pub mod Graphs

@@ -1,13 +1,21 @@
 -- Cuts that are listed in order: for the contract of `listed`.
-use Rattle.std.proofs.Common.{◌≡◌, ℕ, List, [], ◌∷◌, ◌++◌, Option, None, Some, map, refl, sym, ap, ◌∙◌, subst}
+use Rattle.std.proofs.Common.{◌≡◌, ◌≢◌, inl, inr, ℕ, List, [], ◌∷◌, ◌++◌, Option, None, Some, map, get_or, refl, sym, ap, ◌∙◌, subst, arith}
+use Rattle.std.specs.Prelude.{All, Contains, IfSome}
+use Rattle.std.proofs.lemmas.List.{map-append}
+use Rattle.std.proofs.lemmas.List.Elements.{All-nil, All-cons, All-map, All-contains, Contains-append_cases}
 use Rattle.std.specs.List.{AllByRecursion}
 use Rattle.std.specs.List.Sorted.{IsStrictlySortedBy}
 use Rattle.std.specs.Map.{keys_of}
 use Rattle.std.specs.declared.cmp.Ordering.TheVariants.{Less}
 use Rattle.cs_ast.specs.declared.place.Place.{Place}
 use Rattle.cs_results.specs.declared.result.Cut.{Cut}
+use Rattle.cs_results.specs.declared.result.Cut.TheVariants.{Nodes}
 use Rattle.cs_findings.specs.GoodEntries.{cut_key, cut_order, AreCutsListed}
-use Rattle.cs_suspects.specs.Spots.{Spot, place_of, spot_order, entry_key, cut_of_nodes}
+use Rattle.cs_suspects.specs.Spots.{Spot, place_of, spot_order, cut_of_access, cut_of_nodes, HasNodesOf}
+
+-- where an access with a number of offsets is listed
+abbrev entry_key : Spot × ℕ → ℕ × Place
+entry_key entry = cut_key (cut_of_access entry)
 
 -- accesses after a spot are listed after it
 all_after : (spot : Spot) (entries : List (Spot × ℕ)) → AllByRecursion (λ y. spot_order spot y ≡ Less) (keys_of entries)
@@ -36,8 +44,38 @@ keys_sorted : (nodes : Option ℕ) (entries : List (Spot × ℕ)) → IsStrictly
 keys_sorted None entries sorted = splits_sorted entries sorted
 keys_sorted (Some nodes) entries sorted = nodes_first _ entries sorted
 
+-- the cuts of accesses have these keys
+access_keys : (entries : List (Spot × ℕ)) → map cut_key (map cut_of_access entries) ≡ map entry_key entries
+access_keys [] = refl
+access_keys (entry ∷ entries) = ap (λ (keys : List (ℕ × Place)). entry_key entry ∷ keys) (access_keys entries)
+
 pub are_listed : (nodes : Option ℕ) (before after : List Cut) (entries : List (Spot × ℕ)) → before ≡ cut_of_nodes nodes
-    → map cut_key after ≡ map cut_key before ++ map entry_key entries → IsStrictlySortedBy spot_order (keys_of entries)
+    → after ≡ before ++ map cut_of_access entries → IsStrictlySortedBy spot_order (keys_of entries)
     → AreCutsListed after
 are_listed nodes before after entries first all sorted =
-    subst (IsStrictlySortedBy cut_order) (sym (all ∙ ap (λ cuts. map cut_key cuts ++ map entry_key entries) first)) (keys_sorted nodes entries sorted)
+    let keys : map cut_key after ≡ map cut_key before ++ map entry_key entries
+    = ap (map cut_key) all ∙ map-append cut_key before (map cut_of_access entries) ∙ ap (λ keys. map cut_key before ++ keys) (access_keys entries) in
+    subst (IsStrictlySortedBy cut_order) (sym (keys ∙ ap (λ cuts. map cut_key cuts ++ map entry_key entries) first)) (keys_sorted nodes entries sorted)
+
+-- a cut that is listed for want of nodes is the one that was found
+is_found : (nodes : Option ℕ) (cuts : List Cut) → IfSome nodes (λ found. Contains cuts (Nodes found)) → (listed : ℕ)
+    → Contains (cut_of_nodes nodes) (Nodes listed) → Contains cuts (Nodes listed)
+is_found None cuts found listed (place, within, at) = absurd (omega (arith, within))
+is_found (Some nodes) cuts found listed among =
+    let same = All-contains (λ (cut : Cut). cut ≡ Nodes nodes) (Nodes nodes ∷ []) (Nodes listed)
+    (All-cons (λ (cut : Cut). cut ≡ Nodes nodes) (Nodes nodes) [] refl (All-nil (λ (cut : Cut). cut ≡ Nodes nodes))) among in
+    subst (Contains cuts) (sym same) found
+
+pub has_nodes_of : (nodes : Option ℕ) (cuts before after : List Cut) (entries : List (Spot × ℕ)) → before ≡ cut_of_nodes nodes
+    → after ≡ before ++ map cut_of_access entries → IfSome nodes (λ found. Contains cuts (Nodes found)) → HasNodesOf cuts after
+has_nodes_of nodes cuts before after entries first all found listed among =
+    elim (Contains-append_cases before (map cut_of_access entries) (Nodes listed) (subst (λ (l : List Cut). Contains l (Nodes listed)) all among)) [
+      | inl early ↦ is_found nodes cuts found listed (subst (λ (l : List Cut). Contains l (Nodes listed)) first early)
+      | inr late ↦ absurd (All-contains (λ (cut : Cut). cut ≢ Nodes listed) (map cut_of_access entries) (Nodes listed) accesses late refl)
+    ]
+  where
+    no_access : (entry : Spot × ℕ) → cut_of_access entry ≢ Nodes listed
+    no_access entry same = cc
+
+    accesses : All (λ (cut : Cut). cut ≢ Nodes listed) (map cut_of_access entries)
+    accesses = All-map (λ (cut : Cut). cut ≢ Nodes listed) cut_of_access entries (λ place default inside. no_access (get_or entries place default))

@@ -1,10 +1,10 @@
--- Places as keys of a map, which has them in order.
-use Rattle.std.specs.Prelude.{ℕ, List, [], ◌∷◌, Option, None, Some}
+-- Places as keys of a map, which has them in order, and the cuts that are listed.
+use Rattle.std.specs.Prelude.{ℕ, List, [], ◌∷◌, Option, None, Some, Contains}
 use Rattle.std.specs.Ordering.{nat_cmp, ordering_then}
 use Rattle.std.specs.declared.cmp.Ordering.{Ordering}
 use Rattle.cs_ast.specs.declared.place.Place.{Place}
 use Rattle.cs_results.specs.declared.result.Cut.{Cut}
-use Rattle.cs_results.specs.declared.result.Cut.TheVariants.{Nodes}
+use Rattle.cs_results.specs.declared.result.Cut.TheVariants.{Nodes, Splits}
 
 -- a file, a line and a column
 abbrev pub Spot : Type 0
@@ -18,11 +18,15 @@ abbrev pub spot_order : Spot → Spot → Ordering
 spot_order one other =
     ordering_then (nat_cmp one.0 other.0) (ordering_then (nat_cmp one.1.0 other.1.0) (nat_cmp one.1.1 other.1.1))
 
--- where an access with a number of offsets is listed
-abbrev pub entry_key : Spot × ℕ → ℕ × Place
-entry_key entry = (1, place_of entry.0)
+-- the cut of an access with a number of offsets
+abbrev pub cut_of_access : Spot × ℕ → Cut
+cut_of_access entry = Splits (place_of entry.0) entry.1
 
 -- the cut of so many nodes, if there was one
 abbrev pub cut_of_nodes : Option ℕ → List Cut
 cut_of_nodes None = []
 cut_of_nodes (Some nodes) = Nodes nodes ∷ []
+
+-- a cut for want of nodes that is listed is one of the exploration's
+abbrev pub HasNodesOf : List Cut → List Cut → Type 0
+HasNodesOf cuts listed = (nodes : ℕ) → Contains listed (Nodes nodes) → Contains cuts (Nodes nodes)

@@ -1,8 +1,10 @@
 //! The cuts of an exploration as they are listed.
-ghost use Rattle.std.specs.Prelude.{◌≡◌, ◌++◌, map, IfOk, OnOk};
+ghost use Rattle.std.specs.Prelude.{◌≡◌, ◌++◌, map, Contains, IfOk, IfSome, OnOk};
 ghost use Rattle.std.specs.BTreeMap.{IsOrdered};
-ghost use Rattle.cs_findings.specs.GoodEntries.{cut_key, AreCutsListed};
-ghost use Rattle.cs_suspects.specs.Spots.{place_of, spot_order, entry_key, cut_of_nodes};
+ghost use Rattle.cs_results.specs.declared.result.Cut.TheVariants.{Nodes};
+ghost use Rattle.cs_findings.specs.GoodEntries.{AreCutsListed};
+ghost use Rattle.cs_suspects.specs.Spots.{place_of, spot_order, cut_of_access, cut_of_nodes};
+ghost use Rattle.cs_suspects.specs.Spots.{HasNodesOf};
 
 use cs_ast::Place;
 use cs_results::Cut;
@@ -15,7 +17,8 @@ type Splits = BTreeMap<(u32, (u32, u32)), u64>;
 /// The cuts in the order in which they are printed: that of the nodes first, then those of accesses by place, of each place the one with
 /// the most offsets.
 pub fn listed(alloc: Global, cuts: &[Cut]) -> Result<Vec<Cut>, AllocError>
-    ensures { IfOk result (λ listed. AreCutsListed listed.items) }
+    ensures sorted { IfOk result (λ listed. AreCutsListed listed.items) }
+    ensures nodes { IfOk result (λ listed. HasNodesOf cuts.now listed.items) }
 {
     let splits = splits_of(alloc, cuts)?;
     let mut listed = list_nodes(alloc, nodes_of(cuts))?;
@@ -38,7 +41,9 @@ fn list_nodes(alloc: Global, nodes: Option<u64>) -> Result<Vec<Cut>, AllocError>
 }
 
 // The nodes that there were where the graph was full.
-fn nodes_of(cuts: &[Cut]) -> Option<u64> {
+fn nodes_of(cuts: &[Cut]) -> Option<u64>
+    ensures { IfSome result (λ nodes. Contains cuts.now (Nodes nodes)) }
+{
     for cut in cuts {
         if let Cut::Nodes(nodes) = *cut {
             return Some(nodes);
@@ -77,8 +82,8 @@ fn raise(splits: &mut Splits, place: Place, count: u64) -> Result<(), AllocError
 
 // Lists the accesses that were cut.
 fn list_splits(listed: &mut Vec<Cut>, splits: &Splits) -> Result<(), AllocError>
-    ensures { OnOk result (map cut_key listed.new.items
-        ≡ map cut_key listed.old.items ++ map entry_key splits.now.entries) }
+    ensures { OnOk result (listed.new.items
+        ≡ listed.old.items ++ map cut_of_access splits.now.entries) }
 {
     for (spot, count) in splits {
         listed.push(Cut::Splits(place_of(*spot), *count))?;

@@ -1,9 +1,15 @@
-use Rattle.std.proofs.Common.{◌≡◌, ℕ, sym, subst, ◌∙◌}
+use Rattle.std.proofs.Common.{◌≡◌, ℕ, List, [], sym, subst, ◌∙◌}
+use Rattle.std.specs.Prelude.{Contains}
 use Rattle.cs_ast.specs.TypedProgram.{typed_program}
 use Rattle.cs_cfg.specs.GraphView as view
 use Rattle.cs_coverage.specs.Positions.{CoversPositions}
 use Rattle.cs_findings.specs.Runs.{run_budgets}
 use Rattle.cs_integer_functions.specs.IntegerFunctions.{IsIntegerFunction}
+use Rattle.cs_results.specs.declared.result.Cut.{Cut}
+use Rattle.cs_results.specs.declared.result.Cut.TheVariants.{Nodes}
+use Rattle.cs_state.specs.Naming.{naming}
+use Rattle.cs_analysis.specs.Cuts.{AreCutForNodes}
+use Rattle.cs_analysis.proofs.CutNodes.{has_reasons}
 use Rattle.cs_analysis.proofs.EveryRun.{integer_entry, misses_none}
 use Rattle.cs_analysis.proofs.entry.analyze.Goals as goal
 
@@ -17,3 +23,17 @@ returns-clause-complete g c = λ every integer.
     let covers = c.in_ok-explored.ensures.covers every (integer_entry code program entry.function is (c.requires.integers entry.function is)) in
     let covered = subst (λ (number : ℕ). CoversPositions code program number (run_budgets entry.budgets) explored) (sym same) covers in
     misses_none code program entry.budgets explored given c.requires.runs.lowered integer covered (c.in_ok-refuse_lost.ensures yes)
+
+pub returns-clause-reasons : goal.returns-clause-reasons
+returns-clause-reasons g c = λ every integer nodes listed.
+    let entry = c.args.entry.now in let given = c.in_ok-witnessed.witnessed.result in let explored = c.in_ok-explored.explored in
+    let program = typed_program entry.program.now in let code = view.code entry.code.now in
+    let same : given.entry ≡ entry.function = c.in_ok-witnessed.ensures.entry in
+    let is : IsIntegerFunction program entry.function = subst (IsIntegerFunction program) same integer in
+    let yes = c.is_integer_function-is_integer.ensures ∙ is in
+    let reasons = c.in_ok-explored.ensures.cuts every (integer_entry code program entry.function is (c.requires.integers entry.function is)) in
+    let of_entry = subst (λ (number : ℕ). AreCutForNodes code program number entry.budgets explored) (sym same) (λ works. reasons) in
+    let among : Contains explored.cuts.items (Nodes nodes)
+    = c.in_ok-cuts.ensures.nodes nodes (subst (λ (cuts : List Cut). Contains cuts (Nodes nodes)) c.in_ok-witnessed.ensures.cuts listed) in
+    has_reasons code program entry.budgets explored given (naming explored.tables) [] c.requires.runs.lowered integer
+    (of_entry (integer_entry code program given.entry integer (c.requires.integers given.entry integer))) (c.in_ok-refuse_lost.ensures yes) nodes among

@@ -17,5 +17,6 @@ loop-number-preserved g c =
       good = subst (AreGoodResults _ program c.args.budgets _) (sym c.in_ok-push.ensures.items)
           (results_more _ program c.args.budgets entries c.loop-number.results.items index 0 result (omega arith) c.loop-number.invariant.good
           (c.in_ok-analysis.ensures.entry ∙ c.in_ok-number_of.ensures) c.in_ok-analysis.ensures.good
-          (λ every. c.in_ok-analysis.ensures.complete (λ fault. subst (Any (λ one. one ≡ fault)) (sym kinds) (every fault))));
+          (λ every. c.in_ok-analysis.ensures.complete (λ fault. subst (Any (λ one. one ≡ fault)) (sym kinds) (every fault)))
+          (λ every. c.in_ok-analysis.ensures.reasons (λ fault. subst (Any (λ one. one ≡ fault)) (sym kinds) (every fault))));
     }

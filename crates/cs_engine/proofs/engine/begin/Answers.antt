@@ -7,8 +7,7 @@ use Rattle.cs_engine.specs.Exploring.{program_of}
 use Rattle.cs_explored.specs.declared.findings.Findings.{Findings}
 use Rattle.cs_explored.specs.Placing.{RowGraph}
 use Rattle.cs_explored.proofs.Growing.{grows_on, grows_same}
-use Rattle.cs_engine.proofs.Exploring.{begun_graph}
-use Rattle.cs_engine.proofs.Sourcing.{begun_sources}
+use Rattle.cs_engine.proofs.Keeping.{begun_kept}
 use Rattle.cs_engine.proofs.engine.begin.Goals as goal
 
 pub returns-clause-sound : goal.returns-clause-sound
@@ -28,13 +27,6 @@ returns-clause-begins c explores =
     (naming c.start.new.tables) state) (sym boxed) c.in_ok-state.ensures.start in
     let no_keys = ap (λ (g : RowGraph). g.keys) c.new-findings.ensures.graph in
     let no_rows = ap (λ (g : RowGraph). g.rows) c.new-findings.ensures.graph in
-    record {
-      closed =
-          begun_graph c.args.exploration.now c.args.entry explores fresh c.add_first.new.self c.in_ok-state-2.state begins c.in_ok-state.ensures.names
-          c.have_each_once.ensures.syms c.in_ok-add_first.ensures.plain c.in_ok-add_first.field-0 no_keys no_rows c.new-findings.ensures.no_ends
-          c.in_ok-add_first.ensures.rest c.in_ok-add_first.ensures.placed;
-      sources =
-          begun_sources c.args.exploration.now c.args.entry explores fresh c.add_first.new.self c.in_ok-state-2.state begins c.in_ok-state.ensures.names
-          c.have_each_once.ensures.syms c.in_ok-add_first.field-0 no_keys no_rows
-          c.new-findings.ensures.no_ends c.in_ok-add_first.ensures.rest c.in_ok-add_first.ensures.placed;
-    }
+    begun_kept c.args.exploration.now c.args.entry explores fresh c.add_first.new.self c.in_ok-state-2.state begins c.in_ok-state.ensures.names
+    c.have_each_once.ensures.syms c.in_ok-add_first.ensures.plain no_keys no_rows c.new-findings.ensures.no_ends c.new-findings.ensures.no_cuts
+    c.in_ok-add_first.ensures.grows.nodes c.in_ok-add_first.ensures.rest c.in_ok-add_first.field-0 c.in_ok-add_first.ensures.placed

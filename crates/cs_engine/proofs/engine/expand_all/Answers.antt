@@ -1,7 +1,8 @@
-use Rattle.std.proofs.Common.{◌≡◌, [], refl, rules, sym, ◌∙◌, subst}
+use Rattle.std.proofs.Common.{◌≡◌, [], Bool, refl, rules, sym, ◌∙◌, subst}
 use Rattle.std.specs.List.{Any}
 use Rattle.cs_explored.proofs.Growing.{grows_not, grows_on, grows_worked}
-use Rattle.cs_engine.proofs.Sourcing.{kept_given, done_full, done_empty}
+use Rattle.cs_engine.specs.Exploring.{LeadsOn}
+use Rattle.cs_engine.proofs.Keeping.{given_kept, done_empty}
 use Rattle.cs_engine.proofs.engine.expand_all.Goals as goal
 
 pub loop-init : goal.loop-init
@@ -16,9 +17,10 @@ loop-preserved g c = record {
   kept = λ every entry explores first.
       let so_far = c.loop.invariant.kept every entry explores first in
       let given = c.in-Some.ensures.some in
-      c.in_ok-expand.ensures.expands (λ fault. subst (Any (λ one. one ≡ fault)) (sym c.loop.invariant.kinds) (every fault)) entry explores
+      subst (λ (room : Bool). LeadsOn c.args.exploration.now entry room c.expand.new.findings) c.if-not-branch.false
+      (c.in_ok-expand.ensures.expands (λ fault. subst (Any (λ one. one ≡ fault)) (sym c.loop.invariant.kinds) (every fault)) entry explores
       (λ waits. given.gone waits.0 waits.1)
-      (kept_given c.args.exploration.now entry explores c.loop.findings c.next.new.self c.in-Some.row given c.next.ensures.rest so_far);
+      (given_kept c.args.exploration.now entry explores c.loop.findings c.next.new.self c.in-Some.row given c.next.ensures.rest so_far));
 }
 
 pub returns-then-not-branch-clause-grows : goal.returns-then-not-branch-clause-grows
@@ -31,10 +33,10 @@ pub returns-then-not-branch-clause-done : goal.returns-then-not-branch-clause-do
 returns-then-not-branch-clause-done g c every entry explores first =
     let so_far = c.loop.invariant.kept every entry explores first in
     let given = c.in-Some.ensures.some in
-    done_full c.args.exploration.now entry explores c.expand.new.findings (c.in_ok-expand.ensures.full c.if-not-branch.true)
+    subst (λ (room : Bool). LeadsOn c.args.exploration.now entry room c.expand.new.findings) c.if-not-branch.true
     (c.in_ok-expand.ensures.expands (λ fault. subst (Any (λ one. one ≡ fault)) (sym c.loop.invariant.kinds) (every fault)) entry explores
     (λ waits. given.gone waits.0 waits.1)
-    (kept_given c.args.exploration.now entry explores c.loop.findings c.next.new.self c.in-Some.row given c.next.ensures.rest so_far))
+    (given_kept c.args.exploration.now entry explores c.loop.findings c.next.new.self c.in-Some.row given c.next.ensures.rest so_far))
 
 pub returns-in_default-clause-done : goal.returns-in_default-clause-done
 returns-in_default-clause-done g c every entry explores first =

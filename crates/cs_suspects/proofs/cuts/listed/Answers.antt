@@ -1,7 +1,12 @@
-use Rattle.cs_suspects.proofs.ListedCuts.{are_listed}
+use Rattle.cs_suspects.proofs.ListedCuts.{are_listed, has_nodes_of}
 use Rattle.cs_suspects.proofs.cuts.listed.Goals as goal
 
-pub returns : goal.returns
-returns c =
+pub returns-clause-sorted : goal.returns-clause-sorted
+returns-clause-sorted c =
     are_listed c.nodes_of.result c.in_ok-listed.listed.items c.list_splits.new.listed.items c.in_ok-splits.splits.entries c.in_ok-listed.ensures
     c.in_ok-list_splits.ensures c.in_ok-splits.ensures
+
+pub returns-clause-nodes : goal.returns-clause-nodes
+returns-clause-nodes c =
+    has_nodes_of c.nodes_of.result c.args.cuts.now c.in_ok-listed.listed.items c.list_splits.new.listed.items c.in_ok-splits.splits.entries
+    c.in_ok-listed.ensures c.in_ok-list_splits.ensures c.nodes_of.ensures

@@ -34,5 +34,5 @@ returns-clause-adds c =
       fresh = not_found c.range_of.result (λ x. x.now) (set_of state.constraints guess.0) c.is_some.result
           (c.range_of.ensures.set ∙ ap (λ (s : State). set_of s.constraints guess.0) too) c.is_some.ensures c.if-is_some.false;
       answers = subst (λ (s : State). AreAnswers (model_of c.args.exploration.now) s.constraints guess.0 c.args.question.now c.in_ok-pieces.pieces.items) yet
-          c.in_ok-pieces.ensures;
+          c.in_ok-pieces.ensures.answers;
     }) c.add_all.ensures

@@ -1,7 +1,8 @@
-use Rattle.std.proofs.Common.{List, ◌∙◌, sym, subst}
+use Rattle.std.proofs.Common.{List, length, refl, ◌∙◌, sym, subst}
 use Rattle.std.proofs.lemmas.List.{map-id}
 use Rattle.std.proofs.lemmas.Iterator.Adapters.{YieldsList-from_vec}
-use Rattle.std.proofs.lemmas.Iterator.Consumers.{YieldsList-end, YieldsList-so_far}
+use Rattle.std.proofs.lemmas.Iterator.Consumers.{YieldsList-end, YieldsList-so_far, YieldsList-turn}
+use Rattle.std.proofs.lemmas.Option.{slice_get_read}
 use Rattle.cs_explored.specs.declared.child.Child.{Child}
 use Rattle.cs_explored.specs.Placing.{PlacesAll, ArePlainChildren}
 use Rattle.cs_explored.proofs.Placed.{placed_none, placed_first, place_next, keeps_on}
@@ -14,9 +15,12 @@ pub returns-then-not-branch-clause-all : goal.returns-then-not-branch-clause-all
 returns-then-not-branch-clause-all c =
     let yields = YieldsList-from_vec {s = c.into_iter-child-iterator.result} c.args.made.items c.into_iter-child-iterator.ensures.into_iter_gives.0
     (c.into_iter-child-iterator.ensures.into_iter_gives.1 ∙ c.args.made.ok.0) in
-    placed_first c.args.row c.args.made.items c.loop-child.yielded c.args.self.now c.loop-child.self c.add.new.self c.row_of.result c.in_ok-add.field-0
-    c.if-not-branch.true c.in_ok-add.ensures.placed c.loop-child.invariant
+    let turn = YieldsList-turn yields c.loop-child.yielded c.loop-child.child-iterator c.loop-child.yielded_by c.next.result c.next.new.self
+    c.in-Some.child c.in-Some.is c.next.ensures.steps in
+    placed_first c.args.row c.args.made.items c.loop-child.yielded c.in-Some.child c.args.self.now c.loop-child.self c.add.new.self c.row_of.result
+    c.in_ok-add.field-0 c.row_of.ensures c.if-not-branch.true c.in_ok-add.ensures.placed c.loop-child.invariant
     (YieldsList-so_far yields c.loop-child.yielded c.loop-child.child-iterator c.loop-child.yielded_by)
+    (slice_get_read c.args.made.items (length c.args.made.items) (length c.loop-child.yielded) c.in-Some.child refl turn.0 turn.1)
 
 pub returns-then-not-branch-clause-rest : goal.returns-then-not-branch-clause-rest
 returns-then-not-branch-clause-rest c = keeps_on c.args.self.now c.loop-child.self c.add.new.self c.loop-child.invariant.rest c.in_ok-add.ensures.rest
