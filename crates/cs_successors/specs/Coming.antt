@@ -5,25 +5,35 @@ use Rattle.std.specs.Prelude.{is_some, IsSome, slice_get, Contains}
 use Rattle.std.specs.FinMap as finite
 use Rattle.std.specs.Global.{Box}
 use Rattle.cs_inputs.specs.declared.path.Path.{Path}
+use Rattle.cs_ast.specs.declared.typed.operator.BinOp.{BinOp}
+use Rattle.cs_ast.specs.declared.typed.operator.BinOp.TheVariants.{Div, Rem}
 use Rattle.cs_ast.specs.TypedProgram.{TypedProgram}
 use Rattle.cs_terms.specs.declared.symbol.Sym.{Sym}
 use Rattle.cs_terms.specs.declared.symbol.SymName.TheVariants.{Guess as GuessAt}
 use Rattle.cs_terms.specs.Term.{Valuation}
-use Rattle.cs_constraints.specs.Constraints.{Sets, set_of, Fits}
+use Rattle.cs_constraints.specs.Constraints.{Sets, set_of, Fits, AreInhabited}
 use Rattle.cs_events.specs.declared.event.Label.{Label}
 use Rattle.cs_events.specs.declared.event.Label.TheVariants.{Truth}
 use Rattle.cs_events.specs.declared.guess.Guess.{Guess}
 use Rattle.cs_events.specs.declared.input.InputKind.{InputKind}
 use Rattle.cs_events.specs.declared.outcome.Outcome.{Outcome}
+use Rattle.cs_events.specs.declared.operation.Operation.{Operation}
+use Rattle.cs_events.specs.declared.operation.Operation.TheVariants as operation
 use Rattle.cs_events.specs.declared.outcome.RunBudgets.{RunBudgets}
 use Rattle.cs_events.specs.Acts.{Act}
 use Rattle.cs_events.specs.Objects.{Cell}
+use Rattle.cs_events.specs.PendingEvents.{Pending, Operates}
 use Rattle.cs_events.specs.Runs.{Setting, Log, guess_at, read_cell}
+use Rattle.cs_event_runs.specs.ByEvents.{ShowsAfter}
 use Rattle.cs_event_runs.specs.First.{Step, Ended, first_of}
 use Rattle.cs_event_runs.specs.Left.{left_of}
 use Rattle.cs_cfg.specs.Graph.{Code}
 use Rattle.cs_cfg.specs.Working.{CodeState}
 use Rattle.cs_cfg.specs.CodeSteps.{code_step}
+use Rattle.cs_eval.specs.declared.question.Question.{Question}
+use Rattle.cs_eval.specs.Followed.{IsFollowed, IsGuess}
+use Rattle.cs_eval.specs.Noted.{IsNoted}
+use Rattle.cs_eval.specs.Questions.{operation_of}
 use Rattle.cs_state.specs.declared.asked.Asked.{Asked}
 use Rattle.cs_state.specs.declared.state.State.{State}
 use Rattle.cs_state.specs.Cells.{block_of}
@@ -92,6 +102,17 @@ OutcomesDiffer ends = (one other : ℕ) (first second : StateEnd) → slice_get 
 abbrev pub Includes : (ℕ → Bool) → (ℕ → Bool) → Type 0
 Includes known more = (symbol : ℕ) → known symbol ≡ true → more symbol ≡ true
 
+-- a divisor isn't 0
+abbrev pub HasNonzeroDivisor : BinOp → ℤ → Type 0
+HasNonzeroDivisor Div right = right ≢ pos 0
+HasNonzeroDivisor Rem right = right ≢ pos 0
+HasNonzeroDivisor op right = Unit {0}
+
+-- what is asked isn't a division by 0
+abbrev pub IsNoDivisionByZero : Operation → Type 0
+IsNoDivisionByZero (operation.Binary op ty left right) = HasNonzeroDivisor op right
+IsNoDivisionByZero other = Unit {0}
+
 module _ (code : Code) (program : TypedProgram) (budgets : RunBudgets) (names : Naming) where
   -- a state after another one mentions no symbols but those that this one mentions
   abbrev pub MentionsNoOthers : State → State → Type 0
@@ -140,6 +161,32 @@ module _ (code : Code) (program : TypedProgram) (budgets : RunBudgets) (names : 
     pub same : outcome ≡ end_of ended
     pub returned : HasReturned ended (result_in names.bases state.blocks valuation state.result)
 
+  -- with so much left to do and this log, a run comes to its next event, where this is pending
+  pub record ComesToAsk (setting : Setting) (left : Act CodeState) (log : Log) (pending : Pending) : Type 0 where
+    pub one : Step
+    pub shows : ShowsAfter (code_step code program budgets) setting (first_of setting log left) [] one
+    pub pends : one.pending ≡ pending
+
+  -- what is noted of a child's guess. The question was asked under these sets: valuations of the state whose runs come to it, among them those of the child,
+  -- under which it isn't followed and the number of the guess symbol may be guessed, and those of runs that pass the child's event
+  pub record IsNotedAt (before : State) (child : Child) (asked : Asked) : Type 0 where
+    pub sets : Sets
+    pub inhabited : AreInhabited sets
+    pub given : Question
+    pub noted : IsNoted program.model sets given asked.asks asked.left asked.right asked.ends asked.fact
+    pub within : (valuation : Valuation) → Fits valuation sets → Fits valuation before.constraints
+    pub kept : (valuation : Valuation) → Fits valuation child.state.value.constraints → Fits valuation sets
+    pub divides : (valuation : Valuation) → Fits valuation sets → IsNoDivisionByZero (operation_of valuation given)
+    pub comes : (setting : Setting) (valuation : Valuation) (left : Act CodeState) (log : Log) → GoesBy setting
+        → IsAt before setting valuation left log → Fits valuation sets
+        → ComesToAsk setting left log (Operates child.event.place (operation_of valuation given))
+    pub inexact : (valuation : Valuation) → Fits valuation child.state.value.constraints
+        → ¬ IsFollowed program.model sets given valuation × IsGuess program.model sets given valuation (valuation asked.guess.0)
+    pub own : (setting : Setting) (valuation : Valuation) (left rest : Act CodeState) (log later : Log) (one : Step) → GoesBy setting
+        → IsAt before setting valuation left log
+        → LeavesAfter (code_step code program budgets) setting (first_of setting log left) (one ∷ []) rest later → one.event ≡ child.event
+        → Fits valuation sets
+
   -- the number that is guessed on the way to a child is the one that a valuation gives the symbol
   abbrev pub GuessesAs : Setting → Child → Valuation → Type 0
   GuessesAs setting child valuation =
@@ -154,6 +201,8 @@ module _ (code : Code) (program : TypedProgram) (budgets : RunBudgets) (names : 
     pub named : (symbol : Sym) → child.guess ≡ Some symbol
         → slice_get names.syms symbol.0 ≡ Some (GuessAt child.state.value.counters.events)
     pub asked : AreGuessesAfter child.state.value.counters.events child.guess before.asked child.state.value.asked
+    pub notes : (symbol : Sym) (asked : Asked) → child.guess ≡ Some symbol
+        → finite.get child.state.value.asked (child.state.value.counters.events, 0) ≡ Some asked → IsNotedAt before child asked
     pub fits : (valuation : Valuation) → Fits valuation child.state.value.constraints → Fits valuation before.constraints
     pub passes : (setting : Setting) (valuation : Valuation) (left : Act CodeState) (log : Log) → GoesBy setting
         → IsAt before setting valuation left log → Fits valuation child.state.value.constraints → GuessesAs setting child valuation
