@@ -35,9 +35,9 @@ use Rattle.cs_progress.specs.Stepping.{next_left, UsesAnswers}
 use Rattle.cs_explored.specs.declared.watch.Rule.{Rule}
 use Rattle.cs_children.specs.Adding.{IsFaultyEnd, AreFaultyEnds, GoesOn}
 use Rattle.cs_successors.specs.EntryRuns.{stays}
-use Rattle.cs_successors.specs.Coming.{is_declared, IsIntegerState, MentionsNoOthers, StateEnd, IsAt, EndsIn, IsChildOf, IsEndOf, ComesToEnd, IsReachedFrom}
+use Rattle.cs_successors.specs.Coming.{is_declared, IsIntegerState, MentionsNoOthers, StateEnd, IsAt, EndsIn, IsEndOf, ComesToEnd, IsReachedFrom}
 use Rattle.cs_children.proofs.DeclaredSymbols.{stays_declared, locals_more, answers_more}
-use Rattle.cs_children.proofs.Reaching.{Comes}
+use Rattle.cs_children.proofs.Reaching.{Comes, ends_come}
 use Rattle.cs_children.proofs.StandingFirst.{stands_first}
 
 -- some test holds, or none
@@ -279,15 +279,12 @@ module _ (code : Code) (program : TypedProgram) (budgets : RunBudgets) (names : 
       -- or nothing is left
       pub nothing_left : (rules : List Rule) (goes : Bool) (after : State) → GoesOn checked.rest goes state after → goes ≡ false
           → Comes code program budgets names rules state [] ends
-      nothing_left rules goes after on is_false = by checked.rest parts.rest on
+      nothing_left rules goes after on is_false =
+          ends_come code program budgets names rules state ends end_each
+          (λ setting v left log goes here. cover setting v left log here (all_faulty checked.rest parts.rest on v here.fits))
         where
-          by : (rest : Rest) → IsRest state parts.subject parts.kinds rest → GoesOn rest goes state after
-              → Comes code program budgets names rules state [] ends
-          by Whole none on = let wrong : true ≡ false = sym on.0 ∙ is_false in cc
-          by (Part part) is_part on = let wrong : true ≡ false = sym on.0 ∙ is_false in cc
-          by Nothing all on = record {
-            children = All-nil (IsChildOf code program budgets names rules state);
-            endings = end_each;
-            covers = λ setting v left log goes here none. inr (cover setting v left log here (all v here.fits));
-            labels_differ = λ one other first second here there. cc;
-          }
+          all_faulty : (rest : Rest) → IsRest state parts.subject parts.kinds rest → GoesOn rest goes state after
+              → (v : Valuation) → Fits v state.constraints → is_faulty parts.kinds parts.subject v ≡ true
+          all_faulty Whole none on = let wrong : true ≡ false = sym on.0 ∙ is_false in cc
+          all_faulty (Part part) is_part on = let wrong : true ≡ false = sym on.0 ∙ is_false in cc
+          all_faulty Nothing all on = all

@@ -33,6 +33,8 @@ use Rattle.cs_access.specs.declared.checking.Checked.{Checked}
 use Rattle.cs_eval.specs.declared.question.Question.{Question}
 use Rattle.cs_eval.specs.Cases.{case_of, asking_of_cases}
 use Rattle.cs_eval.specs.Followed.{AreAnswers, asking_of}
+use Rattle.cs_eval.specs.Noted.{NotesGuess}
+use Rattle.cs_eval.specs.Splits.{Each}
 use Rattle.cs_state.specs.declared.state.State.{State}
 use Rattle.cs_state.specs.Meaning.{meaning}
 use Rattle.cs_state.specs.Naming.{Naming, Extends}
@@ -52,10 +54,11 @@ use Rattle.cs_successors.specs.Coming.{IsReachedFrom}
 use Rattle.cs_successors.specs.EntryRuns.{stays}
 use Rattle.cs_children.specs.Finding.{code_of, model_of, limits_of, AreNone, Explores, FindsAll, FindsSoFar}
 use Rattle.cs_children.proofs.FaultyParts.{rest_reached, nothing_left}
-use Rattle.cs_children.proofs.IntegerActs.{IsNoAllocation, ShowsNumbers, asks, left_shows, code_shows}
+use Rattle.cs_children.proofs.IntegerActs.{IsOfIntegers, ShowsNumbers, asks, left_shows, code_shows}
+use Rattle.cs_children.proofs.NotedGuesses.{question_noted, none_noted}
 use Rattle.cs_children.proofs.OwnLabels.{question_tells, cases_tell}
 use Rattle.cs_children.proofs.PiecesCome.{Shows, pieces_come, over_comes}
-use Rattle.cs_children.proofs.Reaching.{Comes, comes_of, reached_on, reached_itself}
+use Rattle.cs_children.proofs.Reaching.{Comes, one_end_comes, comes_of, reached_on, reached_itself}
 use Rattle.cs_children.proofs.SilentSteps.{done_reached, waits_reached, begins_in}
 use Rattle.cs_children.proofs.StandingFirst.{stands_first}
 use Rattle.cs_children.proofs.UsedGuesses.{guess_is_used}
@@ -97,8 +100,8 @@ pub none_differ : (found : Children) → AreNone found → OutcomesDiffer found.
 none_differ found none = subst OutcomesDiffer (sym none.ends) (λ one other first second here there. cc)
 
 -- what stands first in an act that shows numbers alone
-shown_plain : {S : Type 0} {at : Place} {one : Operation} {onward : ℤ → Act S} → ShowsNumbers (Asks at one onward) → IsNoAllocation one
-shown_plain (asks none onward) = none
+shown_plain : {S : Type 0} {at : Place} {one : Operation} {onward : ℤ → Act S} → ShowsNumbers (Asks at one onward) → IsOfIntegers one
+shown_plain (asks plain onward) = plain
 
 never_reaches : {S : Type 0} {at : Place} {object : Object} {offset : ℤ} {act : Act S} → ShowsNumbers (Reaches at object offset act) → ⊥
 never_reaches numbers = elim numbers [ ]
@@ -124,24 +127,8 @@ module _ (code : graph.Code) (program : TypedProgram) (budgets : RunBudgets) (na
   end_comes : (outcome : Outcome)
       → ((cells : Path → InputKind → Cell) (v : Valuation) → Fits v box.value.constraints → EndsAs names.bases box.value v outcome (Left cells v))
       → Comes code program budgets names rules box.value [] ((outcome, box) ∷ [])
-  end_comes outcome first = record {
-    children = All-nil (IsChildOf code program budgets names rules box.value);
-    endings = All-cons (IsEndOf code program budgets names box.value) (outcome, box) [] (record {
-      model = is.model;
-      possible = is.possible;
-      fits = λ v fits. fits;
-      phase = refl;
-      asked = refl;
-      blocks = refl;
-      mentions = λ known mentioned. mentioned;
-      locals = is.locals;
-      integers = is.integers;
-      ends = λ setting v left log goes here fits. ends_so setting v left log here;
-    }) (All-nil (IsEndOf code program budgets names box.value));
-    covers = λ setting v left log goes here without.
-        inr (record { place = 0; end = (outcome, box); there = refl; ending = ends_so setting v left log here });
-    labels_differ = λ one other first second here there. cc;
-  }
+  end_comes outcome first =
+      one_end_comes code program budgets names rules box is outcome (λ setting v left log goes here. ends_so setting v left log here)
     where
       ends_so : (setting : Setting) (v : Valuation) (left : Act CodeState) (log : Log) → IsAt code program budgets names box.value setting v left log
           → EndsIn code program budgets names outcome box.value setting v left log
@@ -173,7 +160,9 @@ module _ (code : graph.Code) (program : TypedProgram) (budgets : RunBudgets) (na
         named = extends.syms guess.0 _ are.named;
       })
       (subst (λ (n : ℕ). box.value.counters.events < n) same room) (question_tells program.model box.value.constraints asked) pieces made
-      (subst (λ (m : DataModel). AreAnswers m box.value.constraints guess.0 asked pieces) (sym models) are.answers) match
+      (subst (λ (m : DataModel). AreAnswers m box.value.constraints guess.0 asked pieces) (sym models) are.answers)
+      (question_noted program.model box.value.constraints asked pieces
+      (subst (λ (m : DataModel). Each (NotesGuess m box.value.constraints asked) pieces) (sym models) are.notes)) match
   answers_come at asked limit model given same models extends first made ends (over full) =
       over_comes code program budgets names rules box is at (asking_of program.model box.value.constraints asked) first
       (subst (λ (n : ℕ). n ≤ box.value.counters.events) same full)
@@ -207,9 +196,11 @@ module _ (code : graph.Code) (program : TypedProgram) (budgets : RunBudgets) (na
         let number = way_number are.cases are.otherwise 0 (value_of v term) in
         let case : (way_of (map view.switch_case are.cases) are.otherwise (value_of v term) 0).number ≡ case_of are.cases (value_of v term) =
         omega (arith, number) in
-        (tt, (shown.0, shown.1 ∙ ap (λ (n : ℕ). Asks at (operation.Show (label.Case n)) shown.0) case)))
+        ((tt, tt), (shown.0, shown.1 ∙ ap (λ (n : ℕ). Asks at (operation.Show (label.Case n)) shown.0) case)))
         (λ v number fits may. absurd may) (subst (λ (n : ℕ). box.value.counters.events < n) same room)
-        (cases_tell program.model term are.cases) pieces made (are.selects program.model guess.0) match
+        (cases_tell program.model term are.cases) pieces made (are.selects program.model guess.0)
+        (none_noted program.model box.value.constraints guess.0 (asking_of_cases term are.cases) (λ v number may. may) pieces
+        (are.selects program.model guess.0).each) match
     cases_come limit same made ends (over full) =
         let one = first (λ path kind. UnsetCell) is.possible.0 is.possible.1 in
         over_comes code program budgets names rules box is at (record {
@@ -218,7 +209,7 @@ module _ (code : graph.Code) (program : TypedProgram) (budgets : RunBudgets) (na
           IsGuess = λ v number. ⊥;
           Mentions = λ symbol. ⊥;
         })
-        (λ cells v fits. (tt, case_shows one.temporary one.cases one.otherwise at one.stands cells v fits))
+        (λ cells v fits. ((tt, tt), case_shows one.temporary one.cases one.otherwise at one.stands cells v fits))
         (subst (λ (n : ℕ). n ≤ box.value.counters.events) same full)
 
 module _ (exploration : Exploration) (given : Naming) (before state : State) (found : Children) (so_far : FindsSoFar exploration given before state found)

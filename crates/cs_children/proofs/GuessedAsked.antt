@@ -1,6 +1,6 @@
--- The guesses of a state are at its events: for the contract of `find`.
-use Rattle.std.proofs.Common.{◌≡◌, ℕ, ◌+◌, ◌≤◌, [], ◌∷◌, Option, None, Some, All, map, sym, ap, ◌∙◌, subst, arith}
-use Rattle.std.specs.Prelude.{Contains}
+-- The guesses of a state, which are at its events, and what it notes of the last one: for the contract of `find`.
+use Rattle.std.proofs.Common.{◌≡◌, ℕ, ◌+◌, ◌≤◌, [], ◌∷◌, Option, None, Some, All, map, refl, sym, ap, ◌∙◌, subst, arith}
+use Rattle.std.specs.Prelude.{option_map, Contains}
 use Rattle.std.specs.FinMap as finite
 use Rattle.std.specs.FinMap.{put, entries-insert}
 use Rattle.std.specs.FinMap.Entries.{by_order}
@@ -10,9 +10,30 @@ use Rattle.std.proofs.lemmas.List.Elements.{All-nil, All-cons, All-head, All-tai
 use Rattle.cs_pmap.specs.Keys.{key_cmp, EntryList}
 use Rattle.cs_pmap.proofs.AtBranch.{key_cmp_total}
 use Rattle.cs_terms.specs.declared.symbol.Sym.{Sym}
+use Rattle.cs_store.proofs.Keys.{get_here}
+use Rattle.cs_eval.specs.declared.piece.Guessed.{Guessed}
 use Rattle.cs_state.specs.declared.asked.Asked.{Asked}
 use Rattle.cs_state.specs.Valuations.{Guessed as Guesses}
+use Rattle.cs_children.specs.Adding.{asked_for, AreNotedAfter}
 use Rattle.cs_successors.specs.Coming.{AreGuessesAfter}
+
+-- what is noted where this was guessed
+pub noted_after : (event : ℕ) (guess : Sym) (before : Guesses) {guessed : Option Guessed} {what : Guessed} {after : Guesses} → guessed ≡ Some what
+    → after ≡ finite.insert before (event, 0) (asked_for event guess what) → AreNotedAfter event guess guessed before after
+noted_after event guess before {after = after} is same =
+    subst (λ (given : Option Guessed). AreNotedAfter event guess given before after) (sym is) same
+
+-- what was noted is a guess of this symbol at the event
+pub guesses_after : (event : ℕ) (guess : Sym) (guessed : Option Guessed) (before after : Guesses) → AreNotedAfter event guess guessed before after
+    → AreGuessesAfter event (option_map (λ what. guess) guessed) before after
+guesses_after event guess None before after same = same
+guesses_after event guess (Some what) before after same = (asked_for event guess what, refl, refl, same)
+
+-- and found there
+pub noted_there : (event : ℕ) (guess : Sym) (what : Guessed) (before after : Guesses) → AreNotedAfter event guess (Some what) before after
+    → finite.get after (event, 0) ≡ Some (asked_for event guess what)
+noted_there event guess what before after same =
+    ap (λ (guesses : Guesses). finite.get guesses (event, 0)) same ∙ get_here before event (asked_for event guess what)
 
 -- what holds of all values and of a new one holds of all values then
 values_put : {X : Type 0} (P : X → Type 0) (key : ℕ × ℕ) (new : X) (entries : EntryList X) → P new → All P (map (λ e. e.1) entries)

@@ -1,10 +1,11 @@
--- What integer code does shows no offset of an access, and no allocation: for the contract of `find`.
+-- What integer code does shows no offset of an access, no allocation and no division by 0: for the contract of `find`.
 use Rattle.std.proofs.Common.{◌≡◌, ℕ, zero, suc, ℤ, Bool, true, false, List, [], ◌∷◌, Option, None, Some, All, if◌then◌else◌, refl, sym}
-use Rattle.std.proofs.Common.{ap, ◌∙◌, subst}
+use Rattle.std.proofs.Common.{◌≢◌, pos, true≢false, ap, ◌∙◌, subst}
 use Rattle.std.proofs.lemmas.List.Elements.{All-head, All-tail}
 use Rattle.std.proofs.lemmas.Option.{slice_get_within, get_or_from_slice_get}
 use Rattle.std.specs.Prelude.{option_map, unwrap_or, slice_get}
 use Rattle.std.specs.Option.{option_and_then}
+use Rattle.std.specs.Ordering.{int_eq}
 use Rattle.cs_types.specs.declared.data_model.DataModel.{DataModel}
 use Rattle.cs_types.specs.declared.int_type.IntType.{IntType}
 use Rattle.cs_types.specs.Shape.{Shape, void, integer, pointer, array, struct}
@@ -14,11 +15,13 @@ use Rattle.cs_ast.specs.declared.typed.operator.BinOp.{BinOp}
 use Rattle.cs_ast.specs.declared.typed.operator.BinOp.TheVariants.{Add, Sub, Mul, Div, Rem, Shl, Shr, And, Xor, Or}
 use Rattle.cs_ast.specs.declared.typed.operator.CmpOp.{CmpOp}
 use Rattle.cs_ast.specs.TypedProgram.{TypedProgram}
+use Rattle.cs_model.specs.declared.kind.Kind.TheVariants as kind
 use Rattle.cs_events.specs.declared.event.Label.TheVariants as label
 use Rattle.cs_events.specs.declared.input.InputKind.{InputKind}
 use Rattle.cs_events.specs.declared.operation.Operation.{Operation}
 use Rattle.cs_events.specs.declared.operation.Operation.TheVariants as operation
 use Rattle.cs_events.specs.declared.outcome.Outcome.{Outcome}
+use Rattle.cs_events.specs.declared.outcome.Outcome.TheVariants.{Fault}
 use Rattle.cs_events.specs.declared.outcome.RunBudgets.{RunBudgets}
 use Rattle.cs_events.specs.declared.point.PointKind.{PointKind}
 use Rattle.cs_events.specs.Objects.{Object, Cell, NumberCell, NullCell, PointerCell, UnsetCell}
@@ -41,6 +44,7 @@ use Rattle.cs_cfg.specs.Graph.{Meet, Close, Operation as Step, BlockEnd, Jump, B
 use Rattle.cs_cfg.specs.Working.{CodeState, if_local, do_work}
 use Rattle.cs_cfg.specs.CodeSteps.{step_at, do_end, code_step}
 use Rattle.cs_cfg.specs.Spots.{rest_from, point_in, point_of}
+use Rattle.cs_successors.specs.Coming.{HasNonzeroDivisor, IsNoDivisionByZero}
 use Rattle.cs_cfg.specs.IntegerCode.{IsOfInteger, IsIntegerWork, IsIntegerOperation, IsIntegerPoint, HasIntegerCode, count_of_locals}
 
 -- an operation isn't what an allocation shows
@@ -48,14 +52,18 @@ abbrev pub IsNoAllocation : Operation → Type 0
 IsNoAllocation (operation.Show (label.Alloc gives)) = ⊥
 IsNoAllocation other = Unit {0}
 
+-- an operation of integer code
+abbrev pub IsOfIntegers : Operation → Type 0
+IsOfIntegers one = IsNoAllocation one × IsNoDivisionByZero one
+
 module _ {S : Type 0} where
-  -- an act allocates nothing, and shows no offset
+  -- an act allocates nothing, divides by no 0, and shows no offset
   pub data ShowsNumbers : Act S → Type 0 where
     goes : {next : S} → ShowsNumbers (Goes next)
     stops : {outcome : Outcome} → ShowsNumbers (Stops outcome)
     reads : {path : Path} {kind : InputKind} {onward : Cell → Act S} → ((cell : Cell) → ShowsNumbers (onward cell))
         → ShowsNumbers (Reads path kind onward)
-    asks : {at : Place} {operation : Operation} {onward : ℤ → Act S} → IsNoAllocation operation → ((number : ℤ) → ShowsNumbers (onward number))
+    asks : {at : Place} {operation : Operation} {onward : ℤ → Act S} → IsOfIntegers operation → ((number : ℤ) → ShowsNumbers (onward number))
         → ShowsNumbers (Asks at operation onward)
     touches : {touch : Touch} {act : Act S} → ShowsNumbers act → ShowsNumbers (Touches touch act)
 
@@ -66,8 +74,8 @@ module _ {S : Type 0} where
   left_shows cells answers stops = stops
   left_shows cells answers (reads {path = path} {kind = kind} shows) = left_shows cells answers (shows (cells path kind))
   left_shows cells answers (touches shows) = left_shows cells answers shows
-  left_shows cells [] (asks none shows) = asks none shows
-  left_shows cells (answer ∷ answers) (asks none shows) = left_shows cells answers (shows answer)
+  left_shows cells [] (asks plain shows) = asks plain shows
+  left_shows cells (answer ∷ answers) (asks plain shows) = left_shows cells answers (shows answer)
 
   either : (b : Bool) (one other : Act S) → ShowsNumbers one → ShowsNumbers other → ShowsNumbers (if b then one else other)
   either true one other first second = first
@@ -76,32 +84,39 @@ module _ {S : Type 0} where
   -- operators
   truth : (at : Place) (cell : Cell) (onward : Bool → Act S) → ((b : Bool) → ShowsNumbers (onward b)) → ShowsNumbers (operators.truth at cell onward)
   truth at (NumberCell n) onward shows = shows _
-  truth at NullCell onward shows = asks tt (λ n. shows false)
-  truth at (PointerCell object offset) onward shows = asks tt (λ n. shows true)
+  truth at NullCell onward shows = asks (tt, tt) (λ n. shows false)
+  truth at (PointerCell object offset) onward shows = asks (tt, tt) (λ n. shows true)
   truth at UnsetCell onward shows = shows false
 
-  checked : (model : DataModel) (at : Place) (operator : BinOp) (ty : IntType) (right : ℤ) (act : Act S) → ShowsNumbers act
-      → ShowsNumbers (operators.checked model at operator ty right act)
-  checked model at Add ty right act shows = shows
-  checked model at Sub ty right act shows = shows
-  checked model at Mul ty right act shows = shows
-  checked model at Div ty right act shows = either _ _ act stops shows
-  checked model at Rem ty right act shows = either _ _ act stops shows
-  checked model at Shl ty right act shows = either _ act _ shows stops
-  checked model at Shr ty right act shows = either _ act _ shows stops
-  checked model at And ty right act shows = shows
-  checked model at Xor ty right act shows = shows
-  checked model at Or ty right act shows = shows
+  divided : (at : Place) (right : ℤ) (act : Act S) → (right ≢ pos 0 → ShowsNumbers act) → ShowsNumbers (operators.divide at right act)
+  divided at right act shows = by (int_eq right (pos 0)) refl
+    where
+      by : (b : Bool) → int_eq right (pos 0) ≡ b → ShowsNumbers (if b then Stops (Fault kind.Divide at) else act)
+      by true is = stops
+      by false isnt = shows (λ zero. true≢false (sym (subst (λ (n : ℤ). int_eq n (pos 0) ≡ true) (sym zero) refl) ∙ isnt))
+
+  checked : (model : DataModel) (at : Place) (operator : BinOp) (ty : IntType) (right : ℤ) (act : Act S)
+      → (HasNonzeroDivisor operator right → ShowsNumbers act) → ShowsNumbers (operators.checked model at operator ty right act)
+  checked model at Add ty right act shows = shows tt
+  checked model at Sub ty right act shows = shows tt
+  checked model at Mul ty right act shows = shows tt
+  checked model at Div ty right act shows = divided at right act shows
+  checked model at Rem ty right act shows = divided at right act shows
+  checked model at Shl ty right act shows = either _ act _ (shows tt) stops
+  checked model at Shr ty right act shows = either _ act _ (shows tt) stops
+  checked model at And ty right act shows = shows tt
+  checked model at Xor ty right act shows = shows tt
+  checked model at Or ty right act shows = shows tt
 
   operate : (model : DataModel) (at : Place) (operator : BinOp) (ty : IntType) (left right : ℤ) (onward : ℤ → Act S)
       → ((n : ℤ) → ShowsNumbers (onward n)) → ShowsNumbers (operators.operate model at operator ty left right onward)
   operate model at operator ty left right onward shows =
-      checked model at operator ty right (Asks at (operation.Binary operator ty left right) onward) (asks tt shows)
+      checked model at operator ty right (Asks at (operation.Binary operator ty left right) onward) (λ divisor. asks (tt, divisor) shows)
 
   convert_number : (model : DataModel) (at : Place) (from : Shape) (to : IntType) (number : ℤ) (onward : ℤ → Act S)
       → ((n : ℤ) → ShowsNumbers (onward n)) → ShowsNumbers (operators.convert_number model at from to number onward)
   convert_number model at from to number onward shows =
-      either (operators.takes_all model from to) (onward number) (Asks at (operation.Convert to number) onward) (shows number) (asks tt shows)
+      either (operators.takes_all model from to) (onward number) (Asks at (operation.Convert to number) onward) (shows number) (asks (tt, tt) shows)
 
   convert : (model : DataModel) (at : Place) (from to : Shape) (operand : Operand) (onward : Operand → Act S)
       → ((given : Operand) → ShowsNumbers (onward given)) → ShowsNumbers (operators.convert model at from to operand onward)
@@ -112,8 +127,8 @@ module _ {S : Type 0} where
   convert model at from other operand onward shows = shows _
 
   look : (at : Place) (cell : Cell) (act : Act S) → ShowsNumbers act → ShowsNumbers (access.look at cell act)
-  look at NullCell act shows = asks tt (λ n. shows)
-  look at (PointerCell object offset) act shows = asks tt (λ n. shows)
+  look at NullCell act shows = asks (tt, tt) (λ n. shows)
+  look at (PointerCell object offset) act shows = asks (tt, tt) (λ n. shows)
   look at (NumberCell n) act shows = shows
   look at UnsetCell act shows = shows
 
@@ -123,13 +138,15 @@ module _ {S : Type 0} where
 
   equality : (at : Place) (operator : CmpOp) (same : Bool) (found : Option (ℤ × ℤ)) (onward : ℤ → Act S) → ((n : ℤ) → ShowsNumbers (onward n))
       → ShowsNumbers (operators.equality at operator same found onward)
-  equality at operator same None onward shows = asks tt (λ n. shows _)
-  equality at operator same (Some offsets) onward shows = asks tt shows
+  equality at operator same None onward shows = asks (tt, tt) (λ n. shows _)
+  equality at operator same (Some offsets) onward shows = asks (tt, tt) shows
 
   compare : (at : Place) (operator : CmpOp) (left right : Cell) (onward : ℤ → Act S) → ((n : ℤ) → ShowsNumbers (onward n))
       → ShowsNumbers (operators.compare at operator left right onward)
   compare at operator left right onward shows =
-      either _ _ _ (look at left _ (look at right _ (either _ _ _ (one_object at _ _ (asks tt shows)) (equality at operator _ _ onward shows)))) (asks tt shows)
+      either _ _ _
+      (look at left _ (look at right _ (either _ _ _ (one_object at _ _ (asks (tt, tt) shows)) (equality at operator _ _ onward shows))))
+      (asks (tt, tt) shows)
 
   -- accesses
   touched : (touch : ℕ → Touch) (local : Option ℕ) (act : Act S) → ShowsNumbers act → ShowsNumbers (access.touches_then touch local act)
@@ -217,11 +234,11 @@ module _ (code : Code) (program : TypedProgram) (budgets : RunBudgets) where
       load program m.memory m.frame.number access (cell_at m 0) (λ memory operand. Goes (push operand (with_memory memory (pop m)))) plain
       (λ memory operand. goes)
   work_shows at count (Convert from to) m plain = convert program.model at from to _ _ (λ operand. goes)
-  work_shows at count (Unary operator ty) m plain = asks tt (λ n. goes)
-  work_shows at count Not m plain = truth at _ _ (λ b. asks tt (λ n. goes))
+  work_shows at count (Unary operator ty) m plain = asks (tt, tt) (λ n. goes)
+  work_shows at count Not m plain = truth at _ _ (λ b. asks (tt, tt) (λ n. goes))
   work_shows at count (Binary operator ty) m plain = operate program.model at operator ty _ _ _ (λ n. goes)
   work_shows at count (Compare operator) m plain = compare at operator _ _ _ (λ n. goes)
-  work_shows at count Judge m plain = truth at _ _ (λ b. asks tt (λ n. goes))
+  work_shows at count Judge m plain = truth at _ _ (λ b. asks (tt, tt) (λ n. goes))
   work_shows at count (Store access) m plain =
       store program m.memory m.frame.number at access (cell_at m 1) (operand_at m 0)
       (λ memory. Goes (push (operand_at m 0) (with_memory memory (pop_many 2 m)))) plain (λ memory. goes)
@@ -248,8 +265,8 @@ module _ (code : Code) (program : TypedProgram) (budgets : RunBudgets) where
 
   end_shows : (end : BlockEnd) (m : CodeState) → ShowsNumbers (do_end code end m)
   end_shows (Jump block) m = goes
-  end_shows (Branch at temporary one other) m = truth at _ _ (λ b. touches (asks tt (λ n. goes)))
-  end_shows (Switch at temporary cases otherwise) m = touches (asks tt (λ n. goes))
+  end_shows (Branch at temporary one other) m = truth at _ _ (λ b. touches (asks (tt, tt) (λ n. goes)))
+  end_shows (Switch at temporary cases otherwise) m = touches (asks (tt, tt) (λ n. goes))
   end_shows (Return temporary) m = leaves m.callers _ m
   end_shows Finish m = leaves m.callers _ m
 

@@ -9,6 +9,7 @@ mod UsedGuesses
 mod OwnLabels
 mod PassedPieces
 mod GuessedAsked
+mod NotedGuesses
 mod PiecesCome
 mod Apart
 mod AddedPieces

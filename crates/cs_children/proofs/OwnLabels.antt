@@ -11,7 +11,6 @@ use Rattle.cs_terms.specs.declared.term.Lin.{Lin}
 use Rattle.cs_terms.specs.Pieces.{IsFar}
 use Rattle.cs_terms.specs.Term.{Valuation, value_of}
 use Rattle.cs_constraints.specs.Constraints.{Sets}
-use Rattle.cs_events.specs.declared.event.Label.{Label}
 use Rattle.cs_events.specs.declared.event.Label.TheVariants as label
 use Rattle.cs_events.specs.declared.event.Wrap.{Wrap}
 use Rattle.cs_events.specs.declared.event.Wrap.TheVariants.{Under, Same, Past, Far, Guessed}

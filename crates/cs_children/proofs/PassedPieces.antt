@@ -21,6 +21,7 @@ use Rattle.cs_events.specs.Operations.{guess_range, result_with, shows}
 use Rattle.cs_events.specs.PendingEvents.{Operates}
 use Rattle.cs_events.specs.Acts.{Act, Asks}
 use Rattle.cs_events.specs.Runs.{Setting, Log, guess_at, read_cell, used, used_guess, with_event, has_room}
+use Rattle.cs_event_runs.specs.ByEvents.{ShowsAfter, now as comes}
 use Rattle.cs_event_runs.specs.First.{Step, First, Shown, Ended, first_of}
 use Rattle.cs_event_runs.specs.Left.{left_of}
 use Rattle.cs_cfg.specs.Graph.{Code}
@@ -96,6 +97,10 @@ module _ (code : Code) (program : TypedProgram) (budgets : RunBudgets) (names : 
           used_is =
               (λ i. used (guess_range (goes.model i) operation) (guess_at setting.guesses (suc (many i))))
               ∙ uses
+
+      -- so the run comes to it
+      pub comes_to_step : ShowsAfter (code_step code program budgets) setting (first_of setting log left) [] (step_with program.model at operation given)
+      comes_to_step = comes asks_shows
 
       -- and no other step can come next
       pub only_step : (one : Step) (rest : Act CodeState) (end : Log)

@@ -3,6 +3,7 @@ use Rattle.std.proofs.Common.{◌≡◌, ◌≢◌, ℕ, zero, suc, ◌+◌, ◌
 use Rattle.std.proofs.Common.{None}
 use Rattle.std.proofs.Common.{Some, All, map, inl, inr, refl, sym, ap, ◌∙◌, subst, arith}
 use Rattle.std.specs.Prelude.{slice_get, option_map, unwrap_or, is_some, IsTrue}
+use Rattle.std.specs.FinMap as finite
 use Rattle.std.specs.Global.{Box}
 use Rattle.std.proofs.lemmas.List.{map-append}
 use Rattle.std.proofs.lemmas.List.Elements.{All-nil, All-cons, All-push}
@@ -27,6 +28,7 @@ use Rattle.cs_events.specs.declared.outcome.Budget.TheVariants.{Events}
 use Rattle.cs_events.specs.declared.outcome.RunBudgets.{RunBudgets}
 use Rattle.cs_events.specs.Objects.{Cell, UnsetCell}
 use Rattle.cs_events.specs.Operations.{guess_range, own_result, result_with, truth_number, shows}
+use Rattle.cs_events.specs.PendingEvents.{Operates}
 use Rattle.cs_events.specs.Acts.{Act, Asks}
 use Rattle.cs_events.specs.Runs.{Setting, Log, guess_at, read_cell, used}
 use Rattle.cs_event_runs.specs.First.{Step, first_of}
@@ -38,6 +40,7 @@ use Rattle.cs_eval.specs.declared.piece.Piece.{Piece}
 use Rattle.cs_eval.specs.Parts.{with_number}
 use Rattle.cs_eval.specs.Splits.{Asking, IsExact, IsOfGuess, IsPieceWith, IsPieceOf, Each, HaveOwnLabels, IsIn, IsCovered, IsSplit}
 use Rattle.cs_eval.proofs.OperandValues.{decide, with_number-same, with_number-other, fits_with}
+use Rattle.cs_state.specs.declared.asked.Asked.{Asked}
 use Rattle.cs_state.specs.declared.state.State.{State}
 use Rattle.cs_state.specs.Cells.{block_of}
 use Rattle.cs_state.specs.Meaning.{meaning}
@@ -50,19 +53,20 @@ use Rattle.cs_explored.specs.declared.child.Child.{Child}
 use Rattle.cs_explored.specs.declared.watch.Rule.{Rule}
 use Rattle.cs_explored.specs.Answering.{leads_on}
 use Rattle.cs_explored.specs.Watching.{IsPhaseAfter, IsPhaseAfterLabel}
-use Rattle.cs_children.specs.Adding.{IsOfPiece, AreOfPieces}
+use Rattle.cs_children.specs.Adding.{asked_for, AreNotedAfter, IsOfPiece, AreOfPieces}
 use Rattle.cs_children.specs.Settled.{DependsOn}
 use Rattle.cs_successors.specs.EntryRuns.{LeavesAfter, stays}
 use Rattle.cs_successors.specs.Coming.{is_declared, IsIntegerState, AreGuessesAfter, IsTruth, GoesBy, IsAt, PassesTo, GuessesAs, EndsIn, IsChildOf, IsEndOf}
-use Rattle.cs_successors.specs.Coming.{ListsNoneOrTruth, GivesOwn, MentionsGuess, ComesToChild}
+use Rattle.cs_successors.specs.Coming.{IsNoDivisionByZero, IsNotedAt, ListsNoneOrTruth, GivesOwn, MentionsGuess, ComesToChild}
 use Rattle.cs_successors.proofs.Passing.{one_alone}
 use Rattle.cs_children.proofs.DeclaredSymbols.{stays_declared, over_declared, locals_more, answers_more}
-use Rattle.cs_children.proofs.GuessedAsked.{asked_before}
-use Rattle.cs_children.proofs.IntegerActs.{IsNoAllocation}
+use Rattle.cs_children.proofs.GuessedAsked.{guesses_after, noted_there, asked_before}
+use Rattle.cs_children.proofs.IntegerActs.{IsOfIntegers}
+use Rattle.cs_children.proofs.NotedGuesses.{IsNotedOf, NotesAsked}
 use Rattle.cs_children.proofs.OneMoreAnswer.{uses_one}
 use Rattle.cs_children.proofs.OwnLabels.{TellsFollowed}
-use Rattle.cs_children.proofs.PassedPieces.{event_with, step_with, asks_over, only_step, passes_piece}
-use Rattle.cs_children.proofs.Reaching.{Comes}
+use Rattle.cs_children.proofs.PassedPieces.{event_with, step_with, asks_over, comes_to_step, only_step, passes_piece}
+use Rattle.cs_children.proofs.Reaching.{Comes, one_end_comes}
 use Rattle.cs_children.proofs.UsedGuesses.{used_none, own_leads_on}
 
 abbrev no_cells : Path → InputKind → Cell
@@ -80,10 +84,10 @@ with_own symbol number v own_number = λ i other. same other i
 
 module _ (code : Code) (program : TypedProgram) (budgets : RunBudgets) (names : Naming) (rules : List Rule) (state : State)
     (is : IsIntegerState code program budgets names state) (at : Place) where
-  -- what shows first under each valuation that fits: an operation, which no allocation shows
+  -- what shows first under each valuation that fits: an operation of integer code
   abbrev pub Shows : Asking → Type 0
   Shows asking = (cells : Path → InputKind → Cell) (v : Valuation) → Fits v state.constraints
-      → IsNoAllocation (asking.operation v)
+      → IsOfIntegers (asking.operation v)
       × ((onward : ℤ → Act CodeState) × (next_left code names program budgets cells state v ≡ Asks at (asking.operation v) onward))
 
   -- a number that may be guessed is used, and is that of a new symbol, which stands for the guess at the next event
@@ -97,6 +101,9 @@ module _ (code : Code) (program : TypedProgram) (budgets : RunBudgets) (names : 
       (room : state.counters.events < budgets.events) (tells : TellsFollowed program.model asking) where
     abbrev Exact : Piece → Type 0
     Exact piece = IsExact program.model state.constraints asking piece
+
+    abbrev Notes : Piece → Type 0
+    Notes piece = NotesAsked program.model state.constraints asking piece
 
     abbrev OfGuess : Piece → Type 0
     OfGuess piece = IsOfGuess program.model state.constraints guess.0 asking piece
@@ -163,7 +170,7 @@ module _ (code : Code) (program : TypedProgram) (budgets : RunBudgets) (names : 
               → leads_on piece.label piece.answer ≡ piece.answer
           of_label given fits label =
               ap (λ l. leads_on l piece.answer) (sym label)
-              ∙ own_leads_on program.model (asking.operation some) given piece.answer (first no_cells some fits).0
+              ∙ own_leads_on program.model (asking.operation some) given piece.answer (first no_cells some fits).0.0
 
           by : (guessed : Option Guessed) → IsPieceWith program.model state.constraints guess.0 asking guessed piece
               → leads_on piece.label piece.answer ≡ piece.answer
@@ -209,6 +216,11 @@ module _ (code : Code) (program : TypedProgram) (budgets : RunBudgets) (names : 
           (uses_one cells (map (value_of v) state.answers) (value_of v answer) (next_act code names program budgets state v)
           at (asking.operation v) onward asks (is.uses cells v fitted)))
 
+      asked_after : AreGuessesAfter (state.counters.events + 1) child.guess state.asked after.asked
+      asked_after =
+          subst (λ (given : Option Sym). AreGuessesAfter (state.counters.events + 1) given state.asked after.asked) (sym of.guessed)
+          (guesses_after (state.counters.events + 1) guess piece.guessed state.asked after.asked of.asked)
+
       child_integer : IsIntegerState code program budgets names after
       child_integer = record {
         model = ap (λ (s : State). s.model) of.state ∙ is.model;
@@ -222,7 +234,7 @@ module _ (code : Code) (program : TypedProgram) (budgets : RunBudgets) (names : 
         possible = (is_piece.some.0, fits_after is_piece.some.0 is_piece.some.1);
         guessed = λ asked among.
             subst (λ (n : ℕ). asked.event ≤ n) (sym number_is)
-            (asked_before state.counters.events child.guess state.asked after.asked is.guessed of.asked asked among);
+            (asked_before state.counters.events child.guess state.asked after.asked is.guessed asked_after asked among);
       }
 
       -- the answer depends on no symbol but those that the state mentions and that of the guess
@@ -502,14 +514,58 @@ module _ (code : Code) (program : TypedProgram) (budgets : RunBudgets) (names : 
                       by_test inexact (Some (truth_number truth)) uses label truth refl
                       (gives guess (guess_is (Some what) some) ∙ ap (λ o. unwrap_or o one.answer) is_listed)
 
+      -- what the child notes of its guess
+      noted_with : (what : Guessed) → piece.guessed ≡ Some what → IsNotedOf program.model state.constraints asking what
+          → IsNotedAt code program budgets names state child (asked_for (state.counters.events + 1) guess what)
+      noted_with what some of_asked = record {
+        sets = state.constraints;
+        inhabited = λ symbol set there. (is.possible.0 symbol, is.possible.1 symbol set there);
+        given = of_asked.given;
+        noted = of_asked.noted;
+        within = λ v fits. fits;
+        kept = fits_state;
+        divides = λ v fits. subst IsNoDivisionByZero (of_asked.operation v) (first no_cells v fits).0.1;
+        comes = λ setting v left log goes here fits.
+            let (onward, asks) = (first (read_cell setting) v fits).1 in
+            record {
+              one = step_with program.model at (asking.operation v) _;
+              shows = comes_to_step code program budgets names state is at setting v left log goes here (asking.operation v) onward asks room _ refl;
+              pends = λ i. Operates (ap (λ (event : Event). event.place) (sym of.event) i) (of_asked.operation v i);
+            };
+        inexact = λ v fits.
+            let from = inexact.from v (fits_piece v fits) in
+            (λ followed. from.1 (of_asked.followed v followed), of_asked.guesses v (v guess.0) from.2);
+        own = λ setting v left rest log later one goes here leaves. here.fits;
+      }
+        where
+          inexact : OfGuess piece
+          inexact = subst (λ (given : Option Guessed). IsPieceWith program.model state.constraints guess.0 asking given piece) some is_piece.meaning
+
+      child_notes : Notes piece → (symbol : Sym) (asked : Asked) → child.guess ≡ Some symbol
+          → finite.get after.asked (after.counters.events, 0) ≡ Some asked → IsNotedAt code program budgets names state child asked
+      child_notes notes symbol asked has found = by piece.guessed refl of.asked
+        where
+          by : (guessed : Option Guessed) → piece.guessed ≡ guessed → AreNotedAfter (state.counters.events + 1) guess guessed state.asked after.asked
+              → IsNotedAt code program budgets names state child asked
+          by None none same =
+              let wrong : None ≡ Some symbol = sym (of.guessed ∙ ap (option_map (λ what. guess)) none) ∙ has in
+              cc
+          by (Some what) some same =
+              let there = noted_there (state.counters.events + 1) guess what state.asked after.asked same in
+              let both : Some asked ≡ Some (asked_for (state.counters.events + 1) guess what)
+              = sym found ∙ ap (λ (n : ℕ). finite.get after.asked (n, 0)) number_is ∙ there in
+              let is_noted : asked ≡ asked_for (state.counters.events + 1) guess what = cc in
+              subst (IsNotedAt code program budgets names state child) (sym is_noted) (noted_with what some (notes what some))
+
       -- the piece makes a child
-      is_child : IsChildOf code program budgets names rules state child
-      is_child = record {
+      is_child : Notes piece → IsChildOf code program budgets names rules state child
+      is_child notes = record {
         integer = child_integer;
         number = (let n = number_is in omega (arith, n));
         phase = of.phase;
         named = λ symbol has. by_guess symbol has piece.guessed refl is_piece.meaning;
-        asked = subst (λ (n : ℕ). AreGuessesAfter n child.guess state.asked after.asked) (sym number_is) of.asked;
+        asked = subst (λ (n : ℕ). AreGuessesAfter n child.guess state.asked after.asked) (sym number_is) asked_after;
+        notes = child_notes notes;
         blocks = ap (λ (s : State). s.blocks) of.state;
         fits = fits_state;
         passes = λ setting v left log goes here fits agrees. child_passes setting v left log goes here fits agrees;
@@ -534,14 +590,14 @@ module _ (code : Code) (program : TypedProgram) (budgets : RunBudgets) (names : 
     abbrev IsPiece : Piece → Type 0
     IsPiece piece = IsPieceOf program.model state.constraints guess.0 asking piece
 
-    are_children : (pieces : List Piece) (made : List Child) → Each IsPiece pieces → AreOfPieces rules state at guess pieces made
-        → All (IsChildOf code program budgets names rules state) made
-    are_children [] [] each match = All-nil (IsChildOf code program budgets names rules state)
-    are_children [] (child ∷ made) each match = absurd match
-    are_children (piece ∷ pieces) [] each match = absurd match
-    are_children (piece ∷ pieces) (child ∷ made) each match =
-        All-cons (IsChildOf code program budgets names rules state) child made (is_child piece child each.0 match.0)
-        (are_children pieces made each.1 match.1)
+    are_children : (pieces : List Piece) (made : List Child) → Each IsPiece pieces → Each Notes pieces
+        → AreOfPieces rules state at guess pieces made → All (IsChildOf code program budgets names rules state) made
+    are_children [] [] each notes match = All-nil (IsChildOf code program budgets names rules state)
+    are_children [] (child ∷ made) each notes match = absurd match
+    are_children (piece ∷ pieces) [] each notes match = absurd match
+    are_children (piece ∷ pieces) (child ∷ made) each notes match =
+        All-cons (IsChildOf code program budgets names rules state) child made (is_child piece child each.0 match.0 notes.0)
+        (are_children pieces made each.1 notes.1 match.1)
 
     module _ (setting : Setting) (v : Valuation) (left : Act CodeState) (log : Log) (goes : GoesBy code program budgets names setting)
         (here : IsAt code program budgets names state setting v left log)
@@ -599,9 +655,9 @@ module _ (code : Code) (program : TypedProgram) (budgets : RunBudgets) (names : 
 
     -- all pieces are all that comes of the state
     pub pieces_come : (pieces : List Piece) (made : List Child) → IsSplit program.model state.constraints guess.0 asking pieces
-        → AreOfPieces rules state at guess pieces made → Comes code program budgets names rules state made []
-    pieces_come pieces made split match = record {
-      children = are_children pieces made split.each match;
+        → Each Notes pieces → AreOfPieces rules state at guess pieces made → Comes code program budgets names rules state made []
+    pieces_come pieces made split notes match = record {
+      children = are_children pieces made split.each notes match;
       endings = All-nil (IsEndOf code program budgets names state);
       covers = λ setting v left log goes here without. inl
           (comes_to_one setting v left log goes here without pieces made split.each match (split.covers v here.fits));
@@ -631,21 +687,4 @@ module _ (code : Code) (program : TypedProgram) (budgets : RunBudgets) (names : 
       }
 
   pub over_comes : Comes code program budgets names rules box.value [] ((Over Events at, box) ∷ [])
-  over_comes = record {
-    children = All-nil (IsChildOf code program budgets names rules box.value);
-    endings = All-cons (IsEndOf code program budgets names box.value) (Over Events at, box) [] (record {
-      model = is.model;
-      possible = is.possible;
-      fits = λ v fits. fits;
-      phase = refl;
-      asked = refl;
-      blocks = refl;
-      mentions = λ known mentioned. mentioned;
-      locals = is.locals;
-      integers = is.integers;
-      ends = λ setting v left log goes here fits. ends_over setting v left log goes here;
-    }) (All-nil (IsEndOf code program budgets names box.value));
-    covers = λ setting v left log goes here without.
-        inr (record { place = 0; end = (Over Events at, box); there = refl; ending = ends_over setting v left log goes here });
-    labels_differ = λ one other first second here there. cc;
-  }
+  over_comes = one_end_comes code program budgets names rules box is (Over Events at) ends_over

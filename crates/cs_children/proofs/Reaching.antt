@@ -1,7 +1,8 @@
 -- What comes of a state to which runs come silently from another one comes of that one too: for the contract of `find`.
 use Rattle.std.proofs.Common.{◌≡◌, ℕ, zero, suc, List, [], ◌∷◌, ◌++◌, None, Some, All, inl, inr, refl, ap, ◌∙◌, subst}
 use Rattle.std.specs.Prelude.{◌⊎◌, slice_get}
-use Rattle.std.proofs.lemmas.List.Elements.{All-nil, All-append, All-weaker}
+use Rattle.std.proofs.lemmas.List.Elements.{All-nil, All-cons, All-append, All-weaker}
+use Rattle.std.specs.Global.{Box}
 use Rattle.cs_ast.specs.TypedProgram.{TypedProgram}
 use Rattle.cs_terms.specs.Term.{Valuation}
 use Rattle.cs_events.specs.declared.outcome.Outcome.{Outcome}
@@ -12,6 +13,7 @@ use Rattle.cs_event_runs.specs.First.{Step, first_of}
 use Rattle.cs_cfg.specs.Graph.{Code}
 use Rattle.cs_cfg.specs.Working.{CodeState}
 use Rattle.cs_cfg.specs.CodeSteps.{code_step}
+use Rattle.cs_state.specs.declared.asked.Asked.{Asked}
 use Rattle.cs_state.specs.declared.state.State.{State}
 use Rattle.cs_state.specs.Naming.{Naming}
 use Rattle.cs_state.specs.Valuations.{Guessed as Guesses}
@@ -19,10 +21,10 @@ use Rattle.cs_explored.specs.declared.child.Child.{Child}
 use Rattle.cs_explored.specs.declared.watch.Rule.{Rule}
 use Rattle.cs_explored.specs.Watching.{IsPhaseAfter}
 use Rattle.cs_successors.specs.EntryRuns.{LeavesAfter, Proceeds, stays}
-use Rattle.cs_successors.specs.Coming.{IsIntegerState, StateEnd, OutcomesDiffer, GoesBy, IsAt, PassesTo, EndsIn, IsChildOf, IsEndOf}
+use Rattle.cs_successors.specs.Coming.{IsIntegerState, StateEnd, OutcomesDiffer, GoesBy, IsAt, ComesSilently, PassesTo, EndsIn, IsNotedAt, IsChildOf, IsEndOf}
 use Rattle.cs_successors.specs.Coming.{AreGuessesAfter, ListsNoneOrTruth, GivesOwn, ComesToChild, ComesToEnd, ComesOfState, IsReachedFrom}
 use Rattle.cs_successors.proofs.Passing.{after_silent_steps, leaves_no_end}
-use Rattle.cs_successors.proofs.Proceeding.{proceeds_on, leaves_on}
+use Rattle.cs_successors.proofs.Proceeding.{proceeds_on, leaves_on, shows_on}
 
 -- items of a list stay where others come after it, and are there where others come before it
 pub item_first : {X : Type 0} (xs ys : List X) (k : ℕ) (x : X) → slice_get xs k ≡ Some x → slice_get (xs ++ ys) k ≡ Some x
@@ -189,8 +191,81 @@ module _ (code : Code) (program : TypedProgram) (budgets : RunBudgets) (names : 
     pub labels_differ : (one other : ℕ) (first second : Child) → slice_get made one ≡ Some first → slice_get made other ≡ Some second
         → first.event.label ≡ second.event.label → one ≡ other
 
+  -- where no run passes an event, the ends are all
+  pub ends_come : (rules : List Rule) (before : State) (ends : List StateEnd) → All (IsEndOf code program budgets names before) ends
+      → ((setting : Setting) (valuation : Valuation) (left : Act CodeState) (log : Log) → GoesBy code program budgets names setting
+      → IsAt code program budgets names before setting valuation left log
+      → ComesToEnd code program budgets names ends setting valuation left log) → Comes rules before [] ends
+  ends_come rules before ends endings covers = record {
+    children = All-nil (IsChildOf code program budgets names rules before);
+    endings = endings;
+    covers = λ setting valuation left log goes here none. inr (covers setting valuation left log goes here);
+    labels_differ = λ one other first second here there. cc;
+  }
+
+  -- and so is one end, where all runs end so
+  pub one_end_comes : (rules : List Rule) (box : Box State) → IsIntegerState code program budgets names box.value → (outcome : Outcome)
+      → ((setting : Setting) (valuation : Valuation) (left : Act CodeState) (log : Log) → GoesBy code program budgets names setting
+      → IsAt code program budgets names box.value setting valuation left log
+      → EndsIn code program budgets names outcome box.value setting valuation left log) → Comes rules box.value [] ((outcome, box) ∷ [])
+  one_end_comes rules box is outcome ends_so =
+      ends_come rules box.value ((outcome, box) ∷ []) (All-cons (IsEndOf code program budgets names box.value) (outcome, box) [] (record {
+        model = is.model;
+        possible = is.possible;
+        fits = λ valuation fits. fits;
+        phase = refl;
+        asked = refl;
+        blocks = refl;
+        mentions = λ known mentioned. mentioned;
+        locals = is.locals;
+        integers = is.integers;
+        ends = λ setting valuation left log goes here fits. ends_so setting valuation left log goes here;
+      }) (All-nil (IsEndOf code program budgets names box.value)))
+      (λ setting valuation left log goes here. record {
+        place = 0;
+        end = (outcome, box);
+        there = refl;
+        ending = ends_so setting valuation left log goes here;
+      })
+
   module _ (rules : List Rule) (before one : State) (ends : List StateEnd) (reached : IsReachedFrom code program budgets names before one ends) where
-    -- a run that passes the event of a child comes to the state that was reached first
+    -- a run that passes an event comes to the state that was reached first, and passes it from there
+    pub record ComesFirst (setting : Setting) (valuation : Valuation) (left rest : Act CodeState) (log later : Log) (shown : Step) : Type 0 where
+      pub way : ComesSilently code program budgets names one setting valuation left log
+      pub leaves : LeavesAfter step setting (first_of setting way.later way.rest) (shown ∷ []) rest later
+
+    comes_first : (setting : Setting) (valuation : Valuation) (left rest : Act CodeState) (log later : Log) (shown : Step)
+        → GoesBy code program budgets names setting → IsAt code program budgets names before setting valuation left log
+        → LeavesAfter step setting (first_of setting log left) (shown ∷ []) rest later → ComesFirst setting valuation left rest log later shown
+    comes_first setting valuation left rest log later shown goes at leaves = elim (reached.covers setting valuation left log goes at) [
+      | inl fits ↦
+          let way = reached.comes setting valuation left log goes at fits in
+          record { way = way; leaves = after_silent_steps step setting way.proceeds leaves }
+      | inr end ↦ absurd (leaves_no_end step setting end.ending.proceeds end.ending.ends leaves)
+    ]
+
+    -- what is noted at that state was asked after the one before, too
+    noted_before : (child : Child) (asked : Asked) → IsNotedAt code program budgets names one child asked
+        → IsNotedAt code program budgets names before child asked
+    noted_before child asked at_one = record {
+      sets = at_one.sets;
+      inhabited = at_one.inhabited;
+      given = at_one.given;
+      noted = at_one.noted;
+      within = λ valuation fits. reached.fits valuation (at_one.within valuation fits);
+      kept = at_one.kept;
+      divides = at_one.divides;
+      comes = λ setting valuation left log goes at fits.
+          let way = reached.comes setting valuation left log goes at (at_one.within valuation fits) in
+          let there = at_one.comes setting valuation way.rest way.later goes way.comes fits in
+          record { one = there.one; shows = shows_on step setting way.proceeds there.shows; pends = there.pends };
+      inexact = at_one.inexact;
+      own = λ setting valuation left rest log later shown goes at leaves.
+          let first = comes_first setting valuation left rest log later shown goes at leaves in
+          at_one.own setting valuation first.way.rest rest first.way.later later shown goes first.way.comes first.leaves;
+    }
+
+    -- a run that passes the event of a child has come to it
     came_back : (child : Child) → IsChildOf code program budgets names rules one child → (setting : Setting) (valuation : Valuation)
         (left rest : Act CodeState) (log later : Log) (shown : Step) → GoesBy code program budgets names setting
         → IsAt code program budgets names before setting valuation left log
@@ -198,13 +273,8 @@ module _ (code : Code) (program : TypedProgram) (budgets : RunBudgets) (names : 
         → ListsNoneOrTruth setting child → GivesOwn setting child shown.answer valuation
         → IsAt code program budgets names child.state.value setting valuation rest later
     came_back child is setting valuation left rest log later shown goes at leaves same lists gives =
-        elim (reached.covers setting valuation left log goes at) [
-          | inl fits ↦
-              let way = reached.comes setting valuation left log goes at fits in
-              is.back setting valuation way.rest rest way.later later shown goes way.comes (after_silent_steps step setting way.proceeds leaves) same lists
-              gives
-          | inr end ↦ absurd (leaves_no_end step setting end.ending.proceeds end.ending.ends leaves)
-        ]
+        let first = comes_first setting valuation left rest log later shown goes at leaves in
+        is.back setting valuation first.way.rest rest first.way.later later shown goes first.way.comes first.leaves same lists gives
 
     child_of_first : (child : Child) → IsChildOf code program budgets names rules one child → IsChildOf code program budgets names rules before child
     unfolding passes_after
@@ -215,6 +285,7 @@ module _ (code : Code) (program : TypedProgram) (budgets : RunBudgets) (names : 
       named = is.named;
       asked = subst (λ (guesses : Guesses). AreGuessesAfter child.state.value.counters.events child.guess guesses child.state.value.asked) reached.asked
           is.asked;
+      notes = λ symbol asked has found. noted_before child asked (is.notes symbol asked has found);
       blocks = is.blocks ∙ reached.blocks;
       fits = λ valuation fits. reached.fits valuation (is.fits valuation fits);
       passes = λ setting valuation left log goes at fits guesses.

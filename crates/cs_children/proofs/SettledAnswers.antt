@@ -1,17 +1,17 @@
 -- An answer that depends on its symbol stays, and any other is a constant: for the contract of `settled`.
-use Rattle.std.proofs.Common.{◌≡◌, ◌≢◌, ◌≤◌, ◌⊎◌, inl, inr, ℕ, ℤ, pos, ◌+ℤ◌, ◌-ℤ◌, ◌*ℤ◌, unsigned_abs, List}
+use Rattle.std.proofs.Common.{◌≡◌, ◌≢◌, ◌≤◌, ◌⊎◌, inl, inr, ℤ, pos, ◌+ℤ◌, ◌-ℤ◌, ◌*ℤ◌, unsigned_abs, List}
 use Rattle.std.proofs.Common.{Option, None, Some, refl, sym, ap, ◌∙◌}
 use Rattle.std.proofs.Common.{subst, true≢false, arith}
 use Rattle.std.proofs.lemmas.Int.{ints}
 use Rattle.cs_ranges.specs.declared.range_set.Interval.{Interval}
 use Rattle.cs_ranges.specs.Affine.{affine}
-use Rattle.cs_ranges.specs.RangeSet.{contains, IsOnly, IsEmpty, IsInhabited, HasTwo}
+use Rattle.cs_ranges.specs.RangeSet.{IsOnly, IsEmpty, IsInhabited, HasTwo}
 use Rattle.cs_ranges.proofs.AffineLaws.{affine-affine}
 use Rattle.cs_terms.specs.declared.symbol.Sym.{Sym}
 use Rattle.cs_terms.specs.declared.term.Lin.{Lin}
-use Rattle.cs_terms.specs.Term.{Valuation, value_with, value_of, value_at}
+use Rattle.cs_terms.specs.Term.{Valuation, value_with, value_of}
 use Rattle.cs_terms.proofs.Products.{abs-product}
-use Rattle.cs_constraints.specs.Constraints.{Sets, set_of, Fits}
+use Rattle.cs_constraints.specs.Constraints.{Sets, set_of}
 use Rattle.cs_children.specs.Settled.{DependsOn, IsSettled, IsConstantAt}
 
 -- a function that isn't level has different values at different numbers

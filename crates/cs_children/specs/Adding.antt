@@ -1,6 +1,7 @@
 -- What is added to what comes of a state: the children of the pieces of what shows first, and the ends of faulty parts.
-use Rattle.std.specs.Prelude.{◌≡◌, ◌≢◌, ℕ, ◌+◌, ◌<◌, ◌≤◌, Bool, true, false, List, [], ◌∷◌, ◌++◌, map, All, None, Some}
-use Rattle.std.specs.Prelude.{option_map, slice_get}
+use Rattle.std.specs.Prelude.{◌≡◌, ◌≢◌, ℕ, ◌+◌, ◌<◌, ◌≤◌, Bool, true, false, List, [], ◌∷◌, ◌++◌, map, All}
+use Rattle.std.specs.Prelude.{Option, None, Some, option_map, slice_get}
+use Rattle.std.specs.FinMap as finite
 use Rattle.std.specs.List.{AllZip}
 use Rattle.std.specs.Global.{Box}
 use Rattle.cs_types.specs.declared.data_model.DataModel.{DataModel}
@@ -20,19 +21,24 @@ use Rattle.cs_cfg.specs.Spots.{point_of}
 use Rattle.cs_access.specs.declared.checking.FaultyPart.{FaultyPart}
 use Rattle.cs_access.specs.declared.checking.Rest.{Rest}
 use Rattle.cs_access.specs.declared.checking.Rest.TheVariants.{Whole, Part, Nothing}
+use Rattle.cs_eval.specs.declared.piece.Guessed.{Guessed}
 use Rattle.cs_eval.specs.declared.piece.Piece.{Piece}
 use Rattle.cs_eval.specs.declared.question.Question.{Question}
 use Rattle.cs_eval.specs.Cases.{AreCases}
 use Rattle.cs_eval.specs.Followed.{AreAnswers}
+use Rattle.cs_eval.specs.Noted.{NotesGuess}
+use Rattle.cs_eval.specs.Splits.{Each}
+use Rattle.cs_state.specs.declared.asked.Asked.{Asked}
 use Rattle.cs_state.specs.declared.state.State.{State}
 use Rattle.cs_state.specs.Naming.{Naming}
+use Rattle.cs_state.specs.Valuations.{Guessed as Guesses}
 use Rattle.cs_explored.specs.declared.child.Child.{Child}
 use Rattle.cs_explored.specs.declared.watch.Rule.{Rule}
 use Rattle.cs_explored.specs.Answering.{leads_on}
 use Rattle.cs_explored.specs.Watching.{IsPhaseAfter}
 use Rattle.cs_children.specs.declared.children.Children.{Children}
 use Rattle.cs_children.specs.Settled.{IsSettled}
-use Rattle.cs_successors.specs.Coming.{AreGuessesAfter, StateEnd, OutcomesDiffer}
+use Rattle.cs_successors.specs.Coming.{StateEnd, OutcomesDiffer}
 
 -- children and ends are added, and no cut
 pub record Adds (before after : Children) (made : List Child) (ends : List StateEnd) : Type 0 where
@@ -60,6 +66,23 @@ after_event answer phase state = record state {
 abbrev pub IsPassed : List Rule → Event → Lin → State → State → Type 0
 IsPassed rules event answer before after = IsPhaseAfter rules before.phase event after.phase × (after ≡ after_event answer after.phase before)
 
+-- what a state notes of a guess at an event, for whose result this symbol stands
+abbrev pub asked_for : ℕ → Sym → Guessed → Asked
+asked_for event guess what = record {
+  event = event;
+  guess = guess;
+  asks = what.asks;
+  left = what.left;
+  right = what.right;
+  ends = what.ends;
+  fact = what.fact;
+}
+
+-- the guesses before an event and directly after it, where just this was guessed there, or nothing
+abbrev pub AreNotedAfter : ℕ → Sym → Option Guessed → Guesses → Guesses → Type 0
+AreNotedAfter event guess None before after = after ≡ before
+AreNotedAfter event guess (Some what) before after = after ≡ finite.insert before (event, 0) (asked_for event guess what)
+
 -- the child that a piece makes of a state
 pub record IsOfPiece (rules : List Rule) (before : State) (place : Place) (guess : Sym) (piece : Piece) (child : Child) : Type 0 where
   pub event : child.event ≡ record { place = place; label = piece.label }
@@ -68,7 +91,7 @@ pub record IsOfPiece (rules : List Rule) (before : State) (place : Place) (guess
   pub settled : IsSettled before.constraints child.guess (leads_on piece.label piece.answer) answer
   pub declared : IsDeclared piece.constraints answer.sym
   pub phase : IsPhaseAfter rules before.phase child.event child.state.value.phase
-  pub asked : AreGuessesAfter (before.counters.events + 1) child.guess before.asked child.state.value.asked
+  pub asked : AreNotedAfter (before.counters.events + 1) guess piece.guessed before.asked child.state.value.asked
   pub state : child.state.value ≡ record (after_event answer child.state.value.phase before) {
     constraints = piece.constraints;
     asked = child.state.value.asked;
@@ -104,6 +127,7 @@ pub record AreOfQuestion (model : DataModel) (names : Naming) (state : State) (q
   pub named : slice_get names.syms guess.0 ≡ Some (GuessAt (state.counters.events + 1))
   pub fresh : set_of state.constraints guess.0 ≡ None
   pub answers : AreAnswers model state.constraints guess.0 question pieces
+  pub notes : Each (NotesGuess model state.constraints question) pieces
 
 -- the pieces of the `switch` at a state's spot
 pub record AreOfSwitch (code : Code) (state : State) (term : Lin) (guess : Sym) (pieces : List Piece) : Type 0 where

@@ -5,7 +5,8 @@ ghost use Rattle.cs_constraints.specs.Constraints.{IsDeclared};
 ghost use Rattle.cs_state.specs.Naming.{naming, Extends};
 ghost use Rattle.cs_operators.specs.Asking.{KeepKinds, HasEveryKind};
 ghost use Rattle.cs_children.specs.Adding.{Adds, AddsChildren, AddsPieces, AddsFaulty, KeepApart, HaveOthers, GoesOn};
-ghost use Rattle.cs_children.specs.Adding.{IsNextEvent, IsPassed, AreOfQuestion, AreOfSwitch};
+ghost use Rattle.cs_children.specs.Adding.{asked_for, IsNextEvent, IsPassed};
+ghost use Rattle.cs_children.specs.Adding.{AreOfQuestion, AreOfSwitch};
 ghost use Rattle.cs_children.specs.Finding.{AreNone, FindsAll, code_of, model_of};
 
 use crate::exploration::Exploration;
@@ -483,8 +484,7 @@ fn is_declared(state: &State, term: Lin) -> bool
 
 // What a guess was asked for.
 fn asked(event: u64, guess: Sym, guessed: Guessed) -> Asked
-    ensures event { result.event ≡ event }
-    ensures guess { result.guess ≡ guess }
+    ensures { result ≡ asked_for event guess guessed }
 {
     Asked {
         event,

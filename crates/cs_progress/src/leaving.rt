@@ -55,7 +55,8 @@ fn returned(given: &Temporary) -> Option<Value>
 {
     match given {
         Temporary::Nothing => None,
-        Temporary::Scalar(_) | Temporary::Whole(_) => Some(value_of(given)),
+        Temporary::Scalar(value) => Some(*value),
+        Temporary::Whole(_) => Some(value_of(given)),
     }
 }
 

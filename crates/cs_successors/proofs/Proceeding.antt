@@ -5,6 +5,7 @@ use Rattle.cs_events.specs.Acts.{Act}
 use Rattle.cs_events.specs.Growth.{GoesOn, log_of}
 use Rattle.cs_events.specs.Runs.{Setting, Log, Performed, Continues, perform, Leads, stays as rests, goes}
 use Rattle.cs_events.proofs.LogGrowth.{act_adds, way_adds}
+use Rattle.cs_event_runs.specs.ByEvents.{ShowsAfter, later as shown_later, unseen as shown_unseen}
 use Rattle.cs_event_runs.specs.First.{Step, First, Silent, Shown, Ended, first_of, performed}
 use Rattle.cs_event_runs.proofs.Firsts.{performs_first, HasEvents, adds_first}
 use Rattle.cs_successors.specs.EntryRuns.{LeavesAfter, later as follows, unseen, Proceeds, stays, silently, shows}
@@ -35,6 +36,15 @@ module _ {M : Type 0} (step : M → Act M) (setting : Setting) where
       (subst (λ log. LeavesAfter step setting (first_of setting log middle) more last end) (sym same) onward)
   leaves_on (silently is rest) onward = unseen is (leaves_on rest onward)
   leaves_on (shows is rest) onward = follows is (leaves_on rest onward)
+
+  -- a way, and what shows after it
+  pub shows_on : {left middle : Act M} {log between : Log} {steps more : List Step} {one : Step} → Proceeds step setting left log steps middle between
+      → ShowsAfter step setting (first_of setting between middle) more one → ShowsAfter step setting (first_of setting log left) (steps ++ more) one
+  shows_on {more = more} {one = one} (stays {last = middle} {log = log} is same) onward =
+      subst (λ act. ShowsAfter step setting (first_of setting log act) more one) (sym is)
+      (subst (λ log. ShowsAfter step setting (first_of setting log middle) more one) (sym same) onward)
+  shows_on (silently is rest) onward = shown_unseen is (shows_on rest onward)
+  shows_on (shows is rest) onward = shown_later is (shows_on rest onward)
 
   -- what goes on and adds no event is silent
   module _ (log : Log) (act : Act M) (next : M) (later : Log) (short : length later.events ≤ length log.events) where

@@ -169,7 +169,7 @@ module _ (code : Code) (program : TypedProgram) (budgets : RunBudgets) (names : 
     pub pends : one.pending ≡ pending
 
   -- what is noted of a child's guess. The question was asked under these sets: valuations of the state whose runs come to it, among them those of the child,
-  -- under which it isn't followed and the number of the guess symbol may be guessed, and those of runs that pass the child's event
+  -- under which it isn't followed and the number of the guess symbol may be guessed, and those of all runs that pass an event
   pub record IsNotedAt (before : State) (child : Child) (asked : Asked) : Type 0 where
     pub sets : Sets
     pub inhabited : AreInhabited sets

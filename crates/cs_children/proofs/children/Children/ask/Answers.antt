@@ -2,6 +2,8 @@ use Rattle.std.proofs.Common.{◌≡◌, ℕ, ◌+◌, ◌≤◌, ◌<◌, Some,
 use Rattle.cs_terms.specs.declared.symbol.SymName.TheVariants.{Guess as GuessAt}
 use Rattle.cs_constraints.specs.Constraints.{set_of}
 use Rattle.cs_eval.specs.Followed.{AreAnswers}
+use Rattle.cs_eval.specs.Noted.{NotesGuess}
+use Rattle.cs_eval.specs.Splits.{Each}
 use Rattle.cs_state.specs.declared.state.State.{State}
 use Rattle.cs_state.specs.Naming.{naming}
 use Rattle.cs_children.specs.Adding.{AreOfQuestion}
@@ -35,4 +37,6 @@ returns-clause-adds c =
           (c.range_of.ensures.set ∙ ap (λ (s : State). set_of s.constraints guess.0) too) c.is_some.ensures c.if-is_some.false;
       answers = subst (λ (s : State). AreAnswers (model_of c.args.exploration.now) s.constraints guess.0 c.args.question.now c.in_ok-pieces.pieces.items) yet
           c.in_ok-pieces.ensures.answers;
+      notes = subst (λ (s : State). Each (NotesGuess (model_of c.args.exploration.now) s.constraints c.args.question.now) c.in_ok-pieces.pieces.items) yet
+          c.in_ok-pieces.ensures.notes;
     }) c.add_all.ensures
