@@ -44,7 +44,7 @@ use Rattle.cs_cfg.specs.Graph.{Meet, Close, Operation as Step, BlockEnd, Jump, B
 use Rattle.cs_cfg.specs.Working.{CodeState, if_local, do_work}
 use Rattle.cs_cfg.specs.CodeSteps.{step_at, do_end, code_step}
 use Rattle.cs_cfg.specs.Spots.{rest_from, point_in, point_of}
-use Rattle.cs_successors.specs.Coming.{HasNonzeroDivisor, IsNoDivisionByZero}
+use Rattle.cs_successors.specs.Coming.{HasNonzeroDivisor, IsAskedByIntegers}
 use Rattle.cs_cfg.specs.IntegerCode.{IsOfInteger, IsIntegerWork, IsIntegerOperation, IsIntegerPoint, HasIntegerCode, count_of_locals}
 
 -- an operation isn't what an allocation shows
@@ -54,7 +54,7 @@ IsNoAllocation other = Unit {0}
 
 -- an operation of integer code
 abbrev pub IsOfIntegers : Operation → Type 0
-IsOfIntegers one = IsNoAllocation one × IsNoDivisionByZero one
+IsOfIntegers one = IsNoAllocation one × IsAskedByIntegers one
 
 module _ {S : Type 0} where
   -- an act allocates nothing, divides by no 0, and shows no offset

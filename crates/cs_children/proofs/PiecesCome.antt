@@ -57,7 +57,7 @@ use Rattle.cs_children.specs.Adding.{asked_for, AreNotedAfter, IsOfPiece, AreOfP
 use Rattle.cs_children.specs.Settled.{DependsOn}
 use Rattle.cs_successors.specs.EntryRuns.{LeavesAfter, stays}
 use Rattle.cs_successors.specs.Coming.{is_declared, IsIntegerState, AreGuessesAfter, IsTruth, GoesBy, IsAt, PassesTo, GuessesAs, EndsIn, IsChildOf, IsEndOf}
-use Rattle.cs_successors.specs.Coming.{IsNoDivisionByZero, IsNotedAt, ListsNoneOrTruth, GivesOwn, MentionsGuess, ComesToChild}
+use Rattle.cs_successors.specs.Coming.{IsAskedByIntegers, IsNotedAt, ListsNoneOrTruth, GivesOwn, MentionsGuess, ComesToChild}
 use Rattle.cs_successors.proofs.Passing.{one_alone}
 use Rattle.cs_children.proofs.DeclaredSymbols.{stays_declared, over_declared, locals_more, answers_more}
 use Rattle.cs_children.proofs.GuessedAsked.{guesses_after, noted_there, asked_before}
@@ -524,7 +524,7 @@ module _ (code : Code) (program : TypedProgram) (budgets : RunBudgets) (names : 
         noted = of_asked.noted;
         within = λ v fits. fits;
         kept = fits_state;
-        divides = λ v fits. subst IsNoDivisionByZero (of_asked.operation v) (first no_cells v fits).0.1;
+        divides = λ v fits. subst IsAskedByIntegers (of_asked.operation v) (first no_cells v fits).0.1;
         comes = λ setting v left log goes here fits.
             let (onward, asks) = (first (read_cell setting) v fits).1 in
             record {

@@ -33,7 +33,7 @@ use Rattle.cs_explored.specs.declared.watch.Rule.{Rule}
 use Rattle.cs_findings.proofs.EarlierGuesses.{guesses_kept}
 use Rattle.cs_corners.specs.Operands.{HasOperands}
 use Rattle.cs_successors.specs.EntryRuns.{events_of, setting_with, step_of, LeavesAfter, HasLeft, PassesTo}
-use Rattle.cs_successors.specs.Coming.{IsNoDivisionByZero, GoesBy, IsAt, IsEndOf}
+use Rattle.cs_successors.specs.Coming.{IsAskedByIntegers, GoesBy, IsAt, IsEndOf}
 use Rattle.cs_successors.proofs.Passing.{one_alone}
 use Rattle.cs_coverage.specs.OwnNumbers.{own_valuation, ListsOwn}
 use Rattle.cs_coverage.proofs.Coverage.{element}
@@ -140,8 +140,8 @@ module _ (code : Code) (program : TypedProgram) (entry : ℕ) (budgets : RunBudg
       abbrev meant : Question
       meant = made.noted.noted.meant
 
-      integers : IsNoDivisionByZero (operation_of v meant)
-      integers = subst IsNoDivisionByZero (sym (made.noted.noted.same v (fits_sets v fits))) (made.noted.divides v (fits_sets v fits))
+      integers : IsAskedByIntegers (operation_of v meant)
+      integers = subst IsAskedByIntegers (sym (made.noted.noted.same v (fits_sets v fits))) (made.noted.divides v (fits_sets v fits))
 
       operands : HasOperands sets v meant
       operands = operands_of sets v meant (no_product sets v meant integers) made.noted.noted.operands

@@ -10,7 +10,7 @@ use Rattle.cs_eval.specs.Operands.{IsReadyOperand}
 use Rattle.cs_eval.specs.Questions.{operation_of}
 use Rattle.cs_eval.specs.Ready.{IsReadyPart, HasReadyOperands}
 use Rattle.cs_corners.specs.Operands.{IsOperand, HasOperands, HasDivisorOf, HasDivisor}
-use Rattle.cs_successors.specs.Coming.{HasNonzeroDivisor, IsNoDivisionByZero}
+use Rattle.cs_successors.specs.Coming.{HasNonzeroDivisor, IsAskedByIntegers}
 
 -- the question isn't the order test of `calloc`, whose operands have to count besides
 abbrev pub IsNoProduct : Question → Type 0
@@ -50,7 +50,7 @@ module _ (sets : Sets) where
     divisor_by Or right some = tt
 
     -- integer code divides by no 0
-    pub divisor_of : (asked : Question) → IsNoDivisionByZero (operation_of v asked) → HasDivisor sets v asked
+    pub divisor_of : (asked : Question) → IsAskedByIntegers (operation_of v asked) → HasDivisor sets v asked
     divisor_of (question.Binary op ty left right) is = divisor_by op right is
     divisor_of (question.Unary op ty term) is = tt
     divisor_of (question.Convert ty term) is = tt
@@ -63,7 +63,7 @@ module _ (sets : Sets) where
     divisor_of (question.Callee function) is = tt
 
     -- and asks for no order test of an allocation
-    pub no_product : (asked : Question) → IsNoDivisionByZero (operation_of v asked) → IsNoProduct asked
+    pub no_product : (asked : Question) → IsAskedByIntegers (operation_of v asked) → IsNoProduct asked
     no_product (question.Product count size) is = is
     no_product (question.Binary op ty left right) is = tt
     no_product (question.Unary op ty term) is = tt

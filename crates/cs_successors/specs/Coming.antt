@@ -108,11 +108,11 @@ HasNonzeroDivisor Div right = right ≢ pos 0
 HasNonzeroDivisor Rem right = right ≢ pos 0
 HasNonzeroDivisor op right = Unit {0}
 
--- what is asked is neither a division by 0 nor the order test of an allocation, which integer code doesn't ask
-abbrev pub IsNoDivisionByZero : Operation → Type 0
-IsNoDivisionByZero (operation.Binary op ty left right) = HasNonzeroDivisor op right
-IsNoDivisionByZero (operation.Product count size) = ⊥
-IsNoDivisionByZero other = Unit {0}
+-- what is asked is neither a division by 0 nor the order test of an allocation: integer code asks for neither
+abbrev pub IsAskedByIntegers : Operation → Type 0
+IsAskedByIntegers (operation.Binary op ty left right) = HasNonzeroDivisor op right
+IsAskedByIntegers (operation.Product count size) = ⊥
+IsAskedByIntegers other = Unit {0}
 
 module _ (code : Code) (program : TypedProgram) (budgets : RunBudgets) (names : Naming) where
   -- a state after another one mentions no symbols but those that this one mentions
@@ -177,7 +177,7 @@ module _ (code : Code) (program : TypedProgram) (budgets : RunBudgets) (names : 
     pub noted : IsNoted program.model sets given asked.asks asked.left asked.right asked.ends asked.fact
     pub within : (valuation : Valuation) → Fits valuation sets → Fits valuation before.constraints
     pub kept : (valuation : Valuation) → Fits valuation child.state.value.constraints → Fits valuation sets
-    pub divides : (valuation : Valuation) → Fits valuation sets → IsNoDivisionByZero (operation_of valuation given)
+    pub divides : (valuation : Valuation) → Fits valuation sets → IsAskedByIntegers (operation_of valuation given)
     pub comes : (setting : Setting) (valuation : Valuation) (left : Act CodeState) (log : Log) → GoesBy setting
         → IsAt before setting valuation left log → Fits valuation sets
         → ComesToAsk setting left log (Operates child.event.place (operation_of valuation given))
