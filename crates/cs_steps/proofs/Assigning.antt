@@ -1,5 +1,5 @@
 -- Operations that store: for the contracts of `assign`, `update`, `initialize` and `clear`.
-use Rattle.std.proofs.Common.{◌≡◌, ◌≢◌, ℕ, zero, suc, [], ◌∷◌, Contains, refl, arith, rules, Bool, Some, slice_get, Result, Ok, Err, OnOk}
+use Rattle.std.proofs.Common.{◌≡◌, ◌≢◌, ℕ, zero, suc, [], ◌∷◌, Contains, refl, arith, rules, Bool, None, Some, slice_get, Result, Ok, Err, OnOk}
 use Rattle.std.proofs.Common.{IfErr, sym, ap, ◌∙◌}
 use Rattle.cs_types.specs.Shape.{Shape}
 use Rattle.cs_inputs.specs.declared.path.Path.{Path}
