@@ -50,7 +50,8 @@ module _ {M : Type 0} (step : M → Act M) (setting : Setting) where
       let same : other ≡ one = cc in
       let lefts : left' ≡ left = cc in
       let logs : log' ≡ log = cc in
-      let more = passed_first rest (subst (λ (first : First M). RunsTo step setting first steps outcome end) (λ i. first_of setting (logs i) (lefts i)) onward) in
+      let more = passed_first rest
+      (subst (λ (first : First M). RunsTo step setting first steps outcome end) (λ i. first_of setting (logs i) (lefts i)) onward) in
       (more.0, λ i. same i ∷ more.1 i)
   passed_first (later e rest) (silently f onward) = cc
   passed_first (unseen e rest) (ends f) = cc

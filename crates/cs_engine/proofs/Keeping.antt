@@ -105,7 +105,7 @@ module _ (exploration : Exploration) (entry : ℕ) (explores : ExploresIntegers 
       (nodes : after.nodes ≡ cut.nodes) (kept : IsKept exploration entry (IsOpen row) before) where
     none_cut : cut.cuts.items ≡ []
     none_cut =
-        cutting.cuts ∙ adds.cuts
+        cutting.cuts ∙ (λ i. adds.cuts i ++ cuts)
         ∙ (λ i. kept.uncut row from there i ++ no_cuts exploration entry explores before ended cut after tables row from there made endings cuts extends adds
         cutting keeps comes gone kept.sources numbered once i)
 

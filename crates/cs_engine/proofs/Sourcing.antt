@@ -105,8 +105,10 @@ module _ (exploration : Exploration) (entry : ℕ) (explores : ExploresIntegers 
       sources = λ names are each.
           let rows : after.graph.rows ≡ [] = ap (λ (graph : RowGraph). graph.rows) placed.0.2 ∙ no_rows in
           let known = subst (λ (tables : Tables). AreNames (naming tables) names) keeps.tables are in
-          subst (λ (rows : List Row). AreSourced code program entry budgets names rules (rows ++ first_row state ∷ []) after.ends.items (λ number. ⊥)) (sym rows)
-          (subst (λ (ends : List End). AreSourced code program entry budgets names rules (first_row state ∷ []) ends (λ number. ⊥)) (sym (keeps.ends ∙ no_ends))
+          subst (λ (all : List Row). AreSourced code program entry budgets names rules (all ++ first_row state ∷ []) after.ends.items (λ number. ⊥))
+          (sym rows)
+          (subst (λ (ends : List End). AreSourced code program entry budgets names rules (first_row state ∷ []) ends (λ number. ⊥))
+          (sym (keeps.ends ∙ no_ends))
           (sourced_first code program entry budgets names rules (first_row state) (λ number. ⊥) (first_is names known each)));
     }
 

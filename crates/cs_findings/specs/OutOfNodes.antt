@@ -1,5 +1,5 @@
--- Why a result lists a cut for want of nodes: runs have come to more positions than are explored, and each fault directly after one of them that is passed on the
--- way to another one is reported.
+-- Why a result lists a cut for want of nodes: runs have come to more positions than are explored, and each fault directly after one of them that is passed on
+-- the way to another one is reported.
 use Rattle.std.specs.Prelude.{◌≡◌, ◌<◌, ◌≤◌, ℕ, ℤ, List, [], ◌∷◌, ◌++◌, length, Contains, All}
 use Rattle.cs_inputs.specs.declared.path.Path.{Path}
 use Rattle.cs_ast.specs.declared.place.Place.{Place}
@@ -18,8 +18,8 @@ use Rattle.cs_findings.specs.Runs.{run_budgets}
 use Rattle.cs_findings.specs.EveryRun.{HasFinding}
 use Rattle.cs_findings.specs.RealGuesses.{AreReal}
 
--- lists of events, by numbers up to the last one: they are the nodes of a prefix tree. The first is empty, each other one is an earlier one with one event at its
--- end, and no two are alike
+-- lists of events, by numbers up to the last one: they are the nodes of a prefix tree. The first is empty, each other one is an earlier one with one event at
+-- its end, and no two are alike
 pub record IsPrefixTree (last : ℕ) (events : ℕ → List Event) : Type 0 where
   pub root : events 0 ≡ []
   pub grows : (number : ℕ) → 0 < number → number ≤ last
