@@ -535,7 +535,7 @@ module _ (code : Code) (program : TypedProgram) (budgets : RunBudgets) (names : 
         inexact = λ v fits.
             let from = inexact.from v (fits_piece v fits) in
             (λ followed. from.1 (of_asked.followed v followed), of_asked.guesses v (v guess.0) from.2);
-        own = λ setting v left rest log later one goes here leaves same. here.fits;
+        own = λ setting v left rest log later one goes here leaves. here.fits;
       }
         where
           inexact : OfGuess piece

@@ -256,9 +256,9 @@ module _ (code : Code) (program : TypedProgram) (budgets : RunBudgets) (names : 
           let there = at_one.comes setting valuation way.rest way.later goes way.comes fits in
           record { one = there.one; shows = shows_on step setting way.proceeds there.shows; pends = there.pends };
       inexact = at_one.inexact;
-      own = λ setting valuation left rest log later shown goes at leaves same.
+      own = λ setting valuation left rest log later shown goes at leaves.
           let first = comes_first setting valuation left rest log later shown goes at leaves in
-          at_one.own setting valuation first.way.rest rest first.way.later later shown goes first.way.comes first.leaves same;
+          at_one.own setting valuation first.way.rest rest first.way.later later shown goes first.way.comes first.leaves;
     }
 
     -- a run that passes the event of a child has come to it

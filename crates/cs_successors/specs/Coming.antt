@@ -108,9 +108,10 @@ HasNonzeroDivisor Div right = right ≢ pos 0
 HasNonzeroDivisor Rem right = right ≢ pos 0
 HasNonzeroDivisor op right = Unit {0}
 
--- what is asked isn't a division by 0
+-- what is asked is neither a division by 0 nor the order test of an allocation, which integer code doesn't ask
 abbrev pub IsNoDivisionByZero : Operation → Type 0
 IsNoDivisionByZero (operation.Binary op ty left right) = HasNonzeroDivisor op right
+IsNoDivisionByZero (operation.Product count size) = ⊥
 IsNoDivisionByZero other = Unit {0}
 
 module _ (code : Code) (program : TypedProgram) (budgets : RunBudgets) (names : Naming) where
@@ -168,7 +169,7 @@ module _ (code : Code) (program : TypedProgram) (budgets : RunBudgets) (names : 
     pub pends : one.pending ≡ pending
 
   -- what is noted of a child's guess. The question was asked under these sets: valuations of the state whose runs come to it, among them those of the child,
-  -- under which it isn't followed and the number of the guess symbol may be guessed, and those of runs that pass the child's event
+  -- under which it isn't followed and the number of the guess symbol may be guessed, and those of all runs that pass an event
   pub record IsNotedAt (before : State) (child : Child) (asked : Asked) : Type 0 where
     pub sets : Sets
     pub inhabited : AreInhabited sets
@@ -184,8 +185,7 @@ module _ (code : Code) (program : TypedProgram) (budgets : RunBudgets) (names : 
         → ¬ IsFollowed program.model sets given valuation × IsGuess program.model sets given valuation (valuation asked.guess.0)
     pub own : (setting : Setting) (valuation : Valuation) (left rest : Act CodeState) (log later : Log) (one : Step) → GoesBy setting
         → IsAt before setting valuation left log
-        → LeavesAfter (code_step code program budgets) setting (first_of setting log left) (one ∷ []) rest later → one.event ≡ child.event
-        → Fits valuation sets
+        → LeavesAfter (code_step code program budgets) setting (first_of setting log left) (one ∷ []) rest later → Fits valuation sets
 
   -- the number that is guessed on the way to a child is the one that a valuation gives the symbol
   abbrev pub GuessesAs : Setting → Child → Valuation → Type 0
