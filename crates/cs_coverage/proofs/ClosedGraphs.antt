@@ -75,6 +75,7 @@ module _ (code : Code) (program : TypedProgram) (entry : ℕ) (budgets : RunBudg
       comes = λ names are. is.comes names (earlier_names extends are);
       children = is.children;
       listed = is.listed;
+      plain = is.plain;
     }
 
     pub closed_later : (rows : List Row) (ends : List End) (Are : ℕ → Type 0) → IsClosed code program entry budgets rules given rows ends Are
@@ -101,7 +102,8 @@ module _ (code : Code) (program : TypedProgram) (entry : ℕ) (budgets : RunBudg
       children = λ place child there. row_kept rows more child (is.children place child there);
       listed = λ place one there.
           let listed = is.listed place one there in
-          record { place = listed.place; there = kept_place ends others listed.place _ listed.there; plain = listed.plain };
+          record { place = listed.place; there = kept_place ends others listed.place _ listed.there };
+      plain = is.plain;
     }
 
     pub closed_with_ends : (rows : List Row) (ends others : List End) (Are : ℕ → Type 0)
@@ -119,7 +121,8 @@ module _ (code : Code) (program : TypedProgram) (entry : ℕ) (budgets : RunBudg
             children = parts.children;
             listed = λ place one there.
                 let listed = parts.listed place one there in
-                record { place = listed.place; there = kept_place ends others listed.place _ listed.there; plain = listed.plain };
+                record { place = listed.place; there = kept_place ends others listed.place _ listed.there };
+            plain = parts.plain;
           };
     }
 
@@ -147,6 +150,7 @@ module _ (code : Code) (program : TypedProgram) (entry : ℕ) (budgets : RunBudg
               comes = parts.comes;
               children = λ place child at. row_kept rows (new ∷ []) child (parts.children place child at);
               listed = parts.listed;
+              plain = parts.plain;
             }
         | inr last ↦ absurd (not (subst Are (sym last.0) joined))
       ];

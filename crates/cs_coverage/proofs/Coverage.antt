@@ -223,7 +223,7 @@ module _ (code : Code) (program : TypedProgram) (entry : ℕ) (budgets : RunBudg
                 agrees = at.agrees.agrees;
                 blocks = subst (AreBlocksOver (agreeing own at.valuation)) (sym one.blocks) at.agrees.blocks;
               };
-              plain = listed.plain;
+              plain = parts.plain end.place end.end end.there;
               returned =
                   subst (λ o. HasReturned o (result_in names.bases end.end.1.value.blocks at.valuation end.end.1.value.result)) (sym that.outcome_is)
                   end.ending.returned;

@@ -96,7 +96,7 @@ module _ (code : Code) (program : TypedProgram) (entry : ℕ) (budgets : RunBudg
     listed_behind place one at =
         let at_map = slice_get-map (end_of_row row) endings place ∙ ap (option_map (end_of_row row)) at in
         let listed = behind ends (map (end_of_row row) endings) place (end_of_row row one) at_map in
-        record { place = listed.0; there = listed.1; plain = found.ends_plain place one at }
+        record { place = listed.0; there = listed.1 }
 
     -- all ends and children are there
     pub graph_expanded : PlacesAll row made before after → IsGraph given before (ends ++ map (end_of_row row) endings) (IsOpen row)
@@ -114,7 +114,7 @@ module _ (code : Code) (program : TypedProgram) (entry : ℕ) (budgets : RunBudg
               let same = same_Some from other
               (sym kept ∙ subst (λ (rows : List Row). slice_get rows row ≡ Some other) done.more.1 at) in
               subst (IsExpanded code program entry budgets rules given after.rows (ends ++ map (end_of_row row) endings) row) same
-              (record { made = made; endings = endings; comes = found.comes; children = done.have; listed = listed_behind }))
+              (record { made = made; endings = endings; comes = found.comes; children = done.have; listed = listed_behind; plain = found.ends_plain }))
               done.graph.closed;
         }
 

@@ -37,11 +37,10 @@ pub record HasRowFor (rows : List Row) (child : Child) : Type 0 where
   pub same : live_part child.state.value ≡ live_part row.state.value
   pub plain : IsPlain child.state.value
 
--- an end is listed with the number of its row, and its live part has all that its state holds
+-- an end is listed with the number of its row
 pub record IsListed (ends : List End) (number : ℕ) (one : Outcome × Box State) : Type 0 where
   pub place : ℕ
   pub there : slice_get ends place ≡ Some (record { row = number; outcome = one.0; state = one.1 })
-  pub plain : IsPlain one.1.value
 
 -- these names extend the given ones
 pub record AreNames (given names : Naming) : Type 0 where
@@ -89,13 +88,14 @@ module _ (code : Code) (program : TypedProgram) (entry : ℕ) (budgets : RunBudg
     pub there : slice_get rows 0 ≡ Some row
     pub begins : (names : Naming) → AreNames given names → IsBeginning code program entry names row.state.value
 
-  -- all that comes of a row is there: a row for each child, and each end
+  -- all that comes of a row is there: a row for each child, and each end, whose live part has all that its state holds
   pub record IsExpanded (rows : List Row) (ends : List End) (number : ℕ) (row : Row) : Type 0 where
     pub made : List Child
     pub endings : List (Outcome × Box State)
     pub comes : (names : Naming) → AreNames given names → ComesOfState code program budgets names rules row.state.value made endings
     pub children : (place : ℕ) (child : Child) → slice_get made place ≡ Some child → HasRowFor rows child
     pub listed : (place : ℕ) (one : Outcome × Box State) → slice_get endings place ≡ Some one → IsListed ends number one
+    pub plain : (place : ℕ) (one : Outcome × Box State) → slice_get endings place ≡ Some one → IsPlain one.1.value
 
   -- a graph is closed but for the rows that wait
   pub record IsClosed (rows : List Row) (ends : List End) (Waits : ℕ → Type 0) : Type 0 where
