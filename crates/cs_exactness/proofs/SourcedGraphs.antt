@@ -150,7 +150,8 @@ module _ (code : Code) (program : TypedProgram) (entry : ℕ) (budgets : RunBudg
 
       placed : IsStage all_ends (listed_there ends row endings) (length places.some) after
       placed =
-          place_all all_ends (listed_there ends row endings) places.some 0 before after
+          subst (λ (n : ℕ). IsStage all_ends (listed_there ends row endings) n after) (omega arith)
+          (place_all all_ends (listed_there ends row endings) places.some 0 before after
           (λ i child there.
           subst (λ (n : ℕ). slice_get made n ≡ Some child) (omega arith)
           (subst (λ (l : List Child). slice_get l i ≡ Some child) (sym places.all) (kept_place places.some places.left i child there)))
@@ -165,7 +166,7 @@ module _ (code : Code) (program : TypedProgram) (entry : ℕ) (budgets : RunBudg
             gone = gone;
             firsts = first_none code program entry budgets names rules row before.rows made endings from ends (Waits before.work) (IsOpen row before.work)
                 is.sourced (inr refl) (λ number waits. inl waits) gone;
-          }) places.placed
+          }) places.placed)
 
       pub sources_expanded : IsGraph after all_ends Waits
       sources_expanded = placed.sources
