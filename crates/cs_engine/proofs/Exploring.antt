@@ -1,5 +1,5 @@
 -- What is found stays closed but for the rows that are open, as an exploration goes on: for the contracts of `begin`, `expand` and `expand_all`.
-use Rattle.std.proofs.Common.{◌≡◌, ℕ, Bool, true, false, List, [], ◌++◌, map, Some, slice_get, refl, sym, ap, ◌∙◌, subst}
+use Rattle.std.proofs.Common.{◌≡◌, ℕ, Bool, true, false, List, [], ◌∷◌, ◌++◌, map, Some, slice_get, refl, sym, ap, ◌∙◌, subst}
 use Rattle.std.specs.Prelude.{Contains}
 use Rattle.std.specs.Global.{Box}
 use Rattle.std.proofs.lemmas.List.Elements.{Contains-push, Contains-append_left}

@@ -140,26 +140,26 @@ module _ (exploration : Exploration) (entry : ℕ) (explores : ExploresIntegers 
 
     -- all that comes of the row, under the names of the tables now
     module _ (names : Naming) (known : AreNames (naming tables) names) (each : HasEachOnce names.syms) where
-      graph : IsGraph names before.graph before.ends.items (IsOpen row)
-      graph = sources names (earlier_names extends known) each
+      graph_there : IsGraph names before.graph before.ends.items (IsOpen row)
+      graph_there = sources names (earlier_names extends known) each
 
-      all : ComesOfState code program budgets names rules from.state.value made endings × (cuts ≡ [])
-      all =
+      all_there : ComesOfState code program budgets names rules from.state.value made endings × (cuts ≡ [])
+      all_there =
           comes names program (record { model = refl; limit = explores.limit; extends = known.extend; numbered = known.numbered })
-          (integer_row code program entry budgets names rules before.graph.rows graph.sourced.rows_come row from there)
+          (integer_row code program entry budgets names rules before.graph.rows graph_there.sourced.rows_come row from there)
 
       from_row : ComesOfRow code program entry budgets names rules before.graph.rows row made endings
-      from_row = record { row = from; there = there; all = all.0 }
+      from_row = record { row = from; there = there; all = all_there.0 }
 
     pub no_cuts : IsNumbered (naming tables).bases → HasEachOnce (naming tables).syms → cuts ≡ []
-    no_cuts numbered once = (all (naming tables) (themselves (naming tables) numbered) once).1
+    no_cuts numbered once = (all_there (naming tables) (themselves (naming tables) numbered) once).1
 
     pub expanded_sources : (room : Bool) → PlacesChildren row made room cut after → HasSources exploration entry Waits after
     expanded_sources room places names are each =
         let known : AreNames (naming tables) names = subst (λ (t : Tables). AreNames (naming t) names) tables_are are in
         subst (λ (ends : List End). IsGraph names after.graph ends Waits) (sym ends_are)
         (sources_expanded code program entry budgets names rules row made endings before.graph after.graph before.ends.items (from_row names known each) gone
-        (subst (λ (g : RowGraph). PlacesFirst row made g after.graph) graph_is (first_placed room places)) (graph names known each))
+        (subst (λ (g : RowGraph). PlacesFirst row made g after.graph) graph_is (first_placed room places)) (graph_there names known each))
 
     -- the next child was refused
     expanded_refused : (places : PlacesUntilFull row made before.graph after.graph) → IsRefused after
@@ -171,7 +171,7 @@ module _ (exploration : Exploration) (entry : ℕ) (explores : ExploresIntegers 
           subst (λ (ends : List End). AreSourced code program entry budgets names rules (after.graph.rows ++ child_row row places.refused ∷ []) ends
           (λ number. ⊥)) (sym ends_are)
           (sources_refused code program entry budgets names rules row made endings before.graph after.graph before.ends.items (from_row names known each) gone
-          places.first (graph names known each) places.refused places.next places.unseen);
+          places.first (graph_there names known each) places.refused places.next places.unseen);
     }
 
     pub is_refused : PlacesChildren row made false cut after → IsRefused after
