@@ -12,7 +12,6 @@ use Rattle.cs_meaning.specs.Machine.{routine_of}
 use Rattle.cs_meaning.specs.Steps.{parameters_of}
 use Rattle.cs_results.specs.declared.result.Cut.{Cut}
 use Rattle.cs_results.specs.declared.result.Cut.TheVariants.{Nodes}
-use Rattle.cs_store.specs.Held.{HasPlainKeys}
 use Rattle.cs_state.specs.declared.state.State.{State}
 use Rattle.cs_state.specs.declared.tables.Tables.{Tables}
 use Rattle.cs_state.specs.Naming.{Naming, naming, Extends}
@@ -29,7 +28,7 @@ use Rattle.cs_explored.specs.declared.explored.Row.{Row}
 use Rattle.cs_explored.specs.declared.findings.Findings.{Findings}
 use Rattle.cs_explored.specs.declared.watch.Rule.{Rule}
 use Rattle.cs_explored.specs.Found.{IsPlaced, IsSound}
-use Rattle.cs_explored.specs.Placing.{RowGraph, first_row, PlacesChildren, KeepsEnds, AddsEnds, AddsCuts}
+use Rattle.cs_explored.specs.Placing.{RowGraph, first_row, PlacesChildren, KeepsEnds, AddsEnds, AddsCuts, IsPlain}
 use Rattle.cs_successors.specs.Coming.{StateEnd}
 use Rattle.cs_children.specs.declared.exploration.Exploration.{Exploration}
 use Rattle.cs_children.specs.Finding.{code_of, limits_of}
@@ -60,7 +59,7 @@ module _ (exploration : Exploration) (entry : ℕ) (explores : ExploresIntegers 
   -- the first row was added, or refused
   module _ (before after : Findings) (state : Box State) (start : IsStart code program entry (naming before.tables) state.value)
       (differ : DifferInName (parameters_of (routine_of program entry))) (once : HasEachOnce (naming before.tables).syms)
-      (plain : HasPlainKeys state.value.store) (no_keys : before.graph.keys ≡ []) (no_rows : before.graph.rows ≡ []) (no_ends : before.ends.items ≡ [])
+      (plain : IsPlain state.value) (no_keys : before.graph.keys ≡ []) (no_rows : before.graph.rows ≡ []) (no_ends : before.ends.items ≡ [])
       (none_cut : before.cuts.items ≡ []) (nodes : after.nodes ≡ before.nodes) (keeps : KeepsEnds before after) where
     begun_reasons : (room : Bool) → IsPlaced (words_of (live_part state.value)) (first_row state) room before after → HasReasons exploration entry after
     begun_reasons true placed = inl (placed.1 ∙ none_cut)
