@@ -34,6 +34,7 @@ returns-clause-reasons g c = λ every integer nodes listed.
     let reasons = c.in_ok-explored.ensures.cuts every (integer_entry code program entry.function is (c.requires.integers entry.function is)) in
     let of_entry = subst (λ (number : ℕ). AreCutForNodes code program number entry.budgets explored) (sym same) (λ works. reasons) in
     let among : Contains explored.cuts.items (Nodes nodes)
-    = c.in_ok-cuts.ensures.nodes nodes (subst (λ (cuts : List Cut). Contains cuts (Nodes nodes)) c.in_ok-witnessed.ensures.cuts listed) in
+    = subst (λ (cuts : List Cut). Contains cuts (Nodes nodes)) c.deref.ensures.value
+    (c.in_ok-cuts.ensures.nodes nodes (subst (λ (cuts : List Cut). Contains cuts (Nodes nodes)) c.in_ok-witnessed.ensures.cuts listed)) in
     has_reasons code program entry.budgets explored given (naming explored.tables) [] c.requires.runs.lowered integer
     (of_entry (integer_entry code program given.entry integer (c.requires.integers given.entry integer))) (c.in_ok-refuse_lost.ensures yes) nodes among
