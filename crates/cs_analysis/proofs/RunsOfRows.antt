@@ -35,6 +35,7 @@ use Rattle.cs_findings.specs.OutOfNodes.{PassesAlong}
 use Rattle.cs_guesses.specs.Real.{run_at}
 use Rattle.cs_guesses.proofs.ProgramRuns.{same_inputs}
 use Rattle.cs_analysis.proofs.PrefixTrees.{guessed_within}
+
 module _ {M : Type 0} (step : M → Act M) (setting : Setting) where
   -- a run that ends passes first what it has passed on the way
   passed_first : {first : First M} {steps all : List Step} {left : Act M} {log end : Log} {outcome : Outcome} → LeavesAfter step setting first steps left log

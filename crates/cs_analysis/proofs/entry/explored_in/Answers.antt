@@ -15,9 +15,9 @@ pub returns-clause-cuts : goal.returns-clause-cuts
 returns-clause-cuts g c =
     let entry = c.args.entry.now in let setting = c.args.setting.now in let code = view.code entry.code.now in
     let AreReasons : TypedProgram → RunBudgets → Explored → Type 0 = λ program limits explored. IsIntegerEntry code program entry.function
-        → All (IsCutForNodes code program entry.function limits (naming explored.tables) [] explored.rows.items explored.ends.items entry.budgets.nodes)
-        explored.cuts.items in
+    → All (IsCutForNodes code program entry.function limits (naming explored.tables) [] explored.rows.items explored.ends.items entry.budgets.nodes)
+    explored.cuts.items in
     IfOk-weaker c.explore.result _ _ (λ explored reasons every.
-      subst (λ (program : TypedProgram). AreReasons program (run_budgets entry.budgets) explored) (ap typed_program c.requires.program)
-      (subst (λ (limits : RunBudgets). AreReasons (typed_program setting.program.now) limits explored) c.requires.budgets
-      (λ works. reasons every (record { limit = sym (ap (λ (limits : RunBudgets). limits.events) c.requires.budgets); works = works })))) c.explore.ensures.cuts
+    subst (λ (program : TypedProgram). AreReasons program (run_budgets entry.budgets) explored) (ap typed_program c.requires.program)
+    (subst (λ (limits : RunBudgets). AreReasons (typed_program setting.program.now) limits explored) c.requires.budgets
+    (λ works. reasons every (record { limit = sym (ap (λ (limits : RunBudgets). limits.events) c.requires.budgets); works = works })))) c.explore.ensures.cuts
