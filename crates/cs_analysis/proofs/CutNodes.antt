@@ -152,4 +152,5 @@ has_reasons code program limits explored given names rules lowered integer reaso
     let longer = length-append explored.rows.items (why.refused ∷ []) in
     let many : length rows ≡ suc cut.nodes = let full = why.full in omega (arith, longer, full) in
     subst (IsOutOfNodes program limits given) same
-    (out_of_nodes code program limits given names rules rows explored.ends.items why.exact why.guesses why.finds lowered integer all.ends cut.nodes many why.budget)
+    (out_of_nodes code program limits given names rules rows explored.ends.items why.exact why.guesses why.finds lowered integer all.ends cut.nodes many
+    why.budget)
