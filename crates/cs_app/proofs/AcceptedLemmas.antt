@@ -1,6 +1,6 @@
 -- What is accepted has no other whole text than that of an answer: for the clause of the top call that says which files are
 -- answered.
-use Rattle.std.proofs.Common.{◌≡◌, ℕ, Bool, true, false, List, [], ◌∷◌, Option, Some, None, inl, inr, sym, ap, ◌∙◌, subst, arith}
+use Rattle.std.proofs.Common.{◌≡◌, ℕ, List, [], ◌∷◌, Option, Some, None, inl, inr, sym, ap, ◌∙◌, subst, arith}
 use Rattle.std.specs.Prelude.{option_map}
 use Rattle.std.specs.Io.KnownBytes.{Appends}
 use Rattle.cs_types.specs.declared.data_model.DataModel.{DataModel}
@@ -22,7 +22,7 @@ use Rattle.cs_program.specs.Trees.{Parses, HasProgram, typed_tree}
 use Rattle.cs_entries.specs.Named.{entry_of}
 use Rattle.cs_app.specs.Refusals.{IsLexLine, IsSyntaxLine, type_line, IsRefusal, too_long, by_lexing, by_syntax, by_type}
 use Rattle.cs_answers.specs.declared.status.Status.{Status}
-use Rattle.cs_answers.specs.declared.status.Status.TheVariants.{Clean, Found, BadWords, BadFile, ReadFault, WriteFault, Memory, NoEntry}
+use Rattle.cs_answers.specs.declared.status.Status.TheVariants.{BadFile, NoEntry}
 use Rattle.cs_app.specs.Analyses.{LacksEntry, IsAnalysisAnswer, entries_named}
 use Rattle.cs_app.specs.Answers.{IsProgramAnswer, IsReplayAnswer, Accepts, IsAnswer, IsLeft, IsFileAnswer, IsAnswered, Suits, IsAcceptable, model_of}
 use Rattle.cs_app.specs.Answers.{IsTypeRefused, refused_line, IsRefusedWith}

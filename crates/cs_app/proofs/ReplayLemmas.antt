@@ -1,5 +1,5 @@
 -- The entry of a replay, and which texts belong to a status of its run: for the functions that answer a replay.
-use Rattle.std.proofs.Common.{◌≡◌, ℕ, suc, Bool, true, false, List, [], ◌∷◌, ◌++◌, map, length, Option, Some, None, refl, sym, ap, ◌∙◌}
+use Rattle.std.proofs.Common.{◌≡◌, ℕ, suc, Bool, true, false, List, [], ◌∷◌, ◌++◌, map, length, Some, None, refl, sym, ap, ◌∙◌}
 use Rattle.std.proofs.Common.{subst, rules}
 use Rattle.std.specs.Prelude.{is_some, codes, nat_eq, ◌&&◌}
 use Rattle.std.specs.List.{position, prefix_len}

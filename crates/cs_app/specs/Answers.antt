@@ -12,7 +12,7 @@ use Rattle.cs_ast.specs.declared.raw.external.RawExternal.{RawExternal}
 use Rattle.cs_ast.specs.TypedProgram.{TypedProgram}
 use Rattle.cs_lexer.specs.declared.lexer.Lexed.{Lexed}
 use Rattle.cs_scopes.specs.declared.refusal.TypeCode.{TypeCode}
-use Rattle.cs_scopes.specs.Verdicts.{Fine, Fault}
+use Rattle.cs_scopes.specs.Verdicts.{Fault}
 use Rattle.cs_generate.specs.GeneratedFile.{generated_file}
 use Rattle.cs_events.specs.declared.outcome.Outcome.{Outcome}
 use Rattle.cs_events.specs.declared.outcome.Outcome.TheVariants.{Done, Fault, Over}

@@ -1,4 +1,4 @@
-use Rattle.std.proofs.Common.{◌≡◌, get_or, refl, subst, sym, ◌∙◌, arith}
+use Rattle.std.proofs.Common.{◌≡◌, subst, sym, ◌∙◌, arith}
 use Rattle.std.specs.List.{Any}
 use Rattle.cs_ast.specs.TypedProgram.{typed_program}
 use Rattle.cs_app.specs.Analyses.{AreGoodResults}
