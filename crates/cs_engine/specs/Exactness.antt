@@ -1,6 +1,6 @@
 -- What an exploration says of runs is so: of its rows and ends, and of the cuts that it lists. The contract of `explore` says a part of it, of entries that
--- work with integers alone (`IsExactOnIntegers`, `HasOwnOnIntegers`, `HasGuessesOnIntegers` and `HasReasonsOnIntegers` of `Exploring`), whose states have no heap blocks; no contract says
--- the whole.
+-- work with integers alone (`IsExactOnIntegers`, `HasOwnOnIntegers`, `HasGuessesOnIntegers` and `HasReasonsOnIntegers` of `Exploring`), whose states have no
+-- heap blocks; no contract says the whole.
 use Rattle.std.specs.Prelude.{ℕ, List, All}
 use Rattle.cs_ast.specs.TypedProgram.{TypedProgram}
 use Rattle.cs_events.specs.declared.outcome.RunBudgets.{RunBudgets}
