@@ -76,13 +76,6 @@ SuitsFile (Flow words) file = Unit {0}
 SuitsFile (Replay words) file = Unit {0}
 SuitsFile (Generate words) file = file ≡ generated_file words.seed words.size
 
--- so many bytes are those of the generated file
-abbrev pub SuitsLength : Command → ℕ → Type 0
-SuitsLength (Analyze words) bytes = Unit {0}
-SuitsLength (Flow words) bytes = Unit {0}
-SuitsLength (Replay words) bytes = Unit {0}
-SuitsLength (Generate words) bytes = bytes ≡ length (generated_file words.seed words.size)
-
 -- the command reads its file from the source
 abbrev pub Reads : Command → Type 0
 Reads (Analyze words) = Unit {0}

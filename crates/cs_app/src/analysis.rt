@@ -84,16 +84,16 @@ fn analysis_of(
 }
 
 /// The summary of the analysis of each function that has a body, under the budgets that hold where none are named. The program is that
-/// of the file which these words generate, of so many bytes.
+/// of the file, which these words generate.
 pub fn summarized(
     alloc: Global,
     words: &GenerateWords,
-    bytes: usize,
+    file: &[u8],
     program: &Program,
     checkers: &mut Vec<Box<dyn Checker>>,
 ) -> Result<Answer, AllocError>
     requires well_formed { IsWellFormed (typed_program program.now) }
-    requires bytes { bytes ≡ length (generated_file words.now.seed words.now.size) }
+    requires file { file.now ≡ generated_file words.now.seed words.now.size }
     ensures answer { IfOk result (λ answer. IsSummary (map (λ b. kind_of b) checkers.old.items)
         (length (generated_file words.now.seed words.now.size)) (typed_program program.now)
         answer.status answer.text.items) }
@@ -109,7 +109,7 @@ pub fn summarized(
     };
     let entries = bodies(alloc, program)?;
     let results = results_of(alloc, program, budgets, &entries, checkers)?;
-    let text = summary(alloc, bytes, &results)?;
+    let text = summary(alloc, file.len(), &results)?;
     let kinds = every_kind();
     Ok(Answer {
         status: results_status(&results, &kinds),

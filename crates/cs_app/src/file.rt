@@ -2,7 +2,7 @@
 ghost use Rattle.std.specs.Prelude.{◌≡◌, map, IfOk};
 ghost use Rattle.cs_ast.specs.TypedProgram.{typed_program};
 ghost use Rattle.cs_well_formed.specs.Programs.{IsWellFormed};
-ghost use Rattle.cs_app.specs.Answers.{IsProgramAnswer, IsAnswer, SuitsFile, SuitsLength, model_of};
+ghost use Rattle.cs_app.specs.Answers.{IsProgramAnswer, IsAnswer, SuitsFile, model_of};
 
 use crate::analysis::{analysis, summarized};
 use crate::flow::flow;
@@ -34,14 +34,7 @@ pub fn answer_to(
 {
     match program_of(alloc, model_of(command), file) {
         Ok(found) => {
-            let answer = answer_of(
-                alloc,
-                command,
-                file.len(),
-                &found.files,
-                &found.program,
-                checkers,
-            )?;
+            let answer = answer_of(alloc, command, file, &found.files, &found.program, checkers)?;
             // The program ends after this answer: what the file became isn't given back piece by piece.
             forget(found);
             Ok(answer)
@@ -65,17 +58,17 @@ fn model_of(command: &Command) -> DataModel
     }
 }
 
-/// The answer to a program of so many bytes, whose places are in these files.
+/// The answer to a file that is a program, whose places are in files of these names.
 fn answer_of(
     alloc: Global,
     command: &Command,
-    bytes: usize,
+    file: &[u8],
     files: &[Name],
     program: &Program,
     checkers: &mut Vec<Box<dyn Checker>>,
 ) -> Result<Answer, AllocError>
     requires well_formed { IsWellFormed (typed_program program.now) }
-    requires bytes { SuitsLength command.now bytes }
+    requires file { SuitsFile command.now file.now }
     ensures answer { IfOk result (λ answer.
         IsProgramAnswer (map (λ b. kind_of b) checkers.old.items) command.now files.now
         (typed_program program.now) answer.status answer.text.items) }
@@ -96,7 +89,7 @@ fn answer_of(
             Ok(answer)
         }
         Command::Generate(words) => {
-            let answer = summarized(alloc, words, bytes, program, checkers)?;
+            let answer = summarized(alloc, words, file, program, checkers)?;
             Ok(answer)
         }
     }
