@@ -1,2 +1,3 @@
 pub mod Wide
 pub mod Agreement
+pub mod Computable

@@ -2,3 +2,4 @@ pub mod Inexact
 pub mod Asking
 pub mod Real
 pub mod Graphs
+pub mod Cornered

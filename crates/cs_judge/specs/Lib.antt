@@ -1,3 +1,4 @@
 pub mod Agreement
 pub mod Pools
 pub mod Certificates
+pub mod Proving

@@ -3,3 +3,4 @@ pub mod Listing
 pub mod Keeping
 pub mod Grounding
 pub mod Witnesses
+pub mod Evidence
