@@ -1,13 +1,18 @@
--- What integer code does shows no offset of an access, no allocation and no division by 0: for the contract of `find`.
+-- What integer code does shows no offset of an access, no allocation, no division by 0 and no shift by 64 bits or more: for the contract of `find`.
 use Rattle.std.proofs.Common.{◌≡◌, ℕ, zero, suc, ℤ, Bool, true, false, List, [], ◌∷◌, Option, None, Some, All, if◌then◌else◌, refl, sym}
-use Rattle.std.proofs.Common.{◌≢◌, pos, true≢false, ap, ◌∙◌, subst}
+use Rattle.std.proofs.Common.{◌≢◌, ◌≤◌, ◌*◌, pos, ◌&&◌, true≢false, ap, ◌∙◌, subst, arith}
+use Rattle.std.proofs.lemmas.Bool.{and_parts}
+use Rattle.std.proofs.lemmas.Int.{ints}
 use Rattle.std.proofs.lemmas.List.Elements.{All-head, All-tail}
 use Rattle.std.proofs.lemmas.Option.{slice_get_within, get_or_from_slice_get}
-use Rattle.std.specs.Prelude.{option_map, unwrap_or, slice_get}
+use Rattle.std.specs.Prelude.{option_map, unwrap_or, slice_get, ◌≤ℤ◌, ◌<ℤ◌, int_le, int_lt}
 use Rattle.std.specs.Option.{option_and_then}
 use Rattle.std.specs.Ordering.{int_eq}
 use Rattle.cs_types.specs.declared.data_model.DataModel.{DataModel}
+use Rattle.cs_types.specs.declared.data_model.DataModel.TheVariants.{Lp64, Ilp32}
 use Rattle.cs_types.specs.declared.int_type.IntType.{IntType}
+use Rattle.cs_types.specs.declared.int_type.IntType.TheVariants.{Char, SChar, UChar, Short, UShort, Int, UInt, Long, ULong, LLong, ULLong}
+use Rattle.cs_types.specs.IntType.{word_bytes, bytes_of}
 use Rattle.cs_types.specs.Shape.{Shape, void, integer, pointer, array, struct}
 use Rattle.cs_inputs.specs.declared.path.Path.{Path}
 use Rattle.cs_ast.specs.declared.place.Place.{Place}
@@ -44,7 +49,7 @@ use Rattle.cs_cfg.specs.Graph.{Meet, Close, Operation as Step, BlockEnd, Jump, B
 use Rattle.cs_cfg.specs.Working.{CodeState, if_local, do_work}
 use Rattle.cs_cfg.specs.CodeSteps.{step_at, do_end, code_step}
 use Rattle.cs_cfg.specs.Spots.{rest_from, point_in, point_of}
-use Rattle.cs_successors.specs.Coming.{HasNonzeroDivisor, IsAskedByIntegers}
+use Rattle.cs_successors.specs.Coming.{IsCountOfBits, IsCheckedRight, IsAskedByIntegers}
 use Rattle.cs_cfg.specs.IntegerCode.{IsOfInteger, IsIntegerWork, IsIntegerOperation, IsIntegerPoint, HasIntegerCode, count_of_locals}
 
 -- an operation isn't what an allocation shows
@@ -56,8 +61,33 @@ IsNoAllocation other = Unit {0}
 abbrev pub IsOfIntegers : Operation → Type 0
 IsOfIntegers one = IsNoAllocation one × IsAskedByIntegers one
 
+-- no type has more than 8 bytes
+few_word_bytes : (model : DataModel) → word_bytes model ≤ 8
+few_word_bytes Lp64 = omega arith
+few_word_bytes Ilp32 = omega arith
+
+few_bytes : (model : DataModel) (ty : IntType) → bytes_of model ty ≤ 8
+few_bytes model Char = omega arith
+few_bytes model SChar = omega arith
+few_bytes model UChar = omega arith
+few_bytes model Short = omega arith
+few_bytes model UShort = omega arith
+few_bytes model Int = omega arith
+few_bytes model UInt = omega arith
+few_bytes model Long = few_word_bytes model
+few_bytes model ULong = few_word_bytes model
+few_bytes model LLong = omega arith
+few_bytes model ULLong = omega arith
+
+-- a count that passes the test of a shift
+count_of_bits : (bytes : ℕ) (count : ℤ) → bytes ≤ 8 → int_le (pos 0) count ≡ true → int_lt count (pos (8 * bytes)) ≡ true → IsCountOfBits count
+count_of_bits bytes count few from_zero below =
+    let first : pos 0 ≤ℤ count = grind (arith, ints) in
+    let second : count <ℤ pos (8 * bytes) = grind (arith, ints) in
+    (first, omega (arith, ints, second, few))
+
 module _ {S : Type 0} where
-  -- an act allocates nothing, divides by no 0, and shows no offset
+  -- an act allocates nothing, divides by no 0, shifts by fewer than 64 bits, and shows no offset
   pub data ShowsNumbers : Act S → Type 0 where
     goes : {next : S} → ShowsNumbers (Goes next)
     stops : {outcome : Outcome} → ShowsNumbers (Stops outcome)
@@ -95,15 +125,26 @@ module _ {S : Type 0} where
       by true is = stops
       by false isnt = shows (λ zero. true≢false (sym (subst (λ (n : ℤ). int_eq n (pos 0) ≡ true) (sym zero) refl) ∙ isnt))
 
+  shifted : (model : DataModel) (at : Place) (ty : IntType) (count : ℤ) (act : Act S) → (IsCountOfBits count → ShowsNumbers act)
+      → ShowsNumbers (operators.shift model at ty count act)
+  shifted model at ty count act shows = by (int_le (pos 0) count && int_lt count (pos (8 * bytes_of model ty))) refl
+    where
+      by : (b : Bool) → (int_le (pos 0) count && int_lt count (pos (8 * bytes_of model ty))) ≡ b
+          → ShowsNumbers (if b then act else Stops (Fault kind.Shift at))
+      by true is =
+          let both = and_parts (int_le (pos 0) count) (int_lt count (pos (8 * bytes_of model ty))) is in
+          shows (count_of_bits (bytes_of model ty) count (few_bytes model ty) both.0 both.1)
+      by false isnt = stops
+
   checked : (model : DataModel) (at : Place) (operator : BinOp) (ty : IntType) (right : ℤ) (act : Act S)
-      → (HasNonzeroDivisor operator right → ShowsNumbers act) → ShowsNumbers (operators.checked model at operator ty right act)
+      → (IsCheckedRight operator right → ShowsNumbers act) → ShowsNumbers (operators.checked model at operator ty right act)
   checked model at Add ty right act shows = shows tt
   checked model at Sub ty right act shows = shows tt
   checked model at Mul ty right act shows = shows tt
   checked model at Div ty right act shows = divided at right act shows
   checked model at Rem ty right act shows = divided at right act shows
-  checked model at Shl ty right act shows = either _ act _ (shows tt) stops
-  checked model at Shr ty right act shows = either _ act _ (shows tt) stops
+  checked model at Shl ty right act shows = shifted model at ty right act shows
+  checked model at Shr ty right act shows = shifted model at ty right act shows
   checked model at And ty right act shows = shows tt
   checked model at Xor ty right act shows = shows tt
   checked model at Or ty right act shows = shows tt
@@ -111,7 +152,7 @@ module _ {S : Type 0} where
   operate : (model : DataModel) (at : Place) (operator : BinOp) (ty : IntType) (left right : ℤ) (onward : ℤ → Act S)
       → ((n : ℤ) → ShowsNumbers (onward n)) → ShowsNumbers (operators.operate model at operator ty left right onward)
   operate model at operator ty left right onward shows =
-      checked model at operator ty right (Asks at (operation.Binary operator ty left right) onward) (λ divisor. asks (tt, divisor) shows)
+      checked model at operator ty right (Asks at (operation.Binary operator ty left right) onward) (λ right_checked. asks (tt, right_checked) shows)
 
   convert_number : (model : DataModel) (at : Place) (from : Shape) (to : IntType) (number : ℤ) (onward : ℤ → Act S)
       → ((n : ℤ) → ShowsNumbers (onward n)) → ShowsNumbers (operators.convert_number model at from to number onward)

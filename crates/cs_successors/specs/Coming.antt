@@ -1,12 +1,12 @@
 -- What comes of a state: the states directly after its next events, and its ends, beside the runs that have come to the state.
-use Rattle.std.specs.Prelude.{◌≡◌, ◌≢◌, ◌⊎◌, ◌≤◌, ℕ, suc, ℤ, pos, Bool, true, List, [], ◌∷◌, All, length, Option, None, Some}
-use Rattle.std.specs.Prelude.{option_map, unwrap_or}
+use Rattle.std.specs.Prelude.{◌≡◌, ◌≢◌, ◌⊎◌, ◌≤◌, ℕ, suc, ℤ, pos, ◌≤ℤ◌, ◌<ℤ◌, Bool, true, List, [], ◌∷◌, All, length, Option, None}
+use Rattle.std.specs.Prelude.{Some, option_map, unwrap_or}
 use Rattle.std.specs.Prelude.{is_some, IsSome, slice_get, Contains}
 use Rattle.std.specs.FinMap as finite
 use Rattle.std.specs.Global.{Box}
 use Rattle.cs_inputs.specs.declared.path.Path.{Path}
 use Rattle.cs_ast.specs.declared.typed.operator.BinOp.{BinOp}
-use Rattle.cs_ast.specs.declared.typed.operator.BinOp.TheVariants.{Div, Rem}
+use Rattle.cs_ast.specs.declared.typed.operator.BinOp.TheVariants.{Div, Rem, Shl, Shr}
 use Rattle.cs_ast.specs.TypedProgram.{TypedProgram}
 use Rattle.cs_terms.specs.declared.symbol.Sym.{Sym}
 use Rattle.cs_terms.specs.declared.symbol.SymName.TheVariants.{Guess as GuessAt}
@@ -102,16 +102,25 @@ OutcomesDiffer ends = (one other : ℕ) (first second : StateEnd) → slice_get 
 abbrev pub Includes : (ℕ → Bool) → (ℕ → Bool) → Type 0
 Includes known more = (symbol : ℕ) → known symbol ≡ true → more symbol ≡ true
 
--- a divisor isn't 0
-abbrev pub HasNonzeroDivisor : BinOp → ℤ → Type 0
-HasNonzeroDivisor Div right = right ≢ pos 0
-HasNonzeroDivisor Rem right = right ≢ pos 0
-HasNonzeroDivisor op right = Unit {0}
+-- a number is shifted by fewer than 64 bits
+abbrev pub IsCountOfBits : ℤ → Type 0
+IsCountOfBits count = (pos 0 ≤ℤ count) × (count <ℤ pos 64)
 
--- what is asked is neither a division by 0 nor the order test of an allocation: integer code asks for neither
+-- what is so of a right operand that was checked: a divisor isn't 0, and a number isn't shifted by 64 bits or more
+abbrev pub IsCheckedRight : BinOp → ℤ → Type 0
+IsCheckedRight Div right = right ≢ pos 0
+IsCheckedRight Rem right = right ≢ pos 0
+IsCheckedRight Shl right = IsCountOfBits right
+IsCheckedRight Shr right = IsCountOfBits right
+IsCheckedRight op right = Unit {0}
+
+-- what integer code asks for: its right operand is checked. It is no order test and no operation on offsets
 abbrev pub IsAskedByIntegers : Operation → Type 0
-IsAskedByIntegers (operation.Binary op ty left right) = HasNonzeroDivisor op right
+IsAskedByIntegers (operation.Binary op ty left right) = IsCheckedRight op right
+IsAskedByIntegers (operation.Order first second) = ⊥
 IsAskedByIntegers (operation.Product count size) = ⊥
+IsAskedByIntegers (operation.Sum offset amount size) = ⊥
+IsAskedByIntegers (operation.Difference left right size) = ⊥
 IsAskedByIntegers other = Unit {0}
 
 module _ (code : Code) (program : TypedProgram) (budgets : RunBudgets) (names : Naming) where
