@@ -1,5 +1,5 @@
--- The corners of a guess, as runs of the program: the symbols of its operands have the ends that were noted, and all others their own numbers. They come to the
--- guessed operation, and show that its result has to be guessed.
+-- The corners of a guess, as runs of the program: the named symbols of its operands have the ends that were noted, and all others their own numbers. They come
+-- to the guessed operation, and show that its result has to be guessed.
 use Rattle.std.specs.Prelude.{◌≡◌, ◌≢◌, ◌⊎◌, ◌<◌, ℕ, suc, ℤ, IsTrue, List, length, Option, Some, slice_get, Contains}
 use Rattle.std.specs.FinMap as finite
 use Rattle.cs_types.specs.declared.data_model.DataModel.{DataModel}
@@ -30,34 +30,39 @@ use Rattle.cs_compared.specs.Wide.{IsSmall}
 use Rattle.cs_corners.specs.Corners.{EachIs, operands_under}
 use Rattle.cs_guesses.specs.Real.{run_at}
 
--- the symbol, where there is one, has one of the ends
-abbrev pub HasEnd : Option Sym → Interval → Valuation → Type 0
-HasEnd symbol ends w = (sym : Sym) → symbol ≡ Some sym → (w sym.0 ≡ ends.low) ⊎ (w sym.0 ≡ ends.high)
+-- a symbol has a name
+abbrev pub IsNamed : Naming → Sym → Type 0
+IsNamed names sym = (name : SymName) × (slice_get names.syms sym.0 ≡ Some name)
 
--- the symbols of both operands have ends, and all others have their own numbers
-pub record IsAtEnds (asked : Asked) (v w : Valuation) : Type 0 where
-  pub left : HasEnd asked.left.sym asked.ends.left w
-  pub right : HasEnd asked.right.sym asked.ends.right w
-  pub others : (other : Sym) → asked.left.sym ≢ Some other → asked.right.sym ≢ Some other → w other.0 ≡ v other.0
+-- the symbol, where there is one with a name, has one of the ends
+abbrev pub HasEnd : Naming → Option Sym → Interval → Valuation → Type 0
+HasEnd names symbol ends w = (sym : Sym) → symbol ≡ Some sym → IsNamed names sym → (w sym.0 ≡ ends.low) ⊎ (w sym.0 ≡ ends.high)
+
+-- the symbol is that of an operand, and has a name
+abbrev pub IsOfOperand : Naming → Asked → Sym → Type 0
+IsOfOperand names asked sym = ((asked.left.sym ≡ Some sym) ⊎ (asked.right.sym ≡ Some sym)) × IsNamed names sym
+
+-- the symbols of both operands have ends, if they have names, and all others have their own numbers
+pub record IsAtEnds (names : Naming) (asked : Asked) (v w : Valuation) : Type 0 where
+  pub left : HasEnd names asked.left.sym asked.ends.left w
+  pub right : HasEnd names asked.right.sym asked.ends.right w
+  pub others : (other : Sym) → ¬ IsOfOperand names asked other → w other.0 ≡ v other.0
 
 -- under some corner of the first valuation an operand isn't what it is under the second
-abbrev pub HasOtherCorner : Asked → Question → Valuation → Valuation → (Pair → ℤ) → Type 0
-HasOtherCorner asked meant v w operand = (corner : Valuation) × IsAtEnds asked v corner × (operand (operands_under meant corner) ≢ operand (operands_under meant w))
+abbrev pub HasOtherCorner : Naming → Asked → Question → Valuation → Valuation → (Pair → ℤ) → Type 0
+HasOtherCorner names asked meant v w operand =
+    (corner : Valuation) × IsAtEnds names asked v corner × (operand (operands_under meant corner) ≢ operand (operands_under meant w))
 
 -- corners of the first valuation give the ground to guess the operation's result under the second, which may have guessed its number
-pub record HasReasonAt (model : DataModel) (asked : Asked) (meant : Question) (v w : Valuation) : Type 0 where
+pub record HasReasonAt (model : DataModel) (names : Naming) (asked : Asked) (meant : Question) (v w : Valuation) : Type 0 where
   pub others : Others Valuation
-  pub at_ends : EachIs (IsAtEnds asked v) others
+  pub at_ends : EachIs (IsAtEnds names asked v) others
   pub has_reason : IsTrue (has_ground model (operation_of w meant) (each_other (operands_under meant) others))
   pub used : IsTrue (may_be_used model (operation_of w meant) (w asked.guess.0))
-  pub left : IsTrue (fits_left (operation_of w meant) (w asked.guess.0)) ⊎ HasOtherCorner asked meant v w (λ pair. pair.0)
-  pub right : IsTrue (fits_right (operation_of w meant) (w asked.guess.0)) ⊎ HasOtherCorner asked meant v w (λ pair. pair.1)
+  pub left : IsTrue (fits_left (operation_of w meant) (w asked.guess.0)) ⊎ HasOtherCorner names asked meant v w (λ pair. pair.0)
+  pub right : IsTrue (fits_right (operation_of w meant) (w asked.guess.0)) ⊎ HasOtherCorner names asked meant v w (λ pair. pair.1)
   pub computable : IsComputable (operation_of w meant)
   pub small : IsSmall (operands_under meant w)
-
--- a symbol, where there is one, has a name
-abbrev pub IsNamed : Naming → Option Sym → Type 0
-IsNamed names symbol = (sym : Sym) → symbol ≡ Some sym → (name : SymName) × (slice_get names.syms sym.0 ≡ Some name)
 
 module _ (program : TypedProgram) (entry : ℕ) (budgets : RunBudgets) (names : Naming) (state : State) where
   -- the run of a valuation that lists just the guesses before an event comes to the operation after these events
@@ -72,14 +77,13 @@ module _ (program : TypedProgram) (entry : ℕ) (budgets : RunBudgets) (names : 
     pub meant : Question
     pub asks : IsQuestionOf asked.asks asked.left asked.right meant
     pub same : (w : Valuation) → with_operands (operation_of v meant) (operands_under meant w) ≡ operation_of w meant
-    pub left_named : IsNamed names asked.left.sym
-    pub right_named : IsNamed names asked.right.sym
+    pub left_named : (sym : Sym) → asked.left.sym ≡ Some sym → IsNamed names sym
     pub comes : Comes program entry budgets (run_at names state v) passed (Operates at (operation_of v meant))
-    pub reason : HasReasonAt program.model asked meant v v
-    pub corners : (w : Valuation) → IsAtEnds asked v w → ComesTo asked.event passed at meant w × IsSmall (operands_under meant w)
+    pub reason : HasReasonAt program.model names asked meant v v
+    pub corners : (w : Valuation) → IsAtEnds names asked v w → ComesTo asked.event passed at meant w × IsSmall (operands_under meant w)
     -- the corners of later guesses come there too, each with its own number for this one
-    pub later : (other : Asked) (w : Valuation) → Contains (finite.values state.asked) other → asked.event < other.event → IsAtEnds other v w
-        → ComesTo other.event passed at meant w × HasReasonAt program.model asked meant v w
+    pub later : (other : Asked) (w : Valuation) → Contains (finite.values state.asked) other → asked.event < other.event → IsAtEnds names other v w
+        → ComesTo other.event passed at meant w × HasReasonAt program.model names asked meant v w
 
   -- all guesses of the runs of valuations that fit
   abbrev pub HasCorners : Type 0
