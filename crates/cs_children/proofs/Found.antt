@@ -1,11 +1,10 @@
 -- What the parts of `find` make of what was found before: for its contract.
-use Rattle.std.proofs.Common.{◌≡◌, ℕ, suc, ◌+◌, ◌<◌, ◌≤◌, ℤ, Bool, true, false, List, [], ◌∷◌, ◌++◌, map, inr}
+use Rattle.std.proofs.Common.{◌≡◌, ℕ, suc, ◌+◌, ◌<◌, ◌≤◌, ℤ, Bool, true, false, List, [], ◌∷◌, ◌++◌, map}
 use Rattle.std.proofs.Common.{if◌then◌else◌, refl, sym, ap, ◌∙◌, subst, arith}
 use Rattle.std.specs.List.{Any}
 use Rattle.std.specs.Global.{Box}
 use Rattle.std.specs.Ordering.{int_eq}
 use Rattle.std.proofs.lemmas.List.{append-nil}
-use Rattle.std.proofs.lemmas.List.Elements.{All-nil, All-cons}
 use Rattle.cs_inputs.specs.declared.path.Path.{Path}
 use Rattle.cs_types.specs.declared.data_model.DataModel.{DataModel}
 use Rattle.cs_ast.specs.declared.place.Place.{Place}
@@ -49,7 +48,7 @@ use Rattle.cs_children.specs.declared.children.Children.{Children}
 use Rattle.cs_children.specs.declared.exploration.Exploration.{Exploration}
 use Rattle.cs_children.specs.Adding.{ComesOfPieces, over, shows}
 use Rattle.cs_children.specs.Adding.{Adds, AddsPieces, AddsFaulty, AreOfQuestion, AreOfSwitch, GoesOn}
-use Rattle.cs_successors.specs.Coming.{is_declared, IsIntegerState, MentionsNoOthers, StateEnd, OutcomesDiffer, IsAt, EndsIn, IsChildOf, IsEndOf, ComesOfState}
+use Rattle.cs_successors.specs.Coming.{is_declared, IsIntegerState, MentionsNoOthers, StateEnd, OutcomesDiffer, IsAt, EndsIn, ComesOfState}
 use Rattle.cs_successors.specs.Coming.{IsReachedFrom}
 use Rattle.cs_successors.specs.EntryRuns.{stays}
 use Rattle.cs_children.specs.Finding.{code_of, model_of, limits_of, AreNone, Explores, FindsAll, FindsSoFar}

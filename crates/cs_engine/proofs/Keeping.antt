@@ -14,7 +14,7 @@ use Rattle.cs_results.specs.declared.result.Cut.{Cut}
 use Rattle.cs_results.specs.declared.result.Cut.TheVariants.{Nodes}
 use Rattle.cs_state.specs.declared.state.State.{State}
 use Rattle.cs_state.specs.declared.tables.Tables.{Tables}
-use Rattle.cs_state.specs.Naming.{Naming, naming, Extends}
+use Rattle.cs_state.specs.Naming.{naming, Extends}
 use Rattle.cs_state.specs.Starting.{IsStart, DifferInName}
 use Rattle.cs_keys.specs.Laws.{KeysAreExact}
 use Rattle.cs_keys.specs.Live.{live_part}
@@ -34,9 +34,9 @@ use Rattle.cs_children.specs.declared.exploration.Exploration.{Exploration}
 use Rattle.cs_children.specs.Finding.{code_of, limits_of}
 use Rattle.cs_coverage.specs.Closing.{Waits, IsOpen}
 use Rattle.cs_coverage.proofs.Positions.{themselves}
-use Rattle.cs_exactness.specs.Sources.{AreSourced}
 use Rattle.cs_exactness.proofs.ExactGraphs.{exact_graph, finds_faults}
 use Rattle.cs_guesses.proofs.Asked.{are_asked}
+use Rattle.cs_guesses.proofs.Cornered.{are_cornered}
 use Rattle.cs_guesses.proofs.Real.{are_real}
 use Rattle.cs_engine.specs.Cuts.{IsCutForNodes}
 use Rattle.cs_engine.specs.Exploring.{program_of, ExploresIntegers, HasSources, HasReasons, IsUncut, IsKept, IsDone, LeadsOn}
@@ -174,6 +174,9 @@ module _ (exploration : Exploration) (entry : ℕ) (explores : ExploresIntegers 
                   (λ number. ⊥) sourced;
               real =
                   are_real code program entry budgets (naming findings.tables) rules (findings.graph.rows ++ refused.refused ∷ []) findings.ends.items
+                  (λ number. ⊥) sourced;
+              corners =
+                  are_cornered code program entry budgets (naming findings.tables) rules (findings.graph.rows ++ refused.refused ∷ []) findings.ends.items
                   (λ number. ⊥) sourced;
             };
             finds =

@@ -43,6 +43,7 @@ use Rattle.cs_exactness.proofs.SourcedRows.{sourced_but}
 use Rattle.cs_exactness.proofs.Walking.{integer_row}
 use Rattle.cs_guesses.specs.Graphs.{IsGuessedGraph}
 use Rattle.cs_guesses.proofs.Asked.{are_asked}
+use Rattle.cs_guesses.proofs.Cornered.{are_cornered}
 use Rattle.cs_guesses.proofs.Real.{are_real}
 use Rattle.cs_engine.specs.Exploring.{program_of, ExploresIntegers, HasSources, HasRefused, IsDone}
 use Rattle.cs_engine.proofs.Exploring.{ComesOf}
@@ -210,4 +211,5 @@ module _ (exploration : Exploration) (entry : ℕ) (explores : ExploresIntegers 
     guesses_at_last = record {
       asked = are_asked code program entry budgets last_names rules explored.rows.items explored.ends.items (λ number. ⊥) sourced_at_last;
       real = are_real code program entry budgets last_names rules explored.rows.items explored.ends.items (λ number. ⊥) sourced_at_last;
+      corners = are_cornered code program entry budgets last_names rules explored.rows.items explored.ends.items (λ number. ⊥) sourced_at_last;
     }

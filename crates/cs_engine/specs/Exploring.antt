@@ -16,7 +16,7 @@ use Rattle.cs_coverage.specs.Covering.{HasAllNodes, Covers}
 use Rattle.cs_coverage.specs.Positions.{CoversPositions, CoversOwn}
 use Rattle.cs_exactness.specs.Distinct.{AreDistinct}
 use Rattle.cs_exactness.specs.Exact.{IsExact}
-use Rattle.cs_exactness.specs.Noted.{EachState, EachNotesEvents}
+use Rattle.cs_exactness.specs.Noted.{EachNotesEvents}
 use Rattle.cs_exactness.specs.OwnRuns.{HasOwnRuns}
 use Rattle.cs_exactness.specs.Sources.{AreSourced, IsSourcedGraph, UnderNames}
 use Rattle.cs_guesses.specs.Graphs.{IsGuessedGraph}

@@ -66,7 +66,7 @@ module _ (code : Code) (program : TypedProgram) (entry : ℕ) (budgets : RunBudg
     abbrev event : Event
     event = made.child.event
 
-    ranges : AreRanges asked sets
+    pub ranges : AreRanges asked sets
     ranges = record { inhabited = made.noted.inhabited; left = made.noted.noted.left_range; right = made.noted.noted.right_range }
 
     pub fits_sets : (v : Valuation) → Fits v state.constraints → Fits v sets
@@ -140,17 +140,17 @@ module _ (code : Code) (program : TypedProgram) (entry : ℕ) (budgets : RunBudg
       abbrev meant : Question
       meant = made.noted.noted.meant
 
-      integers : IsAskedByIntegers (operation_of v meant)
+      pub integers : IsAskedByIntegers (operation_of v meant)
       integers = subst IsAskedByIntegers (sym (made.noted.noted.same v (fits_sets v fits))) (made.noted.divides v (fits_sets v fits))
 
-      operands : HasOperands sets v meant
+      pub operands : HasOperands sets v meant
       operands = operands_of sets v meant (no_product sets v meant integers) made.noted.noted.operands
 
       -- the operation isn't followed exactly, and the number may be guessed
       pub not_followed : ¬ IsFollowed program.model sets meant v
       not_followed followed = (made.noted.inexact v (made.fits v fits)).0 (made.noted.noted.followed v (fits_sets v fits) followed)
 
-      may_be : IsGuess program.model sets meant v (v asked.guess.0)
+      pub may_be : IsGuess program.model sets meant v (v asked.guess.0)
       may_be = made.noted.noted.guesses v (v asked.guess.0) (fits_sets v fits) (made.noted.inexact v (made.fits v fits)).1
 
       is_inexact : IsInexact program.model asked meant v
@@ -222,6 +222,7 @@ module _ (code : Code) (program : TypedProgram) (entry : ℕ) (budgets : RunBudg
         lists = λ v at early. ap (λ (m : Guesses). guess_at (guesses_of v m) at) asked_is ∙ made.lists v at early;
         kept = λ at guessed. let has = made.kept at guessed in (has.0, subst (λ (m : Guesses). Contains (finite.values m) has.0) (sym asked_is) has.1, has.2);
         guessed = λ at early has. made.guessed at early (has.0, subst (λ (m : Guesses). Contains (finite.values m) has.0) asked_is has.1, has.2);
+        among = λ one early has. made.among one early (subst (λ (m : Guesses). Contains (finite.values m) one) asked_is has);
       }
 
   -- rows and ends have the program's model

@@ -25,10 +25,10 @@ use Rattle.cs_guesses.specs.Asking.{HasOwnOrEnd, IsMoved, HasGround, IsUsable}
 use Rattle.cs_guesses.specs.Inexact.{AreRanges}
 
 -- a question mentions no symbols but those of these operands, and it can be told which
-abbrev IsOver : Lin → Lin → Question → Type 0
+abbrev pub IsOver : Lin → Lin → Question → Type 0
 IsOver left right meant = ((s : Sym) → Mentions meant s ⊎ (¬ Mentions meant s)) × ((s : Sym) → Mentions meant s → AreOf left right s)
 
-is_over_both : (kind : Asks) (left right : Lin) (meant : Question) → IsQuestionOf kind left right meant → IsOver left right meant
+pub is_over_both : (kind : Asks) (left right : Lin) (meant : Question) → IsQuestionOf kind left right meant → IsOver left right meant
 is_over_both (asks.Binary op ty) left right meant is = subst (IsOver left right) (sym is) (which_of left right, λ s mentions. mentions)
 is_over_both (asks.Convert ty) left right meant is = subst (IsOver left right) (sym is) (is_over left.sym, λ s mentions. inl mentions)
 is_over_both (asks.Compare op) left right meant is = subst (IsOver left right) (sym is) (which_of left right, λ s mentions. mentions)

@@ -5,4 +5,9 @@ pub mod Corners
 pub mod Origins
 pub mod Asked
 pub mod ProgramRuns
+pub mod Coming
+pub mod Sizes
+pub mod Named
+pub mod AtEnds
+pub mod Cornered
 pub mod Real

@@ -10,7 +10,7 @@ use Rattle.cs_eval.specs.Operands.{IsReadyOperand}
 use Rattle.cs_eval.specs.Questions.{operation_of}
 use Rattle.cs_eval.specs.Ready.{IsReadyPart, HasReadyOperands}
 use Rattle.cs_corners.specs.Operands.{IsOperand, HasOperands, HasDivisorOf, HasDivisor}
-use Rattle.cs_successors.specs.Coming.{HasNonzeroDivisor, IsAskedByIntegers}
+use Rattle.cs_successors.specs.Coming.{IsCheckedRight, IsAskedByIntegers}
 
 -- the question isn't the order test of `calloc`, whose operands have to count besides
 abbrev pub IsNoProduct : Question → Type 0
@@ -37,7 +37,7 @@ module _ (sets : Sets) where
     operands_of (question.Test tested term) none are = tt
     operands_of (question.Callee function) none are = tt
 
-    divisor_by : (op : BinOp) (right : Lin) → HasNonzeroDivisor op (value_of v right) → HasDivisorOf op sets v right
+    divisor_by : (op : BinOp) (right : Lin) → IsCheckedRight op (value_of v right) → HasDivisorOf op sets v right
     divisor_by Rem right some = λ f. some
     divisor_by Div right some = tt
     divisor_by Add right some = tt

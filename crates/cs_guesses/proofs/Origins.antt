@@ -95,6 +95,7 @@ module _ (code : Code) (program : TypedProgram) (entry : ℕ) (budgets : RunBudg
     pub lists : (v : Valuation) (at : ℕ) → at < asked.event → guess_at (guesses_of v state.asked) at ≡ guess_at (guesses_of v row.state.value.asked) at
     pub kept : (at : ℕ) → IsGuessedAt row.state.value at → IsGuessedAt state at
     pub guessed : (at : ℕ) → at < asked.event → IsGuessedAt state at → IsGuessedAt row.state.value at
+    pub among : (one : Asked) → one.event < asked.event → Contains (finite.values state.asked) one → Contains (finite.values row.state.value.asked) one
 
   -- a run with the inputs of a valuation that fits the sets of the question, which lists what the row's state has guessed, comes to it
   pub comes_to_question : {state : State} {chain : List Event} {asked : Asked} (made : IsMadeAt state chain asked) (setting : Setting) (w : Valuation)
@@ -171,6 +172,12 @@ module _ (code : Code) (program : TypedProgram) (entry : ℕ) (budgets : RunBudg
       | inr own ↦ let late = own.1 in absurd (omega (arith, late, below, there))
     ]
 
+    was_among : (one : Asked) → one.event < state.counters.events → Contains (finite.values state.asked) one → Contains (finite.values parent.asked) one
+    was_among one below has = elim (asked_split one has) [
+      | inl before ↦ before
+      | inr own ↦ let late = own.1 in absurd (omega (arith, late, below))
+    ]
+
     same_lists : (v : Valuation) (at : ℕ) → at ≤ parent.counters.events → guess_at (guesses_of v state.asked) at ≡ guess_at (guesses_of v parent.asked) at
     same_lists v at below =
         listed_before state.counters.events v parent.counters.events is.number of.child.guess parent.asked state.asked is.asked numbers at below
@@ -197,6 +204,7 @@ module _ (code : Code) (program : TypedProgram) (entry : ℕ) (budgets : RunBudg
           lists = λ v at below. same_lists v at (omega (arith, below, bound)) ∙ made.lists v at below;
           kept = λ at guessed. still_guessed at (made.kept at guessed);
           guessed = λ at below guessed. made.guessed at below (was_guessed at (omega (arith, below, bound, next)) guessed);
+          among = λ one below has. made.among one below (was_among one (omega (arith, below, bound, next)) has);
         }
 
     -- the child's own guess
@@ -220,6 +228,7 @@ module _ (code : Code) (program : TypedProgram) (entry : ℕ) (budgets : RunBudg
           lists = λ v event below. same_lists v event (omega (arith, below, at, next));
           kept = still_guessed;
           guessed = λ event below guessed. was_guessed event (omega (arith, below, at)) guessed;
+          among = λ one below has. was_among one (omega (arith, below, at)) has;
         }
 
   -- each guess of a row's state was made on the way

@@ -42,7 +42,7 @@ module _ (code : Code) (program : TypedProgram) (entry : ℕ) (budgets : RunBudg
   step = code_step code program budgets
 
   -- what a run shows, it shows after its beginning
-  after_start : (setting : Setting) {steps : List Step} {one : Step} → ShowsAfter step setting (first_in code program entry budgets setting) steps one
+  pub after_start : (setting : Setting) {steps : List Step} {one : Step} → ShowsAfter step setting (first_in code program entry budgets setting) steps one
       → ShowsAfter step setting (first_of setting empty (step (start_of code program entry budgets setting))) steps one
   after_start setting (now e) = cc
   after_start setting (later e rest) = cc

@@ -7,7 +7,6 @@ use Rattle.std.specs.FinMap as finite
 use Rattle.std.proofs.lemmas.Bool.Decides.{nat_tests}
 use Rattle.std.proofs.lemmas.List.{length-append}
 use Rattle.std.proofs.lemmas.List.Elements.{Contains-get_or}
-use Rattle.cs_inputs.specs.Inputs.{number_at}
 use Rattle.cs_ast.specs.TypedProgram.{TypedProgram}
 use Rattle.cs_terms.specs.Term.{Valuation}
 use Rattle.cs_constraints.specs.Constraints.{Fits}
@@ -17,7 +16,7 @@ use Rattle.cs_events.specs.declared.operation.Operation.{Operation}
 use Rattle.cs_events.specs.declared.outcome.RunBudgets.{RunBudgets}
 use Rattle.cs_events.specs.PendingEvents.{Operates}
 use Rattle.cs_events.specs.Runs.{guess_at}
-use Rattle.cs_meaning.specs.ProgramRuns.{ProgramRun, setting_of}
+use Rattle.cs_meaning.specs.ProgramRuns.{ProgramRun}
 use Rattle.cs_cfg.specs.Graph.{Code}
 use Rattle.cs_state.specs.declared.asked.Asked.{Asked}
 use Rattle.cs_state.specs.declared.state.State.{State}
@@ -44,10 +43,11 @@ use Rattle.cs_exactness.proofs.Guesses.{none_listed}
 use Rattle.cs_exactness.proofs.NotedEvents.{passed}
 use Rattle.cs_exactness.proofs.Walking.{integer_row}
 use Rattle.cs_guesses.specs.Asking.{IsMoved, HasGround, IsUsable}
-use Rattle.cs_guesses.specs.Real.{run_at, HasRealGuesses, IsLoweredEntry}
+use Rattle.cs_guesses.specs.Real.{inputs_of, run_at, HasRealGuesses, IsLoweredEntry}
 use Rattle.cs_guesses.proofs.Asked.{come, fits_sets, moved_in, not_followed, ground, is_usable, made_at_end}
-use Rattle.cs_guesses.proofs.Origins.{IsMadeAt, comes_to_question, made_along}
-use Rattle.cs_guesses.proofs.ProgramRuns.{runs_too, same_inputs, listed_alike, from_mapped}
+use Rattle.cs_guesses.proofs.Coming.{comes_too}
+use Rattle.cs_guesses.proofs.Origins.{IsMadeAt, made_along}
+use Rattle.cs_guesses.proofs.ProgramRuns.{listed_alike, from_mapped}
 
 -- a test that fails beside another, and one that holds
 and_false : (a b : Bool) → b ≡ false → (a && b) ≡ false
@@ -90,15 +90,10 @@ module _ (code : Code) (program : TypedProgram) (entry : ℕ) (budgets : RunBudg
     inexact = not_followed code program entry budgets names rules rows ends Are sourced state chain asked made v fits
 
     -- runs that list what the row's state has guessed come to the question
-    come_too : (other : ProgramRun) (w : Valuation) → Fits w made.noted.sets → other.inputs ≡ (run_at names row w).inputs
+    come_too : (other : ProgramRun) (w : Valuation) → Fits w made.noted.sets → other.inputs ≡ inputs_of names.syms w
         → ((at : ℕ) → at ≤ row.counters.events → guess_at other.guesses at ≡ guess_at (guesses_of w row.asked) at)
         → Comes program entry budgets other made.before (Operates made.child.event.place (operation_of w meant))
-    come_too other w there inputs listed =
-        subst (λ (operation : Operation). Comes program entry budgets other made.before (Operates made.child.event.place operation))
-        (sym (made.noted.noted.same w there))
-        (runs_too code program entry budgets lowered other made.before (Operates made.child.event.place (operation_of w made.noted.given))
-        (comes_to_question code program entry budgets names rules rows sources made (setting_of program other budgets) w there
-        (record { goes = record { model = refl; limits = refl }; inputs = ap number_at inputs ∙ same_inputs names.syms w }) listed))
+    come_too = comes_too code program entry budgets names rules rows sources lowered state chain asked made
 
     -- the run of a valuation with noted ends
     abbrev IsOther : ProgramRun → Pair → Type 0
