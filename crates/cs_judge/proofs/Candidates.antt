@@ -1,16 +1,14 @@
 -- Candidates by their places, and what holds of each of them.
-use Rattle.std.proofs.Common.{◌≡◌, ◌≢◌, ℕ, zero, suc, ◌+◌, ◌<◌, ◌≤◌, ℤ, false, IsTrue, List, [], ◌∷◌, length, Option, Some, None, IfSome, is_some, slice_get, slice_index_or, refl, sym, ◌∙◌, subst, below_more}
+use Rattle.std.proofs.Common.{◌≡◌, ◌≢◌, ℕ, zero, suc, ◌+◌, ◌<◌, ◌≤◌, ℤ, false, IsTrue, List, [], ◌∷◌, length, Option, Some, None, IfSome, is_some, slice_get}
+use Rattle.std.proofs.Common.{slice_index_or, refl, subst, below_more}
 use Rattle.std.proofs.Common.{arith}
 use Rattle.std.specs.Option.{unwrap_or}
 use Rattle.std.proofs.lemmas.Option.{slice_get_within}
-use Rattle.cs_types.specs.declared.data_model.DataModel.{DataModel}
 use Rattle.cs_events.specs.declared.operation.Operation.{Operation}
-use Rattle.cs_results.specs.declared.run.Others.TheVariants.{One, Two}
 use Rattle.cs_findings.specs.Operands.{operands}
-use Rattle.cs_findings.specs.Grounds.{Pair, has_ground}
-use Rattle.cs_compared.specs.Wide.{AreSmall}
+use Rattle.cs_findings.specs.Grounds.{Pair}
 use Rattle.cs_judge.specs.declared.choosing.Candidate.{Candidate}
-use Rattle.cs_judge.specs.Choosing.{IsCandidate, GivesGround, GivesGroundWith, NamesOther}
+use Rattle.cs_judge.specs.Choosing.{IsCandidate, NamesOther}
 
 -- what would give a yes isn't so, where the answer is no
 pub refused : {P : Type 0} → (P → IsTrue false) → P → ⊥

@@ -1,5 +1,5 @@
 -- Candidates and partners that are found one after another.
-use Rattle.std.proofs.Common.{◌≡◌, ◌⊎◌, inl, inr, ℕ, zero, suc, ◌+◌, ◌<◌, List, [], ◌∷◌, ◌++◌, length, None, Some, slice_get, refl, sym, ap, ◌∙◌, subst, below_more}
+use Rattle.std.proofs.Common.{◌≡◌, inl, inr, ℕ, zero, suc, ◌+◌, ◌<◌, List, [], ◌∷◌, ◌++◌, length, None, Some, slice_get, refl, sym, ap, ◌∙◌, subst, below_more}
 use Rattle.std.proofs.Common.{arith}
 use Rattle.std.proofs.lemmas.List.{length-append}
 use Rattle.cs_findings.specs.Grounds.{Pair}
@@ -34,7 +34,8 @@ module _ {A : Type 0} where
     pub count : length xs ≡ number
     pub each : (n : ℕ) (x : A) → slice_get xs n ≡ Some x → P n x
 
-  pub put : (P : ℕ → A → Type 0) (count : ℕ) (xs new : List A) (x : A) → new ≡ xs ++ x ∷ [] → AreAt P count xs → P count x → AreAt P (count + 1) new
+  pub put : (P : ℕ → A → Type 0) (count : ℕ) (xs new : List A) (x : A) → new ≡ xs ++ x ∷ [] → AreAt P count xs → P count x
+      → AreAt P (count + 1) new
   put P count xs new x made are more = record {
     count = ap length made ∙ length-append xs (x ∷ []) ∙ (let is = are.count in omega arith);
     each = λ n y there. elim (end_or_before xs x y n (ap (λ l. slice_get l n) (sym made) ∙ there)) [
@@ -61,13 +62,16 @@ module _ (judge : Judge) (mine : Replay) (spot : Spot) where
         (λ k h other it. let before = are.all able k other h it in
         record { place = before.place; there = ap (λ l. slice_get l before.place) made ∙ still_there candidates _ before.place _ before.there })
         (λ other it. let same : pair ≡ other = let e = only other able it in cc in
-        subst (IsCandidate new n) same
-        (record { place = length candidates; there = ap (λ l. slice_get l (length candidates)) made ∙ last_there candidates (record { number = n; pair = pair }) }))
+        subst (IsCandidate new n) same (record {
+          place = length candidates;
+          there = ap (λ l. slice_get l (length candidates)) made ∙ last_there candidates (record { number = n; pair = pair });
+        }))
         number below other it;
   }
 
   pub passed_over : (n : ℕ) (candidates : List Candidate) → AreCandidatesBelow judge mine spot n candidates
-      → ((other : Pair) → IsGuessable spot.operation → Meets judge mine spot n other → None ≡ Some other) → AreCandidatesBelow judge mine spot (n + 1) candidates
+      → ((other : Pair) → IsGuessable spot.operation → Meets judge mine spot n other → None ≡ Some other)
+      → AreCandidatesBelow judge mine spot (n + 1) candidates
   passed_over n candidates are none = record {
     meet = are.meet;
     all = λ able number other below it.

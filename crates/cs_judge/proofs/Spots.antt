@@ -1,7 +1,7 @@
 -- The judge's notes of a guess, and what proves it.
-use Rattle.std.proofs.Common.{◌≡◌, ◌≢◌, ◌⊎◌, inl, inr, ℕ, suc, ◌<◌, ◌≤◌, ℤ, IsTrue, List, length, map, Option, None, Some, option_map, slice_get, refl, sym, ap, ◌∙◌, subst, arith}
+use Rattle.std.proofs.Common.{◌≡◌, ◌≢◌, ◌⊎◌, inl, inr, ℕ, suc, ◌<◌, ◌≤◌, ℤ, IsTrue, List, length, map, Option, None, Some, option_map, slice_get, refl, sym, ap}
+use Rattle.std.proofs.Common.{◌∙◌, subst}
 use Rattle.std.proofs.lemmas.Option.{slice_get-map, slice_get_within}
-use Rattle.std.proofs.lemmas.List.{length-map}
 use Rattle.cs_types.specs.declared.data_model.DataModel.{DataModel}
 use Rattle.cs_ast.specs.declared.place.Place.{Place}
 use Rattle.cs_events.specs.declared.guess.Guess.{Guess}
@@ -23,7 +23,7 @@ use Rattle.cs_judge.specs.declared.pool.Replay.{Replay}
 use Rattle.cs_judge.specs.declared.pool.Kept.TheVariants.{Operates}
 use Rattle.cs_compared.specs.Agreement.{AgreeTo}
 use Rattle.cs_judge.specs.Agreement.{AreAtEvents}
-use Rattle.cs_judge.specs.Certificates.{IsMet, IsLeftMet, IsRightMet, IsJudged, IsSpotAt, ComesAlong, KeepsWith}
+use Rattle.cs_judge.specs.Certificates.{IsMet, IsJudged, IsSpotAt, ComesAlong, KeepsWith}
 use Rattle.cs_judge.specs.Choosing.{IsGround, IsCandidate, GivesGround, NamesOther}
 use Rattle.cs_judge.specs.Proving.{Bare, bare, IsGuessedAt, IsPartner, HasOther, ProvesGuess, HasProof}
 use Rattle.cs_judge.proofs.Meetings.{met}

@@ -1,6 +1,5 @@
 -- Partners in the pool before the judge.
 use Rattle.std.specs.Prelude.{◌⊎◌, ℕ, ◌<◌, ℤ, IsTrue, List, length, map, Option}
-use Rattle.cs_types.specs.declared.data_model.DataModel.{DataModel}
 use Rattle.cs_findings.specs.Grounds.{Pair}
 use Rattle.cs_findings.specs.Narrower.{fits_left, fits_right}
 use Rattle.cs_compared.specs.Guessable.{IsGuessable}

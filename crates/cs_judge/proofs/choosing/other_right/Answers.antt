@@ -1,4 +1,4 @@
-use Rattle.std.proofs.Common.{◌≢◌, IsTrue, rules, subst}
+use Rattle.std.proofs.Common.{◌≢◌, IsTrue, rules}
 use Rattle.cs_findings.specs.Operands.{operands}
 use Rattle.cs_judge.specs.declared.choosing.Candidate.{Candidate}
 use Rattle.cs_judge.proofs.Candidates.{refused, one_more, of_all, names_other}

@@ -1,4 +1,4 @@
-use Rattle.std.proofs.Common.{ℕ, None}
+use Rattle.std.proofs.Common.{ℕ}
 use Rattle.cs_findings.specs.Grounds.{Pair}
 use Rattle.cs_results.specs.declared.run.Others.TheVariants.{Two}
 use Rattle.cs_judge.specs.declared.choosing.Candidate.{Candidate}

@@ -1,4 +1,4 @@
-use Rattle.std.proofs.Common.{◌≡◌, ℕ, Some, slice_get, Vec}
+use Rattle.std.proofs.Common.{◌≡◌, Some, slice_get, Vec}
 use Rattle.std.specs.declared.alloc.Global.{Global}
 use Rattle.cs_judge.specs.declared.pool.Partners.{Partners}
 use Rattle.cs_judge.specs.declared.pool.Replay.{Replay}

@@ -1,7 +1,5 @@
-use Rattle.std.proofs.Common.{◌≡◌, IsTrue, map, rules}
-use Rattle.cs_judge.specs.Proving.{bare}
-use Rattle.cs_judge.proofs.Candidates.{refused}
-use Rattle.cs_judge.proofs.Spots.{guessable, judged, proves_spot}
+use Rattle.std.proofs.Common.{IsTrue, rules}
+use Rattle.cs_judge.proofs.Spots.{judged}
 use Rattle.cs_judge.proofs.judging.Judge.is_shown.Goals as goal
 
 pub returns-then-has_reason-clause-real : goal.returns-then-has_reason-clause-real

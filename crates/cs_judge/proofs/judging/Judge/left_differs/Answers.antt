@@ -1,4 +1,4 @@
-use Rattle.std.proofs.Common.{◌≡◌, ℕ, None, Some, subst}
+use Rattle.std.proofs.Common.{◌≡◌, ℕ, subst}
 use Rattle.cs_judge.specs.Partnering.{Meets}
 use Rattle.cs_judge.proofs.judging.Judge.left_differs.Goals as goal
 

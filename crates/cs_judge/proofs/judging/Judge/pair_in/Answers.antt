@@ -1,4 +1,4 @@
-use Rattle.std.proofs.Common.{◌≡◌, None, Some, IsTrue, rules}
+use Rattle.std.proofs.Common.{IsTrue, rules}
 use Rattle.cs_judge.proofs.Candidates.{refused}
 use Rattle.cs_judge.proofs.Meetings.{if_some}
 use Rattle.cs_judge.proofs.Spots.{within_pool, partner, partner_comes}
@@ -18,10 +18,12 @@ returns-then-comes_too-clause-meets c =
 
 pub returns-then-comes_too-clause-found : goal.returns-then-comes_too-clause-found
 returns-then-comes_too-clause-found c pair able it =
-    let comes = partner_comes c.args.self.now.pool.now c.args.mine.now c.args.spot.now c.in_ok-other.other.now c.args.number c.in_ok-other.ensures.there pair it in
+    let comes = partner_comes c.args.self.now.pool.now c.args.mine.now c.args.spot.now c.in_ok-other.other.now c.args.number c.in_ok-other.ensures.there
+    pair it in
     c.pair_at.ensures.found pair able comes.1
 
 pub returns-else-comes_too-clause-found : goal.returns-else-comes_too-clause-found
 returns-else-comes_too-clause-found c pair able it =
-    let comes = partner_comes c.args.self.now.pool.now c.args.mine.now c.args.spot.now c.in_ok-other.other.now c.args.number c.in_ok-other.ensures.there pair it in
+    let comes = partner_comes c.args.self.now.pool.now c.args.mine.now c.args.spot.now c.in_ok-other.other.now c.args.number c.in_ok-other.ensures.there
+    pair it in
     absurd (refused c.if-comes_too.ensures.1 comes.0)

@@ -1,4 +1,4 @@
-use Rattle.std.proofs.Common.{◌≡◌, None, Some, subst}
+use Rattle.std.proofs.Common.{subst}
 use Rattle.cs_results.specs.declared.run.Others.{Others}
 use Rattle.cs_findings.specs.Runs.{AllRelated}
 use Rattle.cs_judge.specs.Partnering.{Meets}
