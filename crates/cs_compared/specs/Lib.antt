@@ -1,3 +1,4 @@
 pub mod Wide
 pub mod Agreement
 pub mod Computable
+pub mod Guessable

@@ -1,5 +1,5 @@
 //! Runs that pass the same events first.
-ghost use Rattle.std.specs.Prelude.{◌≡◌, ◌<◌, ◌≤◌, IsTrue, length, slice_get};
+ghost use Rattle.std.specs.Prelude.{◌≡◌, ◌↔◌, ◌<◌, ◌≤◌, IsTrue, length, slice_get};
 ghost use Rattle.cs_compared.specs.Agreement.{AgreeTo};
 
 use crate::same::same_event;
@@ -10,7 +10,7 @@ pub fn agree(one: &[Event], other: &[Event], known: usize, count: usize) -> bool
     requires known { AgreeTo known one.now other.now }
     requires one { count ≤ length one.now }
     requires other { count ≤ length other.now }
-    ensures { IsTrue result → AgreeTo count one.now other.now }
+    ensures { IsTrue result ↔ AgreeTo count one.now other.now }
 {
     for index in known..count {
         if !same_at(one, other, index) {
@@ -37,7 +37,8 @@ pub fn common(one: &[Event], other: &[Event]) -> usize
 fn same_at(one: &[Event], other: &[Event], index: usize) -> bool
     requires one { index < length one.now }
     requires other { index < length other.now }
-    ensures { IsTrue result → slice_get one.now index ≡ slice_get other.now index }
+    ensures { IsTrue result ↔
+        (slice_get one.now index ≡ slice_get other.now index) }
 {
     same_event(&one[index], &other[index])
 }

@@ -1,7 +1,8 @@
 //! The operands of operations.
-ghost use Rattle.std.specs.Prelude.{◌≡◌, IfSome};
+ghost use Rattle.std.specs.Prelude.{◌≡◌, IfSome, Some};
 ghost use Rattle.cs_events.specs.declared.operation.Operation.TheVariants as operation;
 ghost use Rattle.cs_findings.specs.Operands as specs;
+ghost use Rattle.cs_compared.specs.Guessable.{IsGuessable};
 
 use cs_ast::typed::operator::{BinOp, CmpOp};
 use cs_events::Operation;
@@ -26,7 +27,10 @@ pub fn operands(operation: &Operation) -> (i128, i128)
 
 /// The operands of another operation, if it is the same operation but for them, and one whose result may be guessed.
 pub fn operands_of_same(operation: &Operation, other: &Operation) -> Option<(i128, i128)>
-    ensures { IfSome result (λ pair. other.now ≡ specs.with_operands operation.now pair) }
+    ensures same { IfSome result (λ pair. other.now ≡ specs.with_operands operation.now pair) }
+    ensures operands { IfSome result (λ pair. specs.operands other.now ≡ pair) }
+    ensures found { let pair = specs.operands other.now in IsGuessable operation.now
+        → other.now ≡ specs.with_operands operation.now pair → result ≡ Some pair }
 {
     match *operation {
         Operation::Binary(operator, ty, _, _) => of_binary(operator, ty, other),
@@ -42,8 +46,10 @@ pub fn operands_of_same(operation: &Operation, other: &Operation) -> Option<(i12
 }
 
 fn of_binary(operator: BinOp, ty: IntType, other: &Operation) -> Option<(i128, i128)>
-    ensures { IfSome result (λ pair.
-        other.now ≡ operation.Binary operator ty pair.0 pair.1) }
+    ensures same { IfSome result (λ pair. other.now ≡ operation.Binary operator ty pair.0 pair.1) }
+    ensures operands { IfSome result (λ pair. specs.operands other.now ≡ pair) }
+    ensures found { let pair = specs.operands other.now in
+        other.now ≡ operation.Binary operator ty pair.0 pair.1 → result ≡ Some pair }
 {
     match *other {
         Operation::Binary(its_operator, its_ty, left, right) => {
@@ -55,7 +61,10 @@ fn of_binary(operator: BinOp, ty: IntType, other: &Operation) -> Option<(i128, i
 }
 
 fn of_conversion(ty: IntType, other: &Operation) -> Option<(i128, i128)>
-    ensures { IfSome result (λ pair. other.now ≡ operation.Convert ty pair.0) }
+    ensures same { IfSome result (λ pair. other.now ≡ operation.Convert ty pair.0) }
+    ensures operands { IfSome result (λ pair. specs.operands other.now ≡ pair) }
+    ensures found { let pair = specs.operands other.now in
+        other.now ≡ operation.Convert ty pair.0 → result ≡ Some pair }
 {
     match *other {
         Operation::Convert(its_ty, number) => {
@@ -70,8 +79,10 @@ fn of_conversion(ty: IntType, other: &Operation) -> Option<(i128, i128)>
 }
 
 fn of_comparison(operator: CmpOp, other: &Operation) -> Option<(i128, i128)>
-    ensures { IfSome result (λ pair.
-        other.now ≡ operation.Compare operator pair.0 pair.1) }
+    ensures same { IfSome result (λ pair. other.now ≡ operation.Compare operator pair.0 pair.1) }
+    ensures operands { IfSome result (λ pair. specs.operands other.now ≡ pair) }
+    ensures found { let pair = specs.operands other.now in
+        other.now ≡ operation.Compare operator pair.0 pair.1 → result ≡ Some pair }
 {
     match *other {
         Operation::Compare(its_operator, left, right) => {
@@ -86,7 +97,10 @@ fn of_comparison(operator: CmpOp, other: &Operation) -> Option<(i128, i128)>
 }
 
 fn of_order_test(other: &Operation) -> Option<(i128, i128)>
-    ensures { IfSome result (λ pair. other.now ≡ operation.Order pair.0 pair.1) }
+    ensures same { IfSome result (λ pair. other.now ≡ operation.Order pair.0 pair.1) }
+    ensures operands { IfSome result (λ pair. specs.operands other.now ≡ pair) }
+    ensures found { let pair = specs.operands other.now in
+        other.now ≡ operation.Order pair.0 pair.1 → result ≡ Some pair }
 {
     match *other {
         Operation::Order(first, second) => Some((first, second)),
@@ -95,7 +109,10 @@ fn of_order_test(other: &Operation) -> Option<(i128, i128)>
 }
 
 fn of_product(other: &Operation) -> Option<(i128, i128)>
-    ensures { IfSome result (λ pair. other.now ≡ operation.Product pair.0 pair.1) }
+    ensures same { IfSome result (λ pair. other.now ≡ operation.Product pair.0 pair.1) }
+    ensures operands { IfSome result (λ pair. specs.operands other.now ≡ pair) }
+    ensures found { let pair = specs.operands other.now in
+        other.now ≡ operation.Product pair.0 pair.1 → result ≡ Some pair }
 {
     match *other {
         Operation::Product(count, size) => Some((count, size)),
@@ -104,7 +121,10 @@ fn of_product(other: &Operation) -> Option<(i128, i128)>
 }
 
 fn of_sum(size: u64, other: &Operation) -> Option<(i128, i128)>
-    ensures { IfSome result (λ pair. other.now ≡ operation.Sum pair.0 pair.1 size) }
+    ensures same { IfSome result (λ pair. other.now ≡ operation.Sum pair.0 pair.1 size) }
+    ensures operands { IfSome result (λ pair. specs.operands other.now ≡ pair) }
+    ensures found { let pair = specs.operands other.now in
+        other.now ≡ operation.Sum pair.0 pair.1 size → result ≡ Some pair }
 {
     match *other {
         Operation::Sum(offset, amount, its_size) => {
@@ -119,8 +139,10 @@ fn of_sum(size: u64, other: &Operation) -> Option<(i128, i128)>
 }
 
 fn of_difference(size: u64, other: &Operation) -> Option<(i128, i128)>
-    ensures { IfSome result (λ pair.
-        other.now ≡ operation.Difference pair.0 pair.1 size) }
+    ensures same { IfSome result (λ pair. other.now ≡ operation.Difference pair.0 pair.1 size) }
+    ensures operands { IfSome result (λ pair. specs.operands other.now ≡ pair) }
+    ensures found { let pair = specs.operands other.now in
+        other.now ≡ operation.Difference pair.0 pair.1 size → result ≡ Some pair }
 {
     match *other {
         Operation::Difference(left, right, its_size) => {

@@ -1,25 +1,25 @@
 //! Equal events and places.
-ghost use Rattle.std.specs.Prelude.{◌≡◌, IsTrue};
+ghost use Rattle.std.specs.Prelude.{◌≡◌, ◌↔◌, IsTrue};
 
 use cs_ast::Place;
 use cs_events::{Event, Label};
 
 /// Whether two events are one.
 pub fn same_event(one: &Event, other: &Event) -> bool
-    ensures { IsTrue result → one.now ≡ other.now }
+    ensures { IsTrue result ↔ (one.now ≡ other.now) }
 {
     same_place(one.place, other.place) && same_label(one.label, other.label)
 }
 
 /// Whether two places are one.
 pub fn same_place(one: Place, other: Place) -> bool
-    ensures { IsTrue result → one ≡ other }
+    ensures { IsTrue result ↔ (one ≡ other) }
 {
     one.column == other.column && one.line == other.line && one.file == other.file
 }
 
 fn same_label(one: Label, other: Label) -> bool
-    ensures { IsTrue result → one ≡ other }
+    ensures { IsTrue result ↔ (one ≡ other) }
 {
     match (one, other) {
         (Label::Truth(this), Label::Truth(that)) => this == that,

@@ -15,6 +15,9 @@ is_there [] n x h = cc
 is_there (y ∷ ys) zero x h = omega arith
 is_there (y ∷ ys) (suc n) x h = let a = is_there ys n x h in omega arith
 
+pub same_item : {A : Type 0} (x y : A) → Some x ≡ Some y → x ≡ y
+same_item x y e = cc
+
 pub if_some : {A : Type 0} {P Q : A → Type 0} (found : Option A) → ((x : A) → P x → Q x) → IfSome found P → IfSome found Q
 if_some None f h = tt
 if_some (Some x) f h = f x h

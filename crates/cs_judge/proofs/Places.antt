@@ -13,7 +13,7 @@ place_of (y ∷ ys) zero x h e = ap Some e
 place_of (y ∷ ys) (suc k) x h e = place_of ys k x (omega arith) e
 
 -- an item that was put to the end, or one before it
-end_or_before : {A : Type 0} (xs : List A) (x y : A) (n : ℕ) → slice_get (xs ++ x ∷ []) n ≡ Some y
+pub end_or_before : {A : Type 0} (xs : List A) (x y : A) (n : ℕ) → slice_get (xs ++ x ∷ []) n ≡ Some y
     → (slice_get xs n ≡ Some y) ⊎ ((n ≡ length xs) × (x ≡ y))
 end_or_before [] x y zero e = inr (refl, cc)
 end_or_before [] x y (suc n) e = cc

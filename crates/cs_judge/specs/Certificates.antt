@@ -90,3 +90,8 @@ pub record ComesAlong (mine : Replay) (spot : Spot) (other : Replay) : Type 0 wh
   pub listed : AreAtEvents spot.place mine.run.guesses.items other.run.guesses.items
   pub enough : spot.passed ≤ length other.events.items
   pub agree : AgreeTo spot.passed mine.events.items other.events.items
+
+-- another replay keeps the same operation there, with these operands
+pub record KeepsWith (other : Replay) (spot : Spot) (pair : Pair) : Type 0 where
+  pub kept : slice_get other.kept.items spot.passed ≡ Some (Operates spot.at (with_operands spot.operation pair))
+  pub same : operands (with_operands spot.operation pair) ≡ pair

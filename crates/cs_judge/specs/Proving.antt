@@ -1,5 +1,6 @@
 -- What convinces the judge: partners in the pool that prove a guess, by what was replayed of them.
-use Rattle.std.specs.Prelude.{◌≡◌, ◌≢◌, ◌⊎◌, ℕ, suc, ◌<◌, ◌≤◌, ℤ, IsTrue, List, length, map, Option, Some, slice_get}
+use Rattle.std.specs.Prelude.{◌≡◌, ◌≢◌, ◌⊎◌, ℕ, suc, ◌<◌, ◌≤◌, ℤ, IsTrue, List, length, map, Option, Some, slice_get, Vec}
+use Rattle.std.specs.declared.alloc.Global.{Global}
 use Rattle.cs_types.specs.declared.data_model.DataModel.{DataModel}
 use Rattle.cs_ast.specs.declared.place.Place.{Place}
 use Rattle.cs_events.specs.declared.event.Event.{Event}
@@ -95,7 +96,7 @@ pub record FindsProofs (model : DataModel) (pool : List Bare) (mine : Bare) (fou
       → ProvesGuess pool mine place model partners
 
 -- and so for each replay of the pool
-pub record FindAllProofs (model : DataModel) (pool : List Replay) (found : List (List Partners)) : Type 0 where
+pub record FindAllProofs (model : DataModel) (pool : List Replay) (found : List (Vec Partners Global)) : Type 0 where
   pub count : length found ≡ length pool
-  pub each : (number : ℕ) (mine : Replay) (row : List Partners) → slice_get pool number ≡ Some mine → slice_get found number ≡ Some row
-      → FindsProofs model (map bare pool) (bare mine) row
+  pub each : (number : ℕ) (mine : Replay) (row : Vec Partners Global) → slice_get pool number ≡ Some mine → slice_get found number ≡ Some row
+      → FindsProofs model (map bare pool) (bare mine) row.items

@@ -1,4 +1,11 @@
-//! Partners for the guesses of a pool. Nothing is proved of the choice: the judge refuses a wrong one.
+//! Partners for the guesses of a pool: some that give a ground, wherever some do.
+ghost use Rattle.std.specs.Prelude.{◌≡◌, ◌≢◌, ◌↔◌, ℕ, IsTrue, IfSome, is_some};
+ghost use Rattle.cs_results.specs.declared.run.Others as several;
+ghost use Rattle.cs_results.specs.declared.run.Others.TheVariants.{One, Two};
+ghost use Rattle.cs_findings.specs.Runs.{AllRelated};
+ghost use Rattle.cs_findings.specs.Operands as specs;
+ghost use Rattle.cs_findings.specs.Grounds.{Pair};
+ghost use Rattle.cs_judge.specs.Choosing.{IsGround, IsCandidate, GivesGround, GivesGroundWith, NamesOther};
 
 use crate::grounds::has_ground;
 use crate::pool::Partners;
@@ -15,11 +22,19 @@ pub struct Candidate {
 }
 
 /// The first candidate that gives a ground alone, or else the first two that do together, with the first that have other operands.
-pub fn chosen(model: DataModel, operation: &Operation, candidates: &[Candidate]) -> Partners {
-    let others = match one_alone(model, operation, candidates) {
-        Some(others) => Some(others),
-        None => two_together(model, operation, candidates),
-    };
+pub fn chosen(model: DataModel, operation: &Operation, candidates: &[Candidate]) -> Partners
+    ensures others { (numbers : several.Others ℕ) (pairs : several.Others Pair)
+        → AllRelated (IsCandidate candidates.now) numbers pairs
+        → IsGround model operation.now pairs
+        → GivesGround candidates.now model operation.now result.others }
+    ensures left { (number : ℕ) (pair : Pair) → IsCandidate candidates.now number pair
+        → pair.0 ≢ (specs.operands operation.now).0
+        → NamesOther candidates.now operation.now (λ pair. pair.0) result.left }
+    ensures right { (number : ℕ) (pair : Pair) → IsCandidate candidates.now number pair
+        → pair.1 ≢ (specs.operands operation.now).1
+        → NamesOther candidates.now operation.now (λ pair. pair.1) result.right }
+{
+    let others = one_or_two(model, operation, candidates);
     Partners {
         others: others.unwrap_or(Others::One(usize::MAX)),
         left: other_left(operation, candidates),
@@ -27,11 +42,31 @@ pub fn chosen(model: DataModel, operation: &Operation, candidates: &[Candidate])
     }
 }
 
+fn one_or_two(
+    model: DataModel,
+    operation: &Operation,
+    candidates: &[Candidate],
+) -> Option<Others<usize>>
+    ensures given { IfSome result (GivesGround candidates.now model operation.now) }
+    ensures found { (numbers : several.Others ℕ) (pairs : several.Others Pair)
+        → AllRelated (IsCandidate candidates.now) numbers pairs
+        → IsGround model operation.now pairs → IsTrue (is_some result) }
+{
+    match one_alone(model, operation, candidates) {
+        Some(others) => Some(others),
+        None => two_together(model, operation, candidates),
+    }
+}
+
 fn one_alone(
     model: DataModel,
     operation: &Operation,
     candidates: &[Candidate],
-) -> Option<Others<usize>> {
+) -> Option<Others<usize>>
+    ensures given { IfSome result (GivesGround candidates.now model operation.now) }
+    ensures found { (number : ℕ) (pair : Pair) → IsCandidate candidates.now number pair
+        → IsGround model operation.now (One pair) → IsTrue (is_some result) }
+{
     for one in candidates {
         if has_ground(model, operation, Others::One(one.pair)) {
             return Some(Others::One(one.number));
@@ -44,7 +79,12 @@ fn two_together(
     model: DataModel,
     operation: &Operation,
     candidates: &[Candidate],
-) -> Option<Others<usize>> {
+) -> Option<Others<usize>>
+    ensures given { IfSome result (GivesGround candidates.now model operation.now) }
+    ensures found { (one two : ℕ) (first second : Pair) → IsCandidate candidates.now one first
+        → IsCandidate candidates.now two second
+        → IsGround model operation.now (Two first second) → IsTrue (is_some result) }
+{
     for one in candidates {
         if let Some(second) = second_for(model, operation, *one, candidates) {
             return Some(Others::Two(one.number, second));
@@ -59,7 +99,11 @@ fn second_for(
     operation: &Operation,
     one: Candidate,
     candidates: &[Candidate],
-) -> Option<usize> {
+) -> Option<usize>
+    ensures given { IfSome result (GivesGroundWith candidates.now model operation.now one.pair) }
+    ensures found { (number : ℕ) (pair : Pair) → IsCandidate candidates.now number pair
+        → IsGround model operation.now (Two one.pair pair) → IsTrue (is_some result) }
+{
     for other in candidates {
         if has_ground(model, operation, Others::Two(one.pair, other.pair)) {
             return Some(other.number);
@@ -68,22 +112,40 @@ fn second_for(
     None
 }
 
-fn other_left(operation: &Operation, candidates: &[Candidate]) -> Option<usize> {
-    let mine = operands(operation);
+fn other_left(operation: &Operation, candidates: &[Candidate]) -> Option<usize>
+    ensures { (number : ℕ) (pair : Pair) → IsCandidate candidates.now number pair
+        → pair.0 ≢ (specs.operands operation.now).0
+        → NamesOther candidates.now operation.now (λ pair. pair.0) result }
+{
     for one in candidates {
-        if one.pair.0 != mine.0 {
+        if differs_left(operation, one) {
             return Some(one.number);
         }
     }
     None
 }
 
-fn other_right(operation: &Operation, candidates: &[Candidate]) -> Option<usize> {
-    let mine = operands(operation);
+fn other_right(operation: &Operation, candidates: &[Candidate]) -> Option<usize>
+    ensures { (number : ℕ) (pair : Pair) → IsCandidate candidates.now number pair
+        → pair.1 ≢ (specs.operands operation.now).1
+        → NamesOther candidates.now operation.now (λ pair. pair.1) result }
+{
     for one in candidates {
-        if one.pair.1 != mine.1 {
+        if differs_right(operation, one) {
             return Some(one.number);
         }
     }
     None
+}
+
+fn differs_left(operation: &Operation, one: &Candidate) -> bool
+    ensures { IsTrue result ↔ (one.now.pair.0 ≢ (specs.operands operation.now).0) }
+{
+    one.pair.0 != operands(operation).0
+}
+
+fn differs_right(operation: &Operation, one: &Candidate) -> bool
+    ensures { IsTrue result ↔ (one.now.pair.1 ≢ (specs.operands operation.now).1) }
+{
+    one.pair.1 != operands(operation).1
 }

@@ -1,5 +1,5 @@
 //! Grounds to guess: the table of `cs_findings`, computed.
-ghost use Rattle.std.specs.Prelude.{◌≡◌, ◌≤◌, ◌^◌, ◌↔◌, IsTrue, IfSome, pos, ◌*ℤ◌, int_le, int_lt, unsigned_abs};
+ghost use Rattle.std.specs.Prelude.{◌≡◌, ◌≤◌, ◌^◌, ◌↔◌, IsTrue, IfSome, is_some, pos, ◌*ℤ◌, int_le, int_lt, unsigned_abs};
 ghost use Rattle.cs_types.specs.IntType.{IsIntegerOfC};
 ghost use Rattle.cs_types.specs.DataModel.{product_bound_of};
 ghost use Rattle.cs_types.specs.Wrap.{wrap_quotient};
@@ -8,6 +8,7 @@ ghost use Rattle.cs_events.specs.Operations as operations;
 ghost use Rattle.cs_findings.specs.Grounds as grounds;
 ghost use Rattle.cs_findings.specs.Operands as operands;
 ghost use Rattle.cs_compared.specs.Wide.{IsSmall, AreSmall};
+ghost use Rattle.cs_compared.specs.Computable.{IsComputable, IsShiftedBy};
 
 use crate::extremes::{greatest_left, greatest_right, least_left, least_right, meets_zero};
 use cs_ast::typed::operator::{BinOp, CmpOp};
@@ -21,7 +22,10 @@ use cs_types::{DataModel, IntType, multiply, product_bound, quotient};
 
 /// Whether two or three runs give a ground to guess an operation's result. Operands that no run of a program has may be refused.
 pub fn has_ground(model: DataModel, operation: &Operation, others: Others<(i128, i128)>) -> bool
-    ensures { IsTrue result → IsTrue (grounds.has_ground model operation.now others) }
+    ensures real { IsTrue result → IsTrue (grounds.has_ground model operation.now others) }
+    ensures small { IsTrue result → AreSmall others }
+    ensures found { IsComputable operation.now → IsSmall (operands.operands operation.now)
+        → AreSmall others → IsTrue (grounds.has_ground model operation.now others) → IsTrue result }
 {
     let mine = operands(operation);
     is_small(mine) && are_small(others) && gives_ground(model, operation, mine, others)
@@ -45,7 +49,9 @@ fn gives_ground(
     requires mine { IsSmall mine }
     requires others { AreSmall others }
     requires operands { mine ≡ operands.operands operation.now }
-    ensures { IsTrue result → IsTrue (grounds.has_ground model operation.now others) }
+    ensures real { IsTrue result → IsTrue (grounds.has_ground model operation.now others) }
+    ensures found { IsComputable operation.now
+        → IsTrue (grounds.has_ground model operation.now others) → IsTrue result }
 {
     match *operation {
         Operation::Binary(operator, ty, _, _) => binary_ground(model, operator, ty, mine, others),
@@ -71,9 +77,13 @@ fn binary_ground(
 ) -> bool
     requires mine { IsSmall mine }
     requires others { AreSmall others }
-    ensures { let far = grounds.is_far (wrap_quotient model ty
+    ensures real { let far = grounds.is_far (wrap_quotient model ty
         (operations.exact model operator ty mine.0 mine.1)) in
         IsTrue result → IsTrue (grounds.binary_ground operator far mine others) }
+    ensures found { let far = grounds.is_far (wrap_quotient model ty
+        (operations.exact model operator ty mine.0 mine.1)) in
+        IsIntegerOfC mine.0 → IsIntegerOfC mine.1 → IsShiftedBy operator mine.1
+        → IsTrue (grounds.binary_ground operator far mine others) → IsTrue result }
 {
     match operator {
         BinOp::Add => {
@@ -196,8 +206,10 @@ fn is_far(quotient: i128) -> bool
 
 // The same of a product of integers.
 fn is_far_product(model: DataModel, ty: IntType, left: i128, right: i128) -> bool
-    ensures { IsTrue result → IsTrue (grounds.is_far (wrap_quotient model ty
+    ensures real { IsTrue result → IsTrue (grounds.is_far (wrap_quotient model ty
         (operations.exact model Mul ty left right))) }
+    ensures found { IsIntegerOfC left → IsIntegerOfC right → IsTrue (grounds.is_far
+        (wrap_quotient model ty (operations.exact model Mul ty left right))) → IsTrue result }
 {
     is_integer(left) && is_integer(right) && multiply(model, ty, left, right).quotient.is_none()
 }
@@ -210,8 +222,10 @@ fn is_integer(number: i128) -> bool
 
 // The same of a left shift.
 fn is_far_shift(model: DataModel, ty: IntType, left: i128, count: i128) -> bool
-    ensures { IsTrue result → IsTrue (grounds.is_far (wrap_quotient model ty
+    ensures real { IsTrue result → IsTrue (grounds.is_far (wrap_quotient model ty
         (operations.exact model Shl ty left count))) }
+    ensures found { IsIntegerOfC left → IsShiftedBy Shl count → IsTrue (grounds.is_far
+        (wrap_quotient model ty (operations.exact model Shl ty left count))) → IsTrue result }
 {
     match power(count) {
         Some(factor) => is_far_product(model, ty, left, factor),
@@ -221,7 +235,9 @@ fn is_far_shift(model: DataModel, ty: IntType, left: i128, count: i128) -> bool
 
 // The two to the power of a number below 64.
 fn power(exponent: i128) -> Option<i128>
-    ensures { IfSome result (λ two_to. two_to ≡ pos (operations.power exponent)) }
+    ensures value { IfSome result (λ two_to. two_to ≡ pos (operations.power exponent)) }
+    ensures integer { IfSome result IsIntegerOfC }
+    ensures found { IsShiftedBy Shl exponent → IsTrue (is_some result) }
 {
     if 0 <= exponent && exponent < 64 {
         Some(1 << exponent)

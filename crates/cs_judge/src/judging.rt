@@ -1,20 +1,28 @@
 //! The judge: one pass over a pool.
-ghost use Rattle.std.specs.Prelude.{◌≡◌, ◌≢◌, ◌⊎◌, ℕ, suc, ◌<◌, ◌≤◌, IsTrue, IfOk, IfSome, Some, length, slice_get};
+ghost use Rattle.std.specs.Prelude.{◌≡◌, ◌≢◌, ◌⊎◌, ◌↔◌, ℕ, suc, ◌<◌, ◌≤◌, IsTrue, IfOk, IfSome, is_some, Some, List, length, slice_get};
+ghost use Rattle.cs_ast.specs.declared.place.Place as places;
 ghost use Rattle.cs_events.specs.declared.guess.Guess as guesses;
-ghost use Rattle.cs_findings.specs.Operands as operations;
-ghost use Rattle.cs_judge.specs.declared.pool.Replay as replays;
+ghost use Rattle.cs_events.specs.declared.operation.Operation as operations;
+ghost use Rattle.cs_results.specs.declared.run.Others as several;
 ghost use Rattle.cs_findings.specs.Runs.{AllRelated};
+ghost use Rattle.cs_findings.specs.Grounds as grounds;
+ghost use Rattle.cs_findings.specs.Grounds.{Pair};
 ghost use Rattle.cs_findings.specs.Narrower as narrower;
-ghost use Rattle.cs_judge.specs.declared.pool.Kept.TheVariants as kept;
 ghost use Rattle.cs_compared.specs.Agreement.{AgreeTo};
+ghost use Rattle.cs_compared.specs.Guessable.{IsGuessable};
+ghost use Rattle.cs_judge.specs.declared.pool.Replay as replays;
+ghost use Rattle.cs_judge.specs.declared.pool.Kept.TheVariants as kept;
 ghost use Rattle.cs_judge.specs.Pools.{ShowsReal};
-ghost use Rattle.cs_judge.specs.Certificates.{IsMet, IsLeftMet, IsRightMet, IsJudged, IsReplayJudged, IsCertificate, IsSpotAt, IsReady, IsSeated, ComesAlong};
+ghost use Rattle.cs_judge.specs.Certificates.{IsJudged, IsReplayJudged, IsCertificate, IsSpotAt, IsReady, IsSeated, ComesAlong, KeepsWith};
+ghost use Rattle.cs_judge.specs.Proving.{Bare, bare, IsGuessedAt, AreProved, FindAllProofs};
+ghost use Rattle.cs_judge.specs.Choosing.{IsGround};
+ghost use Rattle.cs_judge.specs.Partnering.{Meets, MeetsOther, IsLeftFree, IsRightFree, Proves, CanProve, NamesProof, NamesAllProofs, FindsRow, AreCandidatesBelow};
 
 use crate::agreement::shares;
 use crate::choosing::{Candidate, chosen};
 use crate::grounds::has_ground;
 use crate::listing::{are_at_events, are_before};
-use crate::pool::{Kept, Partners, Replay, Stretch};
+use crate::pool::{Kept, Partners, Replay};
 use cs_ast::Place;
 use cs_compared::{
     agree, fits_left, fits_right, may_be_used, operands, operands_of_same, same_place,
@@ -50,7 +58,8 @@ pub struct Judge<'a> {
 /// Whether each guess of each run of the pool is real with the partners that the pool names for it. A pool of replays that keep
 /// what was pending is a certificate, and this checks it; a yes needs no trust in who chose the runs or the partners.
 pub fn are_real(alloc: Global, model: DataModel, pool: &[Replay]) -> Result<bool, AllocError>
-    ensures { IfOk result (λ yes. IsTrue yes → ShowsReal model pool.now) }
+    ensures real { IfOk result (λ yes. IsTrue yes → ShowsReal model pool.now) }
+    ensures convinced { IfOk result (λ yes. AreProved model pool.now → IsTrue yes) }
 {
     let shown = shown_events(pool);
     let shares = shares(alloc, pool, shown)?;
@@ -63,13 +72,14 @@ pub fn are_real(alloc: Global, model: DataModel, pool: &[Replay]) -> Result<bool
     Ok(judge.is_certificate())
 }
 
-/// For each run of the pool, and each of its guesses, partners that show it to be real, where the pool has some. Nothing is promised
-/// of them: `are_real` judges the pool once they are filled in.
+/// For each run of the pool, and each of its guesses, partners that prove it, where the pool has some.
 pub fn partners(
     alloc: Global,
     model: DataModel,
     pool: &[Replay],
-) -> Result<Vec<Vec<Partners>>, AllocError> {
+) -> Result<Vec<Vec<Partners>>, AllocError>
+    ensures found { IfOk result (λ found. FindAllProofs model pool.now found.items) }
+{
     let shown = shown_events(pool);
     let shares = shares(alloc, pool, shown)?;
     let judge = Judge {
@@ -79,25 +89,6 @@ pub fn partners(
         shares: shares.as_slice(),
     };
     judge.all_partners(alloc)
-}
-
-/// For each guess of the first run of the pool, partners among the runs that these numbers name for it: the first that shows it to be real
-/// alone, or else the first two that do together. Nothing is promised of them, as of `partners`.
-pub fn shown_partners(
-    alloc: Global,
-    model: DataModel,
-    pool: &[Replay],
-    among: &[Stretch],
-) -> Result<Vec<Partners>, AllocError> {
-    let shown = shown_events(pool);
-    let shares = shares(alloc, pool, shown)?;
-    let judge = Judge {
-        model,
-        pool,
-        shown,
-        shares: shares.as_slice(),
-    };
-    judge.partners_among(alloc, among)
 }
 
 // The events of the first run.
@@ -112,7 +103,8 @@ impl<'a> Judge<'a> {
     // Whether each guess of each run passes.
     fn is_certificate(&self) -> bool
         requires { IsSeated self.now }
-        ensures { IsTrue result → IsCertificate self.now.model self.now.pool.now }
+        ensures real { IsTrue result → IsCertificate self.now.model self.now.pool.now }
+        ensures convinced { AreProved self.now.model self.now.pool.now → IsTrue result }
     {
         for number in 0..self.pool.len() {
             if !self.passes(number) {
@@ -126,9 +118,12 @@ impl<'a> Judge<'a> {
     fn passes(&self, number: usize) -> bool
         requires seated { IsSeated self.now }
         requires there { number < length self.now.pool.now }
-        ensures { IsTrue result → (mine : replays.Replay)
+        ensures real { IsTrue result → (mine : replays.Replay)
             → slice_get self.now.pool.now number ≡ Some mine
             → IsReplayJudged self.now.model self.now.pool.now mine }
+        ensures convinced { (mine : replays.Replay)
+            → slice_get self.now.pool.now number ≡ Some mine
+            → NamesAllProofs self.now mine → IsTrue result }
     {
         let mine = &self.pool[number];
         self.each_passes(mine, self.known(mine, number))
@@ -137,8 +132,9 @@ impl<'a> Judge<'a> {
     fn each_passes(&self, mine: &Replay, known: usize) -> bool
         requires seated { IsSeated self.now }
         requires known { AgreeTo known mine.now.events.items self.now.shown.now }
-        ensures { IsTrue result
+        ensures real { IsTrue result
             → IsReplayJudged self.now.model self.now.pool.now mine.now }
+        ensures convinced { NamesAllProofs self.now mine.now → IsTrue result }
     {
         for place in 0..mine.run.guesses.len() {
             if !self.guess_passes(mine, known, place) {
@@ -151,9 +147,10 @@ impl<'a> Judge<'a> {
     fn guess_passes(&self, mine: &Replay, known: usize, place: usize) -> bool
         requires seated { IsSeated self.now }
         requires known { AgreeTo known mine.now.events.items self.now.shown.now }
-        ensures { IsTrue result → (guess : guesses.Guess)
+        ensures real { IsTrue result → (guess : guesses.Guess)
             → slice_get mine.now.run.guesses.items place ≡ Some guess
             → IsJudged self.now.model self.now.pool.now mine.now place guess }
+        ensures convinced { NamesProof self.now mine.now place → IsTrue result }
     {
         match spot_of(mine, place) {
             Some(spot) => self.spot_passes(mine, known, &spot),
@@ -164,8 +161,9 @@ impl<'a> Judge<'a> {
     fn spot_passes(&self, mine: &Replay, known: usize, spot: &Spot) -> bool
         requires seated { IsSeated self.now }
         requires ready { IsReady self.now.shown.now mine.now known spot.now }
-        ensures { IsTrue result
+        ensures real { IsTrue result
             → IsJudged self.now.model self.now.pool.now mine.now spot.now.place spot.now.guess }
+        ensures convinced { NamesProof self.now mine.now spot.now.place → IsTrue result }
     {
         match partners_at(mine, spot.place) {
             Some(partners) => self.is_shown(mine, known, spot, &partners),
@@ -178,18 +176,46 @@ impl<'a> Judge<'a> {
         requires ready { IsReady self.now.shown.now mine.now known spot.now }
         requires named { slice_get mine.now.partners.items spot.now.place
             ≡ Some partners.now }
-        ensures { IsTrue result
+        ensures real { IsTrue result
             → IsJudged self.now.model self.now.pool.now mine.now spot.now.place spot.now.guess }
+        ensures convinced { Proves self.now mine.now spot.now.place partners.now → IsTrue result }
     {
         match self.pairs_in(mine, known, spot, partners.others) {
             Some(pairs) => {
-                has_ground(self.model, &spot.operation, pairs)
-                    && may_be_used(self.model, &spot.operation, spot.guess.number)
-                    && self.left_is_free(mine, known, spot, partners.left)
-                    && self.right_is_free(mine, known, spot, partners.right)
+                self.has_reason(spot, pairs) && self.is_free(mine, known, spot, partners)
             }
             None => false,
         }
+    }
+
+    // Whether operands give a ground, and a run would use the number.
+    fn has_reason(&self, spot: &Spot, pairs: Others<(i128, i128)>) -> bool
+        ensures ground { IsTrue result
+            → IsTrue (grounds.has_ground self.now.model spot.now.operation pairs) }
+        ensures used { IsTrue result → IsTrue
+            (narrower.may_be_used self.now.model spot.now.operation spot.now.guess.number) }
+        ensures found { IsGround self.now.model spot.now.operation pairs → IsTrue
+            (narrower.may_be_used self.now.model spot.now.operation spot.now.guess.number)
+            → IsTrue result }
+    {
+        has_ground(self.model, &spot.operation, pairs)
+            && may_be_used(self.model, &spot.operation, spot.guess.number)
+    }
+
+    // Whether neither operand rules the number out.
+    fn is_free(&self, mine: &Replay, known: usize, spot: &Spot, partners: &Partners) -> bool
+        requires seated { IsSeated self.now }
+        requires ready { IsReady self.now.shown.now mine.now known spot.now }
+        ensures left { IsTrue result
+            → IsLeftFree self.now mine.now spot.now partners.now.left }
+        ensures right { IsTrue result
+            → IsRightFree self.now mine.now spot.now partners.now.right }
+        ensures found { IsGuessable spot.now.operation
+            → IsLeftFree self.now mine.now spot.now partners.now.left
+            → IsRightFree self.now mine.now spot.now partners.now.right → IsTrue result }
+    {
+        self.left_is_free(mine, known, spot, partners.left)
+            && self.right_is_free(mine, known, spot, partners.right)
     }
 
     // The operands of the partners, if they all come to the guessed operation.
@@ -202,8 +228,9 @@ impl<'a> Judge<'a> {
     ) -> Option<Others<(i128, i128)>>
         requires seated { IsSeated self.now }
         requires ready { IsReady self.now.shown.now mine.now known spot.now }
-        ensures { IfSome result (AllRelated (IsMet self.now.pool.now mine.now spot.now.guess
-            spot.now.passed spot.now.at spot.now.operation) others) }
+        ensures meet { IfSome result (AllRelated (Meets self.now mine.now spot.now) others) }
+        ensures found { (pairs : several.Others Pair) → IsGuessable spot.now.operation
+            → AllRelated (Meets self.now mine.now spot.now) others pairs → result ≡ Some pairs }
     {
         match others {
             Others::One(number) => Some(Others::One(self.pair_in(mine, known, spot, number)?)),
@@ -225,8 +252,9 @@ impl<'a> Judge<'a> {
     ) -> Option<(i128, i128)>
         requires seated { IsSeated self.now }
         requires ready { IsReady self.now.shown.now mine.now known spot.now }
-        ensures { IfSome result (IsMet self.now.pool.now mine.now spot.now.guess
-            spot.now.passed spot.now.at spot.now.operation number) }
+        ensures meets { IfSome result (Meets self.now mine.now spot.now number) }
+        ensures found { (pair : Pair) → IsGuessable spot.now.operation
+            → Meets self.now mine.now spot.now number pair → result ≡ Some pair }
     {
         let other = replay_at(self.pool, number)?;
         let both = known.min(self.known(other, number));
@@ -240,6 +268,8 @@ impl<'a> Judge<'a> {
     // Partners for each guess of each run.
     fn all_partners(&self, alloc: Global) -> Result<Vec<Vec<Partners>>, AllocError>
         requires { IsSeated self.now }
+        ensures { IfOk result (λ found.
+            FindAllProofs self.now.model self.now.pool.now found.items) }
     {
         let mut all = Vec::new(alloc);
         for number in 0..self.pool.len() {
@@ -252,50 +282,46 @@ impl<'a> Judge<'a> {
     fn partners_of(&self, alloc: Global, number: usize) -> Result<Vec<Partners>, AllocError>
         requires seated { IsSeated self.now }
         requires there { number < length self.now.pool.now }
+        ensures { (mine : replays.Replay) → slice_get self.now.pool.now number ≡ Some mine
+            → IfOk result (λ found. FindsRow self.now mine found.items) }
     {
         let mine = &self.pool[number];
-        let known = self.known(mine, number);
-        let all_runs = Stretch {
-            from: 0,
-            to: self.pool.len(),
-        };
-        let mut all = Vec::new(alloc);
-        for place in 0..mine.run.guesses.len() {
-            all.push(self.partners_for(alloc, mine, known, place, all_runs)?)?;
-        }
-        Ok(all)
+        self.row_of(alloc, mine, self.known(mine, number))
     }
 
-    // Partners for each guess of the first run, among the runs with these numbers.
-    fn partners_among(&self, alloc: Global, among: &[Stretch]) -> Result<Vec<Partners>, AllocError>
-        requires { IsSeated self.now }
+    fn row_of(
+        &self,
+        alloc: Global,
+        mine: &Replay,
+        known: usize,
+    ) -> Result<Vec<Partners>, AllocError>
+        requires seated { IsSeated self.now }
+        requires known { AgreeTo known mine.now.events.items self.now.shown.now }
+        ensures { IfOk result (λ found. FindsRow self.now mine.now found.items) }
     {
         let mut all = Vec::new(alloc);
-        let Some(mine) = replay_at(self.pool, 0) else {
-            return Ok(all);
-        };
-        let known = self.known(mine, 0);
-        for (place, runs) in among.iter().enumerate() {
-            all.push(self.partners_for(alloc, mine, known, place, *runs)?)?;
+        for place in 0..mine.run.guesses.len() {
+            all.push(self.partners_for(alloc, mine, known, place)?)?;
         }
         Ok(all)
     }
 
-    // Partners for one guess, among the runs with these numbers.
+    // Partners for one guess.
     fn partners_for(
         &self,
         alloc: Global,
         mine: &Replay,
         known: usize,
         place: usize,
-        among: Stretch,
     ) -> Result<Partners, AllocError>
         requires seated { IsSeated self.now }
         requires known { AgreeTo known mine.now.events.items self.now.shown.now }
+        ensures { IfOk result (λ found.
+            CanProve self.now mine.now place → Proves self.now mine.now place found) }
     {
         match spot_of(mine, place) {
             Some(spot) => {
-                let candidates = self.candidates(alloc, mine, known, &spot, among)?;
+                let candidates = self.candidates(alloc, mine, known, &spot)?;
                 Ok(chosen(self.model, &spot.operation, candidates.as_slice()))
             }
             None => Ok(Partners {
@@ -313,13 +339,14 @@ impl<'a> Judge<'a> {
         mine: &Replay,
         known: usize,
         spot: &Spot,
-        among: Stretch,
     ) -> Result<Vec<Candidate>, AllocError>
         requires seated { IsSeated self.now }
         requires ready { IsReady self.now.shown.now mine.now known spot.now }
+        ensures { IfOk result (λ found. AreCandidatesBelow self.now mine.now spot.now
+            (length self.now.pool.now) found.items) }
     {
         let mut found = Vec::new(alloc);
-        for number in among.from..among.to {
+        for number in 0..self.pool.len() {
             if let Some(pair) = self.pair_in(mine, known, spot, number) {
                 found.push(Candidate { number, pair })?;
             }
@@ -343,10 +370,9 @@ impl<'a> Judge<'a> {
     fn left_is_free(&self, mine: &Replay, known: usize, spot: &Spot, other: Option<usize>) -> bool
         requires seated { IsSeated self.now }
         requires ready { IsReady self.now.shown.now mine.now known spot.now }
-        ensures { IsTrue result
-            → IsTrue (narrower.fits_left spot.now.operation spot.now.guess.number)
-            ⊎ IsLeftMet self.now.pool.now mine.now spot.now.guess spot.now.passed spot.now.at
-            spot.now.operation }
+        ensures real { IsTrue result → IsLeftFree self.now mine.now spot.now other }
+        ensures found { IsGuessable spot.now.operation
+            → IsLeftFree self.now mine.now spot.now other → IsTrue result }
     {
         fits_left(&spot.operation, spot.guess.number) || self.left_differs(mine, known, spot, other)
     }
@@ -354,8 +380,10 @@ impl<'a> Judge<'a> {
     fn left_differs(&self, mine: &Replay, known: usize, spot: &Spot, other: Option<usize>) -> bool
         requires seated { IsSeated self.now }
         requires ready { IsReady self.now.shown.now mine.now known spot.now }
-        ensures { IsTrue result → IsLeftMet self.now.pool.now mine.now spot.now.guess
-            spot.now.passed spot.now.at spot.now.operation }
+        ensures real { IsTrue result
+            → MeetsOther self.now mine.now spot.now (λ pair. pair.0) other }
+        ensures found { IsGuessable spot.now.operation
+            → MeetsOther self.now mine.now spot.now (λ pair. pair.0) other → IsTrue result }
     {
         let Some(number) = other else {
             return false;
@@ -370,10 +398,9 @@ impl<'a> Judge<'a> {
     fn right_is_free(&self, mine: &Replay, known: usize, spot: &Spot, other: Option<usize>) -> bool
         requires seated { IsSeated self.now }
         requires ready { IsReady self.now.shown.now mine.now known spot.now }
-        ensures { IsTrue result
-            → IsTrue (narrower.fits_right spot.now.operation spot.now.guess.number)
-            ⊎ IsRightMet self.now.pool.now mine.now spot.now.guess spot.now.passed spot.now.at
-            spot.now.operation }
+        ensures real { IsTrue result → IsRightFree self.now mine.now spot.now other }
+        ensures found { IsGuessable spot.now.operation
+            → IsRightFree self.now mine.now spot.now other → IsTrue result }
     {
         fits_right(&spot.operation, spot.guess.number)
             || self.right_differs(mine, known, spot, other)
@@ -382,8 +409,10 @@ impl<'a> Judge<'a> {
     fn right_differs(&self, mine: &Replay, known: usize, spot: &Spot, other: Option<usize>) -> bool
         requires seated { IsSeated self.now }
         requires ready { IsReady self.now.shown.now mine.now known spot.now }
-        ensures { IsTrue result → IsRightMet self.now.pool.now mine.now spot.now.guess
-            spot.now.passed spot.now.at spot.now.operation }
+        ensures real { IsTrue result
+            → MeetsOther self.now mine.now spot.now (λ pair. pair.1) other }
+        ensures found { IsGuessable spot.now.operation
+            → MeetsOther self.now mine.now spot.now (λ pair. pair.1) other → IsTrue result }
     {
         let Some(number) = other else {
             return false;
@@ -396,7 +425,7 @@ impl<'a> Judge<'a> {
 }
 
 fn is_other(one: i128, other: i128) -> bool
-    ensures { IsTrue result → one ≢ other }
+    ensures { IsTrue result ↔ (one ≢ other) }
 {
     one != other
 }
@@ -405,7 +434,7 @@ fn is_other(one: i128, other: i128) -> bool
 fn comes_too(mine: &Replay, other: &Replay, known: usize, spot: &Spot) -> bool
     requires known { AgreeTo known mine.now.events.items other.now.events.items }
     requires spot { IsSpotAt mine.now spot.now.place spot.now }
-    ensures { IsTrue result → ComesAlong mine.now spot.now other.now }
+    ensures { IsTrue result ↔ ComesAlong mine.now spot.now other.now }
 {
     are_at_events(
         spot.place,
@@ -422,9 +451,9 @@ fn comes_too(mine: &Replay, other: &Replay, known: usize, spot: &Spot) -> bool
 
 // The operands of another run at the guessed operation.
 fn pair_at(other: &Replay, spot: &Spot) -> Option<(i128, i128)>
-    ensures { IfSome result (λ pair. slice_get other.now.kept.items spot.now.passed
-        ≡ Some (kept.Operates spot.now.at
-        (operations.with_operands spot.now.operation pair))) }
+    ensures kept { IfSome result (KeepsWith other.now spot.now) }
+    ensures found { (pair : Pair) → IsGuessable spot.now.operation
+        → KeepsWith other.now spot.now pair → result ≡ Some pair }
 {
     let (at, operation) = operation_at(other, spot.passed)?;
     if same_place(at, spot.at) {
@@ -436,7 +465,11 @@ fn pair_at(other: &Replay, spot: &Spot) -> Option<(i128, i128)>
 
 // What is known of the guess at a place.
 fn spot_of(mine: &Replay, place: usize) -> Option<Spot>
-    ensures { IfSome result (IsSpotAt mine.now place) }
+    ensures notes { IfSome result (IsSpotAt mine.now place) }
+    ensures found { (pool : List Bare) (guess : guesses.Guess) (passed : ℕ) (at : places.Place)
+        (operation : operations.Operation)
+        → IsGuessedAt pool (bare mine.now) place guess passed at operation
+        → IsTrue (is_some result) }
 {
     let guess = guess_at(mine, place)?;
     let passed = events_before(guess)?;
@@ -458,7 +491,8 @@ fn spot_of(mine: &Replay, place: usize) -> Option<Spot>
 
 // How many events are passed before a guess.
 fn events_before(guess: Guess) -> Option<usize>
-    ensures { IfSome result (λ passed. guess.event ≡ suc passed) }
+    ensures number { IfSome result (λ passed. guess.event ≡ suc passed) }
+    ensures found { (passed : ℕ) → guess.event ≡ suc passed → result ≡ Some passed }
 {
     let passed = guess.event.checked_sub(1)?;
     Some(passed as usize)
@@ -466,8 +500,11 @@ fn events_before(guess: Guess) -> Option<usize>
 
 // The operation that was kept after so many events.
 fn operation_at(replay: &Replay, passed: usize) -> Option<(Place, Operation)>
-    ensures { IfSome result (λ found. slice_get replay.now.kept.items passed
+    ensures kept { IfSome result (λ found. slice_get replay.now.kept.items passed
         ≡ Some (kept.Operates found.0 found.1)) }
+    ensures found { (at : places.Place) (operation : operations.Operation)
+        → slice_get replay.now.kept.items passed ≡ Some (kept.Operates at operation)
+        → result ≡ Some (at, operation) }
 {
     match replay.kept.get(passed) {
         Some(kept) => match *kept {
@@ -479,8 +516,7 @@ fn operation_at(replay: &Replay, passed: usize) -> Option<(Place, Operation)>
 }
 
 fn guess_at(replay: &Replay, place: usize) -> Option<Guess>
-    ensures { IfSome result (λ guess.
-        slice_get replay.now.run.guesses.items place ≡ Some guess) }
+    ensures { result ≡ slice_get replay.now.run.guesses.items place }
 {
     match replay.run.guesses.get(place) {
         Some(guess) => Some(*guess),
@@ -489,8 +525,7 @@ fn guess_at(replay: &Replay, place: usize) -> Option<Guess>
 }
 
 fn partners_at(replay: &Replay, place: usize) -> Option<Partners>
-    ensures { IfSome result (λ partners.
-        slice_get replay.now.partners.items place ≡ Some partners) }
+    ensures { result ≡ slice_get replay.now.partners.items place }
 {
     match replay.partners.get(place) {
         Some(partners) => Some(*partners),
@@ -508,7 +543,8 @@ fn share_at(shares: &[usize], number: usize) -> Option<usize>
 }
 
 fn replay_at(pool: &[Replay], number: usize) -> Option<&Replay>
-    ensures { IfSome result (λ replay. slice_get pool.now number ≡ Some replay.now) }
+    ensures there { IfSome result (λ replay. slice_get pool.now number ≡ Some replay.now) }
+    ensures found { number < length pool.now → IsTrue (is_some result) }
 {
     pool.get(number)
 }

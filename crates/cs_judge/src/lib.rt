@@ -11,5 +11,5 @@ pub mod pool;
 
 pub use cs_compared::{fits_left, fits_right, may_be_used};
 pub use grounds::has_ground;
-pub use judging::{are_real, partners, shown_partners};
-pub use pool::{Kept, Partners, Replay, Stretch};
+pub use judging::{are_real, partners};
+pub use pool::{Kept, Partners, Replay};

@@ -1,12 +1,12 @@
 //! Guesses at the same events.
-ghost use Rattle.std.specs.Prelude.{◌≡◌, ◌<◌, ◌≤◌, IsTrue, length};
+ghost use Rattle.std.specs.Prelude.{◌≡◌, ◌↔◌, ◌<◌, ◌≤◌, IsTrue, length};
 ghost use Rattle.cs_judge.specs.Agreement.{AreBefore, AreAtEvents};
 
 use cs_events::Guess;
 
 /// Whether just the guesses before a place stand before an event.
 pub fn are_before(place: usize, event: u64, guesses: &[Guess]) -> bool
-    ensures { IsTrue result → AreBefore place event guesses.now }
+    ensures { IsTrue result ↔ AreBefore place event guesses.now }
 {
     for (index, guess) in guesses.iter().enumerate() {
         if (guess.event < event) != (index < place) {
@@ -18,14 +18,14 @@ pub fn are_before(place: usize, event: u64, guesses: &[Guess]) -> bool
 
 /// Whether other guesses stand at the events of the first of mine.
 pub fn are_at_events(place: usize, mine: &[Guess], other: &[Guess]) -> bool
-    ensures { IsTrue result → AreAtEvents place mine.now other.now }
+    ensures { IsTrue result ↔ AreAtEvents place mine.now other.now }
 {
     other.len() == place && place <= mine.len() && same_events(mine, other)
 }
 
 fn same_events(mine: &[Guess], other: &[Guess]) -> bool
     requires { length other.now ≤ length mine.now }
-    ensures { IsTrue result → AreAtEvents (length other.now) mine.now other.now }
+    ensures { IsTrue result ↔ AreAtEvents (length other.now) mine.now other.now }
 {
     for index in 0..other.len() {
         if other[index].event != mine[index].event {

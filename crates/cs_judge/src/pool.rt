@@ -33,10 +33,3 @@ pub struct Replay {
     /// For each of the run's guesses, in order.
     pub partners: Vec<Partners>,
 }
-
-/// Runs of a pool that stand side by side: the number of the first, and of the one after the last.
-#[derive(Clone, Copy, PartialEq, Eq)]
-pub struct Stretch {
-    pub from: usize,
-    pub to: usize,
-}
