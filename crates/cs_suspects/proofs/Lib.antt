@@ -1,1 +1,3 @@
-pub mod ListedCuts
+mod ListedCuts
+mod Solutions
+mod InputNumbers
