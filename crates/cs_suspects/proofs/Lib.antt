@@ -1,3 +1,6 @@
-mod ListedCuts
-mod Solutions
-mod InputNumbers
+pub mod ListedCuts
+pub mod Solutions
+pub mod InputNumbers
+pub mod GuessNumbers
+pub mod ChosenEnds
+pub mod Suspecting

@@ -1,8 +1,11 @@
-use Rattle.std.proofs.Common.{rules, ◌≡◌, ◌↔◌, Some, map, slice_get, IsTrue, IfOk, IfSome, ℕ, ◌+◌, ◌-◌, ◌*◌, ◌<◌, ◌≤◌, length, ◌/◌, ◌%◌, Bool, true, false, nat_eq, nat_lt, List, [], ◌∷◌, ◌++◌, slice_index_or, slice_set, bit_and, bit_or, Fits, w8, w32, w64, Bor, MutBor}
-use Rattle.cs_findings.specs.GoodFindings.{IsFinding}
-use Rattle.cs_suspects.specs.Chosen.{numbers_of, AreOfFindings, HaveAllFindings, AreAllChosen, counted, IsWanted}
+use Rattle.std.proofs.Common.{◌≡◌, ◌+◌}
+use Rattle.std.specs.Prelude.{Some, slice_get}
+use Rattle.cs_suspects.specs.Chosen.{counted}
+use Rattle.cs_suspects.proofs.ChosenEnds.{wanted_once_more}
 use Rattle.cs_suspects.proofs.choosing.is_wanted.Goals as goal
 
--- src/choosing.rt:84:1
 pub returns : goal.returns
-returns c = ?
+returns c =
+    let counts = c.args.counts.now.items in
+    let at : slice_get (counted counts) c.in-Some.place ≡ Some c.args.outcome = rw c.deref.ensures.value at c.in-Some.ensures in
+    wanted_once_more counts c.in-Some.place (c.index.result.now.chosen + 1) c.args.outcome at

@@ -1,7 +1,6 @@
-use Rattle.std.proofs.Common.{◌≡◌, ◌↔◌, Some, map, slice_get, IsTrue, IfOk, IfSome, ℕ, ◌+◌, ◌-◌, ◌*◌, ◌<◌, ◌≤◌, length}
-use Rattle.cs_findings.specs.GoodFindings.{IsFinding}
-use Rattle.cs_suspects.specs.Chosen.{numbers_of, AreOfFindings, HaveAllFindings, AreAllChosen, counted, IsWanted}
+use Rattle.cs_suspects.specs.Chosen.{numbers_of}
+use Rattle.cs_suspects.proofs.ChosenEnds.{RankedSoFar}
 use Rattle.cs_suspects.proofs.choosing.ranked.Given as goal
 
 abbrev pub invariant-loop-number : goal.invariant-loop-number
-invariant-loop-number l = ?
+invariant-loop-number l = RankedSoFar l.ends l.number (numbers_of l.ranks.items)
