@@ -1,7 +1,7 @@
 -- Ends that are chosen: for the contracts of `chosen` and of what it calls.
-use Rattle.std.proofs.Common.{◌≡◌, ◌<◌, ◌≤◌, ◌+◌, ℕ, zero, suc, Bool, true, false, true≢false, List, [], ◌∷◌, ◌++◌, map, length, take, get_or, set}
+use Rattle.std.proofs.Common.{◌≡◌, ◌<◌, ◌≤◌, ◌+◌, ℕ, zero, suc, true, false, true≢false, List, [], ◌∷◌, ◌++◌, length, take, get_or, set}
 use Rattle.std.proofs.Common.{refl, sym, ap, ◌∙◌, subst, inl, inr, below_more, arith, IsPermutation}
-use Rattle.std.specs.Prelude.{◌⊎◌, Option, None, Some, slice_get, Contains, All}
+use Rattle.std.specs.Prelude.{Some, slice_get, Contains}
 use Rattle.std.proofs.lemmas.List.{map-append, take_more, length-map, get_or-map}
 use Rattle.std.proofs.lemmas.List.Elements.{All-contains, All-contains_itself, Contains-append_left, Contains-push, Contains-push_cases}
 use Rattle.std.proofs.lemmas.List.Sorted.{All-permutation, IsPermutation-map, IsPermutation-sym}
@@ -46,6 +46,10 @@ ranked_none ends = record {
   each = λ number among. absurd (nothing_in number among);
   all = λ number below end at finding. absurd (omega arith);
 }
+
+-- one more rank
+pub numbers_push : (ranks after : List Rank) (rank : Rank) → after ≡ ranks ++ rank ∷ [] → numbers_of after ≡ numbers_of ranks ++ rank.number ∷ []
+numbers_push ranks after rank more = ap numbers_of more ∙ map-append (λ (it : Rank). it.number) ranks (rank ∷ [])
 
 -- one more end that is a finding, or isn't
 pub ranked_more : (ends : List End) (count : ℕ) (numbers : List ℕ) (end : End) → slice_get ends count ≡ Some end → IsFinding end.outcome

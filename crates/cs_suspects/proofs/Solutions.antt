@@ -1,5 +1,5 @@
 -- Constraints under which each symbol has a number have just one solution.
-use Rattle.std.proofs.Common.{◌≡◌, ◌<◌, ◌≤◌, ◌+◌, ℕ, zero, suc, ℤ, pos, negsuc, neg_ℤ, ◌≤ℤ◌, Bool, true, false, true≢false, refl, sym, ap, ◌∙◌, subst}
+use Rattle.std.proofs.Common.{◌≡◌, ◌<◌, ◌≤◌, ℕ, zero, suc, ℤ, pos, negsuc, neg_ℤ, Bool, true, false, true≢false, refl, sym, ap, ◌∙◌, subst}
 use Rattle.std.proofs.Common.{inl, inr, below_more, arith}
 use Rattle.std.specs.Prelude.{◌⊎◌, ◌||◌, List, Option, None, Some, MatchOption, unwrap_or, unsigned_abs}
 use Rattle.std.proofs.lemmas.Int.{ints}

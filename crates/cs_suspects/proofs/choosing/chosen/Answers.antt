@@ -1,14 +1,12 @@
-use Rattle.std.proofs.Common.{◌≡◌, ◌∙◌, ◌+◌, ◌<◌, ◌≤◌, List, ℕ, true, false, length, take, get_or, sym, ap, subst, arith}
-use Rattle.std.specs.Prelude.{Some, None, slice_get, ◌++◌, ◌∷◌, []}
+use Rattle.std.proofs.Common.{◌≡◌, ◌∙◌, ◌+◌, ◌≤◌, List, ℕ, true, false, length, take, get_or, sym, ap, arith}
+use Rattle.std.specs.Prelude.{Some, slice_get, ◌++◌, ◌∷◌, []}
 use Rattle.std.proofs.lemmas.List.{take_all}
 use Rattle.std.proofs.lemmas.Option.{slice_get-get_or, slice_get_within}
 use Rattle.std.proofs.lemmas.Bool.Decides.{nat_tests}
 use Rattle.cs_events.specs.declared.outcome.Outcome.{Outcome}
 use Rattle.cs_findings.specs.GoodFindings.{IsFinding}
-use Rattle.cs_suspects.specs.declared.choosing.Rank.{Rank}
-use Rattle.cs_suspects.specs.declared.choosing.Count.{Count}
 use Rattle.cs_suspects.specs.Chosen.{numbers_of, counted, HaveAllFindings, AreOfFindings, IsWanted}
-use Rattle.cs_suspects.proofs.ChosenEnds.{ChosenSoFar, no_rank, chosen_none, chosen_next, refused_next, next_number, ranked_end, ranked_finding, all_chosen}
+use Rattle.cs_suspects.proofs.ChosenEnds.{no_rank, chosen_none, chosen_next, refused_next, next_number, ranked_end, ranked_finding, all_chosen}
 use Rattle.cs_suspects.proofs.choosing.chosen.Goals.{then-branch+in_ok-push, else-branch}
 use Rattle.cs_suspects.proofs.choosing.chosen.Goals as goal
 

@@ -1,11 +1,10 @@
-use Rattle.std.proofs.Common.{◌≡◌, ◌∙◌, ◌+◌, List, ℕ, length, get_or, true≢false, sym, ap, subst, arith}
+use Rattle.std.proofs.Common.{◌≡◌, ◌∙◌, ◌+◌, List, true≢false, sym, ap, subst, arith}
 use Rattle.std.specs.Prelude.{Some, slice_get, ◌++◌, ◌∷◌, []}
-use Rattle.std.proofs.lemmas.List.{map-append}
 use Rattle.std.proofs.lemmas.Option.{slice_get-get_or}
 use Rattle.cs_findings.specs.GoodFindings.{IsFinding}
 use Rattle.cs_suspects.specs.declared.choosing.Rank.{Rank}
 use Rattle.cs_suspects.specs.Chosen.{numbers_of}
-use Rattle.cs_suspects.proofs.ChosenEnds.{RankedSoFar, ranked_none, ranked_more, ranked_past, all_ranked, each_sorted, all_sorted}
+use Rattle.cs_suspects.proofs.ChosenEnds.{RankedSoFar, numbers_push, ranked_none, ranked_more, ranked_past, all_ranked, each_sorted, all_sorted}
 use Rattle.cs_suspects.proofs.choosing.ranked.Goals.{then-is_finding+in_ok-guesses+in_ok-push, else-is_finding}
 use Rattle.cs_suspects.proofs.choosing.ranked.Goals as goal
 
@@ -23,7 +22,7 @@ loop-number-preserved c =
     elim c.if-is_finding.branch [
       | then-is_finding+in_ok-guesses+in_ok-push w ↦
           let ranks = c.loop-number.ranks.items in
-          let pushed = ap (λ (all : List Rank). numbers_of all) w.in_ok-push.ensures.items ∙ map-append (λ (rank : Rank). rank.number) ranks _ in
+          let pushed = numbers_push ranks w.push.new.self.items _ w.in_ok-push.ensures.items in
           let same : numbers_of c.if-is_finding.ranks.items ≡ numbers_of ranks ++ count ∷ [] = rw w.ranks-is pushed in
           subst (RankedSoFar ends (count + 1)) (sym same)
           (ranked_more ends count (numbers_of ranks) end at (c.is_finding.ensures.0 w.if-is_finding.true) c.loop-number.invariant)

@@ -26,6 +26,7 @@ loop-place-preserved c =
           w.set_input.new.inputs once there (λ v solution. same ∙ w.number_of.ensures v solution) w.in_ok-set_input.ensures c.loop-place.invariant)
       | in_default w ↦
           let none : slice_get syms c.loop-place.place ≡ None = sym c.name.ensures ∙ ap option_copied w.in_default.is in
-          let within : c.loop-place.place < length syms = omega (arith, length-map c.args.tables.now.syms.names.entries (λ (entry : SymName × Unit {0}). entry.0)) in
+          let within : c.loop-place.place < length syms =
+          omega (arith, length-map c.args.tables.now.syms.names.entries (λ (entry : SymName × Unit {0}). entry.0)) in
           absurd (not_there syms c.loop-place.place none within)
     ]

@@ -1,5 +1,4 @@
-use Rattle.std.proofs.Common.{◌≡◌, ℕ, [], ◌∷◌, ◌∙◌, sym}
-use Rattle.cs_state.specs.declared.asked.Asked.{Asked}
+use Rattle.std.proofs.Common.{◌∙◌}
 use Rattle.cs_state.specs.Naming.{naming}
 use Rattle.cs_suspects.proofs.GuessNumbers.{none_made, one_made, all_made}
 use Rattle.cs_suspects.proofs.suspected.guesses_of.Goals as goal

@@ -1,4 +1,4 @@
-use Rattle.std.proofs.Common.{◌≡◌, ◌≤◌, ◌+◌, List, ℕ, [], ◌∷◌, ◌++◌, length, take, get_or, sym, ap, ◌∙◌, subst, arith}
+use Rattle.std.proofs.Common.{◌≡◌, ◌≤◌, ◌+◌, ℕ, [], ◌∷◌, ◌++◌, length, take, get_or, sym, ap, ◌∙◌, arith}
 use Rattle.std.specs.Prelude.{Some, slice_get}
 use Rattle.std.proofs.lemmas.List.{take_more, take_all}
 use Rattle.std.proofs.lemmas.Option.{slice_get-get_or, slice_get_within}
@@ -6,7 +6,7 @@ use Rattle.std.proofs.lemmas.List.Elements.{Contains-get_or}
 use Rattle.std.proofs.lemmas.Bool.Decides.{nat_tests}
 use Rattle.cs_state.specs.Naming.{naming}
 use Rattle.cs_suspects.specs.Chosen.{AreOfFindings, AreAllChosen}
-use Rattle.cs_suspects.proofs.Suspecting.{SuspectedSoFar, suspected_next, all_suspected}
+use Rattle.cs_suspects.proofs.Suspecting.{suspected_next, all_suspected}
 use Rattle.cs_suspects.proofs.suspected.suspects.Goals.{in-Some+in_ok-suspect+in_ok-push, in_default}
 use Rattle.cs_suspects.proofs.suspected.suspects.Goals as goal
 
