@@ -1,17 +1,18 @@
 -- Cuts that are listed in order: for the contract of `listed`.
-use Rattle.std.proofs.Common.{◌≡◌, ◌≢◌, inl, inr, ℕ, List, [], ◌∷◌, ◌++◌, Option, None, Some, map, get_or, refl, sym, ap, ◌∙◌, subst, arith}
-use Rattle.std.specs.Prelude.{All, Contains, IfSome}
-use Rattle.std.proofs.lemmas.List.{map-append}
-use Rattle.std.proofs.lemmas.List.Elements.{All-nil, All-cons, All-map, All-contains, Contains-append_cases}
+use Rattle.std.proofs.Common.{◌≡◌, ◌≢◌, inl, inr, ℕ, ◌+◌, ◌<◌, ◌≤◌, List, [], ◌∷◌, ◌++◌, length, take, get_or, map}
+use Rattle.std.proofs.Common.{Option, None, Some, refl, sym, ap, ◌∙◌, subst, arith}
+use Rattle.std.specs.Prelude.{All, Contains, MatchOption}
+use Rattle.std.proofs.lemmas.List.{map-append, take_more, take_all}
+use Rattle.std.proofs.lemmas.List.Elements.{All-nil, All-cons, All-push, All-map, All-contains, Contains-append_cases}
 use Rattle.std.specs.List.{AllByRecursion}
 use Rattle.std.specs.List.Sorted.{IsStrictlySortedBy}
 use Rattle.std.specs.Map.{keys_of}
 use Rattle.std.specs.declared.cmp.Ordering.TheVariants.{Less}
 use Rattle.cs_ast.specs.declared.place.Place.{Place}
 use Rattle.cs_results.specs.declared.result.Cut.{Cut}
-use Rattle.cs_results.specs.declared.result.Cut.TheVariants.{Nodes}
+use Rattle.cs_results.specs.declared.result.Cut.TheVariants.{Nodes, Splits}
 use Rattle.cs_findings.specs.GoodEntries.{cut_key, cut_order, AreCutsListed}
-use Rattle.cs_suspects.specs.Spots.{Spot, place_of, spot_order, cut_of_access, cut_of_nodes, HasNodesOf}
+use Rattle.cs_suspects.specs.Spots.{Spot, place_of, spot_order, cut_of_access, cut_of_nodes, IsNodes, IsSplits, HasNodesOf}
 
 -- where an access with a number of offsets is listed
 abbrev entry_key : Spot × ℕ → ℕ × Place
@@ -58,7 +59,7 @@ are_listed nodes before after entries first all sorted =
     subst (IsStrictlySortedBy cut_order) (sym (keys ∙ ap (λ cuts. map cut_key cuts ++ map entry_key entries) first)) (keys_sorted nodes entries sorted)
 
 -- a cut that is listed for want of nodes is the one that was found
-is_found : (nodes : Option ℕ) (cuts : List Cut) → IfSome nodes (λ found. Contains cuts (Nodes found)) → (listed : ℕ)
+is_found : (nodes : Option ℕ) (cuts : List Cut) → MatchOption nodes (All IsSplits cuts) (λ found. Contains cuts (Nodes found)) → (listed : ℕ)
     → Contains (cut_of_nodes nodes) (Nodes listed) → Contains cuts (Nodes listed)
 is_found None cuts found listed (place, within, at) = absurd (omega (arith, within))
 is_found (Some nodes) cuts found listed among =
@@ -67,7 +68,7 @@ is_found (Some nodes) cuts found listed among =
     subst (Contains cuts) (sym same) found
 
 pub has_nodes_of : (nodes : Option ℕ) (cuts before after : List Cut) (entries : List (Spot × ℕ)) → before ≡ cut_of_nodes nodes
-    → after ≡ before ++ map cut_of_access entries → IfSome nodes (λ found. Contains cuts (Nodes found)) → HasNodesOf cuts after
+    → after ≡ before ++ map cut_of_access entries → MatchOption nodes (All IsSplits cuts) (λ found. Contains cuts (Nodes found)) → HasNodesOf cuts after
 has_nodes_of nodes cuts before after entries first all found listed among =
     elim (Contains-append_cases before (map cut_of_access entries) (Nodes listed) (subst (λ (l : List Cut). Contains l (Nodes listed)) all among)) [
       | inl early ↦ is_found nodes cuts found listed (subst (λ (l : List Cut). Contains l (Nodes listed)) first early)
@@ -79,3 +80,35 @@ has_nodes_of nodes cuts before after entries first all found listed among =
 
     accesses : All (λ (cut : Cut). cut ≢ Nodes listed) (map cut_of_access entries)
     accesses = All-map (λ (cut : Cut). cut ≢ Nodes listed) cut_of_access entries (λ place default inside. no_access (get_or entries place default))
+
+-- ---- where nothing is listed
+
+-- a cut is of one of the two kinds
+neither : (cut : Cut) → IsSplits cut → IsNodes cut → ⊥
+neither (Nodes nodes) splits nodes_too = splits
+neither (Splits place count) splits nodes = nodes
+
+no_cuts : (cuts : List Cut) → All IsSplits cuts → All IsNodes cuts → cuts ≡ []
+no_cuts [] splits nodes = refl
+no_cuts (cut ∷ cuts) splits nodes = absurd (neither cut (splits 0 cut (omega arith)) (nodes 0 cut (omega arith)))
+
+pub nothing_cut : (nodes : Option ℕ) (cuts before after : List Cut) (entries : List (Spot × ℕ)) → before ≡ cut_of_nodes nodes
+    → after ≡ before ++ map cut_of_access entries → MatchOption nodes (All IsSplits cuts) (λ found. Contains cuts (Nodes found))
+    → (entries ≡ [] → All IsNodes cuts) → after ≡ [] → cuts ≡ []
+nothing_cut None cuts before after [] first all found none nothing = no_cuts cuts found (none refl)
+nothing_cut None cuts before after (entry ∷ entries) first all found none nothing =
+    let listed : cut_of_access entry ∷ map cut_of_access entries ≡ [] =
+    sym (all ∙ ap (λ (l : List Cut). l ++ map cut_of_access (entry ∷ entries)) first) ∙ nothing in
+    absurd (cc)
+nothing_cut (Some nodes) cuts before after entries first all found none nothing =
+    let listed : Nodes nodes ∷ map cut_of_access entries ≡ [] = sym (all ∙ ap (λ (l : List Cut). l ++ map cut_of_access entries) first) ∙ nothing in
+    absurd (cc)
+
+-- one more cut is of the kind
+pub kind_more : (P : Cut → Type 0) (cuts : List Cut) (k : ℕ) (default : Cut) → k < length cuts → P (get_or cuts k default) → All P (take k cuts)
+    → All P (take (k + 1) cuts)
+kind_more P cuts k default within is earlier =
+    subst (All P) (sym (take_more cuts k default within)) (All-push P (take k cuts) (get_or cuts k default) earlier is)
+
+pub kind_all : (P : Cut → Type 0) (cuts : List Cut) (k : ℕ) → length cuts ≤ k → All P (take k cuts) → All P cuts
+kind_all P cuts k past all = subst (All P) (take_all k cuts past) all

@@ -1,2 +1,4 @@
 pub mod Spots
+pub mod Chosen
 pub mod Suspected
+pub mod Solved

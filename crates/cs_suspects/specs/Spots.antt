@@ -27,6 +27,15 @@ abbrev pub cut_of_nodes : Option ℕ → List Cut
 cut_of_nodes None = []
 cut_of_nodes (Some nodes) = Nodes nodes ∷ []
 
+-- a cut for want of nodes, or of an access
+abbrev pub IsNodes : Cut → Type 0
+IsNodes (Nodes nodes) = Unit {0}
+IsNodes (Splits place count) = ⊥
+
+abbrev pub IsSplits : Cut → Type 0
+IsSplits (Nodes nodes) = ⊥
+IsSplits (Splits place count) = Unit {0}
+
 -- a cut for want of nodes that is listed is one of the exploration's
 abbrev pub HasNodesOf : List Cut → List Cut → Type 0
 HasNodesOf cuts listed = (nodes : ℕ) → Contains listed (Nodes nodes) → Contains cuts (Nodes nodes)

@@ -1,5 +1,5 @@
 -- The suspect of an end: the run under the numbers of least absolute value that the end's symbols may have, with what was noted of its guesses.
-use Rattle.std.specs.Prelude.{◌≡◌, ℕ, ℤ, pos, List, map, Option, None, Some, option_map, slice_get, Contains}
+use Rattle.std.specs.Prelude.{◌≡◌, ℕ, pos, List, map, Option, None, Some, option_map, slice_get, Contains}
 use Rattle.std.specs.FinMap as finite
 use Rattle.cs_inputs.specs.declared.path.Path.{Path}
 use Rattle.cs_inputs.specs.Inputs.{number_at}

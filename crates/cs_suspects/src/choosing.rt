@@ -1,4 +1,7 @@
 //! Which ends of an exploration are suspected.
+ghost use Rattle.std.specs.Prelude.{◌≡◌, ◌↔◌, Some, map, slice_get, IsTrue, IfOk, IfSome};
+ghost use Rattle.cs_findings.specs.GoodFindings.{IsFinding};
+ghost use Rattle.cs_suspects.specs.Chosen.{numbers_of, AreOfFindings, HaveAllFindings, AreAllChosen, counted, IsWanted};
 
 use cs_events::Outcome;
 use cs_explored::End;
@@ -24,7 +27,10 @@ struct Count {
 
 /// The numbers of the ends that are suspected: of each fault and each budget that was met the first few, those without guesses first, and
 /// of these those with fewest events.
-pub fn chosen(alloc: Global, ends: &[End]) -> Result<Vec<usize>, AllocError> {
+pub fn chosen(alloc: Global, ends: &[End]) -> Result<Vec<usize>, AllocError>
+    ensures each { IfOk result (λ numbers. AreOfFindings ends.now numbers.items) }
+    ensures all { IfOk result (λ numbers. AreAllChosen ends.now numbers.items) }
+{
     let mut counts = Vec::new(alloc);
     let mut numbers = Vec::new(alloc);
     let ranks = ranked(alloc, ends)?;
@@ -40,10 +46,13 @@ pub fn chosen(alloc: Global, ends: &[End]) -> Result<Vec<usize>, AllocError> {
 }
 
 // The faults and met budgets in order.
-fn ranked(alloc: Global, ends: &[End]) -> Result<Vec<Rank>, AllocError> {
+fn ranked(alloc: Global, ends: &[End]) -> Result<Vec<Rank>, AllocError>
+    ensures each { IfOk result (λ ranks. AreOfFindings ends.now (numbers_of ranks.items)) }
+    ensures all { IfOk result (λ ranks. HaveAllFindings ends.now (numbers_of ranks.items)) }
+{
     let mut ranks = Vec::new(alloc);
     for (number, end) in ends.iter().enumerate() {
-        if !is_done(end.outcome) {
+        if is_finding(end.outcome) {
             let guesses = has_guesses(end)?;
             ranks.push(Rank {
                 guesses,
@@ -56,11 +65,13 @@ fn ranked(alloc: Global, ends: &[End]) -> Result<Vec<Rank>, AllocError> {
     Ok(ranks)
 }
 
-fn is_done(outcome: Outcome) -> bool {
+fn is_finding(outcome: Outcome) -> bool
+    ensures { IsTrue result ↔ IsFinding outcome }
+{
     match outcome {
-        Outcome::Done(_) => true,
-        Outcome::Fault(_, _) => false,
-        Outcome::Over(_, _) => false,
+        Outcome::Done(_) => false,
+        Outcome::Fault(_, _) => true,
+        Outcome::Over(_, _) => true,
     }
 }
 
@@ -70,16 +81,33 @@ fn has_guesses(end: &End) -> Result<bool, AllocError> {
 }
 
 // Whether one more end of an outcome is wanted, which counts it.
-fn is_wanted(counts: &mut Vec<Count>, outcome: Outcome) -> Result<bool, AllocError> {
-    for count in counts.iter_mut() {
+fn is_wanted(counts: &mut Vec<Count>, outcome: Outcome) -> Result<bool, AllocError>
+    ensures { IfOk result (λ wanted.
+        IsWanted outcome (counted counts.old.items) wanted (counted counts.new.items)) }
+{
+    let Some(place) = place_of(counts, outcome) else {
+        counts.push(Count { outcome, chosen: 1 })?;
+        return Ok(true);
+    };
+    let chosen = counts[place].chosen;
+    if chosen >= MOST_OF_ONE {
+        return Ok(false);
+    }
+    counts[place] = Count {
+        outcome,
+        chosen: chosen + 1,
+    };
+    Ok(true)
+}
+
+// Where an outcome is counted.
+fn place_of(counts: &[Count], outcome: Outcome) -> Option<usize>
+    ensures { IfSome result (λ place. slice_get (counted counts.now) place ≡ Some outcome) }
+{
+    for (place, count) in counts.iter().enumerate() {
         if count.outcome == outcome {
-            if count.chosen >= MOST_OF_ONE {
-                return Ok(false);
-            }
-            count.chosen += 1;
-            return Ok(true);
+            return Some(place);
         }
     }
-    counts.push(Count { outcome, chosen: 1 })?;
-    Ok(true)
+    None
 }

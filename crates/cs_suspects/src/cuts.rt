@@ -1,10 +1,10 @@
 //! The cuts of an exploration as they are listed.
-ghost use Rattle.std.specs.Prelude.{◌≡◌, ◌++◌, map, Contains, IfOk, IfSome, OnOk};
+ghost use Rattle.std.specs.Prelude.{◌≡◌, ◌≢◌, ◌++◌, [], map, All, Contains, IfOk, OnOk, MatchOption};
 ghost use Rattle.std.specs.BTreeMap.{IsOrdered};
 ghost use Rattle.cs_results.specs.declared.result.Cut.TheVariants.{Nodes};
 ghost use Rattle.cs_findings.specs.GoodEntries.{AreCutsListed};
 ghost use Rattle.cs_suspects.specs.Spots.{place_of, spot_order, cut_of_access, cut_of_nodes};
-ghost use Rattle.cs_suspects.specs.Spots.{HasNodesOf};
+ghost use Rattle.cs_suspects.specs.Spots.{IsNodes, IsSplits, HasNodesOf};
 
 use cs_ast::Place;
 use cs_results::Cut;
@@ -19,6 +19,7 @@ type Splits = BTreeMap<(u32, (u32, u32)), u64>;
 pub fn listed(alloc: Global, cuts: &[Cut]) -> Result<Vec<Cut>, AllocError>
     ensures sorted { IfOk result (λ listed. AreCutsListed listed.items) }
     ensures nodes { IfOk result (λ listed. HasNodesOf cuts.now listed.items) }
+    ensures some { IfOk result (λ listed. listed.items ≡ [] → cuts.now ≡ []) }
 {
     let splits = splits_of(alloc, cuts)?;
     let mut listed = list_nodes(alloc, nodes_of(cuts))?;
@@ -42,7 +43,8 @@ fn list_nodes(alloc: Global, nodes: Option<u64>) -> Result<Vec<Cut>, AllocError>
 
 // The nodes that there were where the graph was full.
 fn nodes_of(cuts: &[Cut]) -> Option<u64>
-    ensures { IfSome result (λ nodes. Contains cuts.now (Nodes nodes)) }
+    ensures { MatchOption result (All IsSplits cuts.now)
+        (λ nodes. Contains cuts.now (Nodes nodes)) }
 {
     for cut in cuts {
         if let Cut::Nodes(nodes) = *cut {
@@ -54,7 +56,8 @@ fn nodes_of(cuts: &[Cut]) -> Option<u64>
 
 // The accesses that were cut.
 fn splits_of(alloc: Global, cuts: &[Cut]) -> Result<Splits, AllocError>
-    ensures { IfOk result (λ splits. IsOrdered spot_order splits) }
+    ensures ordered { IfOk result (λ splits. IsOrdered spot_order splits) }
+    ensures some { IfOk result (λ splits. splits.entries ≡ [] → All IsNodes cuts.now) }
 {
     let mut splits = BTreeMap::new(alloc);
     for cut in cuts {
@@ -68,7 +71,8 @@ fn splits_of(alloc: Global, cuts: &[Cut]) -> Result<Splits, AllocError>
 // An access had so many offsets at least.
 fn raise(splits: &mut Splits, place: Place, count: u64) -> Result<(), AllocError>
     requires { IsOrdered spot_order splits.old }
-    ensures { IsOrdered spot_order splits.new }
+    ensures ordered { IsOrdered spot_order splits.new }
+    ensures some { OnOk result (splits.new.entries ≢ []) }
 {
     let spot = spot_of(place);
     if let Some(most) = splits.get(&spot)

@@ -1,8 +1,11 @@
 //! The runs that are suspected.
-ghost use Rattle.std.specs.Prelude.{◌≡◌, IfOk};
+ghost use Rattle.std.specs.Prelude.{IfOk};
+ghost use Rattle.cs_state.specs.Naming.{naming};
+ghost use Rattle.cs_suspects.specs.Suspected.{IsSuspectOf, AreSuspectsOf, AreAllSuspected};
+ghost use Rattle.cs_suspects.specs.Solved.{IsGuessOf, AreGuessesOf};
 
 use crate::choosing::chosen;
-use crate::numbers::{inputs_of, number_of, operand_range};
+use crate::numbers::{have_numbers, inputs_of, number_of, operand_range};
 use cs_events::Guess;
 use cs_explored::{End, Explored};
 use cs_state::{Asked, State, Tables};
@@ -10,7 +13,12 @@ use cs_suspect_types::{Suspect, SuspectedGuess};
 use std::alloc::{AllocError, Global};
 
 /// The suspects of an exploration.
-pub fn suspects(alloc: Global, explored: &Explored) -> Result<Vec<Suspect>, AllocError> {
+pub fn suspects(alloc: Global, explored: &Explored) -> Result<Vec<Suspect>, AllocError>
+    ensures each { IfOk result (λ suspects. AreSuspectsOf (naming explored.now.tables)
+        explored.now.ends.items suspects.items) }
+    ensures all { IfOk result (λ suspects.
+        AreAllSuspected explored.now.ends.items suspects.items) }
+{
     let mut suspects = Vec::new(alloc);
     let numbers = chosen(alloc, &explored.ends)?;
     for number in &numbers {
@@ -23,10 +31,10 @@ pub fn suspects(alloc: Global, explored: &Explored) -> Result<Vec<Suspect>, Allo
 
 /// The run that is suspected to end so: the numbers of its symbols are those of least absolute value that the end allows.
 pub fn suspect(alloc: Global, end: &End, tables: &Tables) -> Result<Suspect, AllocError>
-    ensures what { IfOk result (λ suspect. suspect.what ≡ end.now.outcome) }
-    ensures events { IfOk result (λ suspect.
-        suspect.events ≡ end.now.state.value.counters.events) }
+    ensures of_end { IfOk result (λ suspect.
+        IsSuspectOf (naming tables.now) end.now suspect) }
 {
+    have_numbers(&end.state.constraints)?;
     let inputs = inputs_of(alloc, &*end.state, tables)?;
     let guesses = guesses_of(alloc, &*end.state, tables)?;
     Ok(Suspect {
@@ -42,7 +50,10 @@ fn guesses_of(
     alloc: Global,
     state: &State,
     tables: &Tables,
-) -> Result<Vec<SuspectedGuess>, AllocError> {
+) -> Result<Vec<SuspectedGuess>, AllocError>
+    ensures { IfOk result (λ guesses. AreGuessesOf (naming tables.now)
+        state.now.constraints state.now.asked guesses.items) }
+{
     let mut guesses = Vec::new(alloc);
     for (_, asked) in state.asked.iter()? {
         guesses.push(suspected_guess(state, tables, asked)?)?;
@@ -54,7 +65,9 @@ fn suspected_guess(
     state: &State,
     tables: &Tables,
     asked: &Asked,
-) -> Result<SuspectedGuess, AllocError> {
+) -> Result<SuspectedGuess, AllocError>
+    ensures { IfOk result (IsGuessOf (naming tables.now) state.now.constraints asked.now) }
+{
     let left = operand_range(tables, asked.left, asked.ends.left)?;
     let right = operand_range(tables, asked.right, asked.ends.right)?;
     Ok(SuspectedGuess {

@@ -1,12 +1,17 @@
-use Rattle.cs_suspects.proofs.ListedCuts.{are_listed, has_nodes_of}
+use Rattle.cs_suspects.proofs.ListedCuts.{are_listed, has_nodes_of, nothing_cut}
 use Rattle.cs_suspects.proofs.cuts.listed.Goals as goal
 
 pub returns-clause-sorted : goal.returns-clause-sorted
 returns-clause-sorted c =
     are_listed c.nodes_of.result c.in_ok-listed.listed.items c.list_splits.new.listed.items c.in_ok-splits.splits.entries c.in_ok-listed.ensures
-    c.in_ok-list_splits.ensures c.in_ok-splits.ensures
+    c.in_ok-list_splits.ensures c.in_ok-splits.ensures.ordered
 
 pub returns-clause-nodes : goal.returns-clause-nodes
 returns-clause-nodes c =
     has_nodes_of c.nodes_of.result c.args.cuts.now c.in_ok-listed.listed.items c.list_splits.new.listed.items c.in_ok-splits.splits.entries
     c.in_ok-listed.ensures c.in_ok-list_splits.ensures c.nodes_of.ensures
+
+pub returns-clause-some : goal.returns-clause-some
+returns-clause-some c =
+    nothing_cut c.nodes_of.result c.args.cuts.now c.in_ok-listed.listed.items c.list_splits.new.listed.items c.in_ok-splits.splits.entries
+    c.in_ok-listed.ensures c.in_ok-list_splits.ensures c.nodes_of.ensures c.in_ok-splits.ensures.some
