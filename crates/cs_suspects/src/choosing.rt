@@ -1,5 +1,5 @@
 //! Which ends of an exploration are suspected.
-ghost use Rattle.std.specs.Prelude.{◌≡◌, ◌↔◌, Some, map, slice_get, IsTrue, IfOk, IfSome};
+ghost use Rattle.std.specs.Prelude.{◌≡◌, ◌↔◌, true, Some, map, slice_get, IsTrue, IfOk, IfSome};
 ghost use Rattle.cs_findings.specs.GoodFindings.{IsFinding};
 ghost use Rattle.cs_suspects.specs.Chosen.{numbers_of, AreOfFindings, HaveAllFindings, AreAllChosen, counted, IsWanted};
 
@@ -105,9 +105,15 @@ fn place_of(counts: &[Count], outcome: Outcome) -> Option<usize>
     ensures { IfSome result (λ place. slice_get (counted counts.now) place ≡ Some outcome) }
 {
     for (place, count) in counts.iter().enumerate() {
-        if count.outcome == outcome {
+        if is_of(count, outcome) {
             return Some(place);
         }
     }
     None
+}
+
+fn is_of(count: &Count, outcome: Outcome) -> bool
+    ensures { result ≡ true → count.now.outcome ≡ outcome }
+{
+    count.outcome == outcome
 }
