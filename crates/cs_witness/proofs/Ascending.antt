@@ -8,9 +8,10 @@ use Rattle.std.specs.declared.cmp.Ordering.{Ordering}
 use Rattle.std.specs.declared.cmp.Ordering.TheVariants.{Less, Equal, Greater}
 use Rattle.std.specs.Cmp.{ranks}
 use Rattle.std.proofs.lemmas.List.{drop_more}
-use Rattle.std.proofs.lemmas.List.Elements.{All-cons}
+use Rattle.std.proofs.lemmas.List.Elements.{All-nil, All-cons, All-head}
 use Rattle.cs_events.specs.declared.guess.Guess.{Guess}
 use Rattle.cs_findings.specs.GoodFindings.{Ascend}
+use Rattle.cs_witness.proofs.GuessLists.{less_than}
 
 -- each guess is after the one before it, the first after an event
 abbrev pub AscendFrom : ℕ → List Guess → Type 0
@@ -44,8 +45,24 @@ module _ (guesses : List Guess) (i : ℕ) (d : Guess) (below : i < length guesse
   pub ascends_from : (last : ℕ) → last < guess.event → AscendFrom guess.event (drop (i + 1) guesses) → AscendFrom last (drop i guesses)
   ascends_from last after more = subst (AscendFrom last) (sym (drop_more guesses i d below)) (after, more)
 
+  -- the guess from which they ascend, and those after it
+  pub ascends_there : (last : ℕ) → AscendFrom last (drop i guesses) → (last < guess.event) × AscendFrom guess.event (drop (i + 1) guesses)
+  ascends_there last ascend = subst (AscendFrom last) (drop_more guesses i d below) ascend
+
   pub all_from : (events : ℕ) → guess.event ≤ events → All (λ (g : Guess). g.event ≤ events) (drop (i + 1) guesses)
       → All (λ (g : Guess). g.event ≤ events) (drop i guesses)
   all_from events within more =
       subst (All (λ (g : Guess). g.event ≤ events)) (sym (drop_more guesses i d below))
       (All-cons (λ (g : Guess). g.event ≤ events) guess (drop (i + 1) guesses) within more)
+
+-- an event before all of these guesses
+all_less : (x : ℕ) (guesses : List Guess) → AllByRecursion (λ y. nat_cmp x y ≡ Less) (map (λ g. g.event) guesses) → All (λ (g : Guess). x < g.event) guesses
+all_less x [] all = All-nil (λ (g : Guess). x < g.event)
+all_less x (guess ∷ guesses) all =
+    All-cons (λ (g : Guess). x < g.event) guess guesses (less_than x guess.event all.0) (all_less x guesses all.1)
+
+pub ascend_from : (last : ℕ) (guesses : List Guess) → Ascend guesses → All (λ (g : Guess). last < g.event) guesses → AscendFrom last guesses
+unfolding IsStrictlySortedBy
+ascend_from last [] ascend after = tt
+ascend_from last (guess ∷ guesses) ascend after =
+    (All-head (λ (g : Guess). last < g.event) guess guesses after, ascend_from guess.event guesses ascend.1 (all_less guess.event guesses ascend.0))

@@ -1,7 +1,8 @@
 -- What the judge keeps of a replay is so. For the contracts of `kept` and `grounds`.
-use Rattle.std.proofs.Common.{◌≡◌, ℕ, zero, suc, ◌+◌, ◌<◌, ◌≤◌, List, [], ◌∷◌, ◌++◌, map, take, length, get_or, Some, slice_get}
-use Rattle.std.proofs.Common.{sym, ap, ◌∙◌, subst, arith}
-use Rattle.std.proofs.lemmas.List.{take_more, map-append}
+use Rattle.std.proofs.Common.{◌≡◌, ℕ, zero, suc, ◌≤◌, List, [], ◌∷◌, ◌++◌, map, take, length, Some, slice_get}
+use Rattle.std.proofs.Common.{sym, ap, ◌∙◌, arith}
+use Rattle.std.specs.Prelude.{option_map}
+use Rattle.std.proofs.lemmas.Option.{slice_get-map}
 use Rattle.cs_ast.specs.declared.place.Place.{Place}
 use Rattle.cs_ast.specs.TypedProgram.{TypedProgram}
 use Rattle.cs_events.specs.declared.operation.Operation.{Operation}
@@ -10,8 +11,6 @@ use Rattle.cs_events.specs.PendingEvents as pending
 use Rattle.cs_events.specs.Runs.{Log}
 use Rattle.cs_meaning.specs.Steps.{step}
 use Rattle.cs_meaning.specs.ProgramRuns.{ProgramRun, RunGives, setting_of}
-use Rattle.cs_run_log.specs.declared.logs.Pending.{Pending}
-use Rattle.cs_run_log.specs.LogView.{pending_of}
 use Rattle.cs_results.specs.declared.budgets.Budgets.{Budgets}
 use Rattle.cs_findings.specs.Runs.{run_budgets}
 use Rattle.cs_findings.specs.GoodFindings.{IsEach}
@@ -21,7 +20,7 @@ use Rattle.cs_findings.proofs.Replays.{kept_comes}
 use Rattle.cs_judge.specs.declared.pool.Kept.{Kept}
 use Rattle.cs_judge.specs.declared.pool.Kept.TheVariants as kept
 use Rattle.cs_witness.specs.Entries.{up_to}
-use Rattle.cs_witness.specs.Keeping.{IsKeptAt}
+use Rattle.cs_witness.specs.Keeping.{noted}
 use Rattle.cs_witness.proofs.SmallerBudgets.{comes_within}
 
 -- one more item on both sides
@@ -32,26 +31,27 @@ each_more R [] (b ∷ ys) x y each one = absurd each
 each_more R (a ∷ xs) [] x y each one = absurd each
 each_more R (a ∷ xs) (b ∷ ys) x y each one = (each.0, each_more R xs ys x y each.1 one)
 
-pub kept_places : (xs : List pending.Pending) (ys : List Kept) → IsEach IsKeptAt xs ys → (passed : ℕ) (at : Place) (operation : Operation)
-    → slice_get ys passed ≡ Some (kept.Operates at operation) → slice_get xs passed ≡ Some (pending.Operates at operation)
-kept_places [] [] each passed at operation e = let no : ⊥ = cc in absurd no
-kept_places [] (y ∷ ys) each passed at operation e = absurd each
-kept_places (x ∷ xs) [] each passed at operation e = absurd each
-kept_places (x ∷ xs) (y ∷ ys) each zero at operation e =
-    let same : y ≡ kept.Operates at operation = cc in
-    ap Some (subst (IsKeptAt x) same each.0)
-kept_places (x ∷ xs) (y ∷ ys) each (suc passed) at operation e = kept_places xs ys each.1 passed at operation e
+-- where an operation is kept, it was pending
+kept_places : (log : List pending.Pending) (passed : ℕ) (at : Place) (operation : Operation)
+    → slice_get (map noted log) passed ≡ Some (kept.Operates at operation) → slice_get log passed ≡ Some (pending.Operates at operation)
+kept_places [] passed at operation e = let no : ⊥ = cc in absurd no
+kept_places (pending.Operates a o ∷ log) zero at operation e =
+    let places : a ≡ at = cc in
+    let operations : o ≡ operation = cc in
+    λ i. Some (pending.Operates (places i) (operations i))
+kept_places (pending.Tries a path ∷ log) zero at operation e = let no : ⊥ = cc in absurd no
+kept_places (pending.Accesses a object offset ∷ log) zero at operation e = let no : ⊥ = cc in absurd no
+kept_places (x ∷ log) (suc passed) at operation e = kept_places log passed at operation e
 
--- one more event
-pub kept_more_events : (log : List Pending) (i : ℕ) (one : Pending) (notes more : List Kept) (note : Kept) → i < length log → one ≡ get_or log i one
-    → IsEach IsKeptAt (map pending_of (take i log)) notes → more ≡ notes ++ note ∷ [] → IsKeptAt (pending_of one) note
-    → IsEach IsKeptAt (map pending_of (take (i + 1) log)) more
-kept_more_events log i one notes more note below is each pushed so =
-    let taken : take (i + 1) log ≡ take i log ++ one ∷ [] = take_more log i one below ∙ ap (λ (p : Pending). take i log ++ p ∷ []) (sym is) in
-    let seen : map pending_of (take (i + 1) log) ≡ map pending_of (take i log) ++ pending_of one ∷ [] =
-    ap (map pending_of) taken ∙ map-append pending_of (take i log) (one ∷ []) in
-    subst (λ l. IsEach IsKeptAt l more) (sym seen) (subst (IsEach IsKeptAt (map pending_of (take i log) ++ pending_of one ∷ [])) (sym pushed)
-    (each_more IsKeptAt (map pending_of (take i log)) notes (pending_of one) note each so))
+pub kept_of_log : (notes : List Kept) (log : List pending.Pending) → notes ≡ map noted log → (passed : ℕ) (at : Place) (operation : Operation)
+    → slice_get notes passed ≡ Some (kept.Operates at operation) → slice_get log passed ≡ Some (pending.Operates at operation)
+kept_of_log notes log are passed at operation e = kept_places log passed at operation (sym (ap (λ l. slice_get l passed) are) ∙ e)
+
+-- and where one was pending, it is kept
+pub log_is_kept : (notes : List Kept) (log : List pending.Pending) → notes ≡ map noted log → (passed : ℕ) (at : Place) (operation : Operation)
+    → slice_get log passed ≡ Some (pending.Operates at operation) → slice_get notes passed ≡ Some (kept.Operates at operation)
+log_is_kept notes log are passed at operation e =
+    ap (λ l. slice_get l passed) are ∙ slice_get-map noted log passed ∙ ap (option_map noted) e
 
 module _ (program : TypedProgram) (entry : ℕ) (budgets : Budgets) where
   -- what is kept of a run under a budget of no more events than the entry's

@@ -78,7 +78,7 @@ own_order Less e = absurd (cc)
 own_order Equal e = refl
 own_order Greater e = absurd (cc)
 
-same_order : (q path : Path) → q ≡ path → path_order q path ≡ Equal
+pub same_order : (q path : Path) → q ≡ path → path_order q path ≡ Equal
 same_order q path e =
     subst (λ p. path_order q p ≡ Equal) e (own_order (path_order q q) (path_order-total.antisymm q q))
 
@@ -204,6 +204,26 @@ keys_more one other i a b below below' is is' same before =
     ap keys_of mine ∙ map-append (λ (e : Path × ℤ). e.0) (take i one) (a ∷ [])
     ∙ (λ j. before j ++ same j ∷ [])
     ∙ sym (ap keys_of its ∙ map-append (λ (e : Path × ℤ). e.0) (take i other) (b ∷ []))
+
+-- one more key
+pub keys_push : (entries : List (Path × ℤ)) (i : ℕ) (e : Path × ℤ) → i < length entries → e ≡ get_or entries i e
+    → keys_of (take (i + 1) entries) ≡ keys_of (take i entries) ++ e.0 ∷ []
+keys_push entries i e below is =
+    ap keys_of (take_more entries i e below ∙ ap (λ (x : Path × ℤ). take i entries ++ x ∷ []) (sym is))
+    ∙ map-append (λ (x : Path × ℤ). x.0) (take i entries) (e ∷ [])
+
+-- the key of an entry
+pub key_at : (entries : List (Path × ℤ)) (i : ℕ) (e : Path × ℤ) → i < length entries → e ≡ get_or entries i e → get_or (keys_of entries) i e.0 ≡ e.0
+key_at entries i e below is = get_or-map (λ (x : Path × ℤ). x.0) entries i e e.0 below ∙ ap (λ (x : Path × ℤ). x.0) (sym is)
+
+-- entries of the same keys
+pub same_key : (one other : List (Path × ℤ)) (i : ℕ) (a b : Path × ℤ) → i < length one → i < length other → a ≡ get_or one i a
+    → b ≡ get_or other i b
+    → keys_of one ≡ keys_of other → (get_or one i a).0 ≡ (get_or other i b).0
+same_key one other i a b below below' is is' same =
+    sym (get_or-map (λ (x : Path × ℤ). x.0) one i a a.0 below)
+    ∙ ap (λ ks. get_or ks i a.0) same
+    ∙ get_or-map (λ (x : Path × ℤ). x.0) other i b a.0 below'
 
 -- parameters are the first locals
 pub ruleset takes = (take-map)

@@ -13,3 +13,12 @@ pub mod Insertions
 pub mod Orders
 pub mod Tries
 pub mod GoodLists
+pub mod CornerLemmas
+pub mod PoolCorners
+pub mod Namings
+pub mod GuessLists
+pub mod Standings
+pub mod EvidentPools
+pub mod NamedProofs
+pub mod EvidentRuns
+pub mod ListedOutcomes

@@ -1,12 +1,20 @@
 -- The orders of findings and of cuts are total, and cuts that are tied have one key. For the contracts of `cuts` and `witness`.
-use Rattle.std.proofs.Common.{◌≡◌, ℕ, ◌<◌, refl}
+use Rattle.std.proofs.Common.{◌≡◌, ℕ, ◌<◌, List, [], ◌∷◌, get_or, refl, sym, ap, ◌∙◌}
 use Rattle.std.specs.Cmp.{IsTotalOrder, on_total, then_total, ranks}
 use Rattle.std.specs.Ordering.{nat_cmp, ordering_then, MatchOrdering}
 use Rattle.std.specs.declared.cmp.Ordering.{Ordering}
 use Rattle.std.specs.declared.cmp.Ordering.TheVariants.{Less, Equal, Greater}
 use Rattle.std.proofs.lemmas.Cmp.{nat_cmp_total}
 use Rattle.cs_ast.specs.declared.place.Place.{Place}
-use Rattle.cs_findings.specs.GoodEntries.{place_order, key_order, cut_order}
+use Rattle.cs_model.specs.declared.kind.Kind.{Kind}
+use Rattle.cs_model.specs.declared.kind.Kind.TheVariants.{Null, Divide, Unset, Bounds, DoubleFree, Freed, BadFree, DeadLocal, Shift, Unrelated, ConstWrite}
+use Rattle.cs_model.specs.Kinds.{kind_number}
+use Rattle.cs_events.specs.declared.outcome.Budget.{Budget}
+use Rattle.cs_events.specs.declared.outcome.Budget.TheVariants.{Visits, Depth, Events}
+use Rattle.cs_events.specs.Budgets.{budget_number}
+use Rattle.cs_events.specs.declared.outcome.Outcome.{Outcome}
+use Rattle.cs_events.specs.declared.outcome.Outcome.TheVariants.{Done, Fault, Over}
+use Rattle.cs_findings.specs.GoodEntries.{IsFault, IsOver, outcome_key, place_order, key_order, cut_order}
 
 place_order-total : IsTotalOrder place_order
 place_order-total =
@@ -55,3 +63,60 @@ cut_tie a b e =
     let forms = number_tie a.0 b.0 ties.0 in
     let places = place_tie a.1 b.1 ties.1 in
     λ i. (forms i, places i)
+
+pub key_tie : (a b : Place × ℕ) → key_order a b ≡ Equal → a ≡ b
+key_tie a b e =
+    let ties = both_tie (place_order a.0 b.0) (nat_cmp a.1 b.1) e in
+    let places = place_tie a.0 b.0 ties.0 in
+    let numbers = number_tie a.1 b.1 ties.1 in
+    λ i. (places i, numbers i)
+
+-- the kinds and the budgets by their numbers, from 1
+kinds : List Kind
+kinds = Null ∷ Null ∷ Divide ∷ Unset ∷ Bounds ∷ DoubleFree ∷ Freed ∷ BadFree ∷ DeadLocal ∷ Shift ∷ Unrelated ∷ ConstWrite ∷ []
+
+kind_there : (kind : Kind) → get_or kinds (kind_number kind) Null ≡ kind
+unfolding kinds
+kind_there Null = refl
+kind_there Divide = refl
+kind_there Unset = refl
+kind_there Bounds = refl
+kind_there DoubleFree = refl
+kind_there Freed = refl
+kind_there BadFree = refl
+kind_there DeadLocal = refl
+kind_there Shift = refl
+kind_there Unrelated = refl
+kind_there ConstWrite = refl
+
+budgets : List Budget
+budgets = Visits ∷ Visits ∷ Depth ∷ Events ∷ []
+
+budget_there : (budget : Budget) → get_or budgets (budget_number budget) Visits ≡ budget
+unfolding budgets
+budget_there Visits = refl
+budget_there Depth = refl
+budget_there Events = refl
+
+-- faults with one key are one, and so are met budgets
+pub one_fault : (one other : Outcome) → IsFault one → IsFault other → key_order (outcome_key one) (outcome_key other) ≡ Equal → one ≡ other
+one_fault (Fault kind at) (Fault kind' at') is is' e =
+    let keys = key_tie (at, kind_number kind) (at', kind_number kind') e in
+    let same : kind ≡ kind' =
+    sym (kind_there kind) ∙ ap (λ (k : Place × ℕ). get_or kinds k.1 Null) keys ∙ kind_there kind' in
+    λ i. Fault (same i) (keys i).0
+one_fault (Fault kind at) (Done returned) is is' e = absurd is'
+one_fault (Fault kind at) (Over budget at') is is' e = absurd is'
+one_fault (Done returned) other is is' e = absurd is
+one_fault (Over budget at) other is is' e = absurd is
+
+pub one_over : (one other : Outcome) → IsOver one → IsOver other → key_order (outcome_key one) (outcome_key other) ≡ Equal → one ≡ other
+one_over (Over budget at) (Over budget' at') is is' e =
+    let keys = key_tie (at, budget_number budget) (at', budget_number budget') e in
+    let same : budget ≡ budget' =
+    sym (budget_there budget) ∙ ap (λ (k : Place × ℕ). get_or budgets k.1 Visits) keys ∙ budget_there budget' in
+    λ i. Over (same i) (keys i).0
+one_over (Over budget at) (Done returned) is is' e = absurd is'
+one_over (Over budget at) (Fault kind at') is is' e = absurd is'
+one_over (Done returned) other is is' e = absurd is
+one_over (Fault kind at) other is is' e = absurd is

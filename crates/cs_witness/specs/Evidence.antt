@@ -1,7 +1,6 @@
 -- Suspects that carry evidence: their runs end as suspected, and the corners of each guess show that it is real. The witness shows each of them.
-use Rattle.std.specs.Prelude.{◌≡◌, ◌≢◌, ◌⊎◌, ℕ, suc, ◌<◌, ◌≤◌, nat_lt, nat_eq, ℤ, Bool, IsTrue, if◌then◌else◌, List, [], ◌∷◌, ◌++◌, map, filter, length, All}
+use Rattle.std.specs.Prelude.{◌≡◌, ◌≢◌, ◌⊎◌, ℕ, suc, ◌<◌, ◌≤◌, nat_lt, nat_eq, ℤ, Bool, IsTrue, if◌then◌else◌, List, [], ◌∷◌, map, filter, length, All}
 use Rattle.std.specs.Prelude.{Contains, Option, None, Some, slice_get}
-use Rattle.std.specs.Map.{keys_of}
 use Rattle.cs_inputs.specs.declared.path.Path.{Path}
 use Rattle.cs_inputs.specs.Inputs.{number_at}
 use Rattle.cs_inputs.specs.PathOrder.{path_order}
@@ -105,8 +104,8 @@ KeepsPair operation pair = operands (with_operands operation pair) ≡ pair
 module _ (program : TypedProgram) (entry : ℕ) (budgets : RunBudgets) (suspect : Suspect) where
   -- the suspect's runs with these changes, which list the guesses before an event, come to an operation after these events, with these operands
   abbrev pub ChangedCome : Changes → ℕ → List Event → Place → Operation → Pair → Type 0
-  ChangedCome changes event before at operation pair = (run other : ProgramRun) → IsRunOf program entry suspect run → IsChanged program entry changes event run other
-      → Comes program entry budgets other before (Operates at (with_operands operation pair))
+  ChangedCome changes event before at operation pair = (run other : ProgramRun) → IsRunOf program entry suspect run
+      → IsChanged program entry changes event run other → Comes program entry budgets other before (Operates at (with_operands operation pair))
 
   -- a guess of the suspect: its runs, those of its corners and those of the corners of later guesses come to one operation, and the corners' operands show that
   -- its result has to be guessed

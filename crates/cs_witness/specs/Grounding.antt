@@ -1,5 +1,5 @@
 -- Grounds that are read off a pool.
-use Rattle.std.specs.Prelude.{◌≡◌, ℕ, ℤ, suc, List, length, Some, slice_get}
+use Rattle.std.specs.Prelude.{◌≡◌, ℕ, ℤ, suc, ◌<◌, List, length, Some, slice_get}
 use Rattle.std.specs.Map.{keys_of}
 use Rattle.cs_inputs.specs.declared.path.Path.{Path}
 use Rattle.cs_ast.specs.declared.place.Place.{Place}
@@ -9,6 +9,7 @@ use Rattle.cs_results.specs.declared.finding.Ground.{Ground}
 use Rattle.cs_results.specs.declared.run.Others.{Others}
 use Rattle.cs_results.specs.declared.run.Run.{Run}
 use Rattle.cs_findings.specs.Runs.{run_of, AllRelated}
+use Rattle.cs_findings.specs.GoodFindings.{AllOthers}
 use Rattle.cs_judge.specs.declared.pool.Kept.TheVariants as kept
 use Rattle.cs_judge.specs.declared.pool.Partners.{Partners}
 use Rattle.cs_judge.specs.declared.pool.Replay.{Replay}
@@ -42,3 +43,27 @@ pub record IsGroundIn (pool : List Replay) (mine : Replay) (inputs : List (Path 
 pub record AreGroundsIn (pool : List Replay) (mine : Replay) (inputs : List (Path × ℤ)) (grounds : List Ground) : Type 0 where
   pub count : length grounds ≡ length mine.run.guesses.items
   pub each : (number : ℕ) (ground : Ground) → slice_get grounds number ≡ Some ground → IsGroundIn pool mine inputs number ground
+
+-- the run with this number lists the paths of these inputs
+pub record IsAlikeAt (pool : List Replay) (inputs : List (Path × ℤ)) (number : ℕ) : Type 0 where
+  pub replay : Replay
+  pub there : slice_get pool number ≡ Some replay
+  pub paths : keys_of replay.run.inputs ≡ keys_of inputs
+
+-- at a guess some operation was kept
+pub record HasPlaceAt (mine : Replay) (guess : Guess) : Type 0 where
+  pub at : Place
+  pub is : IsPlaceAt mine guess at
+
+-- there is a ground of the guess with this number: an operation was kept there, and the partners list the paths of the inputs
+pub record HasGroundIn (pool : List Replay) (mine : Replay) (inputs : List (Path × ℤ)) (number : ℕ) : Type 0 where
+  pub guess : Guess
+  pub listed : slice_get mine.run.guesses.items number ≡ Some guess
+  pub place : HasPlaceAt mine guess
+  pub partners : Partners
+  pub named : slice_get mine.partners.items number ≡ Some partners
+  pub alike : AllOthers (IsAlikeAt pool inputs) partners.others
+
+-- there is a ground of each guess
+abbrev pub HasGroundsIn : List Replay → Replay → List (Path × ℤ) → Type 0
+HasGroundsIn pool mine inputs = (number : ℕ) → number < length mine.run.guesses.items → HasGroundIn pool mine inputs number

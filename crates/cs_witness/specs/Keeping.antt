@@ -1,13 +1,9 @@
 -- What a pool keeps of replays.
-use Rattle.std.specs.Prelude.{◌≡◌, ℕ, List, ◌++◌, map, Some, slice_get}
-use Rattle.cs_ast.specs.declared.place.Place.{Place}
+use Rattle.std.specs.Prelude.{◌≡◌, List, ◌++◌, map}
 use Rattle.cs_ast.specs.TypedProgram.{typed_program}
 use Rattle.cs_events.specs.declared.event.Event.{Event}
-use Rattle.cs_events.specs.declared.operation.Operation.{Operation}
 use Rattle.cs_events.specs.PendingEvents as pending
 use Rattle.cs_meaning.specs.ProgramRuns.{ProgramRun}
-use Rattle.cs_run_log.specs.declared.logs.Pending.{Pending}
-use Rattle.cs_run_log.specs.LogView.{pending_of}
 use Rattle.cs_findings.specs.Runs.{run_of, run_budgets}
 use Rattle.cs_judge.specs.declared.pool.Kept.{Kept}
 use Rattle.cs_judge.specs.declared.pool.Kept.TheVariants as kept
@@ -15,15 +11,11 @@ use Rattle.cs_judge.specs.declared.pool.Replay.{Replay}
 use Rattle.cs_judge.specs.Pools.{AreKept}
 use Rattle.cs_witness.specs.declared.entry.Entry.{Entry}
 
--- an operation that is kept was pending
-abbrev pub IsKeptAt : pending.Pending → Kept → Type 0
-IsKeptAt was (kept.Operates at operation) = was ≡ pending.Operates at operation
-IsKeptAt was kept.Other = Unit {0}
-
--- where an operation is kept, it was pending
-abbrev pub AreKeptOf : List Pending → List Kept → Type 0
-AreKeptOf log notes = (passed : ℕ) (at : Place) (operation : Operation) → slice_get notes passed ≡ Some (kept.Operates at operation)
-    → slice_get (map pending_of log) passed ≡ Some (pending.Operates at operation)
+-- what is kept of what was pending at an event: an operation alone
+abbrev pub noted : pending.Pending → Kept
+noted (pending.Operates at operation) = kept.Operates at operation
+noted (pending.Tries at path) = kept.Other
+noted (pending.Accesses at object offset) = kept.Other
 
 -- more runs stand after those of a pool, and what is kept of them is so
 pub record Widens (entry : Entry) (old new : List Replay) : Type 0 where

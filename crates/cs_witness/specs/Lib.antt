@@ -4,3 +4,6 @@ pub mod Keeping
 pub mod Grounding
 pub mod Witnesses
 pub mod Evidence
+pub mod Corners
+pub mod Pooling
+pub mod Ranks

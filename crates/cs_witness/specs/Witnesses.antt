@@ -1,15 +1,20 @@
 -- What the witness says of suspects.
-use Rattle.std.specs.Prelude.{◌≡◌, ℕ, ℤ, List, Result, MatchResult, map, Contains, All, ◌⊎◌}
+use Rattle.std.specs.Prelude.{◌≡◌, ℕ, ℤ, List, Result, MatchResult, Contains, All}
 use Rattle.std.specs.List.{HoldsAt}
 use Rattle.std.specs.List.Sorted.{IsPartitionPoint}
 use Rattle.std.specs.declared.cmp.Ordering.TheVariants.{Less, Equal, Greater}
 use Rattle.cs_inputs.specs.declared.path.Path.{Path}
 use Rattle.cs_ast.specs.TypedProgram.{typed_program}
 use Rattle.cs_events.specs.declared.outcome.Outcome.{Outcome}
+use Rattle.cs_events.specs.declared.outcome.Outcome.TheVariants.{Done, Fault, Over}
 use Rattle.cs_results.specs.declared.finding.Finding.{Finding}
 use Rattle.cs_witness.specs.declared.entry.Entry.{Entry}
 use Rattle.cs_findings.specs.Runs.{run_budgets}
-use Rattle.cs_findings.specs.GoodFindings.{IsShown, IsGoodFinding, EndsElsewhere}
+use Rattle.cs_results.specs.declared.result.EntryResult.{EntryResult}
+use Rattle.cs_findings.specs.EveryRun.{outcomes_of, HasFinding}
+use Rattle.cs_findings.specs.GoodFindings.{IsShown, IsGoodFinding, IsFinding, EndsElsewhere}
+use Rattle.cs_suspect_types.specs.declared.suspect.Suspect.{Suspect}
+use Rattle.cs_witness.specs.Evidence.{IsEvident}
 use Rattle.cs_findings.specs.GoodEntries.{IsFault, IsOver, AreListed, outcome_key, key_order}
 
 -- a finding of the entry that is shown, and a good one
@@ -22,6 +27,25 @@ IsGoodOf entry = IsGoodFinding (typed_program entry.program.now) entry.function 
 -- a run of the entry from these inputs doesn't end so without guesses
 abbrev pub IsElsewhereOf : Entry → Outcome → List (Path × ℤ) → Type 0
 IsElsewhereOf entry = EndsElsewhere (typed_program entry.program.now) entry.function (run_budgets entry.budgets)
+
+-- an evident suspect of the entry
+abbrev pub IsEvidentOf : Entry → Suspect → Type 0
+IsEvidentOf entry = IsEvident (typed_program entry.program.now) entry.function (run_budgets entry.budgets)
+
+-- an outcome is that of one of these reports, or of one of these met budgets
+abbrev pub IsIn : Outcome → List Finding → List Finding → Type 0
+IsIn (Fault kind at) reports overs = Contains (outcomes_of reports) (Fault kind at)
+IsIn (Over budget at) reports overs = Contains (outcomes_of overs) (Over budget at)
+IsIn (Done returned) reports overs = Unit {0}
+
+-- the outcome of each evident suspect is listed
+abbrev pub ListsEvident : Entry → List Suspect → EntryResult → Type 0
+ListsEvident entry suspects result = (suspect : Suspect) → Contains suspects suspect → IsFinding suspect.what → IsEvidentOf entry suspect
+    → HasFinding result suspect.what
+
+-- no outcome that was listed was taken out
+abbrev pub KeepsListed : List Finding → List Finding → Type 0
+KeepsListed old new = (what : Outcome) → Contains (outcomes_of old) what → Contains (outcomes_of new) what
 
 -- good findings of outcomes of one form, as they are listed
 pub record AreGood (entry : Entry) (Is : Outcome → Type 0) (findings : List Finding) : Type 0 where

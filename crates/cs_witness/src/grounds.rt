@@ -1,13 +1,14 @@
 //! The grounds of a run's guesses.
-ghost use Rattle.std.specs.Prelude.{◌≡◌, ◌<◌, [], IsTrue, Some, slice_get, length, IfOk, IfSome};
+ghost use Rattle.std.specs.Prelude.{◌≡◌, ◌<◌, [], IsTrue, Some, slice_get, length, IfOk, IfSome, IsSome};
 ghost use Rattle.cs_ast.specs.TypedProgram.{typed_program};
 ghost use Rattle.cs_results.specs.declared.run.Others.TheVariants as others;
 ghost use Rattle.cs_findings.specs.Runs.{run_of, run_budgets};
-ghost use Rattle.cs_findings.specs.GoodFindings.{IsEach, IsGroundOf};
+ghost use Rattle.cs_findings.specs.GoodFindings.{IsEach, IsGroundOf, AllOthers};
 ghost use Rattle.cs_judge.specs.declared.pool.Replay as replays;
 ghost use Rattle.cs_judge.specs.Pools.{IsKept};
 ghost use Rattle.cs_witness.specs.Entries.{CanRun, Gives};
-ghost use Rattle.cs_witness.specs.Grounding.{IsGroundIn, AreGroundsIn, AreRunsAt, IsListedRunAt, IsPlaceAt};
+ghost use Rattle.cs_witness.specs.Grounding.{IsGroundIn, AreGroundsIn, AreRunsAt, IsListedRunAt, IsPlaceAt, HasGroundsIn, HasGroundIn, HasPlaceAt, IsAlikeAt};
+ghost use Rattle.cs_witness.specs.Pooling.{IsShownReplay, IsEvidentRun};
 
 use crate::copies::copy_run;
 use crate::entry::Entry;
@@ -33,10 +34,12 @@ pub fn grounds_of(
 ) -> Result<Option<Vec<Ground>>, AllocError>
     requires runs { CanRun entry.now }
     requires replayed { Gives entry.now (run_of run.now) replayed.now }
-    ensures { IfOk result (λ found. IfSome found (λ grounds.
+    ensures grounds { IfOk result (λ found. IfSome found (λ grounds.
         IsEach (IsGroundOf (typed_program entry.now.program.now) entry.now.function
         (run_budgets entry.now.budgets) (run_of run.now))
         run.now.guesses.items grounds.items)) }
+    ensures found { IfOk result (λ found.
+        IsEvidentRun entry.now guesses.now (run_of run.now) → IsSome found) }
 {
     if guesses_nothing(run) {
         let none = Vec::new(alloc);
@@ -44,9 +47,9 @@ pub fn grounds_of(
     }
     let mut pool = Vec::new(alloc);
     pool.push(shown_replay(alloc, entry, run, replayed)?)?;
-    let corners = add_all_corners(alloc, entry, &mut pool, run, guesses)?;
-    add_further_corners(alloc, entry, &mut pool, guesses)?;
-    name_partners(alloc, entry.program.model, &mut pool, corners.as_slice())?;
+    add_all_corners(alloc, entry, &mut pool, run, guesses)?;
+    let found = add_further_corners(alloc, entry, &mut pool, guesses)?;
+    name_partners(alloc, &mut pool, found.as_slice())?;
     if !are_real(alloc, entry.program.model, pool.as_slice())? {
         return Ok(None);
     }
@@ -72,7 +75,7 @@ fn shown_replay(
     requires replayed { Gives entry.now (run_of run.now) replayed.now }
     ensures kept { IfOk result (IsKept (typed_program entry.now.program.now) entry.now.function
         (run_budgets entry.now.budgets)) }
-    ensures run { IfOk result (λ replay. run_of replay.run ≡ run_of run.now) }
+    ensures shown { IfOk result (IsShownReplay entry.now (run_of run.now)) }
 {
     let run = copy_run(alloc, run)?;
     let events = Vec::from_slice(alloc, replayed.log.events.as_slice())?;
@@ -91,9 +94,12 @@ fn grounds_in(
     pool: &[Replay],
     inputs: &Inputs,
 ) -> Result<Option<Vec<Ground>>, AllocError>
-    ensures { IfOk result (λ found. IfSome found (λ grounds.
+    ensures grounds { IfOk result (λ found. IfSome found (λ grounds.
         (mine : replays.Replay) → slice_get pool.now 0 ≡ Some mine
         → AreGroundsIn pool.now mine inputs.now grounds.items)) }
+    ensures found { IfOk result (λ found. (mine : replays.Replay)
+        → slice_get pool.now 0 ≡ Some mine
+        → HasGroundsIn pool.now mine inputs.now → IsSome found) }
 {
     match pool.first() {
         Some(mine) => grounds_for(alloc, pool, mine, inputs),
@@ -107,8 +113,10 @@ fn grounds_for(
     mine: &Replay,
     inputs: &Inputs,
 ) -> Result<Option<Vec<Ground>>, AllocError>
-    ensures { IfOk result (λ found. IfSome found (λ grounds.
+    ensures grounds { IfOk result (λ found. IfSome found (λ grounds.
         AreGroundsIn pool.now mine.now inputs.now grounds.items)) }
+    ensures found { IfOk result (λ found.
+        HasGroundsIn pool.now mine.now inputs.now → IsSome found) }
 {
     let mut grounds = Vec::new(alloc);
     for place in 0..mine.run.guesses.len() {
@@ -129,8 +137,10 @@ fn ground_of(
     number: usize,
 ) -> Result<Option<Ground>, AllocError>
     requires { number < length mine.now.run.guesses.items }
-    ensures { IfOk result (λ found. IfSome found
+    ensures ground { IfOk result (λ found. IfSome found
         (IsGroundIn pool.now mine.now inputs.now number)) }
+    ensures found { IfOk result (λ found.
+        HasGroundIn pool.now mine.now inputs.now number → IsSome found) }
 {
     let guess = mine.run.guesses[number];
     let Some(partners) = mine.partners.get(number) else {
@@ -151,7 +161,8 @@ fn ground_of(
 
 // The place of the operation that was kept at a guess.
 fn place_of(mine: &Replay, guess: Guess) -> Option<Place>
-    ensures { IfSome result (IsPlaceAt mine.now guess) }
+    ensures place { IfSome result (IsPlaceAt mine.now guess) }
+    ensures found { HasPlaceAt mine.now guess → IsSome result }
 {
     let passed = guess.event.checked_sub(1)?;
     match mine.kept.get(passed as usize) {
@@ -170,7 +181,9 @@ fn others_in(
     inputs: &Inputs,
     others: Others<usize>,
 ) -> Result<Option<Others<Run>>, AllocError>
-    ensures { IfOk result (λ found. IfSome found (AreRunsAt pool.now inputs.now others)) }
+    ensures runs { IfOk result (λ found. IfSome found (AreRunsAt pool.now inputs.now others)) }
+    ensures found { IfOk result (λ found.
+        AllOthers (IsAlikeAt pool.now inputs.now) others → IsSome found) }
 {
     match others {
         Others::One(number) => match other_in(alloc, pool, inputs, number)? {
@@ -188,8 +201,10 @@ fn two_in(
     first: usize,
     second: usize,
 ) -> Result<Option<Others<Run>>, AllocError>
-    ensures { IfOk result (λ found. IfSome found
+    ensures runs { IfOk result (λ found. IfSome found
         (AreRunsAt pool.now inputs.now (others.Two first second))) }
+    ensures found { IfOk result (λ found. IsAlikeAt pool.now inputs.now first
+        → IsAlikeAt pool.now inputs.now second → IsSome found) }
 {
     let Some(one) = other_in(alloc, pool, inputs, first)? else {
         return Ok(None);
@@ -207,7 +222,10 @@ fn other_in(
     inputs: &Inputs,
     number: usize,
 ) -> Result<Option<Run>, AllocError>
-    ensures { IfOk result (λ found. IfSome found (IsListedRunAt pool.now inputs.now number)) }
+    ensures run { IfOk result (λ found. IfSome found
+        (IsListedRunAt pool.now inputs.now number)) }
+    ensures found { IfOk result (λ found. IsAlikeAt pool.now inputs.now number
+        → IsSome found) }
 {
     match replay_at(pool, number) {
         Some(replay) => {
@@ -222,7 +240,8 @@ fn other_in(
 }
 
 fn replay_at(pool: &[Replay], number: usize) -> Option<&Replay>
-    ensures { IfSome result (λ replay. slice_get pool.now number ≡ Some replay.now) }
+    ensures there { IfSome result (λ replay. slice_get pool.now number ≡ Some replay.now) }
+    ensures found { number < length pool.now → IsSome result }
 {
     pool.get(number)
 }

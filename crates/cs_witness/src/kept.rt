@@ -1,11 +1,12 @@
 //! What the judge keeps of a replay.
-ghost use Rattle.std.specs.Prelude.{IfOk};
+ghost use Rattle.std.specs.Prelude.{◌≡◌, map, IfOk};
 ghost use Rattle.cs_ast.specs.TypedProgram.{typed_program};
-ghost use Rattle.cs_findings.specs.Runs.{run_budgets};
+ghost use Rattle.cs_findings.specs.Runs.{run_of, run_budgets};
 ghost use Rattle.cs_judge.specs.Pools.{IsKept};
 ghost use Rattle.cs_witness.specs.Entries.{CanRun};
 ghost use Rattle.cs_run_log.specs.LogView.{pending_of};
-ghost use Rattle.cs_witness.specs.Keeping.{AreKeptOf, IsKeptAt};
+ghost use Rattle.cs_witness.specs.Keeping.{noted};
+ghost use Rattle.cs_witness.specs.Pooling.{IsReplayUpTo};
 
 use crate::entry::Entry;
 use crate::replaying::replayed;
@@ -16,7 +17,7 @@ use std::alloc::{AllocError, Global};
 
 /// What was pending at the events of a run, as the judge keeps it.
 pub fn kept_of(alloc: Global, pending: &[Pending]) -> Result<Vec<Kept>, AllocError>
-    ensures { IfOk result (λ kept. AreKeptOf pending.now kept.items) }
+    ensures { IfOk result (λ kept. kept.items ≡ map noted (map pending_of pending.now)) }
 {
     let mut kept = Vec::new(alloc);
     for one in pending {
@@ -26,7 +27,7 @@ pub fn kept_of(alloc: Global, pending: &[Pending]) -> Result<Vec<Kept>, AllocErr
 }
 
 fn kept_at(pending: &Pending) -> Kept
-    ensures { IsKeptAt (pending_of pending.now) result }
+    ensures { result ≡ noted (pending_of pending.now) }
 {
     match pending {
         Pending::Operates(place, operation) => Kept::Operates(*place, *operation),
@@ -43,8 +44,10 @@ pub fn replay_up_to(
     event: u64,
 ) -> Result<Replay, AllocError>
     requires { CanRun entry.now }
-    ensures { IfOk result (IsKept (typed_program entry.now.program.now) entry.now.function
+    ensures kept { IfOk result (IsKept (typed_program entry.now.program.now) entry.now.function
         (run_budgets entry.now.budgets)) }
+    ensures replayed { IfOk result (IsReplayUpTo entry.now event) }
+    ensures run { IfOk result (λ replay. run_of replay.run ≡ run_of run) }
 {
     let events = event.min(entry.budgets.events);
     let replayed = replayed(alloc, entry, &run.inputs, run.guesses.as_slice(), events)?;

@@ -1,6 +1,7 @@
 //! The inputs that a run lists: those of the entry's parameters and of the paths that it reads.
-ghost use Rattle.std.specs.Prelude.{◌≡◌, [], ◌∷◌, map, IfOk, OnOk, IsTrue};
+ghost use Rattle.std.specs.Prelude.{◌≡◌, ◌↔◌, [], ◌∷◌, map, Contains, IfOk, OnOk, IsTrue};
 ghost use Rattle.std.specs.Map.{keys_of};
+ghost use Rattle.cs_inputs.specs.Inputs.{IsInOrder};
 ghost use Rattle.cs_ast.specs.TypedProgram.{typed_program, routine, variable};
 ghost use Rattle.cs_meaning.specs.Machine.{routine_of};
 ghost use Rattle.cs_meaning.specs.Steps.{parameters_of, parameter_path};
@@ -30,29 +31,28 @@ pub fn listed(
     Ok(inputs)
 }
 
-/// Whether inputs list no path that others don't.
-pub fn lists_no_other(inputs: &Inputs, others: &Inputs) -> bool {
-    let listed = others.list();
+/// Whether inputs list a path.
+pub fn lists(inputs: &Inputs, path: &Path) -> bool
+    ensures listed { IsTrue result ↔ Contains (keys_of inputs.now) path.now }
+    ensures in_order { IsInOrder inputs.now }
+{
     for entry in inputs.list() {
-        if listed
-            .binary_search_by(|other| other.0.order(&entry.0))
-            .is_err()
-        {
-            return false;
+        if same_path(&entry.0, path) {
+            return true;
         }
     }
-    true
+    false
 }
 
 /// Whether two inputs list the same paths.
 pub fn same_paths(one: &Inputs, other: &Inputs) -> bool
-    ensures { IsTrue result → keys_of one.now ≡ keys_of other.now }
+    ensures { IsTrue result ↔ (keys_of one.now ≡ keys_of other.now) }
 {
     same_keys(one.list(), other.list())
 }
 
 fn same_keys(one: &[(Path, i128)], other: &[(Path, i128)]) -> bool
-    ensures { IsTrue result → keys_of one.now ≡ keys_of other.now }
+    ensures { IsTrue result ↔ (keys_of one.now ≡ keys_of other.now) }
 {
     if one.len() != other.len() {
         return false;
@@ -66,7 +66,7 @@ fn same_keys(one: &[(Path, i128)], other: &[(Path, i128)]) -> bool
 }
 
 fn same_path(one: &Path, other: &Path) -> bool
-    ensures { IsTrue result → one.now ≡ other.now }
+    ensures { IsTrue result ↔ (one.now ≡ other.now) }
 {
     match one.order(other) {
         Ordering::Equal => true,

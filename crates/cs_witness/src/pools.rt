@@ -1,53 +1,56 @@
 //! The pool of a suspect: its run, and the runs of its guesses' corners.
-ghost use Rattle.std.specs.Prelude.{◌≡◌, OnOk, IfOk};
+ghost use Rattle.std.specs.Prelude.{◌≡◌, OnOk, IfOk, map, All, false};
+ghost use Rattle.cs_findings.specs.Runs.{run_of};
+ghost use Rattle.cs_judge.specs.Proving.{FindAllProofs};
 ghost use Rattle.cs_witness.specs.Entries.{CanRun};
 ghost use Rattle.cs_witness.specs.Keeping.{Widens, KeepsRuns, bare};
+ghost use Rattle.cs_witness.specs.Pooling.{AddsCorners, AddsAllCorners, HaveProofs, IsFound, AreFound, AreNamed, IsRowAt};
 
 use crate::copies::copy_run;
 use crate::corners::corners_of;
 use crate::entry::Entry;
 use crate::kept::replay_up_to;
 use cs_findings::{Others, Run};
-use cs_judge::{Partners, Replay, Stretch, partners, shown_partners};
+use cs_judge::{Partners, Replay, partners};
 use cs_suspect_types::SuspectedGuess;
-use cs_types::DataModel;
 use std::alloc::{AllocError, Global};
 
 // How many runs a pool takes beside the shown run and its corners, and how often these are looked for.
 const MOST_FURTHER_RUNS: usize = 64;
 
-/// Adds the runs of the corners of each guess of a run to a pool: which runs of the pool belong to which guess.
+/// Adds the runs of the corners of each guess of a run to a pool.
 pub fn add_all_corners(
     alloc: Global,
     entry: &Entry,
     pool: &mut Vec<Replay>,
     run: &Run,
     guesses: &[SuspectedGuess],
-) -> Result<Vec<Stretch>, AllocError>
+) -> Result<(), AllocError>
     requires { CanRun entry.now }
-    ensures { IfOk result (λ _. Widens entry.now pool.old.items pool.new.items) }
+    ensures widens { OnOk result (Widens entry.now pool.old.items pool.new.items) }
+    ensures corners { OnOk result (AddsAllCorners entry.now (run_of run.now) guesses.now
+        pool.old.items pool.new.items) }
 {
-    let mut corners = Vec::new(alloc);
     for guess in guesses {
-        let from = pool.len();
         add_corners(alloc, entry, pool, run, guess)?;
-        corners.push(Stretch {
-            from,
-            to: pool.len(),
-        })?;
     }
-    Ok(corners)
+    Ok(())
 }
 
-/// Adds corners of the guesses of other runs of the pool that find no partners there.
+/// Adds corners of the guesses of other runs of the pool that find no partners there, and gives the partners that are found then. Nothing
+/// is added where each guess has partners in the pool.
 pub fn add_further_corners(
     alloc: Global,
     entry: &Entry,
     pool: &mut Vec<Replay>,
     guesses: &[SuspectedGuess],
-) -> Result<(), AllocError>
+) -> Result<Vec<Vec<Partners>>, AllocError>
     requires { CanRun entry.now }
-    ensures { OnOk result (Widens entry.now pool.old.items pool.new.items) }
+    ensures widens { IfOk result (λ _. Widens entry.now pool.old.items pool.new.items) }
+    ensures none { IfOk result (λ _. HaveProofs entry.now.program.now.model pool.old.items
+        → pool.new.items ≡ pool.old.items) }
+    ensures found { IfOk result (λ found. FindAllProofs entry.now.program.now.model
+        pool.new.items found.items) }
 {
     let most = pool.len().saturating_add(MOST_FURTHER_RUNS);
     for _round in 0..MOST_FURTHER_RUNS {
@@ -55,36 +58,31 @@ pub fn add_further_corners(
         let before = pool.len();
         add_missing(alloc, entry, pool, guesses, found.as_slice(), most)?;
         if pool.len() == before {
-            return Ok(());
+            return Ok(found);
         }
     }
-    Ok(())
+    partners(alloc, entry.program.model, pool.as_slice())
 }
 
-/// Names partners for all guesses of the pool: of the shown run among the corners of the guess, of the others among all runs.
+/// Names the partners that were found for all guesses of the pool.
 pub fn name_partners(
     alloc: Global,
-    model: DataModel,
     pool: &mut Vec<Replay>,
-    corners: &[Stretch],
+    found: &[Vec<Partners>],
 ) -> Result<(), AllocError>
-    ensures { OnOk result (KeepsRuns pool.old.items pool.new.items) }
+    ensures runs { OnOk result (KeepsRuns pool.old.items pool.new.items) }
+    ensures named { OnOk result (AreNamed found.now pool.new.items) }
 {
-    let found = partners(alloc, model, pool.as_slice())?;
-    let shown = shown_partners(alloc, model, pool.as_slice(), corners)?;
     for number in 0..pool.len() {
-        let named = if number == 0 {
-            shown.as_slice()
-        } else {
-            row_at(found.as_slice(), number)
-        };
-        name(alloc, &mut pool[number], named)?;
+        name(alloc, &mut pool[number], row_at(found, number))?;
     }
     Ok(())
 }
 
 // The partners that were found for a run.
-fn row_at(found: &[Vec<Partners>], number: usize) -> &[Partners] {
+fn row_at(found: &[Vec<Partners>], number: usize) -> &[Partners]
+    ensures { IsRowAt found.now number result.now }
+{
     match found.get(number) {
         Some(row) => row.as_slice(),
         None => &[],
@@ -93,7 +91,8 @@ fn row_at(found: &[Vec<Partners>], number: usize) -> &[Partners] {
 
 // Names the partners of a run's guesses.
 fn name(alloc: Global, replay: &mut Replay, named: &[Partners]) -> Result<(), AllocError>
-    ensures { bare replay.new ≡ bare replay.old }
+    ensures same { bare replay.new ≡ bare replay.old }
+    ensures named { OnOk result (replay.new.partners.items ≡ named.now) }
 {
     replay.partners = Vec::from_slice(alloc, named)?;
     Ok(())
@@ -108,7 +107,9 @@ fn add_corners(
     guess: &SuspectedGuess,
 ) -> Result<(), AllocError>
     requires { CanRun entry.now }
-    ensures { OnOk result (Widens entry.now pool.old.items pool.new.items) }
+    ensures widens { OnOk result (Widens entry.now pool.old.items pool.new.items) }
+    ensures corners { OnOk result (AddsCorners entry.now (run_of run.now) guess.now
+        pool.old.items pool.new.items) }
 {
     for corner in corners_of(alloc, run, guess)? {
         let replay = replay_up_to(alloc, entry, corner, guess.guess.event)?;
@@ -127,7 +128,9 @@ fn add_missing(
     most: usize,
 ) -> Result<(), AllocError>
     requires { CanRun entry.now }
-    ensures { OnOk result (Widens entry.now pool.old.items pool.new.items) }
+    ensures widens { OnOk result (Widens entry.now pool.old.items pool.new.items) }
+    ensures none { OnOk result (AreFound found.now
+        → pool.new.items ≡ pool.old.items) }
 {
     for number in 1..found.len() {
         add_missing_of(
@@ -154,7 +157,8 @@ fn add_missing_of(
     most: usize,
 ) -> Result<(), AllocError>
     requires { CanRun entry.now }
-    ensures { OnOk result (Widens entry.now pool.old.items pool.new.items) }
+    ensures widens { OnOk result (Widens entry.now pool.old.items pool.new.items) }
+    ensures none { OnOk result (All IsFound row.now → pool.new.items ≡ pool.old.items) }
 {
     for (guess, partners) in guesses.iter().zip(row) {
         if is_missing(partners) && pool.len() < most {
@@ -190,7 +194,9 @@ fn run_at(alloc: Global, pool: &[Replay], number: usize) -> Result<Option<Run>, 
 }
 
 // Whether no partners were found.
-fn is_missing(partners: &Partners) -> bool {
+fn is_missing(partners: &Partners) -> bool
+    ensures { IsFound partners.now → result ≡ false }
+{
     match partners.others {
         Others::One(number) => number == usize::MAX,
         Others::Two(_, _) => false,

@@ -1,13 +1,15 @@
 //! Suspects that are shown: the run ends as suspected, and each of its guesses is real.
-ghost use Rattle.std.specs.Prelude.{◌≡◌, ◌<◌, ◌≤◌, [], length, All, IfOk, IfSome, IfNone, IsTrue};
+ghost use Rattle.std.specs.Prelude.{◌≡◌, ◌↔◌, ◌<◌, ◌≤◌, [], map, length, All, IfOk, IfSome, IfNone, IsSome, IsTrue};
+ghost use Rattle.cs_findings.specs.Runs.{run_of};
 ghost use Rattle.cs_findings.specs.GoodFindings.{Ascend, IsFinding};
 ghost use Rattle.cs_witness.specs.Entries.{CanRun, Gives};
-ghost use Rattle.cs_witness.specs.Listing.{IsListed};
-ghost use Rattle.cs_witness.specs.Witnesses.{IsShownOf, IsElsewhereOf};
+ghost use Rattle.cs_witness.specs.Listing.{IsListed, AgreesWith};
+ghost use Rattle.cs_witness.specs.Pooling.{IsEvidentRun};
+ghost use Rattle.cs_witness.specs.Witnesses.{IsShownOf, IsElsewhereOf, IsEvidentOf};
 
 use crate::entry::Entry;
 use crate::grounds::grounds_of;
-use crate::listing::{listed, lists_no_other};
+use crate::listing::listed;
 use crate::order::is_outcome;
 use crate::replaying::replayed;
 use cs_events::{Guess, Outcome};
@@ -25,18 +27,20 @@ pub struct Listed {
 }
 
 /// The finding of a suspect's run, whatever it ends in: with the grounds of its guesses, if all are shown to be real. None where the run
-/// doesn't end as suspected after so many events, lists paths that it doesn't read, or lists guesses out of order. No other inputs are
-/// tried.
+/// doesn't end as suspected after so many events, or lists guesses out of order. Paths that a suspect lists and its run doesn't read
+/// change nothing, and the finding doesn't list them. No other inputs are tried.
 pub fn shown(alloc: Global, entry: &Entry, suspect: &Suspect) -> Result<Option<Finding>, AllocError>
     requires { CanRun entry.now }
     ensures shown { IfOk result (λ found. IfSome found
         (IsShownOf entry.now)) }
     ensures so { IfOk result (λ found. IfSome found (λ finding.
         IsFinding suspect.now.what → finding.what ≡ suspect.now.what)) }
+    ensures found { IfOk result (λ found. IsFinding suspect.now.what
+        → IsEvidentOf entry.now suspect.now → IsSome found) }
 {
     let guesses = guesses_of(alloc, &suspect.guesses)?;
     let listed = listed_run(alloc, entry, &suspect.inputs, guesses)?;
-    if !is_as_suspected(suspect, &listed) {
+    if !is_as_suspected(suspect, &listed.replayed) {
         return Ok(None);
     }
     with_grounds(alloc, entry, &suspect.guesses, listed)
@@ -85,6 +89,9 @@ fn with_grounds(
     ensures shown { IfOk result (λ found. IfSome found (IsShownOf entry.now)) }
     ensures so { IfOk result (λ found. IfSome found (λ finding.
         finding.what ≡ listed.replayed.outcome)) }
+    ensures found { IfOk result (λ found.
+        All (λ g. g.event ≤ length listed.replayed.log.events.items) listed.run.guesses.items
+        → IsEvidentRun entry.now guesses.now (run_of listed.run) → IsSome found) }
 {
     if !are_in_order(
         listed.run.guesses.as_slice(),
@@ -112,6 +119,7 @@ fn listed_run(
 ) -> Result<Listed, AllocError>
     requires { CanRun entry.now }
     ensures listed { IfOk result (IsListed entry.now) }
+    ensures agrees { IfOk result (λ listed. AgreesWith given.now listed.run.inputs) }
     ensures guesses { IfOk result (λ listed. listed.run.guesses.items ≡ guesses.items) }
     ensures same { IfOk result (λ listed. Gives entry.now
         (record { inputs = given.now; guesses = guesses.items }) listed.replayed) }
@@ -131,7 +139,9 @@ fn listed_run(
 }
 
 // The guesses of a suspect.
-fn guesses_of(alloc: Global, suspected: &[SuspectedGuess]) -> Result<Vec<Guess>, AllocError> {
+fn guesses_of(alloc: Global, suspected: &[SuspectedGuess]) -> Result<Vec<Guess>, AllocError>
+    ensures { IfOk result (λ made. made.items ≡ map (λ one. one.guess) suspected.now) }
+{
     let mut guesses = Vec::new(alloc);
     for one in suspected {
         guesses.push(one.guess)?;
@@ -139,19 +149,19 @@ fn guesses_of(alloc: Global, suspected: &[SuspectedGuess]) -> Result<Vec<Guess>,
     Ok(guesses)
 }
 
-// Whether a run ends as suspected after so many events, and reads all that the suspect lists.
-fn is_as_suspected(suspect: &Suspect, listed: &Listed) -> bool
-    ensures { IsTrue result → IsFinding suspect.now.what
-        → listed.now.replayed.outcome ≡ suspect.now.what }
+// Whether a run ends as suspected, after so many events.
+fn is_as_suspected(suspect: &Suspect, replayed: &Replayed) -> bool
+    ensures so { IsTrue result → IsFinding suspect.now.what
+        → replayed.now.outcome ≡ suspect.now.what }
+    ensures yes { IsFinding suspect.now.what → replayed.now.outcome ≡ suspect.now.what
+        → length replayed.now.log.events.items ≡ suspect.now.events → IsTrue result }
 {
-    ends_so(listed.replayed.outcome, suspect.what)
-        && listed.replayed.log.events.len() as u64 == suspect.events
-        && lists_no_other(&suspect.inputs, &listed.run.inputs)
+    ends_so(replayed.outcome, suspect.what) && replayed.log.events.len() as u64 == suspect.events
 }
 
 // Whether an outcome is the suspected one. What an entry returns isn't suspected.
 fn ends_so(outcome: Outcome, suspected: Outcome) -> bool
-    ensures { IsTrue result → IsFinding suspected → outcome ≡ suspected }
+    ensures { IsFinding suspected → (IsTrue result ↔ (outcome ≡ suspected)) }
 {
     match suspected {
         Outcome::Done(_) => match outcome {
@@ -168,6 +178,8 @@ fn ends_so(outcome: Outcome, suspected: Outcome) -> bool
 fn are_in_order(guesses: &[Guess], events: u64) -> bool
     ensures ascending { IsTrue result → Ascend guesses.now }
     ensures passed { IsTrue result → All (λ g. g.event ≤ events) guesses.now }
+    ensures yes { Ascend guesses.now → All (λ g. 0 < g.event) guesses.now
+        → All (λ g. g.event ≤ events) guesses.now → IsTrue result }
 {
     let mut last = 0;
     for guess in guesses {
@@ -183,6 +195,7 @@ fn are_in_order(guesses: &[Guess], events: u64) -> bool
 fn stands_after(guess: &Guess, earlier: u64, last: u64) -> bool
     ensures after { IsTrue result → earlier < guess.now.event }
     ensures within { IsTrue result → guess.now.event ≤ last }
+    ensures yes { earlier < guess.now.event → guess.now.event ≤ last → IsTrue result }
 {
     earlier < guess.event && guess.event <= last
 }

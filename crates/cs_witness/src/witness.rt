@@ -1,11 +1,15 @@
 //! The result of an entry.
-ghost use Rattle.std.specs.Prelude.{◌≡◌, ◌≤◌, [], length, IfOk, IfSome, OnOk};
+ghost use Rattle.std.specs.Prelude.{◌≡◌, ◌≤◌, [], length, Contains, Some, slice_get, IfOk, IfSome, IsSome, OnOk};
 ghost use Rattle.std.specs.List.Sorted.{IsSearchInRange};
 ghost use Rattle.cs_ast.specs.TypedProgram.{typed_program};
+ghost use Rattle.cs_findings.specs.EveryRun.{outcomes_of};
 ghost use Rattle.cs_findings.specs.GoodFindings.{IsFinding};
 ghost use Rattle.cs_findings.specs.GoodEntries.{IsFault, IsOver, IsGoodEntry, AreListed, AreCutsListed, verdict_of};
 ghost use Rattle.cs_witness.specs.Entries.{CanRun};
 ghost use Rattle.cs_witness.specs.Witnesses.{IsShownOf, IsGoodOf, AreGoodReports, AreGoodOvers, BelongsAt, IsPlaceIn};
+ghost use Rattle.cs_witness.specs.Witnesses.{IsEvidentOf, IsIn, KeepsListed, ListsEvident};
+ghost use Rattle.cs_witness.specs.Ranks.{AreRanked};
+ghost use Rattle.cs_suspect_types.specs.declared.suspect.Suspect as suspected;
 
 use crate::entry::Entry;
 use crate::grounds::guesses_nothing;
@@ -55,19 +59,21 @@ pub fn result(
         (typed_program entry.now.program.now) entry.now.budgets witnessed.result) }
     ensures entry { IfOk result (λ witnessed. witnessed.result.entry ≡ entry.now.function) }
     ensures cuts { IfOk result (λ witnessed. witnessed.result.cuts.items ≡ cuts.items) }
+    ensures found { IfOk result (λ witnessed.
+        ListsEvident entry.now suspects.now witnessed.result) }
 {
     let ranks = ranked(alloc, suspects)?;
     let mut findings = Findings::new(alloc);
     for rank in &ranks {
-        if let Some(suspect) = suspects.get(rank.number) {
-            findings.take_in(alloc, entry, suspect)?;
-        }
+        findings.take_numbered(alloc, entry, suspects, rank.number)?;
     }
     Ok(findings.into_result(entry, cuts))
 }
 
 // The numbers of the suspects, those first that are looked at first.
-fn ranked(alloc: Global, suspects: &[Suspect]) -> Result<Vec<Rank>, AllocError> {
+fn ranked(alloc: Global, suspects: &[Suspect]) -> Result<Vec<Rank>, AllocError>
+    ensures { IfOk result (λ ranks. AreRanked (length suspects.now) ranks.items) }
+{
     let mut ranks = Vec::new(alloc);
     for (number, suspect) in suspects.iter().enumerate() {
         ranks.push(Rank {
@@ -92,6 +98,34 @@ impl Findings {
         }
     }
 
+    // The suspect with a number is looked at.
+    fn take_numbered(
+        &mut self,
+        alloc: Global,
+        entry: &Entry,
+        suspects: &[Suspect],
+        number: usize,
+    ) -> Result<(), AllocError>
+        requires runs { CanRun entry.now }
+        requires reports { AreGoodReports entry.now self.old.reports.items }
+        requires overs { AreGoodOvers entry.now self.old.overs.items }
+        ensures reports { OnOk result (AreGoodReports entry.now self.new.reports.items) }
+        ensures overs { OnOk result (AreGoodOvers entry.now self.new.overs.items) }
+        ensures reports_kept { OnOk result (KeepsListed self.old.reports.items
+            self.new.reports.items) }
+        ensures overs_kept { OnOk result (KeepsListed self.old.overs.items
+            self.new.overs.items) }
+        ensures found { OnOk result ((suspect : suspected.Suspect)
+            → slice_get suspects.now number ≡ Some suspect → IsFinding suspect.what
+            → IsEvidentOf entry.now suspect
+            → IsIn suspect.what self.new.reports.items self.new.overs.items) }
+    {
+        match suspects.get(number) {
+            Some(suspect) => self.take_in(alloc, entry, suspect),
+            None => Ok(()),
+        }
+    }
+
     // A suspect is looked at, unless its outcome is listed already.
     fn take_in(&mut self, alloc: Global, entry: &Entry, suspect: &Suspect) -> Result<(), AllocError>
         requires runs { CanRun entry.now }
@@ -99,6 +133,13 @@ impl Findings {
         requires overs { AreGoodOvers entry.now self.old.overs.items }
         ensures reports { OnOk result (AreGoodReports entry.now self.new.reports.items) }
         ensures overs { OnOk result (AreGoodOvers entry.now self.new.overs.items) }
+        ensures reports_kept { OnOk result (KeepsListed self.old.reports.items
+            self.new.reports.items) }
+        ensures overs_kept { OnOk result (KeepsListed self.old.overs.items
+            self.new.overs.items) }
+        ensures found { OnOk result (IsFinding suspect.now.what
+            → IsEvidentOf entry.now suspect.now
+            → IsIn suspect.now.what self.new.reports.items self.new.overs.items) }
     {
         match suspect.what {
             Outcome::Done(_) => self.dropped = self.dropped.saturating_add(1),
@@ -128,6 +169,8 @@ impl Findings {
         requires reports { AreGoodReports entry.now self.reports.items }
         requires overs { AreGoodOvers entry.now self.overs.items }
         requires cuts { AreCutsListed cuts.items }
+        ensures reports { result.result.reports.items ≡ self.reports.items }
+        ensures overs { result.result.overs.items ≡ self.overs.items }
         ensures good { IsGoodEntry (typed_program entry.now.program.now) entry.now.budgets
             result.result }
         ensures entry { result.result.entry ≡ entry.now.function }
@@ -176,6 +219,13 @@ fn list_if_shown(
     ensures overs { OnOk result (IsOver suspect.now.what
         → AreGoodOvers entry.now findings.old.items
         → AreGoodOvers entry.now findings.new.items) }
+    ensures kept { OnOk result (KeepsListed findings.old.items findings.new.items) }
+    ensures found_reports { OnOk result (IsFault suspect.now.what
+        → AreGoodReports entry.now findings.old.items → IsEvidentOf entry.now suspect.now
+        → Contains (outcomes_of findings.new.items) suspect.now.what) }
+    ensures found_overs { OnOk result (IsOver suspect.now.what
+        → AreGoodOvers entry.now findings.old.items → IsEvidentOf entry.now suspect.now
+        → Contains (outcomes_of findings.new.items) suspect.now.what) }
 {
     match place_in(findings.as_slice(), suspect.what) {
         Ok(_) => Ok(true),
@@ -201,6 +251,9 @@ fn list_at(
     ensures overs { OnOk result (IsOver suspect.now.what
         → AreGoodOvers entry.now findings.old.items
         → AreGoodOvers entry.now findings.new.items) }
+    ensures kept { OnOk result (KeepsListed findings.old.items findings.new.items) }
+    ensures found { OnOk result (IsEvidentOf entry.now suspect.now
+        → Contains (outcomes_of findings.new.items) suspect.now.what) }
 {
     match finding_of(alloc, entry, suspect)? {
         Some(finding) => {
@@ -231,6 +284,7 @@ fn finding_of(
     ensures good { IfOk result (λ found. IfSome found (IsGoodOf entry.now)) }
     ensures so { IfOk result (λ found. IfSome found (λ finding.
         finding.what ≡ suspect.now.what)) }
+    ensures found { IfOk result (λ found. IsEvidentOf entry.now suspect.now → IsSome found) }
 {
     match shown(alloc, entry, suspect)? {
         Some(finding) => {

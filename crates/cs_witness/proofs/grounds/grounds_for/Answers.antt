@@ -9,7 +9,7 @@ pub loop-place-preserved : goal.loop-place-preserved
 loop-place-preserved c =
     let grounds = c.loop-place.grounds.items in
     let Is : ℕ → Ground → Type 0 = IsGroundIn c.args.pool.now c.args.mine.now c.args.inputs.now in
-    let here : Is c.loop-place.place c.in-Some.ground = rw c.in-Some.is at c.in_ok-ground.ensures in
+    let here : Is c.loop-place.place c.in-Some.ground = rw c.in-Some.is at c.in_ok-ground.ensures.ground in
     let one : Is (length grounds) c.in-Some.ground = subst (λ (n : ℕ). Is n c.in-Some.ground) (sym c.loop-place.invariant.count) here in
     let pushed = c.in_ok-push-in-Some.ensures.items in
     record {

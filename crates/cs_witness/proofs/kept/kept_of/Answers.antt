@@ -1,20 +1,25 @@
-use Rattle.std.proofs.Common.{◌≡◌, ◌<◌, ◌≤◌, length, map, take, subst, arith}
-use Rattle.std.proofs.lemmas.List.{take_all}
+use Rattle.std.proofs.Common.{◌<◌, ◌≤◌, ◌++◌, ◌∷◌, [], List, length, map, take, sym, ap, ◌∙◌, arith}
+use Rattle.std.proofs.lemmas.List.{take_all, take_more, map-append}
+use Rattle.cs_run_log.specs.declared.logs.Pending.{Pending}
 use Rattle.cs_run_log.specs.LogView.{pending_of}
-use Rattle.cs_findings.specs.GoodFindings.{IsEach}
-use Rattle.cs_witness.specs.Keeping.{IsKeptAt}
-use Rattle.cs_witness.proofs.Keepings.{kept_more_events, kept_places}
+use Rattle.cs_witness.specs.Keeping.{noted}
 use Rattle.cs_witness.proofs.kept.kept_of.Goals as goal
 
 pub loop-one-preserved : goal.loop-one-preserved
 loop-one-preserved c =
-    let below : c.loop-one.one-index < length c.args.pending.now = omega arith in
-    kept_more_events c.args.pending.now c.loop-one.one-index c.one-item.result c.loop-one.kept.items c.push.new.self.items c.kept_at.result below
-    c.one-item.is c.loop-one.invariant c.in_ok-push.ensures.items c.kept_at.ensures
+    let log = c.args.pending.now in
+    let i = c.loop-one.one-index in
+    let one = c.one-item.result in
+    let below : i < length log = omega arith in
+    c.in_ok-push.ensures.items
+    ∙ (λ j. c.loop-one.invariant j ++ c.kept_at.ensures j ∷ [])
+    ∙ sym (map-append noted (map pending_of (take i log)) (pending_of one ∷ []))
+    ∙ ap (map noted) (sym (map-append pending_of (take i log) (one ∷ [])))
+    ∙ ap (λ (l : List Pending). map noted (map pending_of l))
+    (sym (take_more log i one below ∙ ap (λ (p : Pending). take i log ++ p ∷ []) (sym c.one-item.is)))
 
 pub returns : goal.returns
-returns c passed at operation noted =
-    let none : length c.args.pending.now ≤ c.loop-one.one-index = omega arith in
-    let all : take c.loop-one.one-index c.args.pending.now ≡ c.args.pending.now = take_all c.loop-one.one-index c.args.pending.now none in
-    kept_places (map pending_of c.args.pending.now) c.loop-one.kept.items
-    (subst (λ l. IsEach IsKeptAt (map pending_of l) c.loop-one.kept.items) all c.loop-one.invariant) passed at operation noted
+returns c =
+    let log = c.args.pending.now in
+    let none : length log ≤ c.loop-one.one-index = omega arith in
+    c.loop-one.invariant ∙ ap (λ (l : List Pending). map noted (map pending_of l)) (take_all c.loop-one.one-index log none)
