@@ -43,6 +43,26 @@ complete dropped 0
 report divide <input>:1:23 confirmed
   input x = 0
 
+int f(int x){return 10/x;}
+divide 1:23 0 a=1 x=0
+--
+complete dropped 0
+report divide <input>:1:23 confirmed
+  input x = 0
+
+int f(int z,int x,int y){if(z==4){if(x*y==7){if(x==2)return 1/0;}}return 0;}
+divide 1:62 7 y=0 z=4 x=2 a=1 guess 3 7 x=-2147483648..2147483647 y=-2147483648..2147483647
+--
+complete dropped 0
+report divide <input>:1:62 assumed
+  input x = 2
+  input y = 0
+  input z = 4
+  guess 3 = 7 at <input>:1:39
+    other 1 x = -2147483648
+    other 1 y = -2147483648
+    other 1 z = 4
+
 int f(int x,int y){if(x<y){if(y<x)return 1/0;}return 0;}
 divide 1:43 4 x=0 y=0 guess 1 1 x=-2147483648..2147483647 y=-2147483648..2147483647 guess 3 1 y=-2147483648..2147483647 x=-2147483648..2147483647
 --
