@@ -2,3 +2,13 @@ mod EveryRun
 mod PrefixTrees
 mod RunsOfRows
 mod CutNodes
+mod InputFree
+mod PlainMemory
+mod ReadsNothing
+mod SameParameters
+mod ChangedNumbers
+mod GuessOrder
+mod CornerMoves
+mod SameOperands
+mod EvidentGuesses
+mod EvidentSuspects
