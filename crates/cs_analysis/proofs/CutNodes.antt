@@ -44,7 +44,7 @@ use Rattle.cs_findings.specs.Runs.{run_budgets}
 use Rattle.cs_findings.specs.EveryRun.{HasFinding}
 use Rattle.cs_findings.specs.OutOfNodes.{HasLonger, PassesAlong, IsOutOfNodes}
 use Rattle.cs_findings.specs.RealGuesses.{AreReal}
-use Rattle.cs_analysis.specs.Whole.{IsAllOf}
+use Rattle.cs_analysis.proofs.AllShown.{IsAllOf}
 use Rattle.cs_analysis.proofs.PrefixTrees.{has_child, prefix_tree}
 use Rattle.cs_analysis.proofs.RunsOfRows.{passes_along}
 

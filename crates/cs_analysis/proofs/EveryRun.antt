@@ -28,8 +28,9 @@ use Rattle.cs_coverage.specs.Positions.{CoversPositions}
 use Rattle.cs_cfg.specs.IntegerCode.{HasIntegerCode}
 use Rattle.cs_integer_functions.specs.IntegerFunctions.{IsIntegerFunction}
 use Rattle.cs_integer_functions.proofs.Parameters.{integer_parameters, has_body}
+use Rattle.cs_guesses.specs.Real.{IsLoweredEntry}
 use Rattle.cs_findings.specs.Runs.{run_budgets}
-use Rattle.cs_analysis.specs.Whole.{IsAllOf}
+use Rattle.cs_analysis.proofs.AllShown.{IsAllOf}
 use Rattle.cs_findings.specs.EveryRun.{HasFinding, ReportsEveryRun}
 
 no_cut : (cut : Cut) → Contains [] cut → ⊥
@@ -62,6 +63,12 @@ pub integer_entry : (code : Code) (program : TypedProgram) (function : ℕ) → 
     → HasIntegerCode code program function → IsIntegerEntry code program function
 integer_entry code program function is has =
     record { integers = has; parameters = λ number v there. integer_parameters program function number v is there }
+
+pub lowered_entry : (code : Code) (program : TypedProgram) (function : ℕ) → IsLowered code program → IsIntegerFunction program function
+    → IsLoweredEntry code program function
+lowered_entry code program function lowered is =
+    let body = has_body program function is in
+    record { lowered = lowered; body = body.0; has_body = body.1 }
 
 pub misses_none : (code : Code) (program : TypedProgram) (budgets : Budgets) (explored : Explored) (given : EntryResult)
     → IsLowered code program → IsIntegerFunction program given.entry → CoversPositions code program given.entry (run_budgets budgets) explored

@@ -12,3 +12,4 @@ mod CornerMoves
 mod SameOperands
 mod EvidentGuesses
 mod EvidentSuspects
+mod AllShown

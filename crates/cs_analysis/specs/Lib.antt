@@ -1,3 +1,3 @@
 pub mod Integers
-pub mod Whole
+pub mod Ends
 pub mod Cuts

@@ -1,5 +1,5 @@
 //! The analysis of an entry.
-ghost use Rattle.std.specs.Prelude.{◌≡◌, ◌≤◌, true, map, length, IfOk, OnOk};
+ghost use Rattle.std.specs.Prelude.{◌≡◌, ◌≤◌, map, length, IfOk};
 ghost use Rattle.cs_ast.specs.TypedProgram.{typed_program};
 ghost use Rattle.cs_objects.specs.Prepared.{IsReady};
 ghost use Rattle.cs_cfg.specs.GraphView as view;
@@ -12,16 +12,14 @@ ghost use Rattle.cs_findings.specs.Runs.{run_budgets};
 ghost use Rattle.cs_operators.specs.Asking.{HasEveryKind};
 ghost use Rattle.cs_analysis.specs.Cuts.{AreCutForNodes};
 ghost use Rattle.cs_analysis.specs.Integers.{KeepsToIntegers};
-ghost use Rattle.cs_analysis.specs.Whole.{IsAllOf};
+ghost use Rattle.cs_analysis.specs.Ends.{HasExactEndsOnIntegers};
 ghost use Rattle.cs_witness.specs.Entries.{CanRun};
 
-use crate::whole::has_all;
+use crate::naming::have_each_once;
 use cs_checker::Checker;
 use cs_engine::{Exploration, explore};
 use cs_explored::Explored;
-use cs_findings::EntryResult;
 use cs_inputs::Inputs;
-use cs_integer_functions::is_integer_function;
 use cs_objects::Setting;
 use cs_progress::Context;
 use cs_suspects::{listed, suspects};
@@ -40,7 +38,7 @@ pub struct Analysis {
 /// nothing has to be known of it for the findings to be true.
 ///
 /// Of an entry that works with integers alone, no run is missed. The exploration covers its runs, since its code works with integers alone
-/// too; that each end which is a fault or a budget was shown is asked here. No test has met a no, which would be want of memory.
+/// too, and each end that is a fault or a budget is shown, since the corners of its guesses show that these are real.
 pub fn analyze(
     alloc: Global,
     entry: &Entry,
@@ -64,24 +62,13 @@ pub fn analyze(
     ensures kinds { map (λ b. kind_of b) checkers.new.items
         ≡ map (λ b. kind_of b) checkers.old.items }
 {
-    let is_integer = is_integer_function(entry.program, entry.function);
     let explored = explored(alloc, entry, checkers)?;
+    have_each_once(&explored.tables);
     let found = suspects(alloc, &explored)?;
     let cuts = listed(alloc, &explored.cuts)?;
     let rows = explored.rows.len() as u64;
     let witnessed = result(alloc, entry, &found, cuts)?;
-    refuse_lost(is_integer, &explored, &witnessed.result)?;
     Ok(Analysis { witnessed, rows })
-}
-
-// Nothing that an exploration of integers has found is lost.
-fn refuse_lost(is_integer: bool, explored: &Explored, found: &EntryResult) -> Result<(), AllocError>
-    ensures { OnOk result (is_integer ≡ true → IsAllOf explored.now found.now) }
-{
-    if is_integer && !has_all(explored, found) {
-        return Err(AllocError);
-    }
-    Ok(())
 }
 
 // What an exploration of the entry finds, with nothing known of its inputs.
@@ -98,6 +85,9 @@ fn explored(
         entry.now.function → CoversPositions (view.code entry.now.code.now)
         (typed_program entry.now.program.now) entry.now.function
         (run_budgets entry.now.budgets) explored) }
+    ensures ends { IfOk result (λ explored. HasEveryKind (λ b. kind_of b) checkers.old.items
+        → HasExactEndsOnIntegers (view.code entry.now.code.now)
+        (typed_program entry.now.program.now) entry.now.function entry.now.budgets explored) }
     ensures cuts { IfOk result (λ explored. HasEveryKind (λ b. kind_of b) checkers.old.items
         → AreCutForNodes (view.code entry.now.code.now) (typed_program entry.now.program.now)
         entry.now.function entry.now.budgets explored) }
@@ -133,6 +123,9 @@ fn explored_in(
         entry.now.function → CoversPositions (view.code entry.now.code.now)
         (typed_program entry.now.program.now) entry.now.function
         (run_budgets entry.now.budgets) explored) }
+    ensures ends { IfOk result (λ explored. HasEveryKind (λ b. kind_of b) checkers.old.items
+        → HasExactEndsOnIntegers (view.code entry.now.code.now)
+        (typed_program entry.now.program.now) entry.now.function entry.now.budgets explored) }
     ensures cuts { IfOk result (λ explored. HasEveryKind (λ b. kind_of b) checkers.old.items
         → AreCutForNodes (view.code entry.now.code.now) (typed_program entry.now.program.now)
         entry.now.function entry.now.budgets explored) }

@@ -2,6 +2,6 @@
 #![tactic(auto)]
 
 mod entry;
-mod whole;
+mod naming;
 
 pub use entry::{Analysis, analyze};

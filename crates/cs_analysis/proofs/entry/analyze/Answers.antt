@@ -8,9 +8,12 @@ use Rattle.cs_integer_functions.specs.IntegerFunctions.{IsIntegerFunction}
 use Rattle.cs_results.specs.declared.result.Cut.{Cut}
 use Rattle.cs_results.specs.declared.result.Cut.TheVariants.{Nodes}
 use Rattle.cs_state.specs.Naming.{naming}
+use Rattle.cs_suspect_types.specs.declared.suspect.Suspect.{Suspect}
+use Rattle.cs_witness.specs.Witnesses.{ListsEvident}
 use Rattle.cs_analysis.specs.Cuts.{AreCutForNodes}
+use Rattle.cs_analysis.proofs.AllShown.{all_of}
 use Rattle.cs_analysis.proofs.CutNodes.{has_reasons}
-use Rattle.cs_analysis.proofs.EveryRun.{integer_entry, misses_none}
+use Rattle.cs_analysis.proofs.EveryRun.{integer_entry, lowered_entry, misses_none}
 use Rattle.cs_analysis.proofs.entry.analyze.Goals as goal
 
 pub returns-clause-complete : goal.returns-clause-complete
@@ -19,10 +22,14 @@ returns-clause-complete g c = λ every integer.
     let program = typed_program entry.program.now in let code = view.code entry.code.now in
     let same : given.entry ≡ entry.function = c.in_ok-witnessed.ensures.entry in
     let is : IsIntegerFunction program entry.function = subst (IsIntegerFunction program) same integer in
-    let yes = c.is_integer_function-is_integer.ensures ∙ is in
-    let covers = c.in_ok-explored.ensures.covers every (integer_entry code program entry.function is (c.requires.integers entry.function is)) in
+    let works = integer_entry code program entry.function is (c.requires.integers entry.function is) in
+    let covers = c.in_ok-explored.ensures.covers every works in
     let covered = subst (λ (number : ℕ). CoversPositions code program number (run_budgets entry.budgets) explored) (sym same) covers in
-    misses_none code program entry.budgets explored given c.requires.runs.lowered integer covered (c.in_ok-refuse_lost.ensures yes)
+    let shown = subst (λ (suspects : List Suspect). ListsEvident entry suspects given) c.deref-2.ensures.value c.in_ok-witnessed.ensures.found in
+    misses_none code program entry.budgets explored given c.requires.runs.lowered integer covered
+    (all_of code program entry.function entry.budgets explored given (lowered_entry code program entry.function c.requires.runs.lowered is) works
+    c.have_each_once.ensures (c.in_ok-explored.ensures.ends every works) c.in_ok-found.found.items c.in_ok-found.ensures.each c.in_ok-found.ensures.all shown
+    c.in_ok-cuts.cuts.items c.in_ok-witnessed.ensures.cuts (λ none. sym c.deref.ensures.value ∙ c.in_ok-cuts.ensures.some none))
 
 pub returns-clause-reasons : goal.returns-clause-reasons
 returns-clause-reasons g c = λ every integer nodes listed.
@@ -30,11 +37,15 @@ returns-clause-reasons g c = λ every integer nodes listed.
     let program = typed_program entry.program.now in let code = view.code entry.code.now in
     let same : given.entry ≡ entry.function = c.in_ok-witnessed.ensures.entry in
     let is : IsIntegerFunction program entry.function = subst (IsIntegerFunction program) same integer in
-    let yes = c.is_integer_function-is_integer.ensures ∙ is in
-    let reasons = c.in_ok-explored.ensures.cuts every (integer_entry code program entry.function is (c.requires.integers entry.function is)) in
+    let works = integer_entry code program entry.function is (c.requires.integers entry.function is) in
+    let reasons = c.in_ok-explored.ensures.cuts every works in
     let of_entry = subst (λ (number : ℕ). AreCutForNodes code program number entry.budgets explored) (sym same) (λ works. reasons) in
     let among : Contains explored.cuts.items (Nodes nodes)
     = subst (λ (cuts : List Cut). Contains cuts (Nodes nodes)) c.deref.ensures.value
     (c.in_ok-cuts.ensures.nodes nodes (subst (λ (cuts : List Cut). Contains cuts (Nodes nodes)) c.in_ok-witnessed.ensures.cuts listed)) in
+    let shown = subst (λ (suspects : List Suspect). ListsEvident entry suspects given) c.deref-2.ensures.value c.in_ok-witnessed.ensures.found in
     has_reasons code program entry.budgets explored given (naming explored.tables) [] c.requires.runs.lowered integer
-    (of_entry (integer_entry code program given.entry integer (c.requires.integers given.entry integer))) (c.in_ok-refuse_lost.ensures yes) nodes among
+    (of_entry (integer_entry code program given.entry integer (c.requires.integers given.entry integer)))
+    (all_of code program entry.function entry.budgets explored given (lowered_entry code program entry.function c.requires.runs.lowered is) works
+    c.have_each_once.ensures (c.in_ok-explored.ensures.ends every works) c.in_ok-found.found.items c.in_ok-found.ensures.each c.in_ok-found.ensures.all shown
+    c.in_ok-cuts.cuts.items c.in_ok-witnessed.ensures.cuts (λ none. sym c.deref.ensures.value ∙ c.in_ok-cuts.ensures.some none)) nodes among
