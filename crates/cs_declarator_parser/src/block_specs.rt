@@ -33,7 +33,8 @@ pub fn block_specs(
     ensures placed { IfOk result (TreeAt HasSpecPlaces source.now.tokens.now from) }
     ensures apt { IsAnswerApt Scope.Block source.now.tokens.now result }
 {
-    let mut words = Vec::new(alloc);
+    // Mostly there is one word.
+    let mut words = Vec::with_capacity(alloc, 1)?;
     let mut tag = None;
     let mut next = from;
     let mut so_far = TypeSoFar::Nothing;

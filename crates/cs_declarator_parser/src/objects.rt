@@ -75,7 +75,8 @@ pub fn with_others(
         AreObjectsPlaced taken.tree.items (drop from source.now.tokens.now)) }
     ensures apt { IsAnswerApt scope source.now.tokens.now result }
 {
-    let mut list = Vec::new(alloc);
+    // Mostly there is no other.
+    let mut list = Vec::with_capacity(alloc, 1)?;
     let mut height = first.height;
     let mut last = first;
     'objects: while is_punctuator(source, last.next, Punctuator::Comma) {

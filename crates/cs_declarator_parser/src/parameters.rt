@@ -92,7 +92,8 @@ fn parameter_list(
         (drop from source.now.tokens.now)) }
     ensures apt { IsAnswerApt Scope.File source.now.tokens.now result }
 {
-    let mut list = Vec::new(alloc);
+    // Often there is one.
+    let mut list = Vec::with_capacity(alloc, 1)?;
     let mut last = parameter(alloc, source, from, limit)?;
     let mut height = last.height;
     'parameters: while is_punctuator(source, last.next, Punctuator::Comma) {

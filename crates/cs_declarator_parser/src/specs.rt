@@ -65,7 +65,8 @@ pub fn specs(
     ensures placed { IfOk result (TreeAt HasSpecPlaces source.now.tokens.now from) }
     ensures apt { IsAnswerApt Scope.File source.now.tokens.now result }
 {
-    let mut words = Vec::new(alloc);
+    // Mostly there is one word.
+    let mut words = Vec::with_capacity(alloc, 1)?;
     let mut tag = None;
     let mut height = 0;
     let mut next = from;

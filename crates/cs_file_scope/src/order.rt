@@ -15,6 +15,7 @@ use cs_types::CType;
 use indexmap::IndexSet;
 use std::alloc::{AllocError, Global};
 use std::collections::HashSet;
+use std::mem::forget;
 
 // Whether a function is one of the library's (C11 7.22.3).
 fn is_of_library(name: &Name) -> bool
@@ -77,6 +78,8 @@ pub fn order_of(alloc: Global, file: &[RawExternal]) -> Result<IndexSet<Name>, A
             names.insert(name.copy()?).map_err(|_| AllocError)?;
         }
     }
+    // Each name would leave a place in memory that is too small for most of what comes later.
+    forget(defined);
     Ok(names)
 }
 

@@ -43,7 +43,7 @@ impl GraphBuilder {
             Seals (built_of self.old) (built_of self.new) block (point_of strip)) }
     {
         let block = self.next_block()?;
-        self.others.push(strip.into_block(None))?;
+        self.others.push(strip.into_block(None)?)?;
         Ok(block)
     }
 
@@ -99,7 +99,7 @@ impl GraphBuilder {
             place,
             number,
         };
-        self.heads.push(strip.into_block(Some(counted_point)))?;
+        self.heads.push(strip.into_block(Some(counted_point))?)?;
         Ok(())
     }
 

@@ -54,17 +54,21 @@ impl Strip {
     }
 
     /// The block that the strip is, which may be that of a counted point.
-    pub fn into_block(mut self, counted_point: Option<CountedPoint>) -> Block
-        ensures { view.block result ≡ record {
+    pub fn into_block(mut self, counted_point: Option<CountedPoint>) -> Result<Block, AllocError>
+        ensures { IfOk result (λ block. view.block block ≡ record {
           operations = view.with_counted_point counted_point (point_of self).operations;
           end = (point_of self).end;
-        } }
+        }) }
     {
-        self.operations.reverse();
-        Block {
+        // All code is kept, so it gets just the memory that it needs, and the next strip that of this one.
+        let alloc = *self.operations.allocator();
+        let mut operations = Vec::with_capacity(alloc, self.operations.len())?;
+        operations.append(&mut self.operations)?;
+        operations.reverse();
+        Ok(Block {
             counted_point,
-            operations: self.operations,
+            operations,
             end: self.end,
-        }
+        })
     }
 }

@@ -14,10 +14,11 @@ use cs_ast::{Token, TokenKind};
 use cs_declarations::Environment;
 use cs_file_scope::Filed;
 use cs_names::Name;
-use cs_scopes::TypeRefusal;
+use cs_scopes::{Context, TypeRefusal};
 use cs_types::DataModel;
 use indexmap::IndexSet;
 use std::alloc::{AllocError, Global};
+use std::mem::forget;
 
 // The different values of the integer constants among tokens, in the order in which they appear first.
 fn constants_of(alloc: Global, tokens: &[Token]) -> Result<Vec<i128>, AllocError>
@@ -64,18 +65,22 @@ pub fn typed(
     let Filed {
         known,
         globals,
+        order,
         functions,
-        ..
     } = typed_file(alloc, model, tokens, file)?;
     let Environment {
         context,
         literals,
         ..
     } = known;
+    let Context { table, scope, .. } = context;
+    // The names aren't given back one by one: what comes later would be put into their places, all over memory.
+    forget(scope);
+    forget(order);
     Ok(Program {
         model,
         files: copied(alloc, files)?,
-        table: context.table,
+        table,
         globals,
         literals,
         functions,

@@ -40,10 +40,10 @@ specs::specs-words-init t c = record {
   inside = c.requires.within;
   low = omega arith;
   typed = λ some. absurd (false≢true some);
-  placed = subst (λ (x : List SpecWord). SpecsPlaced c.args.source.now.tokens.now c.args.from c.args.from x None) (sym c.new-words.ensures.items)
+  placed = subst (λ (x : List SpecWord). SpecsPlaced c.args.source.now.tokens.now c.args.from c.args.from x None) (sym c.in_ok-words.ensures.items)
       (specs_begun c.args.source.now.tokens.now c.args.from);
   so_far = subst (λ (x : List SpecWord). SpecsSoFar c.args.source.now.names.now c.args.source.now.tokens.now c.args.from c.args.from Nothing x 0)
-      (sym c.new-words.ensures.items) (specs_none c.args.source.now.names.now c.args.source.now.tokens.now c.args.from c.requires.within);
+      (sym c.in_ok-words.ensures.items) (specs_none c.args.source.now.names.now c.args.source.now.tokens.now c.args.from c.requires.within);
 }
 
 pub specs::specs-words-preserved : goal.specs::specs-words-preserved
@@ -75,7 +75,7 @@ specs::specs-words-preserved t c =
 
 pub specs::specs-returns-in_err-found-clause-parsed : goal.specs::specs-returns-in_err-found-clause-parsed
 specs::specs-returns-in_err-found-clause-parsed t c =
-    let e : c.from_residual.result ≡ Err c.in_err-found.field-0.0 = search rules in
+    let e : c.from_residual-in_err-found.result ≡ Err c.in_err-found.field-0.0 = search rules in
     subst (SpecsAnswer c.args.source.now.names.now c.args.limit c.args.source.now.tokens.now c.args.from) (sym e)
     (spec_stops c.args.source.now.names.now c.args.limit c.requires.some c.args.source.now.tokens.now c.args.from c.words.next c.words.so_far
     c.words.words.items c.words.height c.words.invariant.low c.words.invariant.so_far c.in_err-found.field-0.0 c.in_err-found.ensures.word)

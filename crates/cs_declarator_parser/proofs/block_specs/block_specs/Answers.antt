@@ -14,9 +14,9 @@ words-init c = record {
   onward = omega arith;
   inside = c.requires.within;
   typed = λ some. absurd (false≢true some);
-  placed = subst (λ (x : List SpecWord). SpecsPlaced c.args.source.now.tokens.now c.args.from c.args.from x None) (sym c.new-words.ensures.items)
+  placed = subst (λ (x : List SpecWord). SpecsPlaced c.args.source.now.tokens.now c.args.from c.args.from x None) (sym c.in_ok-words.ensures.items)
       (specs_begun c.args.source.now.tokens.now c.args.from);
-  so_far = subst (WordsSoFar c.args.source.now.names.now c.args.source.now.tokens.now c.args.from c.args.from Nothing) (sym c.new-words.ensures.items)
+  so_far = subst (WordsSoFar c.args.source.now.names.now c.args.source.now.tokens.now c.args.from c.args.from Nothing) (sym c.in_ok-words.ensures.items)
       (words_none c.args.source.now.names.now c.args.source.now.tokens.now c.args.from c.requires.within);
 }
 
@@ -41,7 +41,7 @@ words-preserved c =
 
 pub returns-in_err-found-clause-parsed : goal.returns-in_err-found-clause-parsed
 returns-in_err-found-clause-parsed c =
-    let e : c.from_residual.result ≡ Err c.in_err-found.field-0.0 = search rules in
+    let e : c.from_residual-in_err-found.result ≡ Err c.in_err-found.field-0.0 = search rules in
     subst (BlockSpecsAnswer c.args.source.now.names.now c.args.limit c.args.source.now.tokens.now c.args.from) (sym e)
     (word_stops c.args.source.now.names.now c.args.limit c.requires.some c.args.source.now.tokens.now c.args.from c.words.next c.words.so_far
     c.words.words.items c.in_err-found.field-0.0 c.words.invariant.so_far c.in_err-found.ensures.word)

@@ -26,12 +26,12 @@ objects-init c = record {
   placed = λ from first has.
       subst (λ (x : List RawInit).
       RowPlaced IsDeclaredPlaced (λ d. declared_text (declared d)) c.args.source.now.tokens.now from x c.args.first.tree c.args.first.next)
-      (sym c.new-list.ensures.items)
+      (sym c.in_ok-list.ensures.items)
       (row_begun IsDeclaredPlaced (λ d. declared_text (declared d)) c.args.source.now.tokens.now from c.args.first.tree c.args.first.next first.spelled has);
   so_far = λ from first.
       subst (λ (x : List RawInit).
       RowSoFar (Objects c.args.source.now.names.now) (token.Punctuator punctuator.Semicolon) c.args.limit c.args.source.now.tokens.now from (map declared x)
-      (declared c.args.first.tree) c.args.first.next (is_deep c.args.first.otherwise) c.args.first.height) (sym c.new-list.ensures.items)
+      (declared c.args.first.tree) c.args.first.next (is_deep c.args.first.otherwise) c.args.first.height) (sym c.in_ok-list.ensures.items)
       (row_first (Objects c.args.source.now.names.now) (token.Punctuator punctuator.Semicolon) c.args.limit (object_row c.args.source.now.names.now)
       c.requires.some c.args.source.now.tokens.now from (let o = first.spelled.onward in let w = first.spelled.within in
       omega arith) (declared c.args.first.tree) c.args.first.next (is_deep c.args.first.otherwise) c.args.first.height first.spelled first.took
@@ -40,7 +40,7 @@ objects-init c = record {
 
 pub returns-in_err-another-clause-parsed : goal.returns-in_err-another-clause-parsed
 returns-in_err-another-clause-parsed c = λ from first.
-    let e : c.from_residual.result ≡ Err c.in_err-another.field-0.0 = search rules in
+    let e : c.from_residual-in_err-another.result ≡ Err c.in_err-another.field-0.0 = search rules in
     subst (ExactAnswers (Separated (Objects c.args.source.now.names.now) (token.Punctuator punctuator.Semicolon)) (λ list. map declared list.items)
     c.args.limit c.args.source.now.tokens.now from) (sym e)
     (row_next_stops (Objects c.args.source.now.names.now) (token.Punctuator punctuator.Semicolon) c.args.limit (object_row c.args.source.now.names.now)

@@ -23,7 +23,7 @@ use Rattle.cs_declarator_parser.proofs.parameters.parameter_list.Goals as goal
 pub returns-in_err-last-clause-parsed : goal.returns-in_err-last-clause-parsed
 returns-in_err-last-clause-parsed c =
     let enough = c.requires.enough in
-    let e : c.from_residual.result ≡ Err c.in_err-last.field-0.0 = search rules in
+    let e : c.from_residual-in_err-last.result ≡ Err c.in_err-last.field-0.0 = search rules in
     subst (ExactAnswers (ParameterRows c.args.source.now.names.now) (λ list. map parameter list.items) c.args.limit c.args.source.now.tokens.now c.args.from)
     (sym e)
     (first_stops c.args.source.now.names.now c.args.limit (omega arith) c.args.source.now.tokens.now c.args.from c.requires.within c.in_err-last.field-0.0
@@ -41,13 +41,13 @@ parameters-init c =
       placed =
           subst (λ (x : List RawParameter).
           RowPlaced IsParameterPlaced (λ p. parameter_text (parameter p)) c.args.source.now.tokens.now c.args.from x c.in_ok-last.last.tree
-          c.in_ok-last.last.next) (sym c.new-list.ensures.items)
+          c.in_ok-last.last.next) (sym c.in_ok-list.ensures.items)
           (row_begun IsParameterPlaced (λ p. parameter_text (parameter p)) c.args.source.now.tokens.now c.args.from c.in_ok-last.last.tree
           c.in_ok-last.last.next t.spelled c.in_ok-last.ensures.placed);
       so_far =
           subst (λ (x : List RawParameter).
           ParametersSoFar c.args.source.now.names.now c.args.limit c.args.source.now.tokens.now c.args.from (map parameter x)
-          (parameter c.in_ok-last.last.tree) c.in_ok-last.last.next c.in_ok-last.last.height) (sym c.new-list.ensures.items)
+          (parameter c.in_ok-last.last.tree) c.in_ok-last.last.next c.in_ok-last.last.height) (sym c.in_ok-list.ensures.items)
           (row_first (ParameterClass c.args.source.now.names.now) close_parenthesis c.args.limit (parameter_row c.args.source.now.names.now) (omega arith)
           c.args.source.now.tokens.now c.args.from c.requires.within (parameter c.in_ok-last.last.tree) c.in_ok-last.last.next false
           c.in_ok-last.last.height t.spelled t.took t.height_is);

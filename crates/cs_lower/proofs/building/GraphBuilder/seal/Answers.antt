@@ -10,5 +10,5 @@ returns c =
     let old = built_of c.args.self.now in
     let more : List Point → Built = λ l. record old { others = l } in
     sealed old (record old { others = map view.block c.push.new.self.items }) c.in_ok-block.block (point_of c.args.strip)
-    (ap more (map_push view.block c.args.self.now.others.items c.push.new.self.items c.into_block.result (point_of c.args.strip) c.in_ok-push.ensures.items
-    c.into_block.ensures)) c.in_ok-block.ensures
+    (ap more (map_push view.block c.args.self.now.others.items c.push.new.self.items c.in_ok-into_block.field-0 (point_of c.args.strip) c.in_ok-push.ensures.items
+    c.in_ok-into_block.ensures)) c.in_ok-block.ensures

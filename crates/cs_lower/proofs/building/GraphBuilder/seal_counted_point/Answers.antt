@@ -13,6 +13,6 @@ returns c =
     let number = c.in_ok-number.number in
     let p = point_of c.args.strip in
     sealed_counted_point old (record old { heads = map view.block c.push.new.self.items }) c.args.kind c.args.place p number
-    (ap more (map_push view.block c.args.self.now.heads.items c.push.new.self.items c.into_block.result (does c.args.place 0 (Reach c.args.kind number) p)
-    c.in_ok-push.ensures.items c.into_block.ensures))
+    (ap more (map_push view.block c.args.self.now.heads.items c.push.new.self.items c.in_ok-into_block.field-0 (does c.args.place 0 (Reach c.args.kind number) p)
+    c.in_ok-push.ensures.items c.in_ok-into_block.ensures))
     (omega arith)
