@@ -4,7 +4,7 @@ use Rattle.std.proofs.Common.{◌≡◌, ◌≤◌, ℕ, suc, ℤ, List, [], ◌
 use Rattle.std.proofs.Common.{refl, sym, ◌∙◌, subst, arith}
 use Rattle.std.specs.Prelude.{All, Contains}
 use Rattle.std.proofs.lemmas.List.{length-append}
-use Rattle.std.proofs.lemmas.List.Elements.{All-contains}
+use Rattle.std.proofs.lemmas.List.Elements.{All-contains, All-weaker}
 use Rattle.cs_inputs.specs.declared.path.Path.{Path}
 use Rattle.cs_inputs.specs.Inputs.{number_at}
 use Rattle.cs_ast.specs.declared.place.Place.{Place}
@@ -23,7 +23,8 @@ use Rattle.cs_cfg.specs.Graph.{Code}
 use Rattle.cs_cfg.specs.CodeSteps.{code_step, code_started}
 use Rattle.cs_cfg.specs.Lowered.{IsLowered}
 use Rattle.cs_results.specs.declared.budgets.Budgets.{Budgets}
-use Rattle.cs_results.specs.declared.result.Cut.TheVariants.{Nodes}
+use Rattle.cs_results.specs.declared.result.Cut.{Cut}
+use Rattle.cs_results.specs.declared.result.Cut.TheVariants.{Nodes, Splits}
 use Rattle.cs_results.specs.declared.result.EntryResult.{EntryResult}
 use Rattle.cs_state.specs.Naming.{Naming}
 use Rattle.cs_explored.specs.declared.explored.End.{End}
@@ -38,6 +39,7 @@ use Rattle.cs_exactness.specs.Graphs.{IsExactGraph}
 use Rattle.cs_engine.specs.Cuts.{IsCutForNodes}
 use Rattle.cs_guesses.specs.Graphs.{IsGuessedGraph}
 use Rattle.cs_guesses.specs.Real.{run_at as valued_run, IsLoweredEntry}
+use Rattle.cs_suspects.specs.Spots.{IsNodes}
 use Rattle.cs_integer_functions.specs.IntegerFunctions.{IsIntegerFunction}
 use Rattle.cs_integer_functions.proofs.Parameters.{has_body}
 use Rattle.cs_findings.specs.Runs.{run_budgets}
@@ -136,6 +138,16 @@ module _ (code : Code) (program : TypedProgram) (limits : Budgets) (given : Entr
         let row = there number within in
         real_at code program given.entry budgets names rules rows ends exact lowered body.0 body.1 guesses number (slice_get rows number) refl row.0 row.1;
   }
+
+-- all cuts are for want of nodes
+pub nodes_of : (cut : Cut) → IsNodes cut → (nodes : ℕ) × (cut ≡ Nodes nodes)
+nodes_of (Nodes nodes) is = (nodes, refl)
+nodes_of (Splits at count) is = absurd is
+
+pub all_nodes : (code : Code) (program : TypedProgram) (entry : ℕ) (budgets : RunBudgets) (names : Naming) (rules : List Rule) (rows : List Row)
+    (ends : List End) (most : ℕ) (cuts : List Cut) → All (IsCutForNodes code program entry budgets names rules rows ends most) cuts → All IsNodes cuts
+all_nodes code program entry budgets names rules rows ends most cuts =
+    All-weaker (IsCutForNodes code program entry budgets names rules rows ends most) IsNodes (λ cut why. subst IsNodes (sym why.is) tt) cuts
 
 pub has_reasons : (code : Code) (program : TypedProgram) (limits : Budgets) (explored : Explored) (given : EntryResult) (names : Naming) (rules : List Rule)
     → IsLowered code program → IsIntegerFunction program given.entry

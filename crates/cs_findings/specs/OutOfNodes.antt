@@ -11,6 +11,7 @@ use Rattle.cs_events.specs.declared.outcome.Outcome.TheVariants.{Fault}
 use Rattle.cs_events.specs.declared.outcome.RunBudgets.{RunBudgets}
 use Rattle.cs_meaning.specs.ProgramRuns.{ProgramRun, RunPasses, RunEnds}
 use Rattle.cs_results.specs.declared.budgets.Budgets.{Budgets}
+use Rattle.cs_results.specs.declared.result.Cut.{Cut}
 use Rattle.cs_results.specs.declared.result.Cut.TheVariants.{Nodes}
 use Rattle.cs_results.specs.declared.result.EntryResult.{EntryResult}
 use Rattle.cs_integer_functions.specs.IntegerFunctions.{IsIntegerFunction}
@@ -48,7 +49,13 @@ pub record IsOutOfNodes (program : TypedProgram) (budgets : Budgets) (given : En
   pub passed : (number : ℕ) → number ≤ nodes → PassesAlong program given.entry (run_budgets budgets) (runs number) (events number)
   pub real : (number : ℕ) → number ≤ nodes → AreReal program given.entry (run_budgets budgets) (runs number)
 
--- if the entry works with integers alone, a cut for want of nodes is listed for this reason
+-- a cut is one for want of nodes, and is listed for this reason
+pub record IsForWantOfNodes (program : TypedProgram) (budgets : Budgets) (given : EntryResult) (cut : Cut) : Type 0 where
+  pub nodes : ℕ
+  pub is : cut ≡ Nodes nodes
+  pub reason : IsOutOfNodes program budgets given nodes
+
+-- if the entry works with integers alone, each cut that is listed is such a one
 abbrev pub HasReasons : TypedProgram → Budgets → EntryResult → Type 0
 HasReasons program budgets given =
-    IsIntegerFunction program given.entry → (nodes : ℕ) → Contains given.cuts.items (Nodes nodes) → IsOutOfNodes program budgets given nodes
+    IsIntegerFunction program given.entry → (cut : Cut) → Contains given.cuts.items cut → IsForWantOfNodes program budgets given cut

@@ -1,9 +1,10 @@
 -- Cuts that are listed in order: for the contract of `listed`.
 use Rattle.std.proofs.Common.{◌≡◌, ◌≢◌, inl, inr, ℕ, ◌+◌, ◌<◌, ◌≤◌, List, [], ◌∷◌, ◌++◌, length, take, get_or, map}
-use Rattle.std.proofs.Common.{Option, None, Some, refl, sym, ap, ◌∙◌, subst, arith}
+use Rattle.std.proofs.Common.{Option, None, Some, refl, sym, ap, ◌∙◌, subst, append-nil, arith}
 use Rattle.std.specs.Prelude.{All, Contains, MatchOption}
 use Rattle.std.proofs.lemmas.List.{map-append, take_more, take_all}
-use Rattle.std.proofs.lemmas.List.Elements.{All-nil, All-cons, All-push, All-map, All-contains, Contains-append_cases}
+use Rattle.std.proofs.lemmas.List.Elements.{All-nil, All-cons, All-push, All-map, All-contains, All-contains_itself, All-weaker}
+use Rattle.std.proofs.lemmas.List.Elements.{Contains-append_left, Contains-append_right, Contains-append_cases}
 use Rattle.std.specs.List.{AllByRecursion}
 use Rattle.std.specs.List.Sorted.{IsStrictlySortedBy}
 use Rattle.std.specs.Map.{keys_of}
@@ -103,6 +104,31 @@ nothing_cut None cuts before after (entry ∷ entries) first all found none noth
 nothing_cut (Some nodes) cuts before after entries first all found none nothing =
     let listed : Nodes nodes ∷ map cut_of_access entries ≡ [] = sym (all ∙ ap (λ (l : List Cut). l ++ map cut_of_access entries) first) ∙ nothing in
     absurd (cc)
+
+-- where no access was cut, none is listed
+pub nodes_alone : (nodes : Option ℕ) (cuts before after : List Cut) (entries : List (Spot × ℕ)) → before ≡ cut_of_nodes nodes
+    → after ≡ before ++ map cut_of_access entries → (All IsNodes cuts → entries ≡ []) → All IsNodes cuts → All IsNodes after
+nodes_alone nodes cuts before after entries first all none alone =
+    let listed : after ≡ cut_of_nodes nodes =
+    all ∙ ap (λ (l : List (Spot × ℕ)). before ++ map cut_of_access l) (none alone) ∙ append-nil before ∙ first in
+    subst (All IsNodes) (sym listed) (of_nodes nodes)
+  where
+    of_nodes : (nodes : Option ℕ) → All IsNodes (cut_of_nodes nodes)
+    of_nodes None = All-nil IsNodes
+    of_nodes (Some nodes) = All-cons IsNodes (Nodes nodes) [] tt (All-nil IsNodes)
+
+-- the cuts before one more are of its kind, and that one is
+pub kind_before : (P : Cut → Type 0) (cuts : List Cut) (k : ℕ) (default : Cut) → k < length cuts → All P (take (k + 1) cuts) → All P (take k cuts)
+kind_before P cuts k default within all =
+    All-weaker (Contains (take k cuts)) P
+    (λ cut among. All-contains P (take k cuts ++ get_or cuts k default ∷ []) cut (subst (All P) (take_more cuts k default within) all)
+    (Contains-append_left (take k cuts) (get_or cuts k default ∷ []) cut among))
+    (take k cuts) (All-contains_itself (take k cuts))
+
+pub kind_last : (P : Cut → Type 0) (cuts : List Cut) (k : ℕ) (default : Cut) → k < length cuts → All P (take (k + 1) cuts) → P (get_or cuts k default)
+kind_last P cuts k default within all =
+    All-contains P (take k cuts ++ get_or cuts k default ∷ []) (get_or cuts k default) (subst (All P) (take_more cuts k default within) all)
+    (Contains-append_right (take k cuts) (get_or cuts k default ∷ []) (get_or cuts k default) (0, omega arith, refl))
 
 -- one more cut is of the kind
 pub kind_more : (P : Cut → Type 0) (cuts : List Cut) (k : ℕ) (default : Cut) → k < length cuts → P (get_or cuts k default) → All P (take k cuts)

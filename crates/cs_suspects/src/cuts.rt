@@ -20,6 +20,7 @@ pub fn listed(alloc: Global, cuts: &[Cut]) -> Result<Vec<Cut>, AllocError>
     ensures sorted { IfOk result (λ listed. AreCutsListed listed.items) }
     ensures nodes { IfOk result (λ listed. HasNodesOf cuts.now listed.items) }
     ensures some { IfOk result (λ listed. listed.items ≡ [] → cuts.now ≡ []) }
+    ensures alone { IfOk result (λ listed. All IsNodes cuts.now → All IsNodes listed.items) }
 {
     let splits = splits_of(alloc, cuts)?;
     let mut listed = list_nodes(alloc, nodes_of(cuts))?;
@@ -58,6 +59,7 @@ fn nodes_of(cuts: &[Cut]) -> Option<u64>
 fn splits_of(alloc: Global, cuts: &[Cut]) -> Result<Splits, AllocError>
     ensures ordered { IfOk result (λ splits. IsOrdered spot_order splits) }
     ensures some { IfOk result (λ splits. splits.entries ≡ [] → All IsNodes cuts.now) }
+    ensures none { IfOk result (λ splits. All IsNodes cuts.now → splits.entries ≡ []) }
 {
     let mut splits = BTreeMap::new(alloc);
     for cut in cuts {
