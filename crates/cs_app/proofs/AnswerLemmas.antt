@@ -123,7 +123,7 @@ refuses_length checked command None status text reads is line long =
     let some = some_longer MOST_BYTES in
     (some.0, subst (λ l. IsLeft l some.0) (sym (file_of_source command None reads)) tt, long_answer checked command some.0 status text is line some.1)
 
--- an answer to the bytes that were read is one to the file, where the source tells what it is
+-- an answer to the bytes that were read is one to the file, where the source's bytes are known
 pub answers_left : (checked : List Kind) (command : Command) (left : Option (List ℕ)) (file : List ℕ) (status : Status) (text : List ℕ) → Reads command
     → IfSome left (λ bytes. file ≡ bytes) → IsAnswer checked command file status text → IsFileAnswer checked command left status text
 answers_left checked command (Some bytes) file status text reads same answer =

@@ -56,7 +56,7 @@ pub refuses_entry : (files : List (List ℕ)) (program : TypedProgram) (words : 
     → IsReplayAnswer files program words status text
 refuses_entry files program words status text none is line = subst (λ s. IsReplayAnswer files program words s text) (sym is) (none, line)
 
--- a run that begins with no guesses, told by its line
+-- a run that begins with no guesses, described by its line
 pub replay_is : (files : List (List ℕ)) (program : TypedProgram) (words : ReplayWords) (entry number : ℕ) (guesses : List Guess) (outcome : Outcome)
     (log : Log) (status : Status) (text : List ℕ) → number ≡ entry → guesses ≡ []
     → RunGives program number (record { inputs = words.inputs; guesses = guesses }) words.budgets outcome log → text ≡ replay_line files outcome

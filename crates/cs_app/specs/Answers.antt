@@ -51,7 +51,7 @@ IsReplayAnswer files program words NoEntry text = (entry_of words.entry program 
 IsReplayAnswer files program words status text = (entry : ℕ) × (entry_of words.entry program ≡ Some entry)
     × IsReplayOf files program words entry status text
 
--- the text tells the control points of each function, and what is met next on each way out of them
+-- the text lists the control points of each function, and what is met next on each way out of them
 abbrev pub IsFlowAnswer : TypedProgram → Status → List ℕ → Type 0
 IsFlowAnswer program status text = (status ≡ Clean) × (text ≡ program_flow program)
 
@@ -83,7 +83,7 @@ Reads (Flow words) = Unit {0}
 Reads (Replay words) = Unit {0}
 Reads (Generate words) = ⊥
 
--- what a source has left is this file, where it tells
+-- what a source has left is this file, where that is known
 abbrev pub IsLeft : Option (List ℕ) → List ℕ → Type 0
 IsLeft (Some left) file = file ≡ left
 IsLeft None file = Unit {0}
@@ -95,7 +95,7 @@ IsRead Found = Unit {0}
 IsRead NoEntry = Unit {0}
 IsRead _ = ⊥
 
--- the program was analyzed, its flow was told, or its entry was run
+-- the program was analyzed, its flow was printed, or its entry was run
 abbrev pub IsAnswered : Status → Type 0
 IsAnswered Clean = Unit {0}
 IsAnswered Found = Unit {0}

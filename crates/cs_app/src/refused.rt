@@ -81,7 +81,7 @@ fn refused_type(alloc: Global, files: &[Name], refusal: TypeRefusal) -> Result<A
     }
 }
 
-/// The answer to a file in which this word or mark is left out at a place of one of these files.
+/// The answer to a file in which this word or punctuator is unsupported at a place of one of these files.
 fn refused_word(
     alloc: Global,
     word: &Name,

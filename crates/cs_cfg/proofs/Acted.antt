@@ -104,7 +104,7 @@ module _ (code : Code) (program : TypedProgram) (budgets : RunBudgets) where
       worked_answers code program budgets (Act (Of at ty form)) items m home at work 1 here callers s
       (λ number q e on. yields number q on e (leaves_one items m home number q callers on waiting))
 
-  -- what a call does with its arguments, which is told elsewhere
+  -- what a call does with its arguments, which is proved elsewhere
   abbrev pub CallsTell : Type 0
   CallsTell = (at : Place) (callee count : ℕ) (items : List Item) (m : State) (home : Home code program m.frame.function) (q : Point)
       (callers : List (CallFrame Point)) (number : ℕ) →

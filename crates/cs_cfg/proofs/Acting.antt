@@ -91,7 +91,7 @@ module _ (R : State → CodeState → Type 0) (code : Code) (program : TypedProg
   abbrev pub Leaves : State → Point → List (CallFrame Point) → ℕ → Type 0
   Leaves m p callers depth = (next : State) → After m next depth → R next (as_code p callers next)
 
-  -- an operation tells what an expression does with its parts, where there are as many operands as it takes, and more
+  -- an operation reports what an expression does with its parts, where there are as many operands as it takes, and more
   abbrev pub YieldsBy : Place → Shape → Form → Option Work → State → Point → List (CallFrame Point) → ℕ → Type 0
   YieldsBy at ty form None m p callers number = ⊤
   YieldsBy at ty form (Some work) m p callers number =
@@ -160,7 +160,7 @@ module _ (R : State → CodeState → Type 0) (code : Code) (program : TypedProg
       (λ memory. both_go (put m (push left (with_memory memory (pop_many count m))) p callers count number left e h refl refl refl refl refl refl))
 
   pub acts_tell : (at : Place) (ty : Shape) (form : Form) (m : State) (p : Point) (callers : List (CallFrame Point)) (number : ℕ) →
-      -- a call is told elsewhere
+      -- calls are proved elsewhere
       ((function : ℕ) (arguments : TypedList) → YieldsBy at ty (Call function arguments) (work_of program ty (Call function arguments)) m p callers number)
       →
       YieldsBy at ty form (work_of program ty form) m p callers number

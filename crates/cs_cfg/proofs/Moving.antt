@@ -109,7 +109,7 @@ module _ (code : Code) (program : TypedProgram) where
   abbrev pub home_of : {depth : ℕ} {frame : Frame} {other : CallFrame Point} → FrameStands code program depth frame other → Home frame.function
   home_of s = record { body = s.body; has_body = s.has_body; flow = s.flow; has_flow = s.has_flow; lowers = s.lowers; out = s.out; again = s.again }
 
-  -- the code's state is told by the machine's, the point and the callers
+  -- the code's state is described by the machine's, the point and the callers
   pub reported_by : {m : State} {t : CodeState} → Aligned code program m t → t ≡ as_code t.frame.todo t.callers m
   reported_by {m = m} {t = t} a = λ i. record {
     frame = record { function = a.frame.function i; number = a.frame.number i; todo = t.frame.todo; stack = a.frame.stack i; visits = a.frame.visits i };
@@ -178,7 +178,7 @@ module _ (code : Code) (program : TypedProgram) where
     code_works at work number q callers m e = let enough : length m.frame.stack ≡ number + takes work = omega arith in
         ap (do_work code program budgets at work) (uncut (number + takes work) q callers m enough)
 
-    -- an operation tells what the first thing to do does
+    -- an operation reports what the first thing to do does
     pub work_answers : (item : Item) (items : List Item) (m : State) (at : Place) (work : Work) (number : ℕ) (p q : Point) (callers : List (CallFrame Point))
         →
         length m.frame.stack ≡ takes work + number → p ≡ does at number work q →
@@ -211,7 +211,7 @@ module _ (code : Code) (program : TypedProgram) where
         branch at (cell_at m 0) (λ holds. Goes (as_code (block_of (unwrap_or flow no_flow) (if holds then one else other)) callers (pop m))) in
         ap ways (uncut (number + 1) (split at number one other) callers m enough) ∙ ap goes home.has_flow
 
-    -- a test tells what the first thing to do does, where the state to which each way leads is related to the code's at the way's block
+    -- a test reports what the first thing to do does, where the state to which each way leads is related to the code's at the way's block
     pub branch_answers : (item : Item) (items : List Item) (m : State) (home : Home m.frame.function) (at : Place) (number one other : ℕ) (here : Point)
         (callers : List (CallFrame Point)) (next : Bool → State) →
         length m.frame.stack ≡ suc number → here ≡ split at number one other →

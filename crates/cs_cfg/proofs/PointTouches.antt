@@ -134,7 +134,8 @@ module _ (code : Code) (program : TypedProgram) (budgets : RunBudgets) (setting 
       → met_of m.frame.todo ≡ Some one
   stands_at_point m log one e =
       let what = touch_first m.frame.todo.operations m.frame.todo.end in
-      let noted = noted_of log.touches (option_map (in_frame m.frame.number) what) (Meets one.kind one.at) _ (steps_touch code program budgets setting m log) e in
+      let touched = steps_touch code program budgets setting m log in
+      let noted = noted_of log.touches (option_map (in_frame m.frame.number) what) (Meets one.kind one.at) _ touched e in
       sym (first_point m.frame.todo.operations m.frame.todo.end) ∙ is_noted what m.frame.number one.kind one.at noted
 
   -- a step from a control point touches it, where the run goes on

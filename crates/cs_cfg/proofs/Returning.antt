@@ -82,7 +82,7 @@ module _ {S : Type 0} where
       (stays_touches (λ declaration. Stores frame declaration at) access.local (λ declaration. tt)
       (h (changed (write_operand program access.ty offset operand) object memory))))
 
-  -- without room for one more event the run isn't done
+  -- without budget for one more event the run isn't done
   in_room : (room : Bool) (at : Place) (log end : Log) (what : Returned) {done : Performed S} → (done ≡ Finishes (Done what) end → ⊥)
       → (if room then done else Finishes (Over Events at) log) ≡ Finishes (Done what) end → ⊥
   in_room true at log end what h e = h e

@@ -14,7 +14,7 @@ use Rattle.cs_meaning.specs.Machine.{Running, routine_of}
 use Rattle.cs_cfg.specs.ControlPoints.{Met, the_point, Exit, Onward, TruthOf, CaseOf, Way, ControlPoint, control_points}
 use Rattle.cs_cfg.specs.GraphPoints.{goes_on}
 
--- what a log has shown since it was another one says the way out of a control point: the truth of a test, behind whether its pointer is
+-- what a log has shown since it was another one says the way out of a control point: the truth of a test, after whether its pointer is
 -- null, or the case of a `switch`; of a point with one way nothing shows
 abbrev pub ShowsExit : Place → Exit → Log → Log → Type 0
 ShowsExit at Onward log later = later.events ≡ log.events

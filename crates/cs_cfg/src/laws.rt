@@ -54,7 +54,7 @@ pub fn jumps_are_silent()
     ensures { JumpsAreSilent }
 {}
 
-/// A step of a run of any code touches what `Code::touch` tells of the spot from which it comes, in the frame that runs: just this, once,
+/// A step of a run of any code touches what `Code::touch` reports of the spot from which it comes, in the frame that runs: just this, once,
 /// where the run goes on, and at most this where it ends.
 pub fn steps_touch_as_reported()
     ensures { StepsTouchAsReported }

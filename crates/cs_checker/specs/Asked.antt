@@ -9,7 +9,7 @@ use Rattle.cs_checker.specs.Answers.{YieldsFaults, HasTermsFor}
 abbrev pub CountsOne : ℕ → ℕ → Type 0
 CountsOne old new = (new ≡ old + 1) ⊎ ((old ≡ 2 ^ 64 - 1) × (new ≡ old))
 
--- one checker was asked once: it keeps its kind, counts one, and tells the faults of its kind
+-- one checker was asked once: it keeps its kind, counts one, and names the faults of its kind
 pub record IsAnsweredBy (kind kind_after : Kind) (count count_after : ℕ) (subject : Subject) (answer : Answer) : Type 0 where
   pub kept : kind_after ≡ kind
   pub counted : CountsOne count count_after

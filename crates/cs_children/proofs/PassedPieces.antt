@@ -71,7 +71,7 @@ module _ (code : Code) (program : TypedProgram) (budgets : RunBudgets) (names : 
         (with_event later (Operates at operation) (event_with model at operation given))
         else Ended (Over Events at) later
 
-    -- without room, the run ends
+    -- where the budget is used up, the run ends
     pub asks_over : budgets.events ≤ state.counters.events → (end : Log) × (first_of setting log left ≡ Ended (Over Events at) end)
     asks_over full = (later, stands.2 ∙ ap (λ (room : Bool). found setting.model room (used_guess setting later operation)) none)
       where
@@ -83,7 +83,7 @@ module _ (code : Code) (program : TypedProgram) (budgets : RunBudgets) (names : 
 
     module _ (room : state.counters.events < budgets.events) (given : Option ℤ)
         (uses : used (guess_range program.model operation) (guess_at setting.guesses (suc state.counters.events)) ≡ given) where
-      -- with room, it shows
+      -- within the budget, it shows
       asks_shows : first_of setting log left ≡ found program.model true given
       asks_shows = stands.2 ∙ (λ i. found (goes.model i) (some i) (used_is i))
         where

@@ -256,7 +256,7 @@ impl Children {
         self.add(exploration, before, place, last, guess)
     }
 
-    // The states after pieces, each from a copy of the state before. Mostly there is none, and then the room that a piece takes isn't made.
+    // The states after pieces, each from a copy of the state before. Mostly there is none, and then no memory is reserved for it.
     #[inline]
     fn add_copies(
         &mut self,

@@ -94,7 +94,7 @@ fn is_same(this: &Wide, that: &Wide) -> bool
     this.high == that.high && this.low == that.low
 }
 
-// A product of numbers that leave room for its parts.
+// A product of numbers whose parts don't overflow.
 fn product(left: i128, right: i128) -> Wide
     requires left { unsigned_abs left ≤ 2 ^ 67 }
     requires right { unsigned_abs right ≤ 2 ^ 88 }

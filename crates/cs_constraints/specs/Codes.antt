@@ -1,4 +1,4 @@
--- How a proof tells maps from symbols to sets apart.
+-- How a proof distinguishes maps from symbols to sets.
 use Rattle.std.specs.Prelude.{ℤ, List, refl}
 use Rattle.std.specs.Coded.{Coded, code_by, coded×, coded_ℕ, coded_ℤ, coded_list}
 use Rattle.std.specs.FinMap as map

@@ -24,7 +24,7 @@ pub lift2_is : {A B C : Type 0} (rule : A → B → Verdict C) (v : Verdict A) (
     → lift2 rule v w ≡ rule a b
 lift2_is rule v w a b e f = ap (λ x. lift2 rule x w) e ∙ ap (lift2 rule (Fine a)) f ∙ lift2-fine rule a b
 
--- one part, of which the rule tells the rest
+-- one part, for which the rule gives the rest
 pub part_taken : (rule : Typed → Verdict Typed) (v : Verdict Typed) (e : Typed) (result : Result Expr TypeRefusal) → v ≡ Fine e → Yields (rule e) result
     → Yields (lift rule v) result
 part_taken rule v e result f h = yields_as result (lift_is rule v e f) h

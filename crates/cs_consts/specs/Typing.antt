@@ -1,4 +1,4 @@
--- The typing of expressions (C11 6.5): one rule for each production, told at the first failing place.
+-- The typing of expressions (C11 6.5): one rule for each production, reported at the first failing place.
 use Rattle.std.specs.Prelude.{ℕ, zero, suc, ℤ, pos, length, Bool, true, false, if◌then◌else◌, List}
 use Rattle.std.specs.Prelude.{[], ◌∷◌, ◌++◌, Option, Some, None}
 use Rattle.std.specs.Ordering.{int_eq}

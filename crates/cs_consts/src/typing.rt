@@ -462,7 +462,7 @@ fn left_fault(context: &Context, operator: AssignOp, ty: &CType) -> Option<TypeC
     }
 }
 
-// An operator that stores, between an object and a value: of what it asks of the object's type and of both, the least code is told.
+// An operator that stores, between an object and a value: of what it asks of the object's type and of both, the least code is reported.
 #[tactic(auto, unfolding(crate::specs::Typing::stored))]
 fn stored(
     alloc: Global,

@@ -53,7 +53,7 @@ PassesNone IsCut (one ∷ steps) = IsElsewhere IsCut one.pending × PassesNone I
 abbrev pub IsCutAt : List Cut → Place → Type 0
 IsCutAt cuts place = (count : ℕ) × Contains cuts (Splits place count)
 
--- nothing was left out for want of nodes
+-- nothing was cut for want of nodes
 abbrev pub HasAllNodes : List Cut → Type 0
 HasAllNodes cuts = (nodes : ℕ) → ¬ Contains cuts (Nodes nodes)
 

@@ -73,7 +73,7 @@ module _ (k : Environment) (at_tag : Option Place) (at : Place) (all : List Type
   among : (v : SpecWord) → w ≡ v → words_type k at_tag at all (drop i ws) ≡ words_type k at_tag at all (v ∷ drop (i + 1) ws)
   among v e = at_drop_more (words_type k at_tag at all) ws i w within ∙ ap (λ x. words_type k at_tag at all (x ∷ drop (i + 1) ws)) (sym is ∙ e)
 
-  -- the first body among words tells their type
+  -- the first body among words decides their type
   pub struct_among : (tag : Option (List ℕ)) (list : Vec RawMember Global) → w ≡ words.TheVariants.Struct tag list
       → words_type k at_tag at all (drop i ws) ≡ struct_body k (tag_place at at_tag) tag list.items
   struct_among tag list e = among (words.TheVariants.Struct tag list) e ∙ words-struct k at_tag at all tag list (drop (i + 1) ws)
@@ -82,7 +82,7 @@ module _ (k : Environment) (at_tag : Option Place) (at : Place) (all : List Type
       → words_type k at_tag at all (drop i ws) ≡ enum_body k (tag_place at at_tag) tag constants.items
   enum_among tag constants comma e = among (words.TheVariants.Enum tag constants comma) e
 
--- the place of the tag, as it is told
+-- the place of the tag, as it is reported
 pub tag_reported : (at_tag : Option Place) (at : Place) → unwrap_or at_tag at ≡ tag_place at at_tag
 tag_reported None at = refl
 tag_reported (Some place) at = refl

@@ -148,7 +148,7 @@ module _ (c : Context) (storage : Storage) (at : Place) (types : List Shape) (nu
         ∙ fault_joins at wrong list code place _)
         ∙ next
 
--- what is told after the loop
+-- what is reported after the loop
 pub reported_wrong : (at : Place) (wrong : Option TypeCode) (list : List Held) (whole : Verdict Initials) (code : TypeCode)
     → whole ≡ joined at wrong list (Fine NoPart) → wrong ≡ Some code → whole ≡ Fault code at
 reported_wrong at wrong list whole code h e = h ∙ ap (λ w. joined at w list (Fine NoPart)) e

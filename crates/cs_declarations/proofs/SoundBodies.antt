@@ -189,7 +189,7 @@ struct_body-GoesOn k at name groups sound =
     body-GoesOn k at name (λ inner. members_of_list inner groups nothing_laid) sound
     (λ o is_opened. members_of_list-IsRead o.known groups nothing_laid is_opened.sound (nothing_laid-IsLaying (model_of o.known) (table_of o.known)))
 
--- what a function leaves that tells this type
+-- what a function that gives this type leaves
 pub specs_type-leaves : (k : Environment) (at : Place) (s : RawSpecs) (r : Result CType TypeRefusal) (after : Held)
     → AnswersWith typing (specs_type k at s) r after → IsSound k → OnOk r (IsSound (environment_of after))
 specs_type-leaves k at s r after reported sound =

@@ -27,7 +27,7 @@ few_cases n = by_test (nat_le n 4096) refl where
   by_test true e = inl (leb-true n 4096 e, few-within n (leb-true n 4096 e))
   by_test false e = inr (leb-false n 4096 e, few-past n (leb-false n 4096 e))
 
--- a sum that is told is itself few
+-- a sum that is given is itself few
 pub few_is : (n m : ℕ) → few n ≡ Some m → (n ≤ 4096) × (n ≡ m)
 few_is n m e = elim (few_cases n) [
   | inl c ↦ (c.0, (let same : Some n ≡ Some m = sym c.1 ∙ e in cc))

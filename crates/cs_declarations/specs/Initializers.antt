@@ -121,7 +121,7 @@ list_read c literals [] (first ∷ others) = Fine (NoPart, literals)
 list_read c literals (ty ∷ types) (first ∷ others) =
     lift (λ (r : Reading). lift (one_more r.0) (list_read c r.1 types others)) (initial_read c literals ty first)
 
--- a value for an item of a list stands for the first member of a struct whose own braces are left out: it is no struct itself
+-- a value for an item of a list stands for the first member of a struct whose own braces are omitted: it is no struct itself
 abbrev pub is_braceless : Shape → Shape → Bool
 is_braceless (struct n) (struct m) = false
 is_braceless (struct n) other = true
@@ -212,7 +212,7 @@ abbrev pub together : Option ℕ → Option ℕ → Option ℕ
 together (Some n) (Some m) = few (n + m)
 together one other = None
 
--- the bytes that a text stores in an array of so many: with its zero byte where that has room
+-- the bytes that a text stores in an array of so many: with its zero byte where that fits
 abbrev pub bytes_stored : ℕ → ℕ → Option ℕ
 bytes_stored count bytes = few (if nat_lt bytes count then bytes + 1 else bytes)
 

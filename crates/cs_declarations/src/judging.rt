@@ -39,7 +39,7 @@ fn value_judged(
     }
 }
 
-// Whether a value for an item of a list stands for the first member of a struct whose own braces are left out: it is no struct
+// Whether a value for an item of a list stands for the first member of a struct whose own braces are omitted: it is no struct
 // itself.
 fn is_braceless(ty: &CType, value: &CType) -> bool
     ensures { result ≡ is_braceless (shape_of ty.now) (shape_of value.now) }

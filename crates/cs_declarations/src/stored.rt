@@ -19,7 +19,7 @@ fn text_length(tree: &RawExprKind) -> u64
     }
 }
 
-// The bytes that a text stores in an array of so many: with its zero byte where that has room.
+// The bytes that a text stores in an array of so many: with its zero byte where that fits.
 fn bytes_stored(count: u64, bytes: u64) -> Option<u64>
     ensures { result ≡ bytes_stored count bytes }
 {

@@ -54,7 +54,7 @@ ComesOf exploration given state made ends cuts =
 all_before : (cuts more : List Cut) → HasAllNodes (cuts ++ more) → HasAllNodes cuts
 all_before cuts more all nodes is = all nodes (Contains-append_left cuts more (Nodes nodes) is)
 
--- where a row was refused, something was left out
+-- where a row was refused, something was cut
 pub full_for_nodes : (before after : Findings) → after.cuts.items ≡ before.cuts.items ++ Nodes before.nodes ∷ [] → ¬ HasAllNodes after.cuts.items
 full_for_nodes before after cuts all =
     all before.nodes (subst (λ (l : List Cut). Contains l (Nodes before.nodes)) (sym cuts) (Contains-push before.cuts.items (Nodes before.nodes)))

@@ -95,7 +95,7 @@ module _ (exploration : Exploration) (entry : ℕ) (explores : ExploresIntegers 
     uncut = subst (λ (g : RowGraph). IsUncut (record before { graph = g })) (sym rest) kept.uncut;
   }
 
-  -- all that comes of a row was added, as far as there was room
+  -- all that comes of a row was added, as far as the budget of nodes allowed
   module _ (exact : KeysAreExact) (before ended cut after : Findings) (tables : Tables) (row : ℕ) (from : Row)
       (there : slice_get before.graph.rows row ≡ Some from) (made : List Child) (endings : List StateEnd) (cuts : List Cut)
       (extends : Extends (naming before.tables) (naming tables)) (adds : AddsEnds row endings (record before { tables = tables }) ended)

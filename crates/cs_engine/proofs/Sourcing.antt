@@ -120,7 +120,7 @@ module _ (exploration : Exploration) (entry : ℕ) (explores : ExploresIntegers 
   given_sources before graph row given rest sources names are each =
       sources_given code program entry budgets names rules before.graph graph before.ends.items row given rest (sources names are each)
 
-  -- what came of a row was added, as far as there was room
+  -- what came of a row was added, as far as the budget of nodes allowed
   module _ (before ended cut after : Findings) (tables : Tables) (row : ℕ) (from : Row) (there : slice_get before.graph.rows row ≡ Some from)
       (made : List Child) (endings : List StateEnd) (cuts : List Cut) (extends : Extends (naming before.tables) (naming tables))
       (adds : AddsEnds row endings (record before { tables = tables }) ended) (cutting : AddsCuts cuts ended cut) (keeps : KeepsEnds cut after)

@@ -31,7 +31,7 @@ pub record ExploresIntegers (exploration : Exploration) (entry : ℕ) : Type 0 w
   pub limit : exploration.budgets.events ≡ (limits_of exploration).events
   pub works : IsIntegerEntry (code_of exploration) (program_of exploration) entry
 
--- what is found is closed but for the rows that are open by what waits, unless something was left out for want of nodes
+-- what is found is closed but for the rows that are open by what waits, unless something was cut for want of nodes
 abbrev pub IsOpenGraph : Exploration → ℕ → (List (ℕ × ℕ) → ℕ → Type 0) → Findings → Type 0
 IsOpenGraph exploration entry Open findings = HasAllNodes findings.cuts.items
     → IsClosedGraph (code_of exploration) (program_of exploration) entry (limits_of exploration) exploration.rules.now (naming findings.tables) findings.graph
@@ -67,7 +67,7 @@ pub record IsKept (exploration : Exploration) (entry : ℕ) (Open : List (ℕ ×
   pub reasons : HasReasons exploration entry findings
   pub uncut : IsUncut findings
 
--- what is found is closed, unless something was left out for want of nodes
+-- what is found is closed, unless something was cut for want of nodes
 abbrev pub IsClosedAtLast : Exploration → ℕ → Findings → Type 0
 IsClosedAtLast exploration entry findings = HasAllNodes findings.cuts.items
     → IsClosed (code_of exploration) (program_of exploration) entry (limits_of exploration) exploration.rules.now (naming findings.tables)
@@ -81,7 +81,7 @@ pub record IsDone (exploration : Exploration) (entry : ℕ) (findings : Findings
       findings.ends.items (λ number. ⊥))
   pub reasons : HasReasons exploration entry findings
 
--- the exploration goes on, or it is done, since there was no room for a row
+-- the exploration goes on, or it is done, since a row exceeded the budget of nodes
 abbrev pub LeadsOn : Exploration → ℕ → Bool → Findings → Type 0
 LeadsOn exploration entry true findings = IsKept exploration entry Waits findings
 LeadsOn exploration entry false findings = IsDone exploration entry findings

@@ -60,7 +60,7 @@ pub fn explore(
     Ok(findings.explored())
 }
 
-// The row in which the entry begins, where there is room for it.
+// The row in which the entry begins, where the budget of nodes allows it.
 fn begin(exploration: &Exploration, entry: u32) -> Result<Findings, AllocError>
     requires ready { IsReady exploration.now.context.now.setting.now }
     requires nodes { exploration.now.budgets.nodes ≤ 200000 }

@@ -21,7 +21,7 @@ use Rattle.cs_events.proofs.LogGrowth.{act_adds}
 abbrev passed : Log → ℕ
 passed log = length log.events
 
--- one log has more events than another, which had room for one
+-- one log has more events than another, whose budget allowed one more
 abbrev IsLouder : Setting → Log → Log → Type 0
 IsLouder setting log later = (passed log < setting.budgets.events) × (passed log < passed later)
 
@@ -40,14 +40,14 @@ module _ {State : Type 0} where
   Went setting Next log (Continues next later) = IsLouder setting log later ⊎ (Next next × (passed later ≡ passed log))
   Went setting Next log (Finishes outcome later) = Unit {0}
 
-  -- after an event for which there was room
+  -- after an event that the budget allowed
   louder : (setting : Setting) (Next : State → Type 0) (log : Log) (here : Pending) (event : Event) (done : Performed State)
       → passed log < setting.budgets.events
       → GoesOn (with_event log here event) (log_of done) → Went setting Next log done
   louder setting Next log here event (Continues next later) room more = inl (room, more_events log later here event more)
   louder setting Next log here event (Finishes outcome later) room more = tt
 
-  -- after an event, or at the end of the run where there was no room
+  -- after an event, or at the end of the run where the budget was used up
   after_event : (setting : Setting) (Next : State → Type 0) (log : Log) (here : Pending) (event : Event) (outcome : Outcome) (end : Log)
       (done : Performed State) (room : Bool)
       → has_room setting log ≡ room → GoesOn (with_event log here event) (log_of done)

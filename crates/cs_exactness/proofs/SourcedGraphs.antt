@@ -133,7 +133,7 @@ module _ (code : Code) (program : TypedProgram) (entry : ℕ) (budgets : RunBudg
           (λ i other there. subst (λ (n : ℕ). slice_get made n ≡ Some other) (omega arith) (each (suc i) other there))
           (place_one count child at before is between first.0 first.1 first.2) rest)
 
-      -- its next child would come from it too, if there were room
+      -- its next child would come from it too, if the budget of nodes allowed it
       refused : (count : ℕ) (child : Child) → slice_get made count ≡ Some child → (graph : RowGraph) → IsStage count graph
           → IsUnseen (pointwise nat_eq) (words_of (live_part child.state.value)) graph.keys
           → Sourced (graph.rows ++ child_row row child ∷ []) ends (λ number. ⊥)

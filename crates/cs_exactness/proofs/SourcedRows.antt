@@ -26,7 +26,7 @@ use Rattle.cs_coverage.proofs.RowKeys.{some_there}
 use Rattle.cs_exactness.specs.Distinct.{KeysDiffer, SiblingsDiffer, EndsDiffer}
 use Rattle.cs_exactness.specs.Sources.{HasSource, ComesOfRow, IsOfRow, HasEnds, AreSourced}
 
--- an element of a list, or of one behind it
+-- an element of a list, or of one after it
 behind_or_before : {A B : Type 0} (f : A → B) (xs : List B) (ys : List A) (place : ℕ) (z : B) → slice_get (xs ++ map f ys) place ≡ Some z
     → (slice_get xs place ≡ Some z) ⊎ ((at : ℕ) × (y : A) × (place ≡ length xs + at) × (slice_get ys at ≡ Some y) × (z ≡ f y))
 behind_or_before f [] [] place z there = cc

@@ -28,7 +28,7 @@ pub struct Findings {
 }
 
 impl Findings {
-    /// Nothing, and room for so many rows.
+    /// Nothing, with capacity for so many rows.
     pub fn new(alloc: Global, nodes: u64) -> Findings
         requires { nodes ≤ 200000 }
         ensures sound { IsSound result }

@@ -25,7 +25,7 @@ use Rattle.cs_types.specs.Kinds.{is_scalar, is_complete}
 use Rattle.cs_expressions.specs.Conversions.{Pair, null_at, pointers_met}
 use Rattle.cs_folding.specs.Folding.{is_null}
 
--- an `int` that tells a truth
+-- an `int` that is a truth value
 abbrev pub int_at : Place → Form → Typed
 int_at at form = Of at (integer Int) form
 

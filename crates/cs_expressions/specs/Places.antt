@@ -53,7 +53,7 @@ abbrev pub struct_after : Shape → Option ℕ
 struct_after (pointer target) = struct_number target
 struct_after other = None
 
--- a member of what has one, by the struct's number: the operator's place tells of what has none, and the name's of a member
+-- a member of what has one, by the struct's number: a refusal is at the operator where there is none, and at the name for a member
 -- that isn't there
 abbrev pub member_by : List StructType → Place → Place → List ℕ → (Member → Verdict Typed) → Option ℕ → Verdict Typed
 member_by table at name_at name rule (Some number) = lift rule (member_found name_at name (members_of table number))

@@ -126,7 +126,7 @@ pub fn text(
     })
 }
 
-// Puts a literal after the others and tells its number. More literals than there are numbers find no memory.
+// Puts a literal after the others and returns its number. More literals than there are numbers find no memory.
 fn add_literal(literals: &mut Vec<Bytes>, bytes: &Bytes) -> Result<u32, AllocError>
     ensures number { IfOk result (λ number. number ≡ length literals.old.items) }
     ensures added { OnOk result (literals.new.items ≡ literals.old.items ++ bytes.now ∷ []) }

@@ -35,7 +35,7 @@ abbrev pub has_body : Filed → Callee → Bool
 has_body f (Numbered number) = is_some (option_and_then (λ (r : Routine). r.body) (slice_get f.routines number))
 has_body f other = true
 
--- a name that stands for nothing yet may become a function's; one that stands for a function may do so again with the same result, and
+-- a name that isn't declared yet may become a function's; one that stands for a function may do so again with the same result, and
 -- gets one body at most
 abbrev pub may_be_function : Filed → Bool → Shape → Option Meaning → Bool
 may_be_function f with_body result None = true

@@ -34,7 +34,7 @@ is_initialized number globals = is_some (option_and_then (λ (g : FileObject). g
 abbrev pub is_completed : Filed → Shape → RawDeclarator → Bool
 is_completed f base d = is_complete f.known.context.table.list (starred d.pointers.items base)
 
--- a name that stands for nothing yet may become an object's; one that stands for an object may do so again, and is initialized once: not
+-- a name that isn't declared yet may become an object's; one that stands for an object may do so again, and is initialized once: not
 -- with an incomplete type, which is another than the object has
 abbrev pub may_be_object : List FileObject → Bool → Bool → Option Meaning → Bool
 may_be_object globals completed initializes None = true

@@ -131,7 +131,7 @@ impl Filed {
         }
     }
 
-    /// Whether a name may be declared as that of a function with this result, and with a body, if it gets one: it stands for nothing
+    /// Whether a name may be declared as that of a function with this result, and with a body, if it gets one: it isn't declared
     /// in the file yet, or for a function with this result, which gets one body at most.
     pub fn may_be_function(&self, name: &Name, with_body: bool, returns: &CType) -> bool
         ensures { result ≡ may_be_function (filed_of self.now) with_body (shape_of returns.now)

@@ -34,7 +34,7 @@ impl Filed {
         Ok(is_complete(&self.known.context.table, &ty))
     }
 
-    // Whether a name may be declared as an object's, which is initialized there or isn't: it stands for nothing in the file yet, or for
+    // Whether a name may be declared as an object's, which is initialized there or isn't: it isn't declared in the file yet, or for
     // an object, which is initialized once and has a complete type.
     fn may_be_object(&self, name: &Name, completed: bool, initializes: bool) -> bool
         ensures { result ≡ may_be_object (filed_of self.now).globals completed initializes

@@ -19,7 +19,7 @@ use Rattle.cs_findings.specs.Runs.{before}
 use Rattle.cs_findings.specs.RealGuesses.{Comes}
 use Rattle.cs_findings.proofs.Passing.{events_of, shown_passes, passes_one, pends_in_budget}
 
--- a guess that was kept, or left out
+-- a guess that was kept, or dropped
 kept_or_not : (guess : Guess) (rest : List Guess) (event earlier : ℕ) (kept : Bool) → nat_lt guess.event event ≡ kept → earlier < event
     → guess_at (filter (λ g. nat_lt g.event event) rest) earlier ≡ guess_at rest earlier
     → guess_at (if kept then guess ∷ filter (λ g. nat_lt g.event event) rest else filter (λ g. nat_lt g.event event) rest) earlier

@@ -26,6 +26,6 @@ abbrev pub ReportsEveryRun : TypedProgram → Budgets → EntryResult → Type 0
 ReportsEveryRun program budgets given = given.cuts.items ≡ [] → (inputs : List (Path × ℤ)) (outcome : Outcome) (log : Log)
     → RunGives program given.entry (record { inputs = inputs; guesses = [] }) (run_budgets budgets) outcome log → HasFinding given outcome
 
--- if the entry works with integers alone, no run is left out
+-- if the entry works with integers alone, no run is missed
 abbrev pub MissesNothing : TypedProgram → Budgets → EntryResult → Type 0
 MissesNothing program budgets given = IsIntegerFunction program given.entry → ReportsEveryRun program budgets given

@@ -16,7 +16,7 @@ use Rattle.cs_declarations.specs.Sizes.{sizes_said, bounded, extent_of, filled}
 use Rattle.cs_first_faults.specs.Failures.{FailingPlace, failing_at, codes_of, if_typed}
 use Rattle.cs_first_faults.specs.Roles.{constant_failures}
 
--- bounds, of which each may be left out
+-- bounds, each of which is optional
 abbrev pub bounds_failures : Context → List (Option RawExpr) → List FailingPlace
 bounds_failures c [] = []
 bounds_failures c (None ∷ bounds) = bounds_failures c bounds

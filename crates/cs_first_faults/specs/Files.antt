@@ -34,7 +34,7 @@ declared_function d f result head =
 abbrev pub head_codes : Bool → RawFunction → Filed → Shape → Verdict Head → List TypeCode
 head_codes admitted d f result head = if admitted then if_typed (λ (h : Head). codes_of (declared_function d f result h)) head else []
 
--- at a function's name: one that stands for nothing yet, or for a function of this result and these parameters that has one body at most
+-- at a function's name: one that isn't declared yet, or for a function of this result and these parameters that has one body at most
 -- (2); the result is no array and no struct (6)
 abbrev pub function_codes : RawFunction → Option RawBody → Filed → Shape → List TypeCode
 function_codes d body f result =

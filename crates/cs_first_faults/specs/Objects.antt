@@ -55,7 +55,7 @@ typed_object s base d f =
     lift (λ o. Fine (ty, o)) (lift (marked s d.declarator) (object_of f d.declarator (meaning_here d.declarator.name f.known) ty)))
     (object_type f.known.context base d)
 
--- a declared object of a file: at its name, one that stands for nothing yet, or for an object of this type that isn't initialized twice (2)
+-- a declared object of a file: at its name, one that isn't declared yet, or for an object of this type that isn't initialized twice (2)
 abbrev pub object_failures : RawSpecs → Shape → RawInit → Filed → List FailingPlace
 object_failures s base d f =
     let before = meaning_here d.declarator.name f.known in

@@ -112,7 +112,7 @@ impl Points {
         Ok(next)
     }
 
-    /// The same of an expression that may be left out.
+    /// The same of an optional expression.
     pub(crate) fn optional(&mut self, e: &Option<Expr>, following: Next) -> Result<Next, AllocError>
         ensures points { OnOk result
             (points_of self.new ≡ cfg.points_some (some_typed e.now) (next_of following)

@@ -1,4 +1,4 @@
--- Calls, told by what they are known by.
+-- Calls, defined by what is known of them.
 use Rattle.std.specs.Prelude.{ℕ, ◌+◌, List, ◌∷◌, Bool, true, false, Option}
 use Rattle.cs_types.specs.Shape.{Shape, void}
 use Rattle.cs_ast.specs.declared.place.Place.{Place}

@@ -36,7 +36,7 @@ impl<K: Eq + Hash, R> Model for Graph<K, R> {
 }
 
 impl<K: Eq + Hash, R> Graph<K, R> {
-    /// No row, and room for so many.
+    /// No row, with capacity for so many.
     pub fn new(alloc: Global, nodes: u64) -> Graph<K, R>
         requires { nodes ≤ 200000 }
         ensures { result ≡ empty nodes }

@@ -6,7 +6,7 @@ use indexmap::IndexMap;
 use std::alloc::AllocError;
 use std::hash::Hash;
 
-// Room for so many is made at first, so that few explorations make room twice.
+// The first capacity, so large that few explorations reserve twice.
 const FIRST: usize = 8;
 
 // The number under a key.
@@ -16,7 +16,7 @@ pub(crate) fn number_of<K: Eq + Hash>(keys: &IndexMap<K, u32>, key: &K) -> Optio
     Some(*keys.get(key)?)
 }
 
-// Makes room for one more of both.
+// Reserves capacity for one more of both.
 pub(crate) fn make_room<K: Eq + Hash, R>(
     keys: &mut IndexMap<K, u32>,
     rows: &mut Vec<R>,

@@ -72,7 +72,7 @@ before_event event setting = record setting { guesses = filter (λ (guess : Gues
 abbrev pub pending_for : Event → Question → Valuation → Pending
 pending_for event meant v = Operates event.place (operation_of v meant)
 
--- this is pending at a step, and the fact tells its own result
+-- this is pending at a step, and the fact is about its own result
 pub record IsStepOf (model : DataModel) (asked : Asked) (meant : Question) (event : Event) (one : Step) (v : Valuation) : Type 0 where
   pub pends : one.pending ≡ pending_for event meant v
   pub told : TellsResult model asked.fact meant v

@@ -1,4 +1,4 @@
--- Path order is a total order that tells all paths apart: for the contracts of `Inputs`.
+-- Path order is a total order in which distinct paths differ: for the contracts of `Inputs`.
 use Rattle.std.proofs.Common.{◌≡◌, ℕ, zero, suc, List, [], ◌∷◌, sym, ◌∙◌, ap, refl, subst}
 use Rattle.std.specs.Cmp.{IsTotalOrder, on_total, then_total}
 use Rattle.std.specs.Cmp.Lexicographic.{slice_cmp, nat_list_cmp_total}

@@ -1,4 +1,4 @@
--- A text is cut before its first mark in one way: for `split_before` and all that reads parts of a text.
+-- A text is cut before its first separator in one way: for `split_before` and all that reads parts of a text.
 use Rattle.std.proofs.Common.{◌≡◌, ℕ, ◌+◌, ◌<◌, Bool, true, false, not, ◌&&◌, eqb, eqb-true, List, [], ◌∷◌, ◌++◌, length, take}
 use Rattle.std.proofs.Common.{drop, get_or, ap, sym, ◌∙◌, refl, arith}
 use Rattle.std.specs.Prelude.{◌==◌}
@@ -20,7 +20,7 @@ all_weaker p q weaker (b ∷ bs) h =
     let parts = both (p b) (list_all p bs) h in
     ap (λ t. t && list_all q bs) (weaker b parts.0) ∙ all_weaker p q weaker bs parts.1
 
--- a mark that fails the test isn't among bytes that pass it
+-- a separator that fails the test isn't among bytes that pass it
 pub all_without : (p : ℕ → Bool) (mark : ℕ) → p mark ≡ false → (bs : List ℕ) → list_all p bs ≡ true
     → list_all (λ b. not (b == mark)) bs ≡ true
 all_without p mark fails bs h = all_weaker p (λ b. not (b == mark)) (λ b passes. other b (b == mark) refl passes) bs h

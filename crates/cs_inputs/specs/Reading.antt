@@ -10,12 +10,12 @@ use Rattle.cs_inputs.specs.declared.refusal.PathRefusal.TheVariants.{BadPath, Ba
 use Rattle.cs_inputs.specs.PathText.{root_text, cells_text, HasRootText}
 use Rattle.cs_inputs.specs.InputText.{AreDigits, SpellsNumber, IsInputNumber}
 
--- a text is empty or begins with the mark
+-- a text is empty or begins with the separator
 abbrev pub IsEmptyOrAt : ℕ → List ℕ → Type 0
 IsEmptyOrAt mark [] = Unit {0}
 IsEmptyOrAt mark (b ∷ bs) = b ≡ mark
 
--- a text in two, before its first mark; the second part is empty where there is none
+-- a text in two, before its first separator; the second part is empty where there is none
 pub record SplitsBefore (mark : ℕ) (text before following : List ℕ) : Type 0 where
   pub whole : text ≡ before ++ following
   pub none : IsTrue (list_all (λ b. not (b == mark)) before)

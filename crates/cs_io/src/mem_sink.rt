@@ -9,7 +9,7 @@ use crate::traits::{Failed, Sink};
 use std::alloc::{AllocError, Global};
 use std::marker::Model;
 
-/// Takes at most `most` bytes a call until it holds as many as it has room for, and fails at the calls
+/// Takes at most `most` bytes a call until it is full, and fails at the calls
 /// that are listed.
 #[derive(Drop)]
 pub struct MemSink {
@@ -36,7 +36,7 @@ impl Model for MemSink {
 }
 
 impl MemSink {
-    /// Takes the memory for `room` bytes. No later call takes any. The calls whose number from 1 is in
+    /// Reserves the memory for `room` bytes. No later call takes any. The calls whose number from 1 is in
     /// `fails` fail.
     pub fn new(alloc: Global, room: usize, most: usize, fails: Vec<u64>) -> Result<Self, AllocError>
         requires { 0 < most }

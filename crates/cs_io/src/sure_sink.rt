@@ -6,7 +6,7 @@ use crate::traits::{Failed, Sink};
 use std::alloc::{AllocError, Global};
 use std::marker::Model;
 
-/// Takes bytes until it holds as many as it has room for.
+/// Takes bytes until it is full.
 #[derive(Drop)]
 pub struct SureSink {
     bytes: Vec<u8>,
@@ -26,7 +26,7 @@ impl Model for SureSink {
 }
 
 impl SureSink {
-    /// Takes the memory for `room` bytes. No later call takes any.
+    /// Reserves the memory for `room` bytes. No later call takes any.
     pub fn new(alloc: Global, room: usize) -> Result<Self, AllocError>
         ensures { IfOk result (λ sink.
             sink ≡ record { written = []; room = room; empty_takes = 0 }) }

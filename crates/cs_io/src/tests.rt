@@ -93,7 +93,7 @@ fn reads_no_more_than_the_limit(rt: HostRuntime) -> Result<(), Fail> {
 fn writes_through_short_calls_up_to_a_fault(rt: HostRuntime) -> Result<(), Fail> {
     let alloc = rt.alloc();
     let text = b"hello".as_slice();
-    // The room, the most that a call takes, the number of the call that fails, and what is written.
+    // The capacity, the most that a call takes, the number of the call that fails, and what is written.
     let cases = [
         (5, 1, 0, b"hello".as_slice()),
         (9, 9, 2, b"hello"),

@@ -25,7 +25,7 @@ use Rattle.cs_lower.proofs.Evaluating.{jump_joins, same_after, same_before}
 use Rattle.cs_lower.proofs.Executing.{counted_point_stays}
 use Rattle.cs_lower.proofs.Integers.{integers_same, integers_both, integers_end, integers_after, integers_before}
 
--- the head of a loop has the number that was told before its body
+-- the head of a loop has the number that was given before its body
 pub is_head : {old y new : Built} {count head inner counted_point : ℕ} → Grows count old y → Grows 1 y new
     → head + suc (inner + length old.heads) ≡ old.counted_points → inner ≡ count → counted_point + length new.heads ≡ new.counted_points
     → head ≡ counted_point

@@ -48,7 +48,7 @@ abbrev mutual
   AllHaveArguments NoMore = Unit {0}
   AllHaveArguments (Further e others) = HasArguments e × AllHaveArguments others
 
--- in an expression that may be left out
+-- in an optional expression
 abbrev pub OptionHasArguments : Option Typed → Type 0
 OptionHasArguments None = Unit {0}
 OptionHasArguments (Some e) = HasArguments e
@@ -70,7 +70,7 @@ PiecesHaveArguments [] = Unit {0}
 PiecesHaveArguments (Evaluated offset e ∷ others) = HasArguments e × PiecesHaveArguments others
 PiecesHaveArguments (Spelled offset bytes ∷ others) = PiecesHaveArguments others
 
--- in an initializer that may be left out
+-- in an optional initializer
 abbrev pub OptionInitialHasArguments : Option Initial → Type 0
 OptionInitialHasArguments None = Unit {0}
 OptionInitialHasArguments (Some initial) = InitialHasArguments initial

@@ -44,7 +44,7 @@ abbrev mutual
   FormIsOfIntegers count (Update op object b works_in gives) = IsIntegerLocal count object × IsOfIntegers count b
   FormIsOfIntegers count other = ⊥
 
--- an expression that may be left out
+-- an optional expression
 abbrev pub OptionIsOfIntegers : ℕ → Option Typed → Type 0
 OptionIsOfIntegers count None = Unit {0}
 OptionIsOfIntegers count (Some e) = IsOfIntegers count e

@@ -111,7 +111,7 @@ module _ (program : TypedProgram) (routine : Routine) where
         → (to : Targets) (following : Next) → AddsPoints flow (flows to (Return at value) following) (blocks old) (p ∷ blocks new)
     pub integers : (count : ℕ) → OptionIsOfIntegers count value → AddsIntegers count (blocks old) (p ∷ blocks new)
 
--- a test, and then one of two blocks, is a use over no temporaries; the test of a `for` may be left out
+-- a test, and then one of two blocks, is a use over no temporaries; the test of a `for` is optional
 pub record TestsFor (program : TypedProgram) (at : Place) (test : Option Typed) (old new : Built) (p body : Point) (end : ℕ) : Type 0 where
   pub grows : Grows 0 old new
   pub does : (flow : Flow) (q : Point) → Has flow new → OptionHasArguments test → block_of flow end ≡ q → for_test_at program flow at test p body q

@@ -22,7 +22,7 @@ pub data Piece : Type 0 where
   Spelled : (offset : ℕ) (bytes : List ℕ) → Piece
 
 abbrev mutual
-  -- the pieces of an initializer of an object of a type, which begins at an offset; a text gives as many bytes as there is room for
+  -- the pieces of an initializer of an object of a type, which begins at an offset; a text gives as many bytes as fit
   pub pieces : TypedProgram → Shape → ℕ → Initial → List Piece
   pieces program shape from (Value value) = Evaluated from value ∷ []
   pieces program shape from (Bytes bytes) = Spelled from (take (count_of shape) bytes) ∷ []

@@ -54,7 +54,7 @@ pub data Item : Type 0 where
   -- leave the frame with the newest value
   Leave : Item
 
--- a call of a function that hasn't ended (C11 5.1.2.3), in a machine that is told in some way what is still to be done there
+-- a call of a function that hasn't ended (C11 5.1.2.3), in a machine that knows in some way what is still to be done there
 pub record CallFrame (Rest : Type 0) : Type 0 where
   -- the function's number in the program
   pub function : ℕ

@@ -1,7 +1,7 @@
 -- Entries put among those of a tree, and where a key divides a list in ascending order. Serves `merged`, `with_each`, `built` and
 -- `split_around`.
-use Rattle.std.proofs.Common.{◌≡◌, ℕ, ◌+◌, ◌<◌, ◌≤◌, arith, Bool, true, false, ◌&&◌, List, [], ◌∷◌, ◌++◌, length, take, drop, get_or, inl, inr, refl, sym, ap, subst, ◌∙◌}
-use Rattle.std.proofs.Common.{append_assoc}
+use Rattle.std.proofs.Common.{◌≡◌, ℕ, ◌+◌, ◌<◌, ◌≤◌, arith, Bool, true, false, ◌&&◌, List, [], ◌∷◌, ◌++◌, length, take, drop, get_or}
+use Rattle.std.proofs.Common.{inl, inr, refl, sym, ap, subst, ◌∙◌, append_assoc}
 use Rattle.std.proofs.lemmas.List.{append-nil, take-append-drop, take_more, drop_more, drop_all}
 use Rattle.std.specs.Prelude.{IsTrue}
 use Rattle.std.specs.declared.cmp.Ordering.{Ordering}
@@ -236,7 +236,8 @@ module _ {V : Type 0} where
       }
 
   -- whether entries ascend, from the second on
-  below_after : (e f : (ℕ × ℕ) × V) (es : EntryList V) → key_cmp e.0 f.0 ≡ Less → (below_all key_cmp e.0 es && is_sorted key_cmp (f ∷ es)) ≡ is_sorted key_cmp (f ∷ es)
+  below_after : (e f : (ℕ × ℕ) × V) (es : EntryList V) → key_cmp e.0 f.0 ≡ Less
+      → (below_all key_cmp e.0 es && is_sorted key_cmp (f ∷ es)) ≡ is_sorted key_cmp (f ∷ es)
   below_after e f es p =
       elim (is_sorted key_cmp (f ∷ es)) as (λ s. is_sorted key_cmp (f ∷ es) ≡ s → (below_all key_cmp e.0 es && s) ≡ s) [
         | true ↦ λ q. ap (λ b. b && true) (second_part _ _ (first_part _ _ (sorted_cons key_cmp key_cmp_total e f es p q)))

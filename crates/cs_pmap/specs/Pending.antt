@@ -12,7 +12,7 @@ module _ {V : Type 0} where
   pending (None ∷ bs) = pending bs
   pending (Some b ∷ bs) = pending bs ++ (b.now.key, b.now.value) ∷ b.now.right.0
 
-  -- each place has a branch, which is balanced and, with the branches under it on the stack, leaves room for its height
+  -- each place has a branch, which is balanced and, with the branches under it on the stack, is low enough for its height
   abbrev pub HasRoom : ℕ → List (Option (Bor (Branch V))) → Type 0
   HasRoom room [] = Unit {0}
   HasRoom room (None ∷ bs) = ⊥

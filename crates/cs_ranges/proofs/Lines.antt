@@ -7,7 +7,7 @@ use Rattle.std.proofs.lemmas.Int.{ints, by_lt_z}
 use Rattle.cs_ranges.specs.Affine.{affine}
 use Rattle.cs_ranges.proofs.AffineLaws.{affine-affine, affine-neg_ℤ}
 
--- the test of a range, with what it tells
+-- the test of a range, with what it shows
 pub over_yields : (x y s : ℤ) → (int_le x s && int_le s y) ≡ true → (x ≤ℤ s) × (s ≤ℤ y)
 over_yields x y s h = (grind (arith, ints), grind (arith, ints))
 

@@ -7,7 +7,7 @@ use Rattle.cs_ranges.specs.declared.range_set.Interval.{Interval}
 use Rattle.cs_ranges.specs.Interval.{in_interval}
 use Rattle.cs_ranges.specs.RangeSet.{contains}
 
--- the test of an interval, with what it tells
+-- the test of an interval, with what it shows
 pub in_interval_yields : (i : Interval) (x : ℤ) → ((in_interval i x ≡ true) × (i.low ≤ℤ x) × (x ≤ℤ i.high))
     ⊎ ((in_interval i x ≡ false) × ((x <ℤ i.low) ⊎ (i.high <ℤ x)))
 unfolding in_interval

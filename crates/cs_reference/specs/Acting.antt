@@ -1,4 +1,4 @@
--- What an expression of each form does with its parts, which are on the stack, told without those parts.
+-- What an expression of each form does with its parts, which are on the stack, defined without those parts.
 use Rattle.std.specs.Prelude.{ℕ, pos, not}
 use Rattle.cs_types.specs.Shape.{Shape}
 use Rattle.cs_ast.specs.declared.place.Place.{Place}

@@ -1,4 +1,4 @@
--- Tests and heads of loops, told by what is to be done after them.
+-- Tests and heads of loops, defined by what is to be done after them.
 use Rattle.std.specs.Prelude.{ℕ, List, if◌then◌else◌}
 use Rattle.cs_ast.specs.declared.place.Place.{Place}
 use Rattle.cs_events.specs.declared.outcome.RunBudgets.{RunBudgets}

@@ -76,7 +76,7 @@ module _ (setting : Setting) (log later : Log) where
       (ends (λ b. Goes (with_truth m b)))
 
 module _ (setting : Setting) (log : Log) where
-  -- an act leads to a state that is told in another way
+  -- an act leads to a state that is described in another way
   pub arrives : (act : Act CodeState) (t last : CodeState) (later end : Log) → perform setting log act ≡ Continues t later → last ≡ t → end ≡ later
       → perform setting log act ≡ Continues last end
   arrives act t last later end leads same same_log = leads

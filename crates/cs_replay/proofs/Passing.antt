@@ -1,4 +1,4 @@
--- What a call comes to, told of the run as it was before another call: for steps that go on with what they were given.
+-- What a call comes to, in terms of the run before another call: for steps that go on with what they were given.
 use Rattle.std.proofs.Common.{◌≡◌, Result, OnOk, IfErr, ◌∙◌, subst}
 use Rattle.std.specs.Prelude.{⊤}
 use Rattle.std.specs.Borrow.{Bor}

@@ -1,4 +1,4 @@
--- A state of the code's run, told by a state of the reference machine that has nothing to do: the points are told beside it.
+-- A state of the code's run, described by a state of the reference machine that has nothing to do, and by the points beside it.
 use Rattle.std.specs.Prelude.{ℕ, List, [], replicate}
 use Rattle.cs_meaning.specs.Machine.{CallFrame, Frame, State}
 use Rattle.cs_cfg.specs.Graph.{Point}

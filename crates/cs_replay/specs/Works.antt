@@ -1,4 +1,4 @@
--- What an operation of the code does, told of every machine, whatever that has still to do: all operations but calls.
+-- What an operation of the code does, for every machine, whatever that has still to do: all operations but calls.
 use Rattle.std.specs.Prelude.{ℕ, pos, not}
 use Rattle.cs_types.specs.Shape.{integer}
 use Rattle.cs_ast.specs.declared.place.Place.{Place}
@@ -30,7 +30,7 @@ use Rattle.cs_cfg.specs.Working.{below, if_local, closed_with}
 abbrev pub cut_to : {Rest : Type 0} → ℕ → Running Rest → Running Rest
 cut_to number m = with_stack (below number m.frame.stack) m
 
--- what an operation at a place does, whose operands are the newest temporaries. A call goes on in another frame, and is told elsewhere
+-- what an operation at a place does, whose operands are the newest temporaries. A call goes on in another frame, and is defined elsewhere
 abbrev pub works : {Rest : Type 0} → TypedProgram → RunBudgets → Place → Work → Running Rest → Act (Running Rest)
 works program budgets at (Number n) m = Goes (push_cell (NumberCell n) m)
 works program budgets at Null m = Goes (push_cell NullCell m)

@@ -1,4 +1,4 @@
--- The lines by which a file is refused at a place.
+-- The lines that refuse a file at a place.
 use Rattle.std.specs.Prelude.{ℕ, List, ◌++◌, codes}
 use Rattle.cs_ast.specs.declared.place.Place.{Place}
 use Rattle.cs_model.specs.Places.{located}

@@ -1,4 +1,4 @@
--- The line that tells how a replayed run ends.
+-- The line that says how a replayed run ends.
 use Rattle.std.specs.Prelude.{ℕ, List, [], ◌++◌, codes}
 use Rattle.std.specs.Fmt.{signed_decimal}
 use Rattle.cs_model.specs.Kinds.{kind_name}

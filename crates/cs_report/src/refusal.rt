@@ -1,4 +1,4 @@
-//! The lines by which a file is refused.
+//! The lines that refuse a file.
 ghost use Rattle.std.specs.Prelude.{◌≡◌, ◌++◌, OnOk};
 ghost use Rattle.cs_report.specs.RefusalLines.{refusal_line};
 
@@ -7,7 +7,7 @@ use cs_names::Name;
 use cs_report_parts::{append, append_located};
 use std::alloc::AllocError;
 
-/// Appends `WORDS FILE:LINE:COLUMN`, the line by which a file is refused at a place. The words have the space after them.
+/// Appends `WORDS FILE:LINE:COLUMN`, the line that refuses a file at a place. The words have the space after them.
 pub fn append_refusal(
     text: &mut Vec<u8>,
     words: &str,

@@ -1,4 +1,4 @@
--- What a piece of a step does, told by every way to go on from it.
+-- What a piece of a step does, for every way to go on from it.
 use Rattle.std.specs.Prelude.{◌≡◌, ℕ, ℤ, pos, neg_ℤ, ◌+ℤ◌, ◌-ℤ◌, ◌*ℤ◌, true, Option, Some, None, if◌then◌else◌, Result, ⊤}
 use Rattle.std.specs.Prelude.{OnOk, IfErr}
 use Rattle.cs_types.specs.declared.data_model.DataModel.{DataModel}

@@ -63,7 +63,7 @@ frame_of frame = record {
   visits = frame.visits.items;
 }
 
--- the state: frames are told by their locals, and allocations by what they gave
+-- the state: frames are seen as their locals, and allocations by what they gave
 unfoldable pub state_of : Machine → machine.State
 state_of m = record {
   frame = frame_of m.frame;

@@ -1,4 +1,4 @@
--- Declarations as numbers in a row, by which a proof tells them apart.
+-- Declarations as numbers in a row, by which a proof distinguishes them.
 use Rattle.std.specs.Prelude.{◌≡◌, ◌⊎◌, ℕ, zero, suc, ℤ, List, refl}
 use Rattle.std.proofs.Common.{inl, inr}
 use Rattle.std.specs.Coded.{Coded, code_by, coded×, coded⊎, coded_ℕ, coded_ℤ, coded_list}

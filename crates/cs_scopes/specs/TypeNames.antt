@@ -83,7 +83,7 @@ whole_word (word.Typedef name ∷ words) = Some (word.Typedef name)
 whole_word (word.Struct name ∷ words) = Some (word.Struct name)
 whole_word (word.Enum name ∷ words) = Some (word.Enum name)
 
--- the place of a tag, or where none is told that of what asks for the type
+-- the place of a tag, or, without one, of what asks for the type
 abbrev pub tag_place : Place → Option Place → Place
 tag_place at (Some place) = place
 tag_place at None = at

@@ -5,7 +5,7 @@ ghost use Rattle.cs_scopes.specs.TypeNames.{is_word, char_type, named_by};
 use cs_ast::raw::written_type::{IntegerWord, TypeWord};
 use cs_types::IntType;
 
-/// How often each word that tells integer types apart stands among some words.
+/// How often each word that distinguishes integer types occurs among some words.
 #[derive(Clone, Copy, Debug)]
 pub struct IntegerWords {
     pub char: usize,

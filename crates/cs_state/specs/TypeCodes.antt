@@ -1,4 +1,4 @@
--- How a proof tells lists of types apart.
+-- How a proof distinguishes lists of types.
 use Rattle.std.specs.Prelude.{List}
 use Rattle.std.specs.Coded.{Coded, coded_list}
 use Rattle.cs_types.specs.Shape.{Shape}

@@ -1,4 +1,4 @@
--- Typed statements stand among the places of what is written, and have no more nodes than their text has room for: for the contract of `typed`.
+-- Typed statements stand among the places of what is written, and have no more nodes than their text allows: for the contract of `typed`.
 use Rattle.std.proofs.Common.{◌≡◌, ℕ, ℤ, ◌+◌, ◌*◌, ◌≤◌, List, [], ◌∷◌, ◌++◌, length, map, arith}
 use Rattle.std.specs.Prelude.{Option, Some, None, IfSome}
 use Rattle.std.specs.Option.{option_map}
@@ -161,7 +161,7 @@ module _ (Is : Place → Type 0) where
 
   -- ---- declarations
 
-  -- statements so far, with room for a text of some size after them
+  -- statements so far, with a bound that allows a text of some size after them
   abbrev pub HasRoom : ℕ → ℕ → TypedStatements → Type 0
   HasRoom room size reported = StatementsStandAmong Is (in_a_row reported.statements)
       × (weight reported.inside + statements_nodes (in_a_row reported.statements) + 24 * size ≤ room)
@@ -288,7 +288,7 @@ module _ (Is : Place → Type 0) where
   abbrev pub GivesStatement : ℕ → ℕ → Part Statement → Type 0
   GivesStatement room size p = StatementStandsAmong Is p.found × (weight p.inside + statement_nodes p.found + 24 * size ≤ room)
 
-  -- a `switch` so far, with room after it
+  -- a `switch` so far, with a bound that allows what follows
   abbrev SwitchHasRoom : ℕ → ℕ → Switching → Type 0
   SwitchHasRoom room size s =
       StatementsStandAmong Is (in_a_row s.reported.statements)

@@ -29,7 +29,7 @@ use Rattle.cs_statements.proofs.StatementRows.{statement_typed-Block, row-statem
 use Rattle.cs_statements.proofs.StatementsInTurn.{block_after, block-closed, if_after, else_after, if_else_after}
 
 module _ (w : Where) (i : Inside) (at : Place) (tree : RawStmtKind) where
-  -- what is told of a kind is told of the tree of that kind
+  -- what holds of a kind holds of the tree of that kind
   pub reported_as : (k : RawStmtKind) (result : Result StmtKind TypeRefusal) (now : HeldInside) → tree ≡ k
       → AnswersWith (kind_part at) (statement_typed w i at k) result now → AnswersWith (kind_part at) (statement_typed w i at tree) result now
   reported_as k result now is h = subst (λ x. AnswersWith (kind_part at) (statement_typed w i at x) result now) (sym is) h

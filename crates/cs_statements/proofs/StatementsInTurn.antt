@@ -49,7 +49,7 @@ typed_after i tree v (Ok e) literals now reported texts is =
     ∙ ap (λ x. part x (typed e)) (sym is)
 typed_after i tree v (Err refusal) literals now reported texts is = lift-refused (part (past tree i)) v refusal reported
 
--- what an answer tells holds of an equal verdict
+-- what an answer says holds of an equal verdict
 pub answers_as : {A B C : Type 0} (view : A → B → C) (v w : Verdict C) (result : Result A TypeRefusal) (changed : B) → v ≡ w
     → AnswersWith view w result changed → AnswersWith view v result changed
 answers_as view v w result changed e h = subst (λ x. AnswersWith view x result changed) (sym e) h
@@ -279,7 +279,7 @@ part_inside {A} x (Fine a) p h =
     ap (λ (q : Part A). q.inside) e
 part_inside {A} x (Fault code place) p h = absurd cc
 
--- what a jump tells leaves what is known
+-- what a jump says leaves what is known
 pub answers_with : (at : Place) (now : HeldInside) (v : Verdict (Part Statement)) (result : Result StmtKind TypeRefusal)
     → Answers (λ kind. kind_at at kind (inside_of now)) v result → AnswersWith (kind_part at) v result now
 answers_with at now v (Ok kind) h = h

@@ -1,4 +1,4 @@
-//! Suspects out of an exploration: which of its ends are shown to the witness, and by which runs.
+//! Suspects out of an exploration: which of its ends are shown to the witness, and which runs show them.
 #![tactic(auto)]
 
 mod choosing;

@@ -46,7 +46,7 @@ and-true : (a b : Bool) → (a && b) ≡ true → (a ≡ true) × (b ≡ true)
 and-true true b h = (refl, h)
 and-true false b h = absurd (cc)
 
--- on the range an interval tells by the term's value whether the quotient is this
+-- on the range an interval decides by the term's value whether the quotient is this
 pub Yields : Quotients → List Interval → Lin → ℤ → Interval → Type 0
 Yields quotient range term q values = (x : ℤ) → IsTrue (contains range x) → IsTrue (in_interval values (value_at term x)) ↔ (quotient x ≡ q)
 
@@ -108,13 +108,13 @@ pieces_from_cut quotient near term range pieces u s p cut =
       far = far_piece quotient range pieces.under pieces.same pieces.past pieces.far under same past cut.far;
     }
 
--- an interval of numbers with a quotient tells that of the term's value
+-- an interval of numbers with a quotient bounds the term's value
 pub yields_value : (quotient : ℤ → ℤ) (range : List Interval) (term : Lin) (q : ℤ) (values : Interval) → HasQuotient quotient q values
     → Yields (λ x. quotient (value_at term x)) range term q values
 unfolding Yields
 yields_value quotient range term q values h x t = h (value_at term x)
 
--- an interval of cofactors tells that of the term's value times the factor
+-- an interval of cofactors bounds the term's value times the factor
 pub yields_product : (quotient : ℤ → ℤ) (range : List Interval) (term : Lin) (factor q : ℤ) (products values : Interval)
     → HasQuotient quotient q products → HasCofactors products factor values → ((x : ℤ) → IsTrue (contains range x) → IsInside (value_at term x))
     → Yields (λ x. quotient (value_at term x *ℤ factor)) range term q values

@@ -92,7 +92,7 @@ scalar_at-row_end n o e w h = outside o 0 (n * e.size) (row n e) (Within-row n e
 pub round_up-least : (number n : ℕ) → 0 < n → number ≤ round_up number n
 round_up-least number n h = omega arith
 
--- a layout has room for its scalars, and an alignment that divides
+-- a layout is as long as its scalars need, and its alignment divides
 pub record IsSound (l : Layout) : Type 0 where
   pub aligned : 0 < l.align
   pub within : Within 0 l.size l.leaves

@@ -29,7 +29,7 @@ negatives-small model UInt = omega arith
 negatives-small model LLong = omega arith
 negatives-small model ULLong = omega arith
 
--- a factor of `long long` times an integer of C, with room for the shift into a type's range
+-- a factor of `long long` times an integer of C, so small that the shift into a type's range doesn't overflow
 pub product-above : (l r : ℤ) → FitsSigned w64 l → IsIntegerOfC r → (pos 0 -ℤ pos (2 ^ 127 - 2 ^ 63)) ≤ℤ (l *ℤ r)
 product-above (pos a) (pos b) h g = omega (arith, ints)
 product-above (pos a) (negsuc b) h g = omega (arith, ints, small-below a b h.sfits (omega (arith, ints, g.from_least)))

@@ -1,4 +1,4 @@
--- Shapes and members as numbers in a row, by which a proof tells them apart.
+-- Shapes and members as numbers in a row, by which a proof distinguishes them.
 use Rattle.std.specs.Prelude.{◌≡◌, ℕ, zero, suc, List, [], ◌∷◌, slice_get, unwrap_or, refl}
 use Rattle.std.proofs.Common.{ap}
 use Rattle.std.specs.Coded.{Coded, code_by, coded×, coded_ℕ, coded_list}

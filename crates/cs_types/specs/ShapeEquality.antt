@@ -1,4 +1,4 @@
--- Equality of types is an equivalence that tells exactly the shapes apart: the laws that `==` of `CType` cites.
+-- Equality of types is an equivalence whose classes are exactly the shapes: the laws that `==` of `CType` cites.
 use Rattle.std.proofs.Common.{◌≡◌, ℕ, Bool, true, false, ◌&&◌, cond, sym, ◌∙◌, ap, refl, eqb-true, arith}
 use Rattle.std.specs.Prelude.{◌==◌}
 use Rattle.std.specs.Cmp.{IsEquivalence, first_so, second_so}

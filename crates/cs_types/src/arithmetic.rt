@@ -75,7 +75,7 @@ fn folded_product(model: DataModel, ty: IntType, left: i128, right: i128, taken:
     }
 }
 
-// A product that leaves room for the shift into a type's range.
+// A product so small that the shift into a type's range doesn't overflow.
 fn near_product(left: i128, right: i128) -> i128
     requires left { FitsSigned w64 left }
     requires right { IsIntegerOfC right }
@@ -86,7 +86,7 @@ fn near_product(left: i128, right: i128) -> i128
     left * right
 }
 
-// The wrap quotient of a number with room for the shift into the type's range.
+// The wrap quotient of a number whose shift into the type's range doesn't overflow.
 fn turns(model: DataModel, ty: IntType, number: i128) -> i128
     requires { FitsSigned w128 (number +ℤ pos (negatives_of model ty)) }
     ensures value { result ≡ wrap_quotient model ty number }
@@ -95,7 +95,7 @@ fn turns(model: DataModel, ty: IntType, number: i128) -> i128
     (number + negatives(model, ty)).div_euclid(modulus(model, ty))
 }
 
-// The number converted to the type, with the same room.
+// The number converted to the type, where the same shift doesn't overflow.
 fn rest(model: DataModel, ty: IntType, number: i128) -> i128
     requires { FitsSigned w128 (number +ℤ pos (negatives_of model ty)) }
     ensures value { result ≡ wrapped model ty number }

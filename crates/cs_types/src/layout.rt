@@ -11,7 +11,7 @@ use crate::int_type::bytes;
 use crate::members::Member;
 use crate::structs::{StructTable, complete_struct};
 
-/// The bytes of a type, as `sizeof` tells them, and `None` for `void` and incomplete types.
+/// The bytes of a type, as `sizeof` counts them, and `None` for `void` and incomplete types.
 pub fn size(model: DataModel, table: &StructTable, ty: &CType) -> Option<u64>
     requires { Fits model table.now.list (shape_of ty.now) }
     ensures { result ≡ option_map (λ layout. layout.size)

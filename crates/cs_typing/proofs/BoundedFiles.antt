@@ -120,7 +120,7 @@ few-placed defined (e ∷ es) rest =
     let more = few-placed defined es rest in
     omega (arith, one, parts, some, more)
 
--- as many functions as the file's text has room for
+-- as many functions as the file's text allows
 few-functions : (file : List RawExternal) → length (order_of file) ≤ text_size (file_text (map external file))
 few-functions file =
     let defined : List ℕ → Bool = λ name. is_defined name file in

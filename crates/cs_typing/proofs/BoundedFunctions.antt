@@ -1,4 +1,4 @@
--- Functions of a file stand among the places of what is written, and have no more nodes than their text has room for: for the contract of `typed`.
+-- Functions of a file stand among the places of what is written, and have no more nodes than their text allows: for the contract of `typed`.
 use Rattle.std.proofs.Common.{◌≡◌, ℕ, suc, ◌+◌, ◌*◌, ◌≤◌, Bool, List, [], ◌∷◌, length, ap, arith}
 use Rattle.std.specs.Prelude.{Option, Some, None, IfSome, is_some}
 use Rattle.std.proofs.lemmas.List.{length_push}
@@ -72,7 +72,7 @@ parameters-more (p ∷ ps) before =
     if_fine-weaker (HasMore one (length ps)) (HasMore before (suc (length ps))) (parameters_after ps one) (parameters-more ps one)
     (λ head k. omega (arith, h, k)))
 
--- as many variables as the text of the parameters has room for
+-- as many variables as the text of the parameters allows
 abbrev FewVariables : RawParameters → Head → Type 0
 FewVariables raw head = length head.variables ≤ suc (size_of (parameters_text (parameters raw)))
 

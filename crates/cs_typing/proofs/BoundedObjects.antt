@@ -1,4 +1,4 @@
--- Objects of a file stand among the places of what is written, and have no more nodes than their text has room for: for the contract of `typed`.
+-- Objects of a file stand among the places of what is written, and have no more nodes than their text allows: for the contract of `typed`.
 use Rattle.std.proofs.Common.{◌≡◌, ℕ, zero, suc, ◌+◌, ◌*◌, ◌≤◌, false, List, [], ◌∷◌, ◌++◌, map, arith}
 use Rattle.std.specs.Prelude.{Option, Some, None, IfSome, is_some}
 use Rattle.std.specs.Option.{option_map}
@@ -49,7 +49,7 @@ module _ {A : Type 0} (count : A → ℕ) where
 abbrev pub filed_nodes : Filed → ℕ
 filed_nodes f = nodes_known f.known + all_nodes object_nodes f.globals + all_nodes routine_nodes f.routines
 
--- a file so far, with room for so many nodes more
+-- a file so far, where so many nodes more are allowed
 pub record FiledFits (Is : Place → Type 0) (room more : ℕ) (f : Filed) : Type 0 where
   pub globals : All (ObjectStandsAmong Is) f.globals
   pub routines : All (RoutineStandsAmong Is) f.routines

@@ -27,7 +27,7 @@ use Rattle.cs_statements.proofs.DeclarationsAfter.{DeclaresOn, same-on, on-self,
 use Rattle.cs_statements.proofs.SoundStatements.{IsLaidUnder, following}
 use Rattle.cs_typing.proofs.FilesSoFar.{with_parts, Kept, Adds, leads-following, known-adds}
 
--- what has room for so many structs more has it for one less after a new one, and after a token that makes none
+-- where so many structs more are allowed, one less is after a new one, and as many after a token that makes none
 module _ (P : ℕ → Environment → Type 0) (each : (left : ℕ) (name : List ℕ) (k : Environment) → P (suc left) k
     → P left (with_tagged_struct name k))
     (less : (left : ℕ) (k : Environment) → P (suc left) k → P left k) where

@@ -106,7 +106,7 @@ newest-All P name ds h = newest-held P name ds (recursion_from_All (λ (d : Decl
 abbrev pub IsOther : List ℕ → Declaration → Type 0
 IsOther name d = pointwise nat_eq d.name name ≡ false
 
--- a name that stands for nothing is declared nowhere
+-- a name that isn't in scope is declared nowhere
 pub newest-none : (name : List ℕ) (ds : List Declaration) → newest name ds ≡ None → All (IsOther name) ds
 newest-none name ds none = All-from_recursion (IsOther name) ds (by_recursion ds none)
   where

@@ -170,7 +170,7 @@ module _ (p : TypedProgram) (laid_out : IsLaidOut p.model p.table) where
 
   -- ---- names
 
-  -- a function's name stands for nothing yet, or for a function with this result
+  -- a function's name isn't declared yet, or is that of a function with this result
   abbrev MayStand : Filed → RawFunction → Shape → Option Meaning → Type 0
   MayStand f d result None = All (IsOther d.name) (declarations_of f.known) × IsOrdered f.order d.name
   MayStand f d result (Some (Function before)) = (before.result ≡ result) × IsFunction (with_parts p f) before.callee before
@@ -190,7 +190,7 @@ module _ (p : TypedProgram) (laid_out : IsLaidOut p.model p.table) where
   may-stand f d result before with_body (Some (Global number ty)) may there new = absurd cc
   may-stand f d result before with_body (Some (Local number ty)) may there new = absurd cc
 
-  -- a name that stands for nothing in a file is no library function's, so that it has its place in the order
+  -- a name that isn't declared in a file is no library function's, so that it has its place in the order
   new-name : (f : Filed) (name : List ℕ) → Kept p f → IsPlaced f.order name → meaning_here name f.known ≡ None
       → All (IsOther name) (declarations_of f.known) × IsOrdered f.order name
   new-name f name kept placed none = (newest-none name (declarations_of f.known) whole, by_way placed)

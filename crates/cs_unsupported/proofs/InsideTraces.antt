@@ -204,7 +204,7 @@ integer_step t W p s Long ts rs b h = h
 integer_step t W p s Signed ts rs b h = h
 integer_step t W p s Unsigned ts rs b h = h
 
--- each word of a type or of pointers is told
+-- each word of a type or of pointers is known
 abbrev pub YieldsAll : Telling → Where → Role → Type 1
 YieldsAll t within r = (W : Kinds → Type 0) (k : TokenKind) → Reported t W within k r
 

@@ -129,7 +129,7 @@ type_calm (word.Typedef n ∷ ws) ps ts rs h = λ b. (refl, type_calm ws ps ts r
 type_calm (word.Struct n ∷ ws) ps ts rs h = λ b. (refl, (refl, type_calm ws ps ts rs h false))
 type_calm (word.Enum n ∷ ws) ps ts rs h = λ b. (refl, (refl, type_calm ws ps ts rs h false))
 
--- the other way round, where an equation has to be told in the order of the roles
+-- the other way round, where an equation has to be stated in the order of the roles
 turned : (b : Bool) → b ≡ false → false ≡ b
 turned b e = cc
 

@@ -510,7 +510,7 @@ parameter_trace x W us qs j p ts rs any is g h =
     (body_yields specs p.pointers p.name p.bounds some))
     (parameter_after x W us qs p.specs p.pointers p.name p.bounds ts rs is g h)
 
--- parameters among which one tells are none
+-- parameters of which one decides are none
 telling_list : (ps : List Parameter) → OneIs IsTelling ps → ps ≢ lone_void ∷ []
 telling_list ps some e = elim (subst (OneIs IsTelling) e some) [ inl t ↦ t refl | inr n ↦ n ]
 

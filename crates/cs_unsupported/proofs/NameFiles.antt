@@ -306,7 +306,7 @@ by_star new front n none last b =
       | inr name ↦ declares new front star (file_roles b.file) h name
     ]
 
--- where no parenthesis goes on, this token tells
+-- where no parenthesis goes on, this token decides
 pub asked_new : (new : List ℕ) (front : Kinds) → IsNew new front → ending front Open ≡ Open → (BeginsFile (front ++ opening ∷ []) → ⊥)
     → IsAskedFor front (Some (token.Name new))
 asked_new new front n last none = (λ m. (is_named new front n m).named, by_name new front n none last)

@@ -67,7 +67,7 @@ abbrev pub NameReported : List ℕ → World → Joint → Role → Type 0
 NameReported new W joint declared_name = (is_barred joint ≡ false) × Goes W star × Goes W (token.Name new)
 NameReported new W joint other = Unit {0}
 
--- where the new name stands and might be told from others, it is a declarator's, or an opening parenthesis might stand there; where
+-- where the new name stands and might be distinguished from others, it is a declarator's, or an opening parenthesis might stand there; where
 -- a star stands after a comma, that might, or a declarator's name
 abbrev pub NextReported : List ℕ → World → TokenKind → Joint → Role → Type 0
 NextReported new W (token.Name name) Open role = name ≡ new → (role ≡ declared_name) ⊎ Goes W opening

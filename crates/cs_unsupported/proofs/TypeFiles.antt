@@ -437,7 +437,7 @@ last_role names E s (k ∷ front) more rs t e = record {
   there = last_closes names E s false (k ∷ front) more rs (length front) refl t e;
 }
 
--- it is told whether the last of some tokens of a part closes a type, whatever the roles after that part are
+-- it is decidable whether the last of some tokens of a part closes a type, whatever the roles after that part are
 pub yields_type : (names : Names) (part : Kinds) (whole : External) (rest : Roles) (more : Kinds) → IsExternal names whole
     → external_text whole [] ≡ part ++ more
     → IsTrue (run names part the_outside false) ↔ IsLastRole (external_roles whole rest) (length part) closes_type

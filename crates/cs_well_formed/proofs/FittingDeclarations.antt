@@ -1,4 +1,4 @@
--- Declarations make no more structs and members known than their text has room for: for `declarations_are_bounded`.
+-- Declarations make no more structs and members known than their text allows: for `declarations_are_bounded`.
 use Rattle.std.proofs.Common.{◌≡◌, ℕ, ◌+◌, ◌*◌, ◌≤◌, ◌||◌, List, [], ◌∷◌, length, map, Option, Some, None, is_some, refl}
 use Rattle.std.proofs.Common.{◌∙◌, arith}
 use Rattle.std.specs.Prelude.{pos, nat_le, ◌^◌}
@@ -107,7 +107,7 @@ word_type-adds k at_tag at all (Some word.Const) = adds-more 0 1 k k (omega arit
 word_type-adds k at_tag at all (Some (word.Integer kind)) = adds-more 0 1 k k (omega arith) (adds-none k)
 word_type-adds k at_tag at all (Some word.Void) = adds-more 0 1 k k (omega arith) (adds-none k)
 
--- the type of words that have room
+-- the type of words, within what the text allows
 word_type-fits : (k : Environment) (at_tag : Option Place) (at : Place) (all : List TypeWord) (size : ℕ) → length all ≤ size
     → IfFine (word_type k at_tag at all (whole_word all)) (AddsTo (16 * size) k)
 word_type-fits k at_tag at all size small =

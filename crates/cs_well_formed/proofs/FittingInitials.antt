@@ -56,7 +56,7 @@ text-room (kind.Text bytes) = omega arith
 text-room other = omega (arith, sized-some (written_kind other))
 
 module _ (Is : Place → Type 0) where
-  -- an initializer whose values aren't converted yet, with room for their conversions
+  -- an initializer whose values aren't converted yet, within a bound that allows for their conversions
   record IsReadBy (literals : Literals) (size : ℕ) (r : Reading) : Type 0 where
     stands : InitialStandsAmong Is r.0
     no_fewer : texts_nodes literals ≤ texts_nodes r.1

@@ -200,7 +200,7 @@ module _ (Is : Place → Type 0) where
     call_by-fits room target Calloc ty arguments h = allocated-fits room allocator.Calloc arguments target h
     call_by-fits room target Free ty arguments h = freed-fits room arguments h
 
-    -- a call with arguments whose nodes and number have room
+    -- a call with arguments whose nodes and number are within the bound
     call_with-fits : (c : Context) (room : ℕ) (target : Option Shape) (f : Signature) (values : TypedList) → RowStandsAmong Is values
         → row_nodes values + row_count values ≤ room → IfFine (call_with c at target f values) (Fits Is (room + 1))
     unfolding call_with call_of

@@ -49,7 +49,7 @@ use Rattle.cs_well_formed.proofs.FittingValues.{recast-fits, combined-fits, chos
 use Rattle.cs_well_formed.proofs.FittingObjects.{row_count, address_of-fits, through-fits, indexed-fits, selected-fits, selected_through-fits, stepped-fits}
 use Rattle.cs_well_formed.proofs.FittingObjects.{stored_to-fits, call-fits, steppable-fits, left_side-fits}
 
--- the room that an expression has by its text
+-- the nodes that its text allows an expression
 abbrev pub room_of : RawExprKind → ℕ
 room_of k = 5 * sized (written_kind k)
 

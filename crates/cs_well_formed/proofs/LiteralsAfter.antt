@@ -1,4 +1,4 @@
--- The literals after an expression are no more than its text has room for: for `typed_nodes_are_bounded`.
+-- The literals after an expression are no more than its text allows: for `typed_nodes_are_bounded`.
 use Rattle.std.proofs.Common.{◌≡◌, ℕ, ◌+◌, ◌≤◌, List, [], ◌∷◌, ◌++◌, length, arith}
 use Rattle.cs_ast.specs.declared.token.TokenKind.TheVariants as token
 use Rattle.cs_ast.specs.declared.token.Punctuator.TheVariants as punctuator

@@ -83,7 +83,7 @@ bytes_in-small model table (array element count) n h =
 bytes_in-small model table (struct number) n h =
     option_and_then_some (λ (laid : StructType). limited laid.size) (complete_of table number) n h (λ laid _ is. limited-small laid.size n is)
 
--- the first type with room for a number holds it, if the last one does
+-- the first type that can represent a number does, if the last one does
 first-InRange : (model : DataModel) (n : ℕ) (last : IntType) (types : List IntType) → InRange model last (pos n)
     → InRange model (first_with_room model n last types) (pos n)
 first-InRange model n last [] h = h

@@ -1,4 +1,4 @@
--- What typing gives stands among the places of what is written, and has no more nodes than the size of its text has room for.
+-- What typing gives stands among the places of what is written, and has no more nodes than the size of its text allows.
 use Rattle.std.specs.Prelude.{◌≡◌, ℕ, ◌+◌, ◌*◌, ◌≤◌, List, length, Option}
 use Rattle.cs_types.specs.Shape.{Shape}
 use Rattle.cs_ast.specs.declared.place.Place.{Place}

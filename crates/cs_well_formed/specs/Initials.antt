@@ -16,7 +16,7 @@ HasParts p (array element count) types = types ≡ copies count element
 HasParts p (struct number) types = (members : List Member) × (members_of p.table number ≡ Some members) × (types ≡ map (λ (m : Member). m.ty) members)
 HasParts p other types = ⊥
 
--- an array of characters that has room for these bytes
+-- an array of characters that can hold these bytes
 abbrev pub TakesBytes : Shape → List ℕ → Type 0
 TakesBytes ty bytes = (element : Shape) × (count : ℕ) × (ty ≡ array element count) × (is_character element ≡ true) × (length bytes ≤ count)
 

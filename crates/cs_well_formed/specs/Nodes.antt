@@ -51,7 +51,7 @@ abbrev mutual
   row_nodes NoMore = 0
   row_nodes (Further first others) = expression_nodes first + row_nodes others
 
--- how many something has that may be left out
+-- how many an optional part has
 abbrev pub nodes_if_any : {T : Type 0} → (T → ℕ) → Option T → ℕ
 nodes_if_any count None = 0
 nodes_if_any count (Some x) = count x

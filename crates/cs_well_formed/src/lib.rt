@@ -70,7 +70,7 @@ pub fn labels_are_there()
     ensures { LabelsAreThere }
 {}
 
-/// What typing gives stands among the places of what is written, and has no more nodes than the size of its text has room for.
+/// What typing gives stands among the places of what is written, and has no more nodes than the size of its text allows.
 pub fn typed_nodes_are_bounded()
     ensures formed { (count : ℕ) → FormedAreBounded (IsOfFiles count) }
     ensures operands { (count : ℕ) → OperandsAreBounded (IsOfFiles count) }

@@ -17,7 +17,7 @@ module _ {A : Type 0} where
   at_most (suc n) [] = omega arith
   at_most (suc n) (x ∷ xs) = let rest = at_most n xs in omega arith
 
-  -- one more where there is room, and where there is none
+  -- one more below the limit, and at the limit
   pub joins : (n : ℕ) (xs : List A) (y : A) → length xs < n → xs ++ y ∷ [] ≡ take n (xs ++ y ∷ [])
   joins n xs y room = let count = length_push xs y in sym (take_all n (xs ++ y ∷ []) (omega arith))
 

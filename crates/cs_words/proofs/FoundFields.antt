@@ -24,7 +24,7 @@ unset : {X : Type 0} (Yields : List ℕ → X → Type 0) (reported : Option (Li
 unset Yields None found h e = refl
 unset Yields (Some text) found h e = absurd (let k : is_some found ≡ true = ap is_some h.1 in cc)
 
--- a text that is given tells a value
+-- a text that is given has a value
 abbrev pub IsReportedBy : {X : Type 0} → (List ℕ → X → Type 0) → Option (List ℕ) → Type 0
 IsReportedBy Yields None = Unit {0}
 IsReportedBy {X} Yields (Some text) = (value : X) × Yields text value
@@ -227,7 +227,7 @@ pub model_found : (given : List Given) (settings : Settings) (model : DataModel)
     → model ≡ unwrap_or settings.model Lp64 → IsDataModel given model
 model_found given settings model fields e = unwrapped IsModel Lp64 (text_of Model given) settings.model model (fields Model) e
 
--- what a budget's text tells
+-- the value of a budget's text
 pub visits_reported : (given : List Given) (budgets : RunBudgets) (text : List ℕ) → AreBudgets given budgets → text_of Visits given ≡ Some text
     → HasValue Visits text
 visits_reported given budgets text h e = reported_value IsVisits 4 (text_of Visits given) budgets.visits text h.visits e

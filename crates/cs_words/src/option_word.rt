@@ -39,14 +39,14 @@ pub fn option_of(word: &[u8]) -> Option<OptionWord<'_>>
     }
 }
 
-// The bytes before the first mark, and the rest from it on; all and nothing if there is no mark.
+// The bytes before the first separator, and the rest from it on; all and nothing if there is none.
 fn split_before(text: &[u8], mark: u8) -> (&[u8], &[u8])
     ensures { SplitsBefore mark text.now result.0.now result.1.now }
 {
     text.split_at(length_before(text, mark))
 }
 
-// How many bytes stand before the first mark.
+// How many bytes come before the first separator.
 fn length_before(text: &[u8], mark: u8) -> usize
     ensures { result ≡ position_or_len (λ b. b == mark) text.now }
 {

@@ -18,7 +18,7 @@ use cs_words::{Command, ReplayWords, words_of};
 use std::alloc::{AllocError, Global};
 use std::str;
 
-/// The run of a function's code, if it has a body and memory is found.
+/// The run of a function's code, if it has a body and memory suffices.
 fn coded(alloc: Global, setting: &Setting, entry: u32) -> Option<Replayed>
     requires ready { IsReady setting.now }
     requires well_formed { IsWellFormed (typed_program setting.now.program.now) }

@@ -76,7 +76,7 @@ const NO_REPORTS: &str =
     r#"{"entries":[{"cuts":[],"entry":"f","overs":[],"reports":[],"verdict":"complete"}]}
 "#;
 
-/// Reports of other kinds are left out, and no results are an object without entries.
+/// Reports of other kinds are omitted, and no results are an object without entries.
 #[test]
 fn other_kinds_are_left_out_of_the_object(rt: HostRuntime) -> Result<(), Fail> {
     let kinds = [Kind::Null, Kind::Divide];

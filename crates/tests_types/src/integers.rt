@@ -170,7 +170,7 @@ fn wraps_products_of_extremes(rt: HostRuntime) {
     }
 }
 
-// Types with those that gcc's `_Generic` tells of `+a`, under -m64 and -m32 alike.
+// Types with those that gcc's `_Generic` finds for `+a`, under -m64 and -m32 alike.
 const PROMOTED: &str = "
 Char Int
 SChar Int
@@ -185,7 +185,7 @@ LLong LLong
 ULLong ULLong
 ";
 
-// Pairs of types with those that it tells of `a + b` under -m64 and under -m32.
+// Pairs of types with those that it finds for `a + b` under -m64 and under -m32.
 const COMMON: &str = "
 Char UShort Int Int
 UChar UInt UInt UInt

@@ -1,4 +1,4 @@
--- The neighbours by the paths before the index joined the tries, as far as there is room.
+-- The neighbours by the paths before the index joined the tries, as far as the limit of tries allows.
 use Rattle.std.proofs.Common.{◌≡◌, ℤ, ◌++◌, take}
 use Rattle.std.specs.Prelude.{flat_map}
 use Rattle.cs_inputs.specs.declared.path.Path.{Path}

@@ -1,4 +1,4 @@
--- The inputs with the constants before the index joined the tries, as far as there is room.
+-- The inputs with the constants before the index joined the tries, as far as the limit of tries allows.
 use Rattle.std.proofs.Common.{◌≡◌, ◌++◌, take}
 use Rattle.cs_findings.specs.Neighbours.{replaced}
 use Rattle.cs_witness.proofs.neighbours.add_replaced.Given as goal

@@ -9,6 +9,8 @@ pub returns : goal.returns
 returns c =
     let old = built_of c.args.self.now in
     let more : List Point → Built = λ l. record old { others = l } in
-    sealed old (record old { others = map view.block c.push.new.self.items }) c.in_ok-block.block (point_of c.args.strip)
-    (ap more (map_push view.block c.args.self.now.others.items c.push.new.self.items c.in_ok-into_block.field-0 (point_of c.args.strip) c.in_ok-push.ensures.items
+    let point = point_of c.args.strip in
+    let block = c.in_ok-into_block.field-0 in
+    sealed old (record old { others = map view.block c.push.new.self.items }) c.in_ok-block.block point
+    (ap more (map_push view.block c.args.self.now.others.items c.push.new.self.items block point c.in_ok-push.ensures.items
     c.in_ok-into_block.ensures)) c.in_ok-block.ensures

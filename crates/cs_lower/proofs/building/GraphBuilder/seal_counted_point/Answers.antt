@@ -12,7 +12,9 @@ returns c =
     let more : List Point → Built = λ l. record old { heads = l } in
     let number = c.in_ok-number.number in
     let p = point_of c.args.strip in
+    let block = c.in_ok-into_block.field-0 in
+    let reached = does c.args.place 0 (Reach c.args.kind number) p in
     sealed_counted_point old (record old { heads = map view.block c.push.new.self.items }) c.args.kind c.args.place p number
-    (ap more (map_push view.block c.args.self.now.heads.items c.push.new.self.items c.in_ok-into_block.field-0 (does c.args.place 0 (Reach c.args.kind number) p)
+    (ap more (map_push view.block c.args.self.now.heads.items c.push.new.self.items block reached
     c.in_ok-push.ensures.items c.in_ok-into_block.ensures))
     (omega arith)
