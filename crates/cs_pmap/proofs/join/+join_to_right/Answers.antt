@@ -22,9 +22,8 @@ join_to_right-requires g t c κs within =
     let root = c.in_Some-root.root.now in
     let is = c.in_Some-root.ensures in
     let shorter = right_is_shorter root (ap (λ t. t.0) is.0) in
-    let entry = (c.args.key, c.args.value) in
-    let above = (root.key, root.value) in
-    let sorted = sorted_past_left root.left.0 above root.right.0 entry c.args.right.0 (ap (λ t. t.0) is.0) refl c.requires.sorted in
+    let sorted = sorted_past_left root.left.0 (root.key, root.value) root.right.0 (c.args.key, c.args.value) c.args.right.0
+    (ap (λ t. t.0) is.0) refl c.requires.sorted in
     let far = c.if-saturating_sub-le1.false in (
       omega (arith, shorter, c.decreases),
       (
