@@ -3,11 +3,10 @@
 //! their runs don't end as the exploration said.
 
 ghost use Rattle.cs_analysis.specs.Integers.{KeepsToIntegers};
-ghost use Rattle.cs_ast.specs.TypedProgram.{typed_program};
+ghost use Rattle.cs_ast.specs.TypedProgram.{HasLayouts, typed_program};
 ghost use Rattle.cs_cfg.specs.GraphView as view;
 ghost use Rattle.cs_cfg.specs.Lowered.{IsLowered};
 ghost use Rattle.cs_objects.specs.Prepared.{IsPrepared};
-ghost use Rattle.cs_types.specs.Layout.{IsLaidOut};
 ghost use Rattle.cs_well_formed.specs.Programs.{IsWellFormed};
 ghost use Rattle.std.specs.Prelude.{◌≤◌};
 
@@ -104,7 +103,7 @@ fn checked(
     prepared: &Prepared,
     code: &Code,
 ) -> Result<Counts, AllocError>
-    requires laid_out { IsLaidOut program.now.model program.now.table.list }
+    requires laid_out { HasLayouts program.now }
     requires prepared { IsPrepared prepared.now program.now }
     requires lowered { IsLowered (view.code code.now) (typed_program program.now) }
     requires integers { KeepsToIntegers (view.code code.now) (typed_program program.now) }
@@ -133,7 +132,7 @@ fn counts_of(
     code: &Code,
     checkers: &mut Vec<Box<dyn Checker>>,
 ) -> Result<Counts, AllocError>
-    requires laid_out { IsLaidOut program.now.model program.now.table.list }
+    requires laid_out { HasLayouts program.now }
     requires prepared { IsPrepared prepared.now program.now }
     requires lowered { IsLowered (view.code code.now) (typed_program program.now) }
     requires integers { KeepsToIntegers (view.code code.now) (typed_program program.now) }

@@ -2,7 +2,7 @@
 //! The word `parse` or `type` ends it after that stage.
 
 ghost use Rattle.std.specs.Prelude.{◌≤◌, length};
-ghost use Rattle.cs_types.specs.Layout.{IsLaidOut};
+ghost use Rattle.cs_ast.specs.TypedProgram.{HasLayouts};
 
 use cs_ast::raw::external::RawExternal;
 use cs_ast::typed::program::Program;
@@ -110,7 +110,7 @@ fn with_types(
 
 // Lowers a program.
 fn lowered(rt: &HostRuntime, program: &Program) -> io::Result<()>
-    requires { IsLaidOut program.now.model program.now.table.list }
+    requires { HasLayouts program.now }
 {
     match lower(rt.alloc(), program) {
         Ok(code) => {

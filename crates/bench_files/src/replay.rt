@@ -1,8 +1,7 @@
 //! Times replays: lowers a C file and prepares its runs once, and replays its last function as many times as the first word says, 10 times
 //! without a word. Prints how many events the replays passed.
 
-ghost use Rattle.cs_types.specs.Layout.{IsLaidOut};
-ghost use Rattle.cs_ast.specs.TypedProgram.{typed_program};
+ghost use Rattle.cs_ast.specs.TypedProgram.{HasLayouts, typed_program};
 ghost use Rattle.cs_cfg.specs.GraphView as view;
 ghost use Rattle.cs_cfg.specs.Lowered.{IsLowered};
 ghost use Rattle.cs_objects.specs.Prepared.{IsPrepared, IsReady};
@@ -92,7 +91,7 @@ fn with_prepared(
     entry: u32,
     count: u64,
 ) -> Option<u64>
-    requires laid_out { IsLaidOut program.now.model program.now.table.list }
+    requires laid_out { HasLayouts program.now }
     requires prepared { IsPrepared prepared.now program.now }
     requires lowered { IsLowered (view.code code.now) (typed_program program.now) }
 {

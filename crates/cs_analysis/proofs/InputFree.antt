@@ -15,7 +15,7 @@ use Rattle.cs_events.specs.declared.outcome.Outcome.{Outcome}
 use Rattle.cs_events.specs.Objects.{Object, Cell, NumberCell, NullCell, PointerCell, UnsetCell}
 use Rattle.cs_events.specs.Touches.{Touch}
 use Rattle.cs_events.specs.Acts.{Act, Goes, Stops, Asks, Reaches, Touches}
-use Rattle.cs_events.specs.Runs.{Setting, Log, Performed, Continues, Finishes, perform, has_room, Leads, stays, goes as leads_on}
+use Rattle.cs_events.specs.Runs.{Setting, Log, Performed, Continues, Finishes, perform, allows_event, Leads, stays, goes as leads_on}
 use Rattle.cs_meaning.specs.Access as access
 use Rattle.cs_meaning.specs.Operators as operators
 
@@ -42,8 +42,8 @@ module _ {S : Type 0} (Is : S → Type 0) where
   unfolding perform
   performs setting (goes is) log = (is, refl)
   performs setting stops log = refl
-  performs setting (asks keeps) log = either (HasRead log.read) (has_room setting log) _ _ (performs setting (keeps _) _) refl
-  performs setting (reaches keeps) log = either (HasRead log.read) (has_room setting log) _ _ (performs setting keeps _) refl
+  performs setting (asks keeps) log = either (HasRead log.read) (allows_event setting log) _ _ (performs setting (keeps _) _) refl
+  performs setting (reaches keeps) log = either (HasRead log.read) (allows_event setting log) _ _ (performs setting keeps _) refl
   performs setting (touches keeps) log = performs setting keeps _
 
   module _ (step : S → Act S) (setting : Setting) (each : (m : S) → Is m → Keeps (step m)) where

@@ -15,9 +15,8 @@ ghost use Rattle.cs_analysis.specs.Integers.{KeepsToIntegers};
 ghost use Rattle.cs_analysis.specs.Ends.{HasExactEndsOnIntegers};
 ghost use Rattle.cs_witness.specs.Entries.{CanRun};
 
-use crate::naming::have_each_once;
 use cs_checker::Checker;
-use cs_engine::{Exploration, explore};
+use cs_engine::{Exploration, explore, have_each_once};
 use cs_explored::Explored;
 use cs_inputs::Inputs;
 use cs_objects::Setting;

@@ -2,6 +2,5 @@
 #![tactic(auto)]
 
 mod entry;
-mod naming;
 
 pub use entry::{Analysis, analyze};

@@ -1,10 +1,9 @@
 //! The answers to analyses of a program's functions.
 ghost use Rattle.std.specs.Prelude.{◌≡◌, ◌≤◌, [], ◌∷◌, ◌++◌, if◌then◌else◌, is_some, length, map, Some, IfOk, OnOk};
-ghost use Rattle.cs_ast.specs.TypedProgram.{routine, typed_program};
+ghost use Rattle.cs_ast.specs.TypedProgram.{HasLayouts, routine, typed_program};
 ghost use Rattle.cs_cfg.specs.GraphView as view;
 ghost use Rattle.cs_cfg.specs.Lowered.{IsLowered};
 ghost use Rattle.cs_objects.specs.Prepared.{IsPrepared};
-ghost use Rattle.cs_types.specs.Layout.{IsLaidOut};
 ghost use Rattle.cs_generate.specs.GeneratedFile.{generated_file};
 ghost use Rattle.cs_well_formed.specs.Programs.{IsWellFormed};
 ghost use Rattle.cs_analysis.specs.Integers.{KeepsToIntegers};
@@ -182,7 +181,7 @@ fn results_with(
     entries: &[usize],
     checkers: &mut Vec<Box<dyn Checker>>,
 ) -> Result<Vec<EntryResult>, AllocError>
-    requires laid_out { IsLaidOut program.now.model program.now.table.list }
+    requires laid_out { HasLayouts program.now }
     requires prepared { IsPrepared prepared.now program.now }
     requires lowered { IsLowered (view.code code.now) (typed_program program.now) }
     requires integers { KeepsToIntegers (view.code code.now) (typed_program program.now) }

@@ -2,6 +2,7 @@
 use Rattle.std.specs.Prelude.{ℕ, ℤ, Bool, List, Option, map, option_map}
 use Rattle.cs_types.specs.declared.data_model.DataModel.{DataModel}
 use Rattle.cs_types.specs.declared.structs.StructType.{StructType}
+use Rattle.cs_types.specs.Layout.{IsLaidOut}
 use Rattle.cs_types.specs.Shape.{Shape, shape_of}
 use Rattle.cs_ast.specs.declared.place.Place.{Place}
 use Rattle.cs_ast.specs.declared.typed.program.Program.{Program}
@@ -75,3 +76,7 @@ typed_program p = record {
   routines = map routine p.functions.items;
   constants = p.constants.items;
 }
+
+-- each layout of the program's structs is that of the data model
+abbrev pub HasLayouts : Program → Type 0
+HasLayouts p = IsLaidOut p.model p.table.list

@@ -13,7 +13,7 @@ use Rattle.cs_events.specs.Touches.{Meets}
 use Rattle.cs_events.specs.Acts.{Act, Goes}
 use Rattle.cs_events.specs.Runs.{Setting, Log, empty, Performed, Continues, Finishes, perform, with_operation, with_allocation, with_access, with_read}
 use Rattle.cs_events.specs.Runs.{with_touch}
-use Rattle.cs_events.specs.Runs.{has_room, number_of, read_cell, Leads, stays, goes}
+use Rattle.cs_events.specs.Runs.{allows_event, number_of, read_cell, Leads, stays, goes}
 use Rattle.cs_events.specs.Growth.{log_of}
 use Rattle.cs_events.specs.Simulation.{Yields, both_go, both_stop, both_read, both_ask, both_allocate, both_reach, both_touch, Answers, alone, together, first}
 use Rattle.cs_events.proofs.RunLaws.{leads_on}
@@ -62,13 +62,13 @@ module _ {S T : Type 0} (R : S → T → Type 0) (setting : Setting) where
   goes_too log later next (both_read {path = path} {kind = kind} same) e =
       goes_too (with_read log path kind) later next (same (read_cell setting path kind)) e
   goes_too log later next (both_ask {at = at} {operation = operation} same) e =
-      over_room (has_room setting log) _ _ _ log later next
+      over_room (allows_event setting log) _ _ _ log later next
       (goes_too (with_operation setting log at operation) later next (same (number_of setting log operation))) e
   goes_too log later next (both_allocate {at = at} {path = path} same) e =
-      over_room (has_room setting log) _ _ _ log later next
+      over_room (allows_event setting log) _ _ _ log later next
       (goes_too (with_allocation setting log at path) later next (same (is_true (setting.inputs path)))) e
   goes_too log later next (both_reach {at = at} {object = object} {offset = offset} same) e =
-      over_room (has_room setting log) _ _ _ log later next (goes_too (with_access log at object offset) later next same) e
+      over_room (allows_event setting log) _ _ _ log later next (goes_too (with_access log at object offset) later next same) e
   goes_too log later next (both_touch {touch = touch} same) e = goes_too (with_touch log touch) later next same e
 
   -- and the log is the same after both
@@ -83,11 +83,11 @@ module _ {S T : Type 0} (R : S → T → Type 0) (setting : Setting) where
   same_logs log both_stop = refl
   same_logs log (both_read {path = path} {kind = kind} same) = same_logs (with_read log path kind) (same (read_cell setting path kind))
   same_logs log (both_ask {at = at} {operation = operation} same) =
-      logs_if (has_room setting log) _ _ _ log (same_logs (with_operation setting log at operation) (same (number_of setting log operation)))
+      logs_if (allows_event setting log) _ _ _ log (same_logs (with_operation setting log at operation) (same (number_of setting log operation)))
   same_logs log (both_allocate {at = at} {path = path} same) =
-      logs_if (has_room setting log) _ _ _ log (same_logs (with_allocation setting log at path) (same (is_true (setting.inputs path))))
+      logs_if (allows_event setting log) _ _ _ log (same_logs (with_allocation setting log at path) (same (is_true (setting.inputs path))))
   same_logs log (both_reach {at = at} {object = object} {offset = offset} same) =
-      logs_if (has_room setting log) _ _ _ log (same_logs (with_access log at object offset) same)
+      logs_if (allows_event setting log) _ _ _ log (same_logs (with_access log at object offset) same)
   same_logs log (both_touch {touch = touch} same) = same_logs (with_touch log touch) same
 
 -- an act that only goes on touches nothing, and continues with the same log

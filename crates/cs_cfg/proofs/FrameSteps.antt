@@ -22,7 +22,7 @@ use Rattle.cs_events.specs.Objects.{Object, Cell, NumberCell, NullCell, PointerC
 use Rattle.cs_events.specs.Touches.{Touch, Loads, Stores}
 use Rattle.cs_events.specs.Acts.{Act, Goes, Stops, Reads, Asks, Allocates, Reaches, Touches}
 use Rattle.cs_events.specs.Runs.{Setting, Log, Performed, Continues, Finishes, perform, with_operation, with_allocation, with_access, with_read, with_touch}
-use Rattle.cs_events.specs.Runs.{has_room, number_of, read_cell}
+use Rattle.cs_events.specs.Runs.{allows_event, number_of, read_cell}
 use Rattle.cs_meaning.specs.Initials.{number_in, directed}
 use Rattle.cs_meaning.specs.Types.{integer_of}
 use Rattle.cs_meaning.specs.Memory.{Memory, UnsetFill, ZeroFill, changed}
@@ -69,11 +69,11 @@ module _ {S : Type 0} where
   went So setting log stops e = cc
   went So setting log (reads {path = path} {kind = kind} h) e = went So setting (with_read log path kind) (h (read_cell setting path kind)) e
   went So setting log (asks {at = at} {operation = operation} h) e =
-      went So setting (with_operation setting log at operation) (h (number_of setting log operation)) (in_room (has_room setting log) _ _ _ e)
+      went So setting (with_operation setting log at operation) (h (number_of setting log operation)) (in_room (allows_event setting log) _ _ _ e)
   went So setting log (allocates {at = at} {path = path} h) e =
-      went So setting (with_allocation setting log at path) (h (is_true (setting.inputs path))) (in_room (has_room setting log) _ _ _ e)
+      went So setting (with_allocation setting log at path) (h (is_true (setting.inputs path))) (in_room (allows_event setting log) _ _ _ e)
   went So setting log (reaches {at = at} {object = object} {offset = offset} h) e =
-      went So setting (with_access log at object offset) h (in_room (has_room setting log) _ _ _ e)
+      went So setting (with_access log at object offset) h (in_room (allows_event setting log) _ _ _ e)
   went So setting log (touches {one = one} h) e = went So setting (with_touch log one) h e
 
 -- where a frame is: the function, the frame's number, and the point that it has come to

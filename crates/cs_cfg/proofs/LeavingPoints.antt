@@ -20,7 +20,7 @@ use Rattle.cs_events.specs.Touches.{Meets}
 use Rattle.cs_events.specs.Acts.{Goes, Stops, Touches}
 use Rattle.cs_events.specs.declared.outcome.Outcome.TheVariants.{Over}
 use Rattle.cs_events.specs.declared.outcome.Budget.TheVariants.{Visits}
-use Rattle.cs_events.specs.Runs.{Setting, Log, Continues, perform, with_operation, with_touch, has_room}
+use Rattle.cs_events.specs.Runs.{Setting, Log, Continues, perform, with_operation, with_touch, allows_event}
 use Rattle.cs_meaning.specs.Initials.{number_in}
 use Rattle.cs_meaning.specs.Access.{shows_then}
 use Rattle.cs_meaning.specs.Operators.{branch}
@@ -105,7 +105,7 @@ module _ (setting : Setting) where
   unfolding perform
   takes_way at further holds looked log near later next before e =
       let went : Continues (further holds) (with_operation setting (with_touch near (Meets point.Branch at)) at (operation.Show (label.Branch holds)))
-      ≡ Continues next later = in_room (has_room setting (with_touch near (Meets point.Branch at))) _ _ _ e in
+      ≡ Continues next later = in_room (allows_event setting (with_touch near (Meets point.Branch at))) _ _ _ e in
       let same : further holds ≡ next = cc in
       let same_log : with_operation setting (with_touch near (Meets point.Branch at)) at (operation.Show (label.Branch holds)) ≡ later = cc in
       record {
@@ -124,10 +124,10 @@ module _ (setting : Setting) where
   tested at further (NumberCell n) log later next e = takes_way at further (is_true n) [] log log later next (sym (append-nil log.events)) e
   tested at further NullCell log later next e =
       takes_way at further false _ log (with_operation setting log at (operation.Show (label.Look false))) later next refl
-      (in_room (has_room setting log) _ _ _ e)
+      (in_room (allows_event setting log) _ _ _ e)
   tested at further (PointerCell object offset) log later next e =
       takes_way at further true _ log (with_operation setting log at (operation.Show (label.Look true))) later next refl
-      (in_room (has_room setting log) _ _ _ e)
+      (in_room (allows_event setting log) _ _ _ e)
   tested at further UnsetCell log later next e = takes_way at further false [] log log later next (sym (append-nil log.events)) e
 
   -- the way that a `switch` takes
@@ -137,7 +137,7 @@ module _ (setting : Setting) where
   unfolding perform
   switched at number s next log later e =
       let went : Continues s (with_operation setting (with_touch log (Meets point.Switch at)) at (operation.Show (label.Case number)))
-      ≡ Continues next later = in_room (has_room setting (with_touch log (Meets point.Switch at))) _ _ _ e in
+      ≡ Continues next later = in_room (allows_event setting (with_touch log (Meets point.Switch at))) _ _ _ e in
       let same : s ≡ next = cc in
       let same_log : with_operation setting (with_touch log (Meets point.Switch at)) at (operation.Show (label.Case number)) ≡ later = cc in
       (same, ap (λ (l : Log). l.events) (sym same_log))

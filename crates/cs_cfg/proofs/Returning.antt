@@ -17,7 +17,7 @@ use Rattle.cs_events.specs.declared.operation.Operation.{Operation}
 use Rattle.cs_inputs.specs.declared.path.Path.{Path}
 use Rattle.cs_events.specs.declared.outcome.Returned.{Returned}
 use Rattle.cs_events.specs.declared.outcome.Budget.TheVariants.{Events}
-use Rattle.cs_events.specs.Runs.{Setting, Log, Performed, Finishes, perform, with_operation, with_allocation, with_access, with_read, with_touch, has_room}
+use Rattle.cs_events.specs.Runs.{Setting, Log, Performed, Finishes, perform, with_operation, with_allocation, with_access, with_read, with_touch, allows_event}
 use Rattle.cs_events.specs.Runs.{number_of, read_cell}
 use Rattle.cs_events.specs.Growth.{log_of}
 use Rattle.cs_meaning.specs.Memory.{Memory, changed}
@@ -99,13 +99,13 @@ module _ {S : Type 0} where
   never_done setting log end what (reads {path = path} {kind = kind} h) e =
       never_done setting (with_read log path kind) end what (h (read_cell setting path kind)) e
   never_done setting log end what (asks {at = at} {operation = operation} h) e =
-      in_room (has_room setting log) at log end what (λ f.
+      in_room (allows_event setting log) at log end what (λ f.
       never_done setting (with_operation setting log at operation) end what (h (number_of setting log operation)) f) e
   never_done setting log end what (allocates {at = at} {path = path} h) e =
-      in_room (has_room setting log) at log end what (λ f.
+      in_room (allows_event setting log) at log end what (λ f.
       never_done setting (with_allocation setting log at path) end what (h (is_true (setting.inputs path))) f) e
   never_done setting log end what (reaches {at = at} {object = object} {offset = offset} h) e =
-      in_room (has_room setting log) at log end what (λ f. never_done setting (with_access log at object offset) end what h f) e
+      in_room (allows_event setting log) at log end what (λ f. never_done setting (with_access log at object offset) end what h f) e
   never_done setting log end what (touches {touch = touch} midway h) e = never_done setting (with_touch log touch) end what h e
 
   -- what such an act has touched doesn't end a function
@@ -122,13 +122,13 @@ module _ {S : Type 0} where
   touches_midway setting log (reads {path = path} {kind = kind} h) =
       touches_midway setting (with_read log path kind) (h (read_cell setting path kind))
   touches_midway setting log (asks {at = at} {operation = operation} h) =
-      touched_if (has_room setting log) log.touches _ _ log refl
+      touched_if (allows_event setting log) log.touches _ _ log refl
       (touches_midway setting (with_operation setting log at operation) (h (number_of setting log operation)))
   touches_midway setting log (allocates {at = at} {path = path} h) =
-      touched_if (has_room setting log) log.touches _ _ log refl
+      touched_if (allows_event setting log) log.touches _ _ log refl
       (touches_midway setting (with_allocation setting log at path) (h (is_true (setting.inputs path))))
   touches_midway setting log (reaches {at = at} {object = object} {offset = offset} h) =
-      touched_if (has_room setting log) log.touches _ _ log refl (touches_midway setting (with_access log at object offset) h)
+      touched_if (allows_event setting log) log.touches _ _ log refl (touches_midway setting (with_access log at object offset) h)
   touches_midway setting log (touches {touch = touch} midway h) =
       let rest = touches_midway setting (with_touch log touch) h in
       record { added = touch ∷ rest.added; midway = (midway, rest.midway); is = rest.is ∙ append_assoc log.touches (touch ∷ []) rest.added }

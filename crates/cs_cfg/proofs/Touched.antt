@@ -20,7 +20,7 @@ use Rattle.cs_events.specs.Objects.{Object, Cell, NumberCell}
 use Rattle.cs_events.specs.Touches.{Touch}
 use Rattle.cs_events.specs.Acts.{Act, Goes, Stops, Reads, Asks, Allocates, Reaches, Touches}
 use Rattle.cs_events.specs.Runs.{Setting, Log, Performed, Continues, Finishes, perform, with_operation, with_allocation, with_access, with_read, with_touch}
-use Rattle.cs_events.specs.Runs.{has_room, number_of, read_cell}
+use Rattle.cs_events.specs.Runs.{allows_event, number_of, read_cell}
 use Rattle.cs_meaning.specs.Initials.{number_in, directed}
 use Rattle.cs_meaning.specs.Types.{integer_of}
 use Rattle.cs_meaning.specs.Memory.{Memory, changed}
@@ -86,13 +86,13 @@ module _ {S : Type 0} where
   touched setting log stops = inl refl
   touched setting log (reads {path = path} {kind = kind} h) = touched setting (with_read log path kind) (h (read_cell setting path kind))
   touched setting log (asks {what = what} {at = at} {operation = operation} h) =
-      in_room (has_room setting log) at log what _
+      in_room (allows_event setting log) at log what _
       (touched setting (with_operation setting log at operation) (h (number_of setting log operation)))
   touched setting log (allocates {what = what} {at = at} {path = path} h) =
-      in_room (has_room setting log) at log what _
+      in_room (allows_event setting log) at log what _
       (touched setting (with_allocation setting log at path) (h (is_true (setting.inputs path))))
   touched setting log (reaches {what = what} {at = at} {object = object} {offset = offset} h) =
-      in_room (has_room setting log) at log what _ (touched setting (with_access log at object offset) h)
+      in_room (allows_event setting log) at log what _ (touched setting (with_access log at object offset) h)
   touched setting log (touches {one = one} h) = one_touch log.touches one _ (touched setting (with_touch log one) h)
 
   -- what is said of a local of a frame

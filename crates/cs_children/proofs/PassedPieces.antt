@@ -20,7 +20,7 @@ use Rattle.cs_events.specs.Objects.{Cell}
 use Rattle.cs_events.specs.Operations.{guess_range, result_with, shows}
 use Rattle.cs_events.specs.PendingEvents.{Operates}
 use Rattle.cs_events.specs.Acts.{Act, Asks}
-use Rattle.cs_events.specs.Runs.{Setting, Log, guess_at, read_cell, used, used_guess, with_event, has_room}
+use Rattle.cs_events.specs.Runs.{Setting, Log, guess_at, read_cell, used, used_guess, with_event, allows_event}
 use Rattle.cs_event_runs.specs.ByEvents.{ShowsAfter, now as comes}
 use Rattle.cs_event_runs.specs.First.{Step, First, Shown, Ended, first_of}
 use Rattle.cs_event_runs.specs.Left.{left_of}
@@ -78,7 +78,7 @@ module _ (code : Code) (program : TypedProgram) (budgets : RunBudgets) (names : 
         limit : setting.budgets.events ≡ budgets.events
         limit = ap (λ (b : RunBudgets). b.events) goes.limits
 
-        none : has_room setting later ≡ false
+        none : allows_event setting later ≡ false
         none = let l = limit in let m = many in grind (arith, nat_tests)
 
     module _ (room : state.counters.events < budgets.events) (given : Option ℤ)
@@ -90,7 +90,7 @@ module _ (code : Code) (program : TypedProgram) (budgets : RunBudgets) (names : 
           limit : setting.budgets.events ≡ budgets.events
           limit = ap (λ (b : RunBudgets). b.events) goes.limits
 
-          some : has_room setting later ≡ true
+          some : allows_event setting later ≡ true
           some = let l = limit in let m = many in grind (arith, nat_tests)
 
           used_is : used (guess_range setting.model operation) (guess_at setting.guesses (suc (length later.events))) ≡ given

@@ -3,7 +3,7 @@ use Rattle.std.proofs.Common.{◌≡◌, List, [], refl, subst}
 use Rattle.cs_events.specs.declared.event.Event.{Event}
 use Rattle.cs_events.specs.Acts.{Act, Goes, Stops, Reads, Asks, Allocates, Reaches, Touches}
 use Rattle.cs_events.specs.Runs.{Setting, Log, with_read, with_touch, read_cell, number_of}
-use Rattle.cs_event_runs.specs.First.{First, Silent, Ended, operated, shown_if_room, first_of}
+use Rattle.cs_event_runs.specs.First.{First, Silent, Ended, operated, shown_if_allowed, first_of}
 use Rattle.cs_event_runs.specs.Left.{left_of}
 
 module _ {State : Type 0} (setting : Setting) where
@@ -13,7 +13,7 @@ module _ {State : Type 0} (setting : Setting) where
   StandsFirst events first (Stops outcome) = (later : Log) × (later.events ≡ events) × (first ≡ Ended outcome later)
   StandsFirst events first (Asks at operation onward) =
       (later : Log) × (later.events ≡ events)
-      × (first ≡ shown_if_room setting later at (operated setting later at operation) later (onward (number_of setting later operation)))
+      × (first ≡ shown_if_allowed setting later at (operated setting later at operation) later (onward (number_of setting later operation)))
   StandsFirst events first (Reads path kind onward) = Unit {0}
   StandsFirst events first (Allocates at path onward) = Unit {0}
   StandsFirst events first (Reaches at object offset act) = Unit {0}

@@ -87,8 +87,8 @@ module _ (exploration : Exploration) (entry : ℕ) (explores : ExploresIntegers 
       plain = plain;
     }
 
-    pub begun_graph : (room : Bool) → before.graph.keys ≡ [] → before.graph.rows ≡ [] → before.ends.items ≡ [] → KeepsEnds before after
-        → IsPlaced (words_of (live_part state.value)) (first_row state) room before after → IsOpenGraph exploration entry Waits after
+    pub begun_graph : (added : Bool) → before.graph.keys ≡ [] → before.graph.rows ≡ [] → before.ends.items ≡ [] → KeepsEnds before after
+        → IsPlaced (words_of (live_part state.value)) (first_row state) added before after → IsOpenGraph exploration entry Waits after
     begun_graph false no_keys no_rows no_ends keeps placed all = absurd (full_for_nodes before after placed.1 all)
     begun_graph true no_keys no_rows no_ends keeps placed all =
         subst (λ (tables : Tables). IsGraph (naming tables) after.graph after.ends.items Waits) (sym keeps.tables)

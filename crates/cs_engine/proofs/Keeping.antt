@@ -61,27 +61,27 @@ module _ (exploration : Exploration) (entry : ℕ) (explores : ExploresIntegers 
       (differ : DifferInName (parameters_of (routine_of program entry))) (once : HasEachOnce (naming before.tables).syms)
       (plain : IsPlain state.value) (no_keys : before.graph.keys ≡ []) (no_rows : before.graph.rows ≡ []) (no_ends : before.ends.items ≡ [])
       (none_cut : before.cuts.items ≡ []) (nodes : after.nodes ≡ before.nodes) (keeps : KeepsEnds before after) where
-    begun_reasons : (room : Bool) → IsPlaced (words_of (live_part state.value)) (first_row state) room before after → HasReasons exploration entry after
+    begun_reasons : (added : Bool) → IsPlaced (words_of (live_part state.value)) (first_row state) added before after → HasReasons exploration entry after
     begun_reasons true placed = inl (placed.1 ∙ none_cut)
     begun_reasons false placed = inr (
       placed.1 ∙ (λ i. none_cut i ++ Nodes (sym nodes i) ∷ []),
       begun_refused exploration entry explores before after state start differ once no_rows no_ends keeps placed,
     )
 
-    begun_uncut : (room : Bool) → IsPlaced (words_of (live_part state.value)) (first_row state) room before after → IsUncut after
+    begun_uncut : (added : Bool) → IsPlaced (words_of (live_part state.value)) (first_row state) added before after → IsUncut after
     begun_uncut true placed number row there = placed.1 ∙ none_cut
     begun_uncut false placed number row there =
         let rows : after.graph.rows ≡ [] = ap (λ (graph : RowGraph). graph.rows) placed.0.2 ∙ no_rows in
         let at : slice_get [] number ≡ Some row = subst (λ (rows : List Row). slice_get rows number ≡ Some row) rows there in
         cc
 
-    pub begun_kept : (room : Bool) → IsPlaced (words_of (live_part state.value)) (first_row state) room before after
+    pub begun_kept : (added : Bool) → IsPlaced (words_of (live_part state.value)) (first_row state) added before after
         → IsKept exploration entry Waits after
-    begun_kept room placed = record {
-      closed = begun_graph exploration entry explores before after state start differ once plain room no_keys no_rows no_ends keeps placed;
-      sources = begun_sources exploration entry explores before after state start differ once room no_keys no_rows no_ends keeps placed;
-      reasons = begun_reasons room placed;
-      uncut = begun_uncut room placed;
+    begun_kept added placed = record {
+      closed = begun_graph exploration entry explores before after state start differ once plain added no_keys no_rows no_ends keeps placed;
+      sources = begun_sources exploration entry explores before after state start differ once added no_keys no_rows no_ends keeps placed;
+      reasons = begun_reasons added placed;
+      uncut = begun_uncut added placed;
     }
 
   -- the next row is given
@@ -108,12 +108,12 @@ module _ (exploration : Exploration) (entry : ℕ) (explores : ExploresIntegers 
         ∙ (λ i. kept.uncut row from there i ++ no_cuts exploration entry explores before ended cut after tables row from there made endings cuts extends adds
         cutting keeps comes gone kept.sources numbered once i)
 
-    after_sources : (room : Bool) → PlacesChildren row made room cut after → HasSources exploration entry Waits after
-    after_sources room places =
+    after_sources : (added : Bool) → PlacesChildren row made added cut after → HasSources exploration entry Waits after
+    after_sources added places =
         expanded_sources exploration entry explores before ended cut after tables row from there made endings cuts extends adds cutting keeps comes gone
-        kept.sources room places
+        kept.sources added places
 
-    pub expanded_kept : (room : Bool) → PlacesChildren row made room cut after → LeadsOn exploration entry room after
+    pub expanded_kept : (added : Bool) → PlacesChildren row made added cut after → LeadsOn exploration entry added after
     expanded_kept true places = record {
       closed =
           expanded_graph exploration entry explores exact before ended cut after tables row from there made endings cuts extends adds cutting keeps comes places

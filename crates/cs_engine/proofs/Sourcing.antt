@@ -82,8 +82,8 @@ module _ (exploration : Exploration) (entry : ℕ) (explores : ExploresIntegers 
           (no_blocks code program entry (naming before.tables) state.value start explores.works.parameters) rules start.phase;
     }
 
-    begun : (room : Bool) → before.graph.keys ≡ [] → before.graph.rows ≡ []
-        → IsPlaced (words_of (live_part state.value)) (first_row state) room before after → (names : Naming)
+    begun : (added : Bool) → before.graph.keys ≡ [] → before.graph.rows ≡ []
+        → IsPlaced (words_of (live_part state.value)) (first_row state) added before after → (names : Naming)
         → AreNames (naming before.tables) names → HasEachOnce names.syms → IsGraph names after.graph [] Waits
     begun false no_keys no_rows placed names are each =
         subst (λ (graph : RowGraph). IsGraph names graph [] Waits) (sym placed.0.2)
@@ -91,11 +91,11 @@ module _ (exploration : Exploration) (entry : ℕ) (explores : ExploresIntegers 
     begun true no_keys no_rows placed names are each =
         sources_begun code program entry budgets names rules before.graph after.graph (first_row state) no_keys no_rows placed.0 (first_is names are each)
 
-    pub begun_sources : (room : Bool) → before.graph.keys ≡ [] → before.graph.rows ≡ [] → before.ends.items ≡ [] → KeepsEnds before after
-        → IsPlaced (words_of (live_part state.value)) (first_row state) room before after → HasSources exploration entry Waits after
-    begun_sources room no_keys no_rows no_ends keeps placed names are each =
+    pub begun_sources : (added : Bool) → before.graph.keys ≡ [] → before.graph.rows ≡ [] → before.ends.items ≡ [] → KeepsEnds before after
+        → IsPlaced (words_of (live_part state.value)) (first_row state) added before after → HasSources exploration entry Waits after
+    begun_sources added no_keys no_rows no_ends keeps placed names are each =
         subst (λ (ends : List End). IsGraph names after.graph ends Waits) (sym (keeps.ends ∙ no_ends))
-        (begun room no_keys no_rows placed names (subst (λ (tables : Tables). AreNames (naming tables) names) keeps.tables are) each)
+        (begun added no_keys no_rows placed names (subst (λ (tables : Tables). AreNames (naming tables) names) keeps.tables are) each)
 
     -- or it was refused
     pub begun_refused : before.graph.rows ≡ [] → before.ends.items ≡ [] → KeepsEnds before after
@@ -135,7 +135,7 @@ module _ (exploration : Exploration) (entry : ℕ) (explores : ExploresIntegers 
     graph_is : cut.graph ≡ before.graph
     graph_is = cutting.rows.graph ∙ adds.rows.graph
 
-    first_placed : (room : Bool) → PlacesChildren row made room cut after → PlacesFirst row made cut.graph after.graph
+    first_placed : (added : Bool) → PlacesChildren row made added cut after → PlacesFirst row made cut.graph after.graph
     first_placed true places = record { some = made; left = []; all = sym (append-nil made); placed = places.0 }
     first_placed false places = places.0.first
 
@@ -155,12 +155,12 @@ module _ (exploration : Exploration) (entry : ℕ) (explores : ExploresIntegers 
     pub no_cuts : IsNumbered (naming tables).bases → HasEachOnce (naming tables).syms → cuts ≡ []
     no_cuts numbered once = (all_there (naming tables) (themselves (naming tables) numbered) once).1
 
-    pub expanded_sources : (room : Bool) → PlacesChildren row made room cut after → HasSources exploration entry Waits after
-    expanded_sources room places names are each =
+    pub expanded_sources : (added : Bool) → PlacesChildren row made added cut after → HasSources exploration entry Waits after
+    expanded_sources added places names are each =
         let known : AreNames (naming tables) names = subst (λ (t : Tables). AreNames (naming t) names) tables_are are in
         subst (λ (ends : List End). IsGraph names after.graph ends Waits) (sym ends_are)
         (sources_expanded code program entry budgets names rules row made endings before.graph after.graph before.ends.items (from_row names known each) gone
-        (subst (λ (g : RowGraph). PlacesFirst row made g after.graph) graph_is (first_placed room places)) (graph_there names known each))
+        (subst (λ (g : RowGraph). PlacesFirst row made g after.graph) graph_is (first_placed added places)) (graph_there names known each))
 
     -- the next child was refused
     expanded_refused : (places : PlacesUntilFull row made before.graph after.graph) → IsRefused after

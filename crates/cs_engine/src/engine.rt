@@ -115,11 +115,11 @@ fn expand(
 ) -> Result<bool, AllocError>
     requires { IsReady exploration.now.context.now.setting.now }
     ensures grows { OnOk result (Grows findings.old findings.new) }
-    ensures expands { IfOk result (λ room. HasEveryKind (λ b. kind_of b) checkers.old.items
+    ensures expands { IfOk result (λ added. HasEveryKind (λ b. kind_of b) checkers.old.items
         → (entry : ℕ) → ExploresIntegers exploration.now entry
         → ¬ Waits findings.old.graph.work row
         → IsKept exploration.now entry (IsOpen row) findings.old
-        → LeadsOn exploration.now entry room findings.new) }
+        → LeadsOn exploration.now entry added findings.new) }
     ensures kinds { map (λ b. kind_of b) checkers.new.items
         ≡ map (λ b. kind_of b) checkers.old.items }
 {
@@ -135,6 +135,6 @@ fn expand(
     let Children { made, ends, cuts } = children;
     findings.add_ends(row, ends)?;
     findings.add_cuts(&cuts)?;
-    let room = findings.add_all(alloc, row, made)?;
-    Ok(room)
+    let added = findings.add_all(alloc, row, made)?;
+    Ok(added)
 }

@@ -1,8 +1,7 @@
 //! The state in which the exploration of an entry begins.
 ghost use Rattle.std.specs.Prelude.{◌≡◌, ◌<◌, ℕ, true, false, length, map, Some, slice_get, IfOk, OnOk};
 ghost use Rattle.cs_types.specs.Shape.{shape_of};
-ghost use Rattle.cs_types.specs.Layout.{IsLaidOut};
-ghost use Rattle.cs_ast.specs.TypedProgram.{typed_program, variable, routine};
+ghost use Rattle.cs_ast.specs.TypedProgram.{HasLayouts, typed_program, variable, routine};
 ghost use Rattle.cs_meaning.specs.Machine.{routine_of};
 ghost use Rattle.cs_meaning.specs.Steps as meaning;
 ghost use Rattle.cs_objects.specs.Prepared.{IsReady};
@@ -36,7 +35,7 @@ pub(crate) fn start(context: &Context, entry: u32, tables: &mut Tables) -> Resul
 // Whether an entry can begin: no two of its parameters have one name (C11 6.7, paragraph 3), and no size passes the bounds in what they
 // point to. Both hold of each file that was read, but not of each program that is well-formed.
 fn can_start(program: &Program, entry: u32) -> bool
-    requires { IsLaidOut program.now.model program.now.table.list }
+    requires { HasLayouts program.now }
     ensures sizes { result ≡ true → HaveSizes (typed_program program.now)
         (meaning.parameters_of (routine_of (typed_program program.now) entry)) }
     ensures names { result ≡ true → DifferInName
@@ -58,7 +57,7 @@ fn parameters_of(function: &Function) -> &[Local]
 }
 
 fn can_receive(program: &Program, parameters: &[Local]) -> bool
-    requires { IsLaidOut program.now.model program.now.table.list }
+    requires { HasLayouts program.now }
     ensures sizes { result ≡ true → HaveSizes (typed_program program.now)
         (map variable parameters.now) }
     ensures names { result ≡ true → DifferInName (map variable parameters.now) }
@@ -68,7 +67,7 @@ fn can_receive(program: &Program, parameters: &[Local]) -> bool
 
 // Whether no size passes the bounds in what the parameters point to.
 fn have_sizes(program: &Program, parameters: &[Local]) -> bool
-    requires { IsLaidOut program.now.model program.now.table.list }
+    requires { HasLayouts program.now }
     ensures { result ≡ true
         → HaveSizes (typed_program program.now) (map variable parameters.now) }
 {
@@ -81,7 +80,7 @@ fn have_sizes(program: &Program, parameters: &[Local]) -> bool
 }
 
 fn has_sizes(program: &Program, ty: &CType) -> bool
-    requires { IsLaidOut program.now.model program.now.table.list }
+    requires { HasLayouts program.now }
     ensures { result ≡ true → HasSizes (typed_program program.now) (shape_of ty.now) }
 {
     match ty {

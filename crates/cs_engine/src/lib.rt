@@ -7,3 +7,4 @@ mod numbering;
 
 pub use cs_children::Exploration;
 pub use engine::explore;
+pub use numbering::have_each_once;

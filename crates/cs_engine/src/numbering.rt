@@ -6,7 +6,7 @@ ghost use Rattle.cs_terms.specs.Table.{HasEachOnce};
 use cs_state::Tables;
 
 /// Nothing has two numbers. The lengths are asked for what they say of the names.
-pub(crate) fn have_each_once(tables: &Tables)
+pub fn have_each_once(tables: &Tables)
     ensures bases { IsNumbered (naming tables.now).bases }
     ensures syms { HasEachOnce (naming tables.now).syms }
 {

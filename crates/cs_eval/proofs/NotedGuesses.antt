@@ -54,7 +54,7 @@ module _ (model : DataModel) (sets : Sets) (given made : Question) (form : IsFor
         followed = λ v fits. (same_asking v fits).to_given v fits;
         guesses = λ v number fits. (same_asking v fits).guess_made v number fits;
         has_fact = h.meant.has_fact;
-        told = h.meant.told;
+        determines = h.meant.determines;
         left_range = h.left_ends.range declared.0;
         right_range = h.right_ends.range declared.1;
         left_ends = h.left_ends.none;

@@ -1,5 +1,6 @@
 -- What the pieces with a guess record, by their shape: for the contracts of those who make them.
-use Rattle.std.proofs.Common.{◌≡◌, inl, inr, ℕ, ℤ, pos, ◌-ℤ◌, List, [], ◌∷◌, ◌++◌, Option, Some, None, refl, sym, ap, subst, ◌∙◌}
+use Rattle.std.proofs.Common.{◌≡◌, inl, inr, ℕ, ℤ, pos, ◌-ℤ◌, List, [], ◌∷◌, ◌++◌, Option, Some, None, refl, sym, ap, subst}
+use Rattle.std.proofs.Common.{◌∙◌}
 use Rattle.std.specs.Prelude.{IfSome}
 use Rattle.std.proofs.lemmas.Option.{none-some, same_Some}
 use Rattle.cs_ranges.specs.declared.range_set.Interval.{Interval}
@@ -160,10 +161,10 @@ module _ (model : DataModel) (sets : Sets) (asked : Question) (inexact : Inexact
 -- the operations that may be guessed
 module _ (model : DataModel) (sets : Sets) (left right : Lin) where
   pub binary_is : (op : BinOp) (ty : IntType) → IsInexactOf model sets (question.Binary op ty left right) (asks.Binary op ty) left right None
-  binary_is op ty = record { asked = refl; other = tt; has_fact = refl; told = λ v fits. tt }
+  binary_is op ty = record { asked = refl; other = tt; has_fact = refl; determines = λ v fits. tt }
 
   pub conversion_is : (ty : IntType) → right.sym ≡ None → IsInexactOf model sets (question.Convert ty left) (asks.Convert ty) left right None
-  conversion_is ty none = record { asked = refl; other = none; has_fact = refl; told = λ v fits. tt }
+  conversion_is ty none = record { asked = refl; other = none; has_fact = refl; determines = λ v fits. tt }
 
   pub comparison_is : (op : CmpOp) (term : Lin2) → ((v : Valuation) → value_of_sum v term ≡ value_of v left -ℤ value_of v right)
       → IsInexactOf model sets (question.Compare op left right) (asks.Compare op) left right (Some (record { op = op; term = term }))
@@ -171,7 +172,7 @@ module _ (model : DataModel) (sets : Sets) (left right : Lin) where
     asked = refl;
     other = tt;
     has_fact = refl;
-    told = λ v fits.
+    determines = λ v fits.
         ap truth_number (compares-diff op (value_of v left) (value_of v right) ∙ ap (λ (n : ℤ). compares op n (pos 0)) (sym (value v)));
   }
 
@@ -181,14 +182,14 @@ module _ (model : DataModel) (sets : Sets) (left right : Lin) where
     asked = refl;
     other = tt;
     has_fact = (record { op = AtLeast; term = record { first = left; second = right } }, refl, refl);
-    told = λ v fits. refl;
+    determines = λ v fits. refl;
   }
 
   pub product_is : IsInexactOf model sets (question.Product left right) asks.Product left right None
-  product_is = record { asked = refl; other = tt; has_fact = refl; told = λ v fits. tt }
+  product_is = record { asked = refl; other = tt; has_fact = refl; determines = λ v fits. tt }
 
   pub sum_is : (bytes : ℕ) → IsInexactOf model sets (question.Sum left right bytes) asks.Sum left right None
-  sum_is bytes = record { asked = (bytes, refl); other = tt; has_fact = refl; told = λ v fits. tt }
+  sum_is bytes = record { asked = (bytes, refl); other = tt; has_fact = refl; determines = λ v fits. tt }
 
   pub difference_is : (bytes : ℕ) → IsInexactOf model sets (question.Difference left right bytes) asks.Difference left right None
-  difference_is bytes = record { asked = (bytes, refl); other = tt; has_fact = refl; told = λ v fits. tt }
+  difference_is bytes = record { asked = (bytes, refl); other = tt; has_fact = refl; determines = λ v fits. tt }

@@ -37,9 +37,9 @@ HasFact asks.Order left right fact = (found : Fact) × (fact ≡ Some found) × 
 HasFact other left right fact = IsNone fact
 
 -- the operation's own result is 1 where the fact's term compares with 0 as the fact says, and else 0
-abbrev pub TellsResult : DataModel → Option Fact → Question → Valuation → Type 0
-TellsResult model None meant v = Unit {0}
-TellsResult model (Some fact) meant v = own_result model (operation_of v meant) ≡ truth_number (compares fact.op (value_of_sum v fact.term) (pos 0))
+abbrev pub DeterminesResult : DataModel → Option Fact → Question → Valuation → Type 0
+DeterminesResult model None meant v = Unit {0}
+DeterminesResult model (Some fact) meant v = own_result model (operation_of v meant) ≡ truth_number (compares fact.op (value_of_sum v fact.term) (pos 0))
 
 -- the ends are the least and the greatest number of the symbol's range, where there is a symbol
 abbrev pub IsRangeOf : Sets → Option Sym → Interval → Type 0
@@ -60,7 +60,7 @@ pub record IsNoted (model : DataModel) (sets : Sets) (given : Question) (what : 
   pub followed : (v : Valuation) → Fits v sets → IsFollowed model sets meant v → IsFollowed model sets given v
   pub guesses : (v : Valuation) (number : ℤ) → Fits v sets → IsGuess model sets given v number → IsGuess model sets meant v number
   pub has_fact : HasFact what left right fact
-  pub told : (v : Valuation) → Fits v sets → TellsResult model fact meant v
+  pub determines : (v : Valuation) → Fits v sets → DeterminesResult model fact meant v
   pub left_range : IsRangeOf sets left.sym ends.left
   pub right_range : IsRangeOf sets right.sym ends.right
   pub left_ends : HasNoEnds left.sym ends.left

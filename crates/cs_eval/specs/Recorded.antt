@@ -14,7 +14,7 @@ use Rattle.cs_eval.specs.declared.piece.Guessed.{Guessed}
 use Rattle.cs_eval.specs.declared.piece.Piece.{Piece}
 use Rattle.cs_eval.specs.declared.question.Question.{Question}
 use Rattle.cs_eval.specs.Followed.{AreAnswers}
-use Rattle.cs_eval.specs.Noted.{IsQuestionOf, HasFact, TellsResult, IsRangeOf, HasNoEnds}
+use Rattle.cs_eval.specs.Noted.{IsQuestionOf, HasFact, DeterminesResult, IsRangeOf, HasNoEnds}
 use Rattle.cs_eval.specs.Splits.{Each}
 
 -- the ends of a symbol's range, if it is declared, and 0 to 0 where there is no symbol
@@ -45,7 +45,7 @@ pub record IsInexactOf (model : DataModel) (sets : Sets) (question : Question) (
   pub asked : IsQuestionOf what left right question
   pub other : HasNoOther what right
   pub has_fact : HasFact what left right fact
-  pub told : (v : Valuation) → Fits v sets → TellsResult model fact question v
+  pub determines : (v : Valuation) → Fits v sets → DeterminesResult model fact question v
 
 -- the question itself is recorded
 pub record IsRecordOfQuestion (model : DataModel) (sets : Sets) (question : Question) (noted : Guessed) : Type 0 where

@@ -16,7 +16,7 @@ use Rattle.cs_events.specs.declared.input.Lookup.{Lookup}
 use Rattle.cs_events.specs.InputCells.{input_cell}
 use Rattle.cs_events.specs.Operations.{is_true, truth_number}
 use Rattle.cs_events.specs.Acts.{Act, Goes, Stops, Reads, Asks, Allocates, Reaches, Touches}
-use Rattle.cs_events.specs.Runs.{Setting, Log, EndsFrom, with_event, with_read, with_touch, has_room, number_of}
+use Rattle.cs_events.specs.Runs.{Setting, Log, EndsFrom, with_event, with_read, with_touch, allows_event, number_of}
 use Rattle.cs_events.specs.Runs.{with_operation, with_allocation, with_access, read_cell}
 use Rattle.cs_event_runs.specs.First.{Step, First, Silent, Shown, Ended, operated, tried, accessed, first_of}
 use Rattle.cs_event_runs.specs.ByEvents.{RunsTo, ends, shows, silently}
@@ -68,13 +68,13 @@ module _ {State : Type 0} (setting : Setting) where
       (reads_on (with_read log path kind) (onward (read_cell setting path kind)))
   reads_on log (Touches touch act) = reads_on (with_touch log touch) act
   reads_on log (Asks at operation onward) =
-      both log (has_room setting log) _ _
+      both log (allows_event setting log) _ _
       (none_more log (Shown (operated setting log at operation) (onward (number_of setting log operation))
       (with_operation setting log at operation)) refl) (none_more log (Ended (Over Events at) log) refl)
   reads_on log (Allocates at path onward) =
-      both log (has_room setting log) _ _ (record { path = path; kind = Allocation } ∷ [], refl) (none_more log (Ended (Over Events at) log) refl)
+      both log (allows_event setting log) _ _ (record { path = path; kind = Allocation } ∷ [], refl) (none_more log (Ended (Over Events at) log) refl)
   reads_on log (Reaches at object offset act) =
-      both log (has_room setting log) _ _ (none_more log (Shown (accessed at object offset) act (with_access log at object offset)) refl)
+      both log (allows_event setting log) _ _ (none_more log (Shown (accessed at object offset) act (with_access log at object offset)) refl)
       (none_more log (Ended (Over Events at) log) refl)
 
   -- inputs that agree on the paths up to what stands first agree on those of the log
@@ -114,7 +114,7 @@ module _ {State : Type 0} (setting : Setting) where
         ∙ first_alike (with_read log path kind) (onward (read_cell setting path kind)) agree
     first_alike log (Touches touch act) agree = first_alike (with_touch log touch) act agree
     first_alike log (Asks at operation onward) agree = refl
-    first_alike log (Allocates at path onward) agree = allocates_alike (has_room setting log) log at path onward agree
+    first_alike log (Allocates at path onward) agree = allocates_alike (allows_event setting log) log at path onward agree
     first_alike log (Reaches at object offset act) agree = refl
 
     module _ (step : State → Act State) where

@@ -7,7 +7,8 @@ use Rattle.cs_events.specs.declared.outcome.Outcome.{Outcome}
 use Rattle.cs_events.specs.Operations.{is_true}
 use Rattle.cs_events.specs.Acts.{Act, Goes, Stops, Reads, Asks, Allocates, Reaches, Touches}
 use Rattle.cs_events.specs.declared.input.InputKind.TheVariants.{Allocation}
-use Rattle.cs_events.specs.Runs.{Setting, Log, perform, with_event, with_operation, with_allocation, with_access, with_read, with_touch, has_room, number_of}
+use Rattle.cs_events.specs.Runs.{Setting, Log, perform, with_event, with_operation, with_allocation, with_access, with_read, with_touch, allows_event}
+use Rattle.cs_events.specs.Runs.{number_of}
 use Rattle.cs_events.specs.Runs.{read_cell}
 use Rattle.cs_events.specs.PendingEvents.{Pending}
 use Rattle.cs_events.specs.Pending.{is_next, pending_in}
@@ -32,13 +33,13 @@ module _ {State : Type 0} (setting : Setting) where
   performs_first log (Reads path kind onward) = performs_first (with_read log path kind) (onward (read_cell setting path kind))
   performs_first log (Touches touch act) = performs_first (with_touch log touch) act
   performs_first log (Asks at operation onward) =
-      into_both (performed setting) (has_room setting log)
+      into_both (performed setting) (allows_event setting log)
       (Shown (operated setting log at operation) (onward (number_of setting log operation)) (with_operation setting log at operation)) _
   performs_first log (Allocates at path onward) =
-      into_both (performed setting) (has_room setting log)
+      into_both (performed setting) (allows_event setting log)
       (Shown (tried setting at path) (onward (is_true (setting.inputs path))) (with_allocation setting log at path)) _
   performs_first log (Reaches at object offset act) =
-      into_both (performed setting) (has_room setting log) (Shown (accessed at object offset) act (with_access log at object offset)) _
+      into_both (performed setting) (allows_event setting log) (Shown (accessed at object offset) act (with_access log at object offset)) _
 
   -- the events of an act end: what stands first is followed by so many events before a state or an end
   pub data Within : First State → Type 0 where
@@ -57,13 +58,13 @@ module _ {State : Type 0} (setting : Setting) where
   within log (Reads path kind onward) = within (with_read log path kind) (onward (read_cell setting path kind))
   within log (Touches touch act) = within (with_touch log touch) act
   within log (Asks at operation onward) =
-      within_both (has_room setting log) _ _
+      within_both (allows_event setting log) _ _
       (then_shown (within (with_operation setting log at operation) (onward (number_of setting log operation)))) then_ended
   within log (Allocates at path onward) =
-      within_both (has_room setting log) _ _
+      within_both (allows_event setting log) _ _
       (then_shown (within (with_allocation setting log at path) (onward (is_true (setting.inputs path))))) then_ended
   within log (Reaches at object offset act) =
-      within_both (has_room setting log) _ _ (then_shown (within (with_access log at object offset) act)) then_ended
+      within_both (allows_event setting log) _ _ (then_shown (within (with_access log at object offset) act)) then_ended
 
   -- the events with which what stands first has left off, from those of the log
   abbrev pub HasEvents : List Event → First State → Type 0
@@ -82,9 +83,9 @@ module _ {State : Type 0} (setting : Setting) where
   adds_first log (Stops outcome) = refl
   adds_first log (Reads path kind onward) = adds_first (with_read log path kind) (onward (read_cell setting path kind))
   adds_first log (Touches touch act) = adds_first (with_touch log touch) act
-  adds_first log (Asks at operation onward) = has_both log.events (has_room setting log) _ _ refl refl
-  adds_first log (Allocates at path onward) = has_both log.events (has_room setting log) _ _ refl refl
-  adds_first log (Reaches at object offset act) = has_both log.events (has_room setting log) _ _ refl refl
+  adds_first log (Asks at operation onward) = has_both log.events (allows_event setting log) _ _ refl refl
+  adds_first log (Allocates at path onward) = has_both log.events (allows_event setting log) _ _ refl refl
+  adds_first log (Reaches at object offset act) = has_both log.events (allows_event setting log) _ _ refl refl
 
   -- what is pending at an event: what is shown first where that is the event, else what is pending in what is left
   abbrev pub first_pending : ℕ → First State → Option Pending
@@ -109,8 +110,8 @@ module _ {State : Type 0} (setting : Setting) where
   pends_first event log (Reads path kind onward) = pends_first event (with_read log path kind) (onward (read_cell setting path kind))
   pends_first event log (Touches touch act) = pends_first event (with_touch log touch) act
   pends_first event log (Asks at operation onward) =
-      asked event (has_room setting log) log log (operated setting log at operation) (onward (number_of setting log operation)) _ refl
+      asked event (allows_event setting log) log log (operated setting log at operation) (onward (number_of setting log operation)) _ refl
   pends_first event log (Allocates at path onward) =
-      asked event (has_room setting log) log (with_read log path Allocation) (tried setting at path) (onward (is_true (setting.inputs path))) _ refl
+      asked event (allows_event setting log) log (with_read log path Allocation) (tried setting at path) (onward (is_true (setting.inputs path))) _ refl
   pends_first event log (Reaches at object offset act) =
-      asked event (has_room setting log) log log (accessed at object offset) act _ refl
+      asked event (allows_event setting log) log log (accessed at object offset) act _ refl

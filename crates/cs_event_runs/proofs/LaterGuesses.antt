@@ -10,7 +10,7 @@ use Rattle.cs_events.specs.declared.operation.Operation.{Operation}
 use Rattle.cs_events.specs.declared.guess.Guess.{Guess}
 use Rattle.cs_events.specs.Operations.{guess_range, result_with, shows}
 use Rattle.cs_events.specs.Acts.{Act, Goes, Stops, Reads, Asks, Allocates, Reaches, Touches}
-use Rattle.cs_events.specs.Runs.{Setting, Log, empty, with_event, with_operation, with_read, with_touch, has_room, used, number_of, read_cell}
+use Rattle.cs_events.specs.Runs.{Setting, Log, empty, with_event, with_operation, with_read, with_touch, allows_event, used, number_of, read_cell}
 use Rattle.cs_events.specs.PendingEvents.{Pending, Operates}
 use Rattle.cs_events.specs.Pending.{IsPending}
 use Rattle.cs_event_runs.specs.First.{Step, First, Silent, Shown, Ended, operated, first_of}
@@ -24,7 +24,7 @@ module _ (setting : Setting) (guesses : List Guess) (budgets : RunBudgets) (even
   Other = with_guesses guesses budgets setting
 
   -- the budget lets the events up to this one pass
-  has_yet : (log : Log) → suc (length log.events) ≤ event → has_room Other log ≡ true
+  has_yet : (log : Log) → suc (length log.events) ≤ event → allows_event Other log ≡ true
   has_yet log before = let b = alike.budget in grind (arith, nat_tests)
 
   module _ {State : Type 0} where
@@ -81,9 +81,10 @@ module _ (setting : Setting) (guesses : List Guess) (budgets : RunBudgets) (even
     kept log (Reads path kind onward) before = kept (with_read log path kind) (onward (read_cell setting path kind)) before
     kept log (Touches touch act) before = kept (with_touch log touch) act before
     kept log (Asks at operation onward) before =
-        kept_if (has_room setting log) (has_room Other log) _ _ _ log _ _ _ (has_yet log (omega arith)) (asked_alike log at operation onward before)
-    kept log (Allocates at path onward) before = kept_if (has_room setting log) (has_room Other log) _ _ _ log _ _ _ (has_yet log (omega arith)) refl
-    kept log (Reaches at object offset act) before = kept_if (has_room setting log) (has_room Other log) _ _ _ log _ _ _ (has_yet log (omega arith)) refl
+        kept_if (allows_event setting log) (allows_event Other log) _ _ _ log _ _ _ (has_yet log (omega arith)) (asked_alike log at operation onward before)
+    kept log (Allocates at path onward) before = kept_if (allows_event setting log) (allows_event Other log) _ _ _ log _ _ _ (has_yet log (omega arith)) refl
+    kept log (Reaches at object offset act) before =
+        kept_if (allows_event setting log) (allows_event Other log) _ _ _ log _ _ _ (has_yet log (omega arith)) refl
 
     near : (log : Log) (act : Act State) → suc (length log.events) ≤ event → Near (first_of setting log act) (first_of Other log act)
     unfolding first_of
@@ -91,9 +92,9 @@ module _ (setting : Setting) (guesses : List Guess) (budgets : RunBudgets) (even
     near log (Stops outcome) before = tt
     near log (Reads path kind onward) before = near (with_read log path kind) (onward (read_cell setting path kind)) before
     near log (Touches touch act) before = near (with_touch log touch) act before
-    near log (Asks at operation onward) before = near_if (has_room setting log) (has_room Other log) _ _ _ _ _ _ log _ _ (has_yet log before) refl
-    near log (Allocates at path onward) before = near_if (has_room setting log) (has_room Other log) _ _ _ _ _ _ log _ _ (has_yet log before) refl
-    near log (Reaches at object offset act) before = near_if (has_room setting log) (has_room Other log) _ _ _ _ _ _ log _ _ (has_yet log before) refl
+    near log (Asks at operation onward) before = near_if (allows_event setting log) (allows_event Other log) _ _ _ _ _ _ log _ _ (has_yet log before) refl
+    near log (Allocates at path onward) before = near_if (allows_event setting log) (allows_event Other log) _ _ _ _ _ _ log _ _ (has_yet log before) refl
+    near log (Reaches at object offset act) before = near_if (allows_event setting log) (allows_event Other log) _ _ _ _ _ _ log _ _ (has_yet log before) refl
 
     module _ (step : State → Act State) where
       -- the run with the other guesses passes the same steps, and then shows one at which the same is pending

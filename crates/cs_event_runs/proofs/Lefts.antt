@@ -5,7 +5,7 @@ use Rattle.cs_events.specs.declared.input.InputKind.{InputKind}
 use Rattle.cs_events.specs.Objects.{Cell}
 use Rattle.cs_events.specs.Operations.{is_true, truth_number}
 use Rattle.cs_events.specs.Acts.{Act, Goes, Stops, Reads, Asks, Allocates, Reaches, Touches}
-use Rattle.cs_events.specs.Runs.{Setting, Log, with_read, with_touch, has_room, read_cell}
+use Rattle.cs_events.specs.Runs.{Setting, Log, with_read, with_touch, allows_event, read_cell}
 use Rattle.cs_event_runs.specs.Left.{left_of}
 use Rattle.cs_event_runs.specs.First.{First, Silent, Shown, Ended, first_of}
 
@@ -58,8 +58,8 @@ module _ {State : Type 0} where
       same_left setting (Reads path kind onward) (onward (read_cell setting path kind)) _ (λ answers. refl)
       (answered setting (with_read log path kind) (onward (read_cell setting path kind)))
   answered setting log (Touches touch act) = same_left setting (Touches touch act) act _ (λ answers. refl) (answered setting (with_touch log touch) act)
-  answered setting log (Asks at operation onward) = either setting (Asks at operation onward) (has_room setting log) _ _ (λ answers. refl) tt
+  answered setting log (Asks at operation onward) = either setting (Asks at operation onward) (allows_event setting log) _ _ (λ answers. refl) tt
   answered setting log (Allocates at path onward) =
-      either setting (Allocates at path onward) (has_room setting log) _ _
+      either setting (Allocates at path onward) (allows_event setting log) _ _
       (λ answers. ap (λ b. left_of (read_cell setting) answers (onward b)) (true_as_said (is_true (setting.inputs path)))) tt
-  answered setting log (Reaches at object offset act) = either setting (Reaches at object offset act) (has_room setting log) _ _ (λ answers. refl) tt
+  answered setting log (Reaches at object offset act) = either setting (Reaches at object offset act) (allows_event setting log) _ _ (λ answers. refl) tt

@@ -15,7 +15,7 @@ use Rattle.cs_events.specs.Acts.{Act, Goes, Stops, Reads, Asks, Allocates, Reach
 use Rattle.cs_events.specs.PendingEvents.{Pending, Operates, Tries, Accesses}
 use Rattle.cs_events.specs.declared.input.InputKind.{InputKind}
 use Rattle.cs_events.specs.declared.input.InputKind.TheVariants.{Allocation}
-use Rattle.cs_events.specs.Runs.{Setting, Log, with_event, with_operation, read_cell, with_read, with_touch, has_room, used, guess_at, operation_event}
+use Rattle.cs_events.specs.Runs.{Setting, Log, with_event, with_operation, read_cell, with_read, with_touch, allows_event, used, guess_at, operation_event}
 use Rattle.cs_events.specs.Runs.{number_of, allocation_event}
 use Rattle.cs_events.specs.Runs.{access_event}
 use Rattle.cs_event_runs.specs.First.{Step, First, Silent, Shown, Ended, operated, first_of}
@@ -49,7 +49,7 @@ module _ (setting : Setting) (guesses : List Guess) where
   Other = with_guesses guesses setting.budgets setting
 
   -- as many events leave as much of the budget
-  same_room : (log other : Log) → LogsAlike log other → has_room Other other ≡ has_room setting log
+  same_room : (log other : Log) → LogsAlike log other → allows_event Other other ≡ allows_event setting log
   same_room log other alike = ap (λ n. nat_lt n setting.budgets.events) alike.passed
 
   module _ {State : Type 0} where
@@ -96,17 +96,18 @@ module _ (setting : Setting) (guesses : List Guess) where
         firsts_alike (with_read log path kind) (with_read other path kind) (one_read_more path kind alike) (onward (read_cell setting path kind)) leads
     firsts_alike log other alike (Touches touch act) leads = firsts_alike (with_touch log touch) (with_touch other touch) (one_touch_more touch alike) act leads
     firsts_alike log other alike (Asks at operation onward) leads =
-        both_if (has_room setting log) (has_room Other other) _ _ _ _ (same_room log other alike) (λ room h. asks_alike log other alike at operation onward h)
+        both_if (allows_event setting log) (allows_event Other other) _ _ _ _ (same_room log other alike)
+        (λ room h. asks_alike log other alike at operation onward h)
         (ended_alike alike) leads
     firsts_alike log other alike (Allocates at path onward) leads =
-        both_if (has_room setting log) (has_room Other other) _ _ _ _ (same_room log other alike)
+        both_if (allows_event setting log) (allows_event Other other) _ _ _ _ (same_room log other alike)
         (λ room h.
         shown_alike (record { pends = refl; answers = refl; places = refl }) refl
         (one_event_more (Tries at path) (allocation_event setting at path) (allocation_event setting at path)
         (one_read_more path Allocation alike)))
         (ended_alike alike) leads
     firsts_alike log other alike (Reaches at object offset act) leads =
-        both_if (has_room setting log) (has_room Other other) _ _ _ _ (same_room log other alike)
+        both_if (allows_event setting log) (allows_event Other other) _ _ _ _ (same_room log other alike)
         (λ room h.
         shown_alike (record { pends = refl; answers = refl; places = refl }) refl
         (one_event_more (Accesses at object offset) (access_event at offset) (access_event at offset) alike))

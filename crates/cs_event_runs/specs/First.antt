@@ -11,7 +11,8 @@ use Rattle.cs_events.specs.declared.outcome.Budget.TheVariants.{Events}
 use Rattle.cs_events.specs.declared.input.InputKind.TheVariants.{Allocation}
 use Rattle.cs_events.specs.Operations.{is_true, truth_number}
 use Rattle.cs_events.specs.Acts.{Act, Goes, Stops, Reads, Asks, Allocates, Reaches, Touches}
-use Rattle.cs_events.specs.Runs.{Setting, Log, Performed, Continues, Finishes, perform, with_event, with_read, with_touch, has_room, operation_event, number_of}
+use Rattle.cs_events.specs.Runs.{Setting, Log, Performed, Continues, Finishes, perform, with_event, with_read, with_touch, allows_event, operation_event}
+use Rattle.cs_events.specs.Runs.{number_of}
 use Rattle.cs_events.specs.Runs.{allocation_event, access_event, read_cell}
 use Rattle.cs_events.specs.PendingEvents.{Pending, Operates, Tries, Accesses}
 
@@ -44,9 +45,9 @@ accessed at object offset = record { pending = Accesses at object offset; event 
 
 module _ {State : Type 0} where
   -- an event that is shown where the budget of events lets it pass; else the run ends
-  abbrev pub shown_if_room : Setting → Log → Place → Step → Log → Act State → First State
-  shown_if_room setting log at shown before left =
-      if has_room setting log then Shown shown left (with_event before shown.pending shown.event) else Ended (Over Events at) log
+  abbrev pub shown_if_allowed : Setting → Log → Place → Step → Log → Act State → First State
+  shown_if_allowed setting log at shown before left =
+      if allows_event setting log then Shown shown left (with_event before shown.pending shown.event) else Ended (Over Events at) log
 
   unfoldable pub first_of : Setting → Log → Act State → First State
   first_of setting log (Goes next) = Silent next log
@@ -54,10 +55,10 @@ module _ {State : Type 0} where
   first_of setting log (Reads path kind onward) = first_of setting (with_read log path kind) (onward (read_cell setting path kind))
   first_of setting log (Touches touch act) = first_of setting (with_touch log touch) act
   first_of setting log (Asks at operation onward) =
-      shown_if_room setting log at (operated setting log at operation) log (onward (number_of setting log operation))
+      shown_if_allowed setting log at (operated setting log at operation) log (onward (number_of setting log operation))
   first_of setting log (Allocates at path onward) =
-      shown_if_room setting log at (tried setting at path) (with_read log path Allocation) (onward (is_true (setting.inputs path)))
-  first_of setting log (Reaches at object offset act) = shown_if_room setting log at (accessed at object offset) log act
+      shown_if_allowed setting log at (tried setting at path) (with_read log path Allocation) (onward (is_true (setting.inputs path)))
+  first_of setting log (Reaches at object offset act) = shown_if_allowed setting log at (accessed at object offset) log act
 
   -- what performing makes of it
   abbrev pub performed : Setting → First State → Performed State

@@ -9,7 +9,7 @@ use Rattle.cs_events.specs.declared.outcome.Outcome.{Outcome}
 use Rattle.cs_events.specs.Operations.{is_true}
 use Rattle.cs_events.specs.Acts.{Act}
 use Rattle.cs_events.specs.Runs.{Setting, Log, Performed, Continues, Finishes, perform, with_event, with_operation, with_allocation, with_access, with_read}
-use Rattle.cs_events.specs.Runs.{with_touch, has_room, operation_event, number_of, read_cell}
+use Rattle.cs_events.specs.Runs.{with_touch, allows_event, operation_event, number_of, read_cell}
 use Rattle.cs_events.specs.Runs.{allocation_event, access_event, stays, goes}
 use Rattle.cs_events.specs.PendingEvents.{Pending, Operates, Tries, Accesses}
 use Rattle.cs_events.specs.declared.input.InputKind.TheVariants.{Allocation}
@@ -50,7 +50,7 @@ module _ {State : Type 0} where
   -- after an event, or at the end of the run where the budget was used up
   after_event : (setting : Setting) (Next : State → Type 0) (log : Log) (here : Pending) (event : Event) (outcome : Outcome) (end : Log)
       (done : Performed State) (room : Bool)
-      → has_room setting log ≡ room → GoesOn (with_event log here event) (log_of done)
+      → allows_event setting log ≡ room → GoesOn (with_event log here event) (log_of done)
       → Went setting Next log (if room then done else Finishes outcome end)
   after_event setting Next log here event outcome end done true h more = louder setting Next log here event done (grind (arith, nat_tests)) more
   after_event setting Next log here event outcome end done false h more = tt
@@ -73,14 +73,14 @@ module _ {State : Type 0} where
   went setting Next log (reads {path = path} {kind = kind} onward) =
       from_as_many setting Next log (with_read log path kind) _ refl (went setting Next (with_read log path kind) (onward (read_cell setting path kind)))
   went setting Next log (asks {at = at} {operation = operation} {onward = onward}) =
-      after_event setting Next log (Operates at operation) (operation_event setting log at operation) _ log _ (has_room setting log) refl
+      after_event setting Next log (Operates at operation) (operation_event setting log at operation) _ log _ (allows_event setting log) refl
       (act_adds setting (with_operation setting log at operation) (onward (number_of setting log operation)))
   went setting Next log (allocates {at = at} {path = path} {onward = onward}) =
       from_as_many setting Next log (with_read log path Allocation) _ refl
-      (after_event setting Next (with_read log path Allocation) (Tries at path) (allocation_event setting at path) _ log _ (has_room setting log) refl
+      (after_event setting Next (with_read log path Allocation) (Tries at path) (allocation_event setting at path) _ log _ (allows_event setting log) refl
       (act_adds setting (with_allocation setting log at path) (onward (is_true (setting.inputs path)))))
   went setting Next log (reaches {at = at} {object = object} {offset = offset} {act = act}) =
-      after_event setting Next log (Accesses at object offset) (access_event at offset) _ log _ (has_room setting log) refl
+      after_event setting Next log (Accesses at object offset) (access_event at offset) _ log _ (allows_event setting log) refl
       (act_adds setting (with_access log at object offset) act)
   went setting Next log (touches {touch = touch} owed) =
       from_as_many setting Next log (with_touch log touch) _ refl (went setting Next (with_touch log touch) owed)

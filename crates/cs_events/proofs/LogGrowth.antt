@@ -11,7 +11,7 @@ use Rattle.cs_events.specs.Operations.{is_true}
 use Rattle.cs_events.specs.Touches.{Touch}
 use Rattle.cs_events.specs.Acts.{Act, Goes, Stops, Reads, Asks, Allocates, Reaches, Touches}
 use Rattle.cs_events.specs.Runs.{Setting, Log, Performed, Continues, Finishes, perform, with_event, with_operation, with_allocation, with_access, with_read}
-use Rattle.cs_events.specs.Runs.{with_touch, has_room, operation_event, number_of, read_cell}
+use Rattle.cs_events.specs.Runs.{with_touch, allows_event, operation_event, number_of, read_cell}
 use Rattle.cs_events.specs.Runs.{allocation_event, access_event, Leads, stays, goes, EndsFrom}
 use Rattle.cs_events.specs.Growth.{GoesOn, log_of}
 
@@ -59,10 +59,10 @@ touch_more log touch = record {
 
 module _ {State : Type 0} where
   -- an event that is passed, or the end of the run where it can't be
-  if_room : (room : Bool) (log : Log) (outcome : Outcome) (done : Performed State) → GoesOn log (log_of done)
+  if_allowed : (room : Bool) (log : Log) (outcome : Outcome) (done : Performed State) → GoesOn log (log_of done)
       → GoesOn log (log_of (if room then done else Finishes outcome log))
-  if_room true log outcome done more = more
-  if_room false log outcome done more = stays_so log
+  if_allowed true log outcome done more = more
+  if_allowed false log outcome done more = stays_so log
 
   -- what an act adds to a log
   pub act_adds : (setting : Setting) (log : Log) (act : Act State) → GoesOn log (log_of (perform setting log act))
@@ -72,15 +72,15 @@ module _ {State : Type 0} where
   act_adds setting log (Reads path kind onward) =
       goes_on_yet (read_more log path kind) (act_adds setting (with_read log path kind) (onward (read_cell setting path kind)))
   act_adds setting log (Asks at operation onward) =
-      if_room (has_room setting log) log _ _
+      if_allowed (allows_event setting log) log _ _
       (goes_on_yet (event_more log (Operates at operation) (operation_event setting log at operation))
       (act_adds setting (with_operation setting log at operation) (onward (number_of setting log operation))))
   act_adds setting log (Allocates at path onward) =
-      if_room (has_room setting log) log _ _
+      if_allowed (allows_event setting log) log _ _
       (goes_on_yet (goes_on_yet (read_more log path Allocation) (event_more (with_read log path Allocation) (Tries at path) (allocation_event setting at path)))
       (act_adds setting (with_allocation setting log at path) (onward (is_true (setting.inputs path)))))
   act_adds setting log (Reaches at object offset act) =
-      if_room (has_room setting log) log _ _
+      if_allowed (allows_event setting log) log _ _
       (goes_on_yet (event_more log (Accesses at object offset) (access_event at offset)) (act_adds setting (with_access log at object offset) act))
   act_adds setting log (Touches touch act) = goes_on_yet (touch_more log touch) (act_adds setting (with_touch log touch) act)
 

@@ -10,7 +10,7 @@ use Rattle.cs_events.specs.Operations.{is_true}
 use Rattle.cs_events.specs.Acts.{Act, Goes, Stops, Reads, Asks, Allocates, Reaches, Touches}
 use Rattle.cs_events.specs.PendingEvents.{Pending, Operates, Tries, Accesses}
 use Rattle.cs_events.specs.Runs.{Setting, Log, Performed, Continues, Finishes, perform, with_event, with_operation, with_allocation, with_access}
-use Rattle.cs_events.specs.Runs.{with_read, with_touch, has_room, operation_event, allocation_event, access_event, number_of, read_cell, Leads, stays, goes}
+use Rattle.cs_events.specs.Runs.{with_read, with_touch, allows_event, operation_event, allocation_event, access_event, number_of, read_cell, Leads, stays, goes}
 use Rattle.cs_events.specs.Runs.{ComesTo}
 use Rattle.cs_events.specs.Pending.{is_next, pending_in, IsPending}
 use Rattle.cs_events.specs.Growth.{GoesOn, log_of}
@@ -67,14 +67,14 @@ module _ {State : Type 0} (setting : Setting) where
   act_even log (Stops outcome) even = even
   act_even log (Reads path kind onward) even = act_even (with_read log path kind) (onward (read_cell setting path kind)) even
   act_even log (Asks at operation onward) even =
-      even_if (has_room setting log) log _ _ even
+      even_if (allows_event setting log) log _ _ even
       (act_even (with_operation setting log at operation) (onward (number_of setting log operation)) (even_with log (Operates at operation) _ even))
   act_even log (Allocates at path onward) even =
-      even_if (has_room setting log) log _ _ even
+      even_if (allows_event setting log) log _ _ even
       (act_even (with_allocation setting log at path) (onward (is_true (setting.inputs path)))
       (even_with (with_read log path Allocation) (Tries at path) _ even))
   act_even log (Reaches at object offset act) even =
-      even_if (has_room setting log) log _ _ even
+      even_if (allows_event setting log) log _ _ even
       (act_even (with_access log at object offset) act (even_with log (Accesses at object offset) _ even))
   act_even log (Touches touch act) even = act_even (with_touch log touch) act even
 
@@ -101,18 +101,20 @@ module _ {State : Type 0} (setting : Setting) where
   act_keeps log (Reads path kind onward) n even before after =
       act_keeps (with_read log path kind) (onward (read_cell setting path kind)) n even before after
   act_keeps log (Asks at operation onward) n even before after =
-      kept_after log log (Operates at operation) (operation_event setting log at operation) _ _ _ n (has_room setting log) (is_next log (suc n)) refl even refl
+      kept_after log log (Operates at operation) (operation_event setting log at operation) _ _ _ n (allows_event setting log) (is_next log (suc n)) refl even
+      refl
       before
       after (act_adds setting (with_operation setting log at operation) (onward (number_of setting log operation)))
       (act_keeps (with_operation setting log at operation) (onward (number_of setting log operation)) n (even_with log (Operates at operation) _ even))
   act_keeps log (Allocates at path onward) n even before after =
-      kept_after (with_read log path Allocation) log (Tries at path) (allocation_event setting at path) _ _ _ n (has_room setting log) (is_next log (suc n))
+      kept_after (with_read log path Allocation) log (Tries at path) (allocation_event setting at path) _ _ _ n (allows_event setting log) (is_next log (suc n))
       refl
       even refl before after (act_adds setting (with_allocation setting log at path) (onward (is_true (setting.inputs path))))
       (act_keeps (with_allocation setting log at path) (onward (is_true (setting.inputs path))) n
       (even_with (with_read log path Allocation) (Tries at path) _ even))
   act_keeps log (Reaches at object offset act) n even before after =
-      kept_after log log (Accesses at object offset) (access_event at offset) _ _ _ n (has_room setting log) (is_next log (suc n)) refl even refl before after
+      kept_after log log (Accesses at object offset) (access_event at offset) _ _ _ n (allows_event setting log) (is_next log (suc n)) refl even refl before
+      after
       (act_adds setting (with_access log at object offset) act)
       (act_keeps (with_access log at object offset) act n (even_with log (Accesses at object offset) _ even))
   act_keeps log (Touches touch act) n even before after = act_keeps (with_touch log touch) act n even before after

@@ -8,7 +8,7 @@ use Rattle.cs_events.specs.declared.outcome.Outcome.{Outcome}
 use Rattle.cs_events.specs.Operations.{is_true}
 use Rattle.cs_events.specs.Acts.{Act, Goes, Stops, Reads, Asks, Allocates, Reaches, Touches}
 use Rattle.cs_events.specs.Runs.{Setting, Log, Performed, Continues, Finishes, perform, with_event, with_operation, with_allocation, with_access, with_read}
-use Rattle.cs_events.specs.Runs.{with_touch, has_room, operation_event, number_of, read_cell}
+use Rattle.cs_events.specs.Runs.{with_touch, allows_event, operation_event, number_of, read_cell}
 use Rattle.cs_events.specs.Runs.{allocation_event, access_event, Leads, stays, goes, EndsFrom}
 use Rattle.cs_events.specs.PendingEvents.{Pending, Operates, Tries, Accesses}
 use Rattle.cs_events.specs.declared.input.InputKind.TheVariants.{Allocation}
@@ -53,16 +53,16 @@ module _ {State : Type 0} (setting : Setting) (event : ℕ) where
   not_passed log (Asks at operation onward) pending h =
       before_event event log (operation_event setting log at operation) (Operates at operation) pending
       (pending_in setting (with_operation setting log at operation) event (onward (number_of setting log operation)))
-      (has_room setting log) (is_next log event) refl
+      (allows_event setting log) (is_next log event) refl
       (λ g. not_passed (with_operation setting log at operation) (onward (number_of setting log operation)) pending g) h
   not_passed log (Allocates at path onward) pending h =
       before_event event log (allocation_event setting at path) (Tries at path) pending
       (pending_in setting (with_allocation setting log at path) event (onward (is_true (setting.inputs path))))
-      (has_room setting log) (is_next log event) refl
+      (allows_event setting log) (is_next log event) refl
       (λ g. not_passed (with_allocation setting log at path) (onward (is_true (setting.inputs path))) pending g) h
   not_passed log (Reaches at object offset act) pending h =
       before_event event log (access_event at offset) (Accesses at object offset) pending
-      (pending_in setting (with_access log at object offset) event act) (has_room setting log) (is_next log event) refl
+      (pending_in setting (with_access log at object offset) event act) (allows_event setting log) (is_next log event) refl
       (λ g. not_passed (with_access log at object offset) act pending g) h
   not_passed log (Touches touch act) pending h = not_passed (with_touch log touch) act pending h
 
@@ -96,21 +96,21 @@ module _ {State : Type 0} (setting : Setting) (event : ℕ) where
   is_passed log (Asks at operation onward) pending h =
       following_event log (operation_event setting log at operation) (Operates at operation) pending
       (pending_in setting (with_operation setting log at operation) event (onward (number_of setting log operation))) _
-      (perform setting (with_operation setting log at operation) (onward (number_of setting log operation))) (has_room setting log)
+      (perform setting (with_operation setting log at operation) (onward (number_of setting log operation))) (allows_event setting log)
       (is_next log event) refl
       (one_more_passed log log (Operates at operation) (operation_event setting log at operation) (onward (number_of setting log operation)) refl)
       (λ g. is_passed (with_operation setting log at operation) (onward (number_of setting log operation)) pending g) h
   is_passed log (Allocates at path onward) pending h =
       following_event log (allocation_event setting at path) (Tries at path) pending
       (pending_in setting (with_allocation setting log at path) event (onward (is_true (setting.inputs path)))) _
-      (perform setting (with_allocation setting log at path) (onward (is_true (setting.inputs path)))) (has_room setting log)
+      (perform setting (with_allocation setting log at path) (onward (is_true (setting.inputs path)))) (allows_event setting log)
       (is_next log event) refl
       (one_more_passed log (with_read log path Allocation) (Tries at path) (allocation_event setting at path) (onward (is_true (setting.inputs path))) refl)
       (λ g. is_passed (with_allocation setting log at path) (onward (is_true (setting.inputs path))) pending g) h
   is_passed log (Reaches at object offset act) pending h =
       following_event log (access_event at offset) (Accesses at object offset) pending (pending_in setting (with_access log at object offset) event act)
       _
-      (perform setting (with_access log at object offset) act) (has_room setting log) (is_next log event) refl
+      (perform setting (with_access log at object offset) act) (allows_event setting log) (is_next log event) refl
       (one_more_passed log log (Accesses at object offset) (access_event at offset) act refl)
       (λ g. is_passed (with_access log at object offset) act pending g) h
   is_passed log (Touches touch act) pending h = is_passed (with_touch log touch) act pending h
@@ -137,18 +137,18 @@ module _ {State : Type 0} (setting : Setting) (event : ℕ) where
   was_pending log (Asks at operation onward) before after =
       pending_after log (operation_event setting log at operation) (Operates at operation)
       (pending_in setting (with_operation setting log at operation) event (onward (number_of setting log operation))) _
-      (perform setting (with_operation setting log at operation) (onward (number_of setting log operation))) (has_room setting log)
+      (perform setting (with_operation setting log at operation) (onward (number_of setting log operation))) (allows_event setting log)
       (is_next log event) refl before after
       (λ b a. was_pending (with_operation setting log at operation) (onward (number_of setting log operation)) b a)
   was_pending log (Allocates at path onward) before after =
       pending_after log (allocation_event setting at path) (Tries at path)
       (pending_in setting (with_allocation setting log at path) event (onward (is_true (setting.inputs path)))) _
-      (perform setting (with_allocation setting log at path) (onward (is_true (setting.inputs path)))) (has_room setting log)
+      (perform setting (with_allocation setting log at path) (onward (is_true (setting.inputs path)))) (allows_event setting log)
       (is_next log event) refl before after
       (λ b a. was_pending (with_allocation setting log at path) (onward (is_true (setting.inputs path))) b a)
   was_pending log (Reaches at object offset act) before after =
       pending_after log (access_event at offset) (Accesses at object offset) (pending_in setting (with_access log at object offset) event act) _
-      (perform setting (with_access log at object offset) act) (has_room setting log) (is_next log event) refl before after
+      (perform setting (with_access log at object offset) act) (allows_event setting log) (is_next log event) refl before after
       (λ b a. was_pending (with_access log at object offset) act b a)
   was_pending log (Touches touch act) before after = was_pending (with_touch log touch) act before after
 

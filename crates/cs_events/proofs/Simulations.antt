@@ -5,7 +5,7 @@ use Rattle.cs_events.specs.declared.outcome.Outcome.{Outcome}
 use Rattle.cs_events.specs.Operations.{is_true}
 use Rattle.cs_events.specs.Acts.{Act, Goes}
 use Rattle.cs_events.specs.Runs.{Setting, Log, empty, Performed, Continues, Finishes, perform, with_operation, with_allocation, with_access, with_read}
-use Rattle.cs_events.specs.Runs.{with_touch, has_room, read_cell}
+use Rattle.cs_events.specs.Runs.{with_touch, allows_event, read_cell}
 use Rattle.cs_events.specs.Runs.{number_of, Leads, stays, goes, EndsFrom}
 use Rattle.cs_events.specs.PendingEvents.{Pending, Operates, Tries, Accesses}
 use Rattle.cs_events.specs.Pending.{is_next, pending_in, IsPending}
@@ -32,13 +32,13 @@ module _ {S T : Type 0} (R : S → T → Type 0) (setting : Setting) where
   performs_alike log both_stop = both_finish
   performs_alike log (both_read {path = path} {kind = kind} same) = performs_alike (with_read log path kind) (same (read_cell setting path kind))
   performs_alike log (both_ask {at = at} {operation = operation} same) =
-      alike_if (has_room setting log) _ log
+      alike_if (allows_event setting log) _ log
       (performs_alike (with_operation setting log at operation) (same (number_of setting log operation)))
   performs_alike log (both_allocate {at = at} {path = path} same) =
-      alike_if (has_room setting log) _ log
+      alike_if (allows_event setting log) _ log
       (performs_alike (with_allocation setting log at path) (same (is_true (setting.inputs path))))
   performs_alike log (both_reach {at = at} {object = object} {offset = offset} same) =
-      alike_if (has_room setting log) _ log (performs_alike (with_access log at object offset) same)
+      alike_if (allows_event setting log) _ log (performs_alike (with_access log at object offset) same)
   performs_alike log (both_touch {touch = touch} same) = performs_alike (with_touch log touch) same
 
   -- acts that do the same have the same pending
@@ -48,13 +48,13 @@ module _ {S T : Type 0} (R : S → T → Type 0) (setting : Setting) where
   pends_alike event log both_stop = refl
   pends_alike event log (both_read {path = path} {kind = kind} same) = pends_alike event (with_read log path kind) (same (read_cell setting path kind))
   pends_alike event log (both_ask {at = at} {operation = operation} same) =
-      ap (λ rest. if has_room setting log then (if is_next log event then Some (Operates at operation) else rest) else None)
+      ap (λ rest. if allows_event setting log then (if is_next log event then Some (Operates at operation) else rest) else None)
       (pends_alike event (with_operation setting log at operation) (same (number_of setting log operation)))
   pends_alike event log (both_allocate {at = at} {path = path} same) =
-      ap (λ rest. if has_room setting log then (if is_next log event then Some (Tries at path) else rest) else None)
+      ap (λ rest. if allows_event setting log then (if is_next log event then Some (Tries at path) else rest) else None)
       (pends_alike event (with_allocation setting log at path) (same (is_true (setting.inputs path))))
   pends_alike event log (both_reach {at = at} {object = object} {offset = offset} same) =
-      ap (λ rest. if has_room setting log then (if is_next log event then Some (Accesses at object offset) else rest) else None)
+      ap (λ rest. if allows_event setting log then (if is_next log event then Some (Accesses at object offset) else rest) else None)
       (pends_alike event (with_access log at object offset) same)
   pends_alike event log (both_touch {touch = touch} same) = pends_alike event (with_touch log touch) same
 

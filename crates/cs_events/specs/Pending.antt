@@ -3,7 +3,7 @@ use Rattle.std.specs.Prelude.{◌≡◌, ℕ, suc, ◌==◌, Bool, Option, Some,
 use Rattle.cs_events.specs.Operations.{is_true}
 use Rattle.cs_events.specs.PendingEvents.{Pending, Operates, Tries, Accesses}
 use Rattle.cs_events.specs.Acts.{Act, Goes, Stops, Reads, Asks, Allocates, Reaches, Touches}
-use Rattle.cs_events.specs.Runs.{Setting, Log, empty, with_operation, with_allocation, with_access, with_read, with_touch, has_room, number_of, read_cell}
+use Rattle.cs_events.specs.Runs.{Setting, Log, empty, with_operation, with_allocation, with_access, with_read, with_touch, allows_event, number_of, read_cell}
 use Rattle.cs_events.specs.Runs.{Leads}
 
 -- whether the event with this number is the next one of a run with this log
@@ -17,17 +17,17 @@ module _ {State : Type 0} where
   pending_in setting log event (Stops outcome) = None
   pending_in setting log event (Reads path kind onward) = pending_in setting (with_read log path kind) event (onward (read_cell setting path kind))
   pending_in setting log event (Asks at operation onward) =
-      if has_room setting log
+      if allows_event setting log
       then (if is_next log event then Some (Operates at operation)
       else pending_in setting (with_operation setting log at operation) event (onward (number_of setting log operation)))
       else None
   pending_in setting log event (Allocates at path onward) =
-      if has_room setting log
+      if allows_event setting log
       then (if is_next log event then Some (Tries at path)
       else pending_in setting (with_allocation setting log at path) event (onward (is_true (setting.inputs path))))
       else None
   pending_in setting log event (Reaches at object offset act) =
-      if has_room setting log
+      if allows_event setting log
       then (if is_next log event then Some (Accesses at object offset) else pending_in setting (with_access log at object offset) event act)
       else None
   pending_in setting log event (Touches touch act) = pending_in setting (with_touch log touch) event act

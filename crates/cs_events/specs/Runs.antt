@@ -66,8 +66,8 @@ abbrev pub with_touch : Log → Touch → Log
 with_touch log touch = record log { touches = log.touches ++ touch ∷ [] }
 
 -- whether the budget of events lets one more pass
-abbrev pub has_room : Setting → Log → Bool
-has_room setting log = nat_lt (length log.events) setting.budgets.events
+abbrev pub allows_event : Setting → Log → Bool
+allows_event setting log = nat_lt (length log.events) setting.budgets.events
 
 -- the event that an operation is
 abbrev pub operation_event : Setting → Log → Place → Operation → Event
@@ -111,15 +111,15 @@ module _ {State : Type 0} where
   perform setting log (Stops outcome) = Finishes outcome log
   perform setting log (Reads path kind onward) = perform setting (with_read log path kind) (onward (read_cell setting path kind))
   perform setting log (Asks at operation onward) =
-      if has_room setting log
+      if allows_event setting log
       then perform setting (with_operation setting log at operation) (onward (number_of setting log operation))
       else Finishes (Over Events at) log
   perform setting log (Allocates at path onward) =
-      if has_room setting log
+      if allows_event setting log
       then perform setting (with_allocation setting log at path) (onward (is_true (setting.inputs path)))
       else Finishes (Over Events at) log
   perform setting log (Reaches at object offset act) =
-      if has_room setting log
+      if allows_event setting log
       then perform setting (with_access log at object offset) act
       else Finishes (Over Events at) log
   perform setting log (Touches touch act) = perform setting (with_touch log touch) act

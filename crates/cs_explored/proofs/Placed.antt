@@ -102,8 +102,8 @@ cut_more new one before between after adds cuts ends rows = record {
 }
 
 -- one more child was placed
-pub place_next : (row : ℕ) (made : List Child) (child : Child) (before between after : Findings) (new : Row) (room : Bool) → new ≡ child_row row child
-    → room ≡ true → IsPlaced (words_of (live_part new.state.value)) new room between after → Grows between after → KeepsEnds between after
+pub place_next : (row : ℕ) (made : List Child) (child : Child) (before between after : Findings) (new : Row) (added : Bool) → new ≡ child_row row child
+    → added ≡ true → IsPlaced (words_of (live_part new.state.value)) new added between after → Grows between after → KeepsEnds between after
     → IsPlain new.state.value → PlacedSoFar row made before between → PlacedSoFar row (made ++ child ∷ []) before after
 place_next row made child before between after new false is there placed grows rest plain so_far = cc
 place_next row made child before between after new true is there placed grows rest plain so_far = record {
@@ -117,8 +117,8 @@ place_next row made child before between after new true is there placed grows re
 }
 
 -- the next child was refused, since the graph was full
-pub placed_first : (row : ℕ) (made taken : List Child) (child : Child) (before between after : Findings) (new : Row) (room : Bool)
-    → new ≡ child_row row child → room ≡ false → IsPlaced (words_of (live_part new.state.value)) new room between after
+pub placed_first : (row : ℕ) (made taken : List Child) (child : Child) (before between after : Findings) (new : Row) (added : Bool)
+    → new ≡ child_row row child → added ≡ false → IsPlaced (words_of (live_part new.state.value)) new added between after
     → PlacedSoFar row taken before between → map (λ (child : Child). child) taken ≡ take (length taken) made
     → slice_get made (length taken) ≡ Some child → PlacesChildren row made false before after
 placed_first row made taken child before between after new true is full placed so_far are next = cc

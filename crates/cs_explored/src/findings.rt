@@ -51,8 +51,8 @@ impl Findings {
     pub fn add_first(&mut self, alloc: Global, state: Box<State>) -> Result<bool, AllocError>
         requires none { length self.old.graph.rows ≡ 0 }
         ensures grows { OnOk result (Grows self.old self.new) }
-        ensures placed { IfOk result (λ room.
-            IsPlaced (words_of (live_part state.value)) (first_row state) room self.old self.new) }
+        ensures placed { IfOk result (λ added.
+            IsPlaced (words_of (live_part state.value)) (first_row state) added self.old self.new) }
         ensures rest { OnOk result (KeepsEnds self.old self.new) }
         ensures plain { OnOk result (IsPlain state.value) }
     {
@@ -70,8 +70,8 @@ impl Findings {
     /// Adds a row, if no other has its key; false where the graph is full, which is listed as a cut.
     pub fn add(&mut self, alloc: Global, row: Row) -> Result<bool, AllocError>
         requires parent { ComesFromBefore (length self.old.graph.rows) row }
-        ensures placed { IfOk result (λ room.
-            IsPlaced (words_of (live_part row.state.value)) row room self.old self.new) }
+        ensures placed { IfOk result (λ added.
+            IsPlaced (words_of (live_part row.state.value)) row added self.old self.new) }
         ensures grows { OnOk result (Grows self.old self.new) }
         ensures rest { OnOk result (KeepsEnds self.old self.new) }
         ensures plain { OnOk result (IsPlain row.state.value) }
@@ -95,8 +95,8 @@ impl Findings {
     pub fn add_all(&mut self, alloc: Global, row: u32, made: Vec<Child>) -> Result<bool, AllocError>
         requires { row < length self.old.graph.rows }
         ensures grows { OnOk result (Grows self.old self.new) }
-        ensures all { IfOk result (λ room.
-            PlacesChildren row made.items room self.old self.new) }
+        ensures all { IfOk result (λ added.
+            PlacesChildren row made.items added self.old self.new) }
         ensures rest { OnOk result (KeepsEnds self.old self.new) }
     {
         for child in made {

@@ -20,13 +20,13 @@ abbrev pub Literals : Type 0
 Literals = List (List ℕ)
 
 -- the greatest number of a type is at least this
-abbrev pub has_room : DataModel → IntType → ℕ → Bool
-has_room model ty n = int_le (pos n) (greatest_of model ty)
+abbrev pub can_represent : DataModel → IntType → ℕ → Bool
+can_represent model ty n = int_le (pos n) (greatest_of model ty)
 
 -- the first of some types that holds a number
-abbrev pub first_with_room : DataModel → ℕ → IntType → List IntType → IntType
-first_with_room model n last [] = last
-first_with_room model n last (ty ∷ types) = if has_room model ty n then ty else first_with_room model n last types
+abbrev pub first_representing : DataModel → ℕ → IntType → List IntType → IntType
+first_representing model n last [] = last
+first_representing model n last (ty ∷ types) = if can_represent model ty n then ty else first_representing model n last types
 
 -- the types of an integer constant in their order: with `u`, decimal, or neither, by the `l`s of its suffix (C11 6.4.4.1, paragraph 5);
 -- the last one is taken where none before it holds the number
@@ -48,9 +48,9 @@ other_types size.LongLong = int_type.LLong ∷ []
 -- the type of an integer constant
 unfoldable pub constant_type : DataModel → IntegerConstant → IntType
 constant_type model k =
-    if k.unsigned then first_with_room model k.value int_type.ULLong (unsigned_types k.length)
-    else (if k.decimal then first_with_room model k.value int_type.LLong (decimal_types k.length)
-    else first_with_room model k.value int_type.ULLong (other_types k.length))
+    if k.unsigned then first_representing model k.value int_type.ULLong (unsigned_types k.length)
+    else (if k.decimal then first_representing model k.value int_type.LLong (decimal_types k.length)
+    else first_representing model k.value int_type.ULLong (other_types k.length))
 
 -- a name (C11 6.5.1): a function's may only be called
 unfoldable pub named : Place → Option Meaning → Verdict Typed

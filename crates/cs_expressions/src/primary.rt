@@ -5,7 +5,7 @@ ghost use Rattle.cs_types.specs.Shape.{shape_of};
 ghost use Rattle.cs_ast.specs.TypedView.{typed};
 ghost use Rattle.cs_scopes.specs.Verdicts.{Yields};
 ghost use Rattle.cs_scopes.specs.Meanings.{meaning_of};
-ghost use Rattle.cs_expressions.specs.Primary.{has_room, first_with_room, unsigned_types, decimal_types, other_types, constant_type, named, text_at};
+ghost use Rattle.cs_expressions.specs.Primary.{can_represent, first_representing, unsigned_types, decimal_types, other_types, constant_type, named, text_at};
 ghost use Rattle.cs_types.specs.declared.int_type.IntType.TheVariants.{LLong, ULLong};
 
 use crate::nodes::number;
@@ -20,8 +20,8 @@ use std::alloc::{AllocError, Global};
 const LONGEST_TEXT: usize = 65535;
 
 // Whether a type holds a number.
-fn has_room(model: DataModel, ty: IntType, number: u64) -> bool
-    ensures { result ≡ has_room model ty number }
+fn can_represent(model: DataModel, ty: IntType, number: u64) -> bool
+    ensures { result ≡ can_represent model ty number }
 {
     in_range(model, ty, i128::from(number))
 }
@@ -43,36 +43,40 @@ pub fn constant_type(model: DataModel, constant: IntegerConstant) -> IntType
 
 // The type of a constant with `u` in its suffix.
 fn unsigned_type(model: DataModel, number: u64, length: Length) -> IntType
-    ensures { result ≡ first_with_room model number ULLong (unsigned_types length) }
+    ensures { result ≡ first_representing model number ULLong (unsigned_types length) }
 {
     match length {
-        Length::Plain if has_room(model, IntType::UInt, number) => IntType::UInt,
-        Length::Plain | Length::Long if has_room(model, IntType::ULong, number) => IntType::ULong,
+        Length::Plain if can_represent(model, IntType::UInt, number) => IntType::UInt,
+        Length::Plain | Length::Long if can_represent(model, IntType::ULong, number) =>
+            IntType::ULong,
         _ => IntType::ULLong,
     }
 }
 
 // The type of a decimal constant.
 fn decimal_type(model: DataModel, number: u64, length: Length) -> IntType
-    ensures { result ≡ first_with_room model number LLong (decimal_types length) }
+    ensures { result ≡ first_representing model number LLong (decimal_types length) }
 {
     match length {
-        Length::Plain if has_room(model, IntType::Int, number) => IntType::Int,
-        Length::Plain | Length::Long if has_room(model, IntType::Long, number) => IntType::Long,
+        Length::Plain if can_represent(model, IntType::Int, number) => IntType::Int,
+        Length::Plain | Length::Long if can_represent(model, IntType::Long, number) =>
+            IntType::Long,
         _ => IntType::LLong,
     }
 }
 
 // The type of an octal or hexadecimal constant.
 fn other_type(model: DataModel, number: u64, length: Length) -> IntType
-    ensures { result ≡ first_with_room model number ULLong (other_types length) }
+    ensures { result ≡ first_representing model number ULLong (other_types length) }
 {
     match length {
-        Length::Plain if has_room(model, IntType::Int, number) => IntType::Int,
-        Length::Plain if has_room(model, IntType::UInt, number) => IntType::UInt,
-        Length::Plain | Length::Long if has_room(model, IntType::Long, number) => IntType::Long,
-        Length::Plain | Length::Long if has_room(model, IntType::ULong, number) => IntType::ULong,
-        _ if has_room(model, IntType::LLong, number) => IntType::LLong,
+        Length::Plain if can_represent(model, IntType::Int, number) => IntType::Int,
+        Length::Plain if can_represent(model, IntType::UInt, number) => IntType::UInt,
+        Length::Plain | Length::Long if can_represent(model, IntType::Long, number) =>
+            IntType::Long,
+        Length::Plain | Length::Long if can_represent(model, IntType::ULong, number) =>
+            IntType::ULong,
+        _ if can_represent(model, IntType::LLong, number) => IntType::LLong,
         _ => IntType::ULLong,
     }
 }

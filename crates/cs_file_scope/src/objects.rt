@@ -75,7 +75,7 @@ impl Filed {
     }
 
     // Notes that an object may not be stored to, where this declaration says so.
-    fn mark(&mut self, number: u32, constant: bool)
+    fn note_constant(&mut self, number: u32, constant: bool)
         ensures { filed_of self.new
             ≡ with_globals (changed number (made_constant constant) (filed_of self.old).globals)
             (filed_of self.old) }
@@ -177,7 +177,7 @@ impl Filed {
         }
         let ty = object_type(alloc, &self.known.context, base, declared)?;
         let number = self.object_of(alloc, declarator, &ty)?;
-        self.mark(number, is_constant_object(specs, &declarator.pointers));
+        self.note_constant(number, is_constant_object(specs, &declarator.pointers));
         match &declared.initial {
             Some(first) => self.initialize(alloc, number, &ty, first),
             None => Ok(()),

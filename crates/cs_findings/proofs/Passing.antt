@@ -8,7 +8,7 @@ use Rattle.cs_events.specs.Operations.{is_true}
 use Rattle.cs_events.specs.Acts.{Act, Goes, Stops, Reads, Asks, Allocates, Reaches, Touches}
 use Rattle.cs_events.specs.PendingEvents.{Pending, Operates, Tries, Accesses}
 use Rattle.cs_events.specs.Runs.{Setting, Log, Performed, Continues, Finishes, perform, Leads, stays, goes, EndsFrom, empty, Ends, Passes, ComesTo}
-use Rattle.cs_events.specs.Runs.{has_room, with_read, with_touch, with_operation, with_allocation, with_access, number_of, read_cell}
+use Rattle.cs_events.specs.Runs.{allows_event, with_read, with_touch, with_operation, with_allocation, with_access, number_of, read_cell}
 use Rattle.cs_events.specs.Pending.{is_next, pending_in, IsPending}
 use Rattle.cs_events.specs.Growth.{log_of}
 use Rattle.cs_events.proofs.LogGrowth.{act_adds, end_adds}
@@ -126,29 +126,29 @@ module _ {State : Type 0} (step : State → Act State) (setting : Setting) where
 
   module _ (event : ℕ) where
     -- the budget of events lets the event pass at which something is pending
-    room_at : (log : Log) (here pending : Pending) (rest : Option Pending) (room next : Bool) → has_room setting log ≡ room → is_next log event ≡ next
+    room_at : (log : Log) (here pending : Pending) (rest : Option Pending) (room next : Bool) → allows_event setting log ≡ room → is_next log event ≡ next
         → (rest ≡ Some pending → event ≤ setting.budgets.events) → (if room then (if next then Some here else rest) else None) ≡ Some pending
         → event ≤ setting.budgets.events
     room_at log here pending rest true true r n following h = grind (arith, nat_tests)
     room_at log here pending rest true false r n following h = following h
     room_at log here pending rest false next r n following h = cc
 
-    has_room_there : (log : Log) (act : Act State) (pending : Pending) → pending_in setting log event act ≡ Some pending
+    allows_event_there : (log : Log) (act : Act State) (pending : Pending) → pending_in setting log event act ≡ Some pending
         → event ≤ setting.budgets.events
     unfolding pending_in
-    has_room_there log (Goes next) pending h = cc
-    has_room_there log (Stops outcome) pending h = cc
-    has_room_there log (Reads path kind onward) pending h = has_room_there (with_read log path kind) (onward (read_cell setting path kind)) pending h
-    has_room_there log (Asks at operation onward) pending h =
-        room_at log (Operates at operation) pending _ (has_room setting log) (is_next log event) refl refl
-        (has_room_there (with_operation setting log at operation) (onward (number_of setting log operation)) pending) h
-    has_room_there log (Allocates at path onward) pending h =
-        room_at log (Tries at path) pending _ (has_room setting log) (is_next log event) refl refl
-        (has_room_there (with_allocation setting log at path) (onward (is_true (setting.inputs path))) pending) h
-    has_room_there log (Reaches at object offset act) pending h =
-        room_at log (Accesses at object offset) pending _ (has_room setting log) (is_next log event) refl refl
-        (has_room_there (with_access log at object offset) act pending) h
-    has_room_there log (Touches touch act) pending h = has_room_there (with_touch log touch) act pending h
+    allows_event_there log (Goes next) pending h = cc
+    allows_event_there log (Stops outcome) pending h = cc
+    allows_event_there log (Reads path kind onward) pending h = allows_event_there (with_read log path kind) (onward (read_cell setting path kind)) pending h
+    allows_event_there log (Asks at operation onward) pending h =
+        room_at log (Operates at operation) pending _ (allows_event setting log) (is_next log event) refl refl
+        (allows_event_there (with_operation setting log at operation) (onward (number_of setting log operation)) pending) h
+    allows_event_there log (Allocates at path onward) pending h =
+        room_at log (Tries at path) pending _ (allows_event setting log) (is_next log event) refl refl
+        (allows_event_there (with_allocation setting log at path) (onward (is_true (setting.inputs path))) pending) h
+    allows_event_there log (Reaches at object offset act) pending h =
+        room_at log (Accesses at object offset) pending _ (allows_event setting log) (is_next log event) refl refl
+        (allows_event_there (with_access log at object offset) act pending) h
+    allows_event_there log (Touches touch act) pending h = allows_event_there (with_touch log touch) act pending h
 
   pub pends_in_budget : {start : State} {event : ℕ} {pending : Pending} → IsPending step setting start event pending → event ≤ setting.budgets.events
-  pends_in_budget {event = event} {pending = pending} one = has_room_there event one.before (step one.last) pending one.pends
+  pends_in_budget {event = event} {pending = pending} one = allows_event_there event one.before (step one.last) pending one.pends

@@ -1,7 +1,6 @@
 //! New frames (C11 6.2.4, 6.9.1).
 ghost use Rattle.std.specs.Prelude.{◌≡◌, ℕ, IfOk, map, option_map, option_copied, replicate, slice_get};
-ghost use Rattle.cs_types.specs.Layout.{IsLaidOut};
-ghost use Rattle.cs_ast.specs.TypedProgram.{typed_program, routine, variable};
+ghost use Rattle.cs_ast.specs.TypedProgram.{HasLayouts, typed_program, routine, variable};
 ghost use Rattle.cs_meaning.specs.Calls as calls;
 ghost use Rattle.cs_meaning.specs.Machine as machine;
 ghost use Rattle.cs_values.specs.View.{operand_of};
@@ -99,7 +98,7 @@ pub fn local_blocks<'a>(
     locals: &'a [Local],
     arguments: &[Operand],
 ) -> Result<Vec<Block<'a>>, AllocError>
-    requires { IsLaidOut program.now.model program.now.table.list }
+    requires { HasLayouts program.now }
     ensures { IfOk result (λ made.
         (n : ℕ) → block_at made.items n
         ≡ option_map (calls.local_block (typed_program program.now)
@@ -121,7 +120,7 @@ fn local_block<'a>(
     local: &'a Local,
     argument: Option<&Operand>,
 ) -> Result<Block<'a>, AllocError>
-    requires { IsLaidOut program.now.model program.now.table.list }
+    requires { HasLayouts program.now }
     ensures { IfOk result (λ made.
         block_of made ≡ calls.local_block (typed_program program.now)
         (option_map operand_of (option_copied argument.entry)) (variable local.now)) }

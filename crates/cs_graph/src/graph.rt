@@ -4,7 +4,7 @@ ghost use Rattle.cs_graph.specs.Waiting.{IsGiven};
 ghost use Rattle.cs_graph.specs.Adding.{empty, with_work, IsUnseen, IsNew, IsAdded, IsRefused};
 
 use crate::adding::{Added, GraphRefusal};
-use crate::placing::{make_room, number_of, put};
+use crate::placing::{number_of, put, reserve};
 use crate::worklist::Worklist;
 use indexmap::IndexMap;
 use std::alloc::{AllocError, Global};
@@ -71,7 +71,7 @@ impl<K: Eq + Hash, R> Graph<K, R> {
         K: Drop,
         R: Drop,
         requires { IsUnseen K.eq key self.old.keys }
-        ensures room { OnOk result (length self.old.rows < self.old.nodes) }
+        ensures below_limit { OnOk result (length self.old.rows < self.old.nodes) }
         ensures new { IfOk result (λ number.
             IsNew key visits row number self.old self.new) }
         ensures refused { IfErr result (λ refusal.
@@ -81,7 +81,7 @@ impl<K: Eq + Hash, R> Graph<K, R> {
         if number as u64 == self.nodes {
             return Err(GraphRefusal::Full);
         }
-        make_room(&mut self.keys, &mut self.rows)?;
+        reserve(&mut self.keys, &mut self.rows)?;
         self.work.add(visits, number)?;
         put(&mut self.keys, &mut self.rows, key, number, row);
         Ok(number)

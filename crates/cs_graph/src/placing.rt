@@ -17,13 +17,13 @@ pub(crate) fn number_of<K: Eq + Hash>(keys: &IndexMap<K, u32>, key: &K) -> Optio
 }
 
 // Reserves capacity for one more of both.
-pub(crate) fn make_room<K: Eq + Hash, R>(
+pub(crate) fn reserve<K: Eq + Hash, R>(
     keys: &mut IndexMap<K, u32>,
     rows: &mut Vec<R>,
 ) -> Result<(), AllocError>
     ensures keys { keys.new.entries ≡ keys.old.entries }
     ensures rows { rows.new.items ≡ rows.old.items }
-    ensures room { OnOk result (0 < spare keys.new) }
+    ensures has_spare { OnOk result (0 < spare keys.new) }
     ensures place { OnOk result (vec_len rows.new < vec_capacity rows.new) }
 {
     let more = if rows.is_empty() { FIRST } else { 1 };
@@ -40,7 +40,7 @@ pub(crate) fn put<K: Eq + Hash + Drop, R: Drop>(
     row: R,
 )
     requires new { get K.eq keys.old key ≡ None }
-    requires room { 0 < spare keys.old }
+    requires has_spare { 0 < spare keys.old }
     requires place { vec_len rows.old < vec_capacity rows.old }
     ensures keys { keys.new.entries ≡ keys.old.entries ++ (key, number) ∷ [] }
     ensures rows { rows.new.items ≡ rows.old.items ++ row ∷ [] }

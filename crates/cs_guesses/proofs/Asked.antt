@@ -120,7 +120,7 @@ module _ (code : Code) (program : TypedProgram) (entry : ℕ) (budgets : RunBudg
         let asks = made.noted.comes setting v left log goes here fitted in
         let onward = shown_passes_on (step_of code program entry budgets) setting {one = asks.one} asks.shows refl in
         let same = one_alone (step_of code program entry budgets) setting {left = onward.rest} {log = onward.end} {other = asks.one} leaves onward.leaves in
-        record { pends = ap (λ (s : Step). s.pending) same.0 ∙ asks.pends ∙ pends_same v fitted; told = made.noted.noted.told v fitted }
+        record { pends = ap (λ (s : Step). s.pending) same.0 ∙ asks.pends ∙ pends_same v fitted; determines = made.noted.noted.determines v fitted }
 
     comes_own : (inputs : Path → ℤ) (guesses : List Guess) (steps : List Step) (one : Step) (left : Act CodeState) (log : Log)
         → ListsOwn state made.before (λ earlier. earlier < asked.event) guesses
@@ -187,7 +187,7 @@ module _ (code : Code) (program : TypedProgram) (entry : ℕ) (budgets : RunBudg
           made.leads in
           let row_is : made.row ≡ row = same_Some made.row row (sym made.there ∙ ap (slice_get rows) (sym same) ∙ there) in
           subst (λ (r : Row). Fits w r.state.value.constraints) row_is (made.noted.within w (moved_in v w fits moved));
-      moved = λ v w fits moved. (comes_moved model v w fits moved, made.noted.noted.told w (moved_in v w fits moved));
+      moved = λ v w fits moved. (comes_moved model v w fits moved, made.noted.noted.determines w (moved_in v w fits moved));
       own = comes_own;
       has_ranges = (sets, ranges);
       inexact = is_inexact;

@@ -56,7 +56,8 @@ same_both left right v w agree =
     λ i. (first i, second i)
 
 -- and the operands of a question on what it mentions
-same_operands : (meant : Question) (v w : Valuation) → ((s : Sym) → Mentions meant s → w s.0 ≡ v s.0) → operands_under meant w ≡ operands_under meant v
+same_operands : (meant : Question) (v w : Valuation) → ((s : Sym) → Mentions meant s → w s.0 ≡ v s.0)
+    → operands_under meant w ≡ operands_under meant v
 same_operands (question.Binary op ty left right) v w agree = same_both left right v w agree
 same_operands (question.Unary op ty term) v w agree = let value = same_value term v w agree in λ i. (value i, pos 0)
 same_operands (question.Convert ty term) v w agree = let value = same_value term v w agree in λ i. (value i, pos 0)
@@ -102,7 +103,8 @@ module _ (names : Naming) (asked : Asked) where
     others = λ other l r. at.others other (λ of. elim of.0 [ inl a ↦ l a | inr b ↦ r b ]);
   }
     where
-      own_or_end : (symbol : Option Sym) (ends : Interval) → ((s : Sym) → symbol ≡ Some s → AreOf asked.left asked.right s) → HasEnd names symbol ends w
+      own_or_end : (symbol : Option Sym) (ends : Interval) → ((s : Sym) → symbol ≡ Some s → AreOf asked.left asked.right s)
+          → HasEnd names symbol ends w
           → HasOwnOrEnd symbol ends v w
       own_or_end symbol ends of has s is = elim (has_name s) [
         | inl name ↦ inr (has s is name)

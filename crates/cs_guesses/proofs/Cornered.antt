@@ -47,7 +47,8 @@ use Rattle.cs_guesses.proofs.Origins.{IsMadeAt, made_along}
 use Rattle.cs_guesses.proofs.Sizes.{computable, small}
 
 -- lists that agree up to as many elements and one more
-split_alike : {A : Type 0} (xs ys : List A) (x y : A) (us ws : List A) → length xs ≡ length ys → xs ++ x ∷ us ≡ ys ++ y ∷ ws → (xs ≡ ys) × (x ≡ y)
+split_alike : {A : Type 0} (xs ys : List A) (x y : A) (us ws : List A) → length xs ≡ length ys → xs ++ x ∷ us ≡ ys ++ y ∷ ws
+    → (xs ≡ ys) × (x ≡ y)
 split_alike [] [] x y us ws count same = let first : x ≡ y = cc in (refl, first)
 split_alike [] (b ∷ ys) x y us ws count same = cc
 split_alike (a ∷ xs) [] x y us ws count same = cc

@@ -184,10 +184,12 @@ module _ (code : Code) (program : TypedProgram) (entry : ℕ) (budgets : RunBudg
     tells_left : (asks : Question) (u w : Valuation) → operation_of u asks ≡ operation_of w asks → (operands_under asks u).0 ≡ (operands_under asks w).0
     tells_left asks u w same = ap (λ (o : Operation). (operands o).0) same
 
-    tells_right : (asks : Question) (u w : Valuation) → operation_of u asks ≡ operation_of w asks → (operands_under asks u).1 ≡ (operands_under asks w).1
+    tells_right : (asks : Question) (u w : Valuation) → operation_of u asks ≡ operation_of w asks
+        → (operands_under asks u).1 ≡ (operands_under asks w).1
     tells_right asks u w same = ap (λ (o : Operation). (operands o).1) same
 
-    by_question : (asks : Question) → meant ≡ asks → HasReadyOperands sets asks → ¬ IsFollowed program.model sets asks v → (s : Sym) → Mentions asks s
+    by_question : (asks : Question) → meant ≡ asks → HasReadyOperands sets asks → ¬ IsFollowed program.model sets asks v
+        → (s : Sym) → Mentions asks s
         → IsNamed names s
     by_question (question.Binary op ty left right) same are not s (inl over) =
         of_operand (question.Binary op ty left right) same left are.0 (tells_left (question.Binary op ty left right)) s over

@@ -1,5 +1,6 @@
 -- Where each guess of a row's state was made: at a child of a row on the way, whose runs come to the question. For `IsAskedAlong` and for real guesses.
-use Rattle.std.proofs.Common.{◌≡◌, ◌⊎◌, ◌<◌, ◌≤◌, inl, inr, ℕ, suc, List, [], ◌∷◌, ◌++◌, length, map, Option, None, Some, slice_get, refl}
+use Rattle.std.proofs.Common.{◌≡◌, ◌⊎◌, ◌<◌, ◌≤◌, inl, inr, ℕ, suc, List, [], ◌∷◌, ◌++◌, length, map, Option, None, Some}
+use Rattle.std.proofs.Common.{slice_get, refl}
 use Rattle.std.proofs.Common.{sym, ap, ◌∙◌, subst, arith}
 use Rattle.std.specs.Prelude.{Contains}
 use Rattle.std.specs.FinMap as finite
@@ -178,7 +179,8 @@ module _ (code : Code) (program : TypedProgram) (entry : ℕ) (budgets : RunBudg
       | inr own ↦ let late = own.1 in absurd (omega (arith, late, below))
     ]
 
-    same_lists : (v : Valuation) (at : ℕ) → at ≤ parent.counters.events → guess_at (guesses_of v state.asked) at ≡ guess_at (guesses_of v parent.asked) at
+    same_lists : (v : Valuation) (at : ℕ) → at ≤ parent.counters.events
+        → guess_at (guesses_of v state.asked) at ≡ guess_at (guesses_of v parent.asked) at
     same_lists v at below =
         listed_before state.counters.events v parent.counters.events is.number of.child.guess parent.asked state.asked is.asked numbers at below
 
@@ -196,7 +198,8 @@ module _ (code : Code) (program : TypedProgram) (entry : ℕ) (budgets : RunBudg
           leads = made.leads;
           child = made.child;
           more = made.more ++ of.child.event ∷ [];
-          along = ap (λ (l : List Event). l ++ of.child.event ∷ []) made.along ∙ append_assoc made.before (made.child.event ∷ made.more) (of.child.event ∷ []);
+          along = ap (λ (l : List Event). l ++ of.child.event ∷ []) made.along
+              ∙ append_assoc made.before (made.child.event ∷ made.more) (of.child.event ∷ []);
           event = made.event;
           named = made.named;
           noted = made.noted;

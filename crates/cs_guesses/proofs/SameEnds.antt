@@ -283,7 +283,8 @@ module _ (sets others : Sets) (inhabited : AreInhabited sets) (there_inhabited :
       ap2 e f = λ i. sym e i -ℤ sym f i
 
       of_symbol : (symbol : Option Sym) (ends : Interval) → IsRangeOf sets symbol ends → IsRangeOf others symbol ends
-          → (s : Sym) → symbol ≡ Some s → (set : List Interval) (number : ℤ) → set_of others s.0 ≡ Some set → IsOnly set number → v s.0 ≡ number
+          → (s : Sym) → symbol ≡ Some s → (set : List Interval) (number : ℤ) → set_of others s.0 ≡ Some set → IsOnly set number
+          → v s.0 ≡ number
       of_symbol symbol ends here there s over set number known only =
           fits s.0 (here s over).0 number (here s over).1 (only_here sets others symbol ends here there s over set number known only)
 

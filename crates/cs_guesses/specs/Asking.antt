@@ -25,7 +25,7 @@ use Rattle.cs_state.specs.declared.state.State.{State}
 use Rattle.cs_state.specs.Naming.{Naming}
 use Rattle.cs_state.specs.Meaning.{setting_of}
 use Rattle.cs_eval.specs.declared.question.Question.{Question}
-use Rattle.cs_eval.specs.Noted.{IsQuestionOf, HasFact, TellsResult, HasNoEnds}
+use Rattle.cs_eval.specs.Noted.{IsQuestionOf, HasFact, DeterminesResult, HasNoEnds}
 use Rattle.cs_eval.specs.Questions.{operation_of}
 use Rattle.cs_explored.specs.declared.explored.Row.{Row}
 use Rattle.cs_results.specs.declared.run.Others.{Others}
@@ -75,7 +75,7 @@ pending_for event meant v = Operates event.place (operation_of v meant)
 -- this is pending at a step, and the fact is about its own result
 pub record IsStepOf (model : DataModel) (asked : Asked) (meant : Question) (event : Event) (one : Step) (v : Valuation) : Type 0 where
   pub pends : one.pending ≡ pending_for event meant v
-  pub told : TellsResult model asked.fact meant v
+  pub determines : DeterminesResult model asked.fact meant v
 
 -- valuations that fit a state, also with ends for the numbers of the operands' symbols, fit the row to which the events before the guess lead
 abbrev pub FitEarlier : List Row → State → Asked → List Event → Type 0
@@ -88,7 +88,7 @@ module _ (code : Code) (program : TypedProgram) (entry : ℕ) (budgets : RunBudg
   abbrev pub ComeMoved : State → Asked → Question → List Event → Event → Type 0
   ComeMoved state asked meant before event = (v w : Valuation) → Fits v state.constraints → IsMoved asked v w
       → PassesTo code program entry budgets (before_event asked.event (setting_of names budgets state w)) before (pending_for event meant w)
-      × TellsResult program.model asked.fact meant w
+      × DeterminesResult program.model asked.fact meant w
 
   -- so does each run that passes these events and one more, if it lists no guess, or below that event just the truths that the state has guessed there;
   -- with the numbers that this run gives symbols

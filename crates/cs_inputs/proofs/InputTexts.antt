@@ -91,46 +91,47 @@ round_trip text r h path number has within is =
     accepts text r h path number (record { spelling = signed_decimal number; has_text = has; is = is; spells = spelled number within; within = within })
 
 -- ---- what `parse` answers is right
-cut_is : (text before following number : List ℕ) (mark : ℕ) → SplitsBefore 61 text before following → following ≡ mark ∷ number
+cut_is : (text before following number : List ℕ) (separator : ℕ) → SplitsBefore 61 text before following → following ≡ separator ∷ number
     → IsCutAtFirst text before number
-cut_is text before [] number mark cut is = absurd (no_tail mark number (sym is))
-cut_is text before (b ∷ bs) number mark cut is =
+cut_is text before [] number separator cut is = absurd (no_tail separator number (sym is))
+cut_is text before (b ∷ bs) number separator cut is =
     let rest : b ∷ bs ≡ 61 ∷ number = ap (λ m. m ∷ bs) cut.at ∙ ap (λ (t : List ℕ). 61 ∷ t) (ap (drop 1) is) in
     record { whole = cut.whole ∙ ap (λ t. before ++ t) rest ∙ sym (append_assoc before (codes "=") number); first = cut.none }
 
-pub path_refused : (text before following number : List ℕ) (mark : ℕ) → SplitsBefore 61 text before following → following ≡ mark ∷ number
+pub path_refused : (text before following number : List ℕ) (separator : ℕ) → SplitsBefore 61 text before following → following ≡ separator ∷ number
     → (refusal : PathRefusal) (r : Result (Path × ℤ) PathRefusal) → Reads {X = Path} (IsTextOf before) (Err refusal) → IsErrAnd r (λ e. e ≡ refusal)
     → IsRight text r
-path_refused text before following number mark cut is refusal (Ok input) h e = absurd e
-path_refused text before following number mark cut is BadPath (Err r) h e = subst (λ (t : PathRefusal). IsRight text (Err t)) (sym e) (inl none)
+path_refused text before following number separator cut is refusal (Ok input) h e = absurd e
+path_refused text before following number separator cut is BadPath (Err r) h e = subst (λ (t : PathRefusal). IsRight text (Err t)) (sym e) (inl none)
   where
     none : (path : Path) (others : List ℕ) → NamesPath text path others → ⊥
     none path others names =
         h path (subst (λ (t : List ℕ). IsTextOf t path)
         (same_cut 61 text names.before before (61 ∷ others) following (as_split text names.before others names.cut) cut).0 names.names)
-path_refused text before following number mark cut is BadNumber (Err r) h e = absurd h
-path_refused text before following number mark cut is TooWide (Err r) h e = absurd h
-path_refused text before following number mark cut is Memory (Err r) h e = inr e
+path_refused text before following number separator cut is BadNumber (Err r) h e = absurd h
+path_refused text before following number separator cut is TooWide (Err r) h e = absurd h
+path_refused text before following number separator cut is Memory (Err r) h e = inr e
 
-pub number_refused : (text before following number : List ℕ) (mark : ℕ) → SplitsBefore 61 text before following → following ≡ mark ∷ number
+pub number_refused : (text before following number : List ℕ) (separator : ℕ) → SplitsBefore 61 text before following
+    → following ≡ separator ∷ number
     → (path : Path) → IsTextOf before path → (refusal : PathRefusal) (r : Result (Path × ℤ) PathRefusal) → IsNumberRead number (Err refusal)
     → IsErrAnd r (λ e. e ≡ refusal) → IsRight text r
-number_refused text before following number mark cut is path t refusal (Ok input) h e = absurd e
-number_refused text before following number mark cut is path t BadPath (Err r) h e = absurd h
-number_refused text before following number mark cut is path t BadNumber (Err r) h e =
+number_refused text before following number separator cut is path t refusal (Ok input) h e = absurd e
+number_refused text before following number separator cut is path t BadPath (Err r) h e = absurd h
+number_refused text before following number separator cut is path t BadNumber (Err r) h e =
     subst (λ (t : PathRefusal). IsRight text (Err t)) (sym e)
-    (inl (path, number, record { before = before; cut = cut_is text before following number mark cut is; names = t }, h))
-number_refused text before following number mark cut is path t TooWide (Err r) h e =
+    (inl (path, number, record { before = before; cut = cut_is text before following number separator cut is; names = t }, h))
+number_refused text before following number separator cut is path t TooWide (Err r) h e =
     subst (λ (t : PathRefusal). IsRight text (Err t)) (sym e)
-    (inl (path, number, h.0, record { before = before; cut = cut_is text before following number mark cut is; names = t }, h.1, h.2))
-number_refused text before following number mark cut is path t Memory (Err r) h e = absurd h
+    (inl (path, number, h.0, record { before = before; cut = cut_is text before following number separator cut is; names = t }, h.1, h.2))
+number_refused text before following number separator cut is path t Memory (Err r) h e = absurd h
 
-pub input_is : (text before following number : List ℕ) (mark : ℕ) → SplitsBefore 61 text before following → following ≡ mark ∷ number
+pub input_is : (text before following number : List ℕ) (separator : ℕ) → SplitsBefore 61 text before following → following ≡ separator ∷ number
     → (path : Path) → IsTextOf before path → (n : ℤ) → SpellsNumber number n × IsInputNumber n → SpellsInput text path n
-input_is text before following number mark cut is path t n h = record {
+input_is text before following number separator cut is path t n h = record {
   spelling = number;
   has_text = t.has_text;
-  is = (cut_is text before following number mark cut is).whole ∙ ap (λ b. b ++ codes "=" ++ number) (sym t.is);
+  is = (cut_is text before following number separator cut is).whole ∙ ap (λ b. b ++ codes "=" ++ number) (sym t.is);
   spells = h.0;
   within = h.1;
 }

@@ -90,13 +90,14 @@ no_call numbers first following cut none root r = either (following_call numbers
     either (inr (k, a, wrote)) = none k ((cut_at_call numbers first following k wrote.counts.fits (46 ∷ decimal a) refl wrote.text cut).0, wrote.counts)
 
 -- without an argument's number after the `.` there is no root
-pub no_argument : (numbers first following argument : List ℕ) (mark : ℕ) → SplitsBefore 46 numbers first following → following ≡ mark ∷ argument
+pub no_argument : (numbers first following argument : List ℕ) (separator : ℕ) → SplitsBefore 46 numbers first following
+    → following ≡ separator ∷ argument
     → ((a : ℕ) → IsDecimalOf argument a × (a ≤ 400000) → ⊥) → (root : Root) → IsRootOf (codes "call#" ++ numbers) root → ⊥
-no_argument numbers first following argument mark cut is none root r = either (following_call numbers root r)
+no_argument numbers first following argument separator cut is none root r = either (following_call numbers root r)
   where
     either : ((k : ℕ) × IsCallWith numbers root k) ⊎ ((k : ℕ) × (a : ℕ) × IsWroteWith numbers root k a) → ⊥
     either (inl (k, call)) =
-        no_tail mark argument (sym is ∙ (cut_at_call numbers first following k call.counts.fits [] tt (append-nil (decimal k) ∙ call.text) cut).1)
+        no_tail separator argument (sym is ∙ (cut_at_call numbers first following k call.counts.fits [] tt (append-nil (decimal k) ∙ call.text) cut).1)
     either (inr (k, a, wrote)) =
         let rest : following ≡ 46 ∷ decimal a = (cut_at_call numbers first following k wrote.counts.fits (46 ∷ decimal a) refl wrote.text cut).1 in
         let text : decimal a ≡ argument = ap (drop 1) (sym rest ∙ is) in

@@ -12,14 +12,14 @@ use Rattle.cs_inputs.specs.InputText.{AreDigits, SpellsNumber, IsInputNumber}
 
 -- a text is empty or begins with the separator
 abbrev pub IsEmptyOrAt : ℕ → List ℕ → Type 0
-IsEmptyOrAt mark [] = Unit {0}
-IsEmptyOrAt mark (b ∷ bs) = b ≡ mark
+IsEmptyOrAt separator [] = Unit {0}
+IsEmptyOrAt separator (b ∷ bs) = b ≡ separator
 
 -- a text in two, before its first separator; the second part is empty where there is none
-pub record SplitsBefore (mark : ℕ) (text before following : List ℕ) : Type 0 where
+pub record SplitsBefore (separator : ℕ) (text before following : List ℕ) : Type 0 where
   pub whole : text ≡ before ++ following
-  pub none : IsTrue (list_all (λ b. not (b == mark)) before)
-  pub at : IsEmptyOrAt mark following
+  pub none : IsTrue (list_all (λ b. not (b == separator)) before)
+  pub at : IsEmptyOrAt separator following
 
 -- a thing of the kind is found, or there is none
 abbrev pub Finds : {X : Type 0} → (X → Type 0) → Option X → Type 0

@@ -17,4 +17,5 @@ pub use input_text::parse;
 pub use inputs::Inputs;
 pub use path::{Path, Root};
 pub use refusal::PathRefusal;
+pub use split::split_before;
 pub use text::print;

@@ -4,15 +4,15 @@ ghost use Rattle.std.specs.List.{position_or_len};
 ghost use Rattle.cs_inputs.specs.Reading.{SplitsBefore};
 
 /// What comes before the first separator, and the rest from it on; all and nothing where there is none.
-pub fn split_before(text: &[u8], mark: u8) -> (&[u8], &[u8])
-    ensures { SplitsBefore mark text.now result.0.now result.1.now }
+pub fn split_before(text: &[u8], separator: u8) -> (&[u8], &[u8])
+    ensures { SplitsBefore separator text.now result.0.now result.1.now }
 {
-    text.split_at(length_before(text, mark))
+    text.split_at(length_before(text, separator))
 }
 
 // How many bytes come before the first separator.
-fn length_before(text: &[u8], mark: u8) -> usize
-    ensures { result ≡ position_or_len (λ b. b == mark) text.now }
+fn length_before(text: &[u8], separator: u8) -> usize
+    ensures { result ≡ position_or_len (λ b. b == separator) text.now }
 {
-    text.iter().take_while(|byte| **byte != mark).count()
+    text.iter().take_while(|byte| **byte != separator).count()
 }

@@ -4,5 +4,5 @@ use Rattle.std.specs.Prelude.{ℕ, List}
 -- the bytes written, how many it can hold in all, and the count of empty takes
 pub record SureSinkState : Type 0 where
   pub written : List ℕ
-  pub room : ℕ
+  pub capacity : ℕ
   pub empty_takes : ℕ

@@ -26,7 +26,7 @@ impl Model for MemSink {
 
     ghost view = { λ s. record {
       written = s.inner.written;
-      room = s.inner.room;
+      capacity = s.inner.capacity;
       most = s.most;
       empty_takes = s.inner.empty_takes;
       plan = s.plan;
@@ -36,20 +36,25 @@ impl Model for MemSink {
 }
 
 impl MemSink {
-    /// Reserves the memory for `room` bytes. No later call takes any. The calls whose number from 1 is in
+    /// Reserves the memory for `capacity` bytes. No later call takes any. The calls whose number from 1 is in
     /// `fails` fail.
-    pub fn new(alloc: Global, room: usize, most: usize, fails: Vec<u64>) -> Result<Self, AllocError>
+    pub fn new(
+        alloc: Global,
+        capacity: usize,
+        most: usize,
+        fails: Vec<u64>,
+    ) -> Result<Self, AllocError>
         requires { 0 < most }
         ensures { IfOk result (λ sink. sink ≡ record {
           written = [];
-          room = room;
+          capacity = capacity;
           most = most;
           empty_takes = 0;
           plan = record { fails = fails.items; calls = 0; faults = 0 };
         }) }
     {
         Ok(MemSink {
-            inner: SureSink::new(alloc, room)?,
+            inner: SureSink::new(alloc, capacity)?,
             most,
             plan: FaultPlan::new(fails),
         })
@@ -75,9 +80,9 @@ impl Sink for MemSink {
         ensures listed { IsErr result ↔ FailsNext self.old.plan }
         ensures takes { IfOk result (λ k.
             k ≡ min (min (length piece.now) self.old.most)
-            (self.old.room - length self.old.written)) }
+            (self.old.capacity - length self.old.written)) }
         ensures full { IfOk result (λ k.
-            (k ≡ 0) ↔ (length self.old.written ≡ self.old.room)) }
+            (k ≡ 0) ↔ (length self.old.written ≡ self.old.capacity)) }
         ensures ok { IfOk result (λ k. self.new ≡ record self.old {
           written = self.old.written ++ take k piece.now;
           empty_takes = empty_takes_after k self.old.empty_takes;

@@ -10,7 +10,7 @@ use std::marker::Model;
 #[derive(Drop)]
 pub struct SureSink {
     bytes: Vec<u8>,
-    room: usize,
+    capacity: usize,
     empty_takes: u64,
 }
 
@@ -20,20 +20,20 @@ impl Model for SureSink {
 
     ghost Value = { SureSinkState };
 
-    ghost view = { λ s. record { written = s.bytes.items; room = s.room; empty_takes = s.empty_takes } };
+    ghost view = { λ s. record { written = s.bytes.items; capacity = s.capacity; empty_takes = s.empty_takes } };
 
-    ghost invariant = { λ s. (vec_len s.bytes ≤ s.room) × (s.room ≤ vec_capacity s.bytes) × (s.empty_takes < 2 ^ 64) };
+    ghost invariant = { λ s. (vec_len s.bytes ≤ s.capacity) × (s.capacity ≤ vec_capacity s.bytes) × (s.empty_takes < 2 ^ 64) };
 }
 
 impl SureSink {
-    /// Reserves the memory for `room` bytes. No later call takes any.
-    pub fn new(alloc: Global, room: usize) -> Result<Self, AllocError>
+    /// Reserves the memory for `capacity` bytes. No later call takes any.
+    pub fn new(alloc: Global, capacity: usize) -> Result<Self, AllocError>
         ensures { IfOk result (λ sink.
-            sink ≡ record { written = []; room = room; empty_takes = 0 }) }
+            sink ≡ record { written = []; capacity = capacity; empty_takes = 0 }) }
     {
         Ok(SureSink {
-            bytes: Vec::with_capacity(alloc, room)?,
-            room,
+            bytes: Vec::with_capacity(alloc, capacity)?,
+            capacity,
             empty_takes: 0,
         })
     }
@@ -56,15 +56,15 @@ impl Sink for SureSink {
     fn write(&mut self, piece: &[u8]) -> Result<usize, Failed>
         requires nonempty { 0 < length piece.now }
         ensures takes { result
-            ≡ Ok (min (length piece.now) (self.old.room - length self.old.written)) }
-        ensures full { (result ≡ Ok 0) ↔ (length self.old.written ≡ self.old.room) }
+            ≡ Ok (min (length piece.now) (self.old.capacity - length self.old.written)) }
+        ensures full { (result ≡ Ok 0) ↔ (length self.old.written ≡ self.old.capacity) }
         ensures ok { IfOk result (λ k. self.new ≡ record self.old {
           written = self.old.written ++ take k piece.now;
           empty_takes = empty_takes_after k self.old.empty_takes;
         }) }
         ensures empty_takes { CountsUp self.old.empty_takes self.new.empty_takes }
     {
-        let count = piece.len().min(self.room - self.bytes.len());
+        let count = piece.len().min(self.capacity - self.bytes.len());
         self.bytes.extend_from_slice(&piece[..count]).unwrap();
         if count == 0 {
             self.empty_takes = self.empty_takes.saturating_add(1);

@@ -1,6 +1,6 @@
 //! The lowering of expressions (C11 6.5).
 ghost use Rattle.std.specs.Prelude.{◌≡◌, ◌+◌, IfOk};
-ghost use Rattle.cs_types.specs.Layout.{IsLaidOut};
+ghost use Rattle.cs_ast.specs.TypedProgram.{HasLayouts};
 ghost use Rattle.cs_ast.specs.TypedTree.{And, Or, Choice, Comma};
 ghost use Rattle.cs_ast.specs.TypedView.{typed, typed_list};
 ghost use Rattle.cs_lower.specs.Building.{point_of, built_of};
@@ -31,7 +31,7 @@ impl Lowering<'_> {
         number: u32,
         following: Strip,
     ) -> Result<Strip, AllocError>
-        requires { IsLaidOut self.now.program.now.model self.now.program.now.table.list }
+        requires { HasLayouts self.now.program.now }
         ensures { IfOk result (λ made.
             Builds self.now graph.old graph.new (evaluated (typed e.now) number) made following) }
     {
@@ -75,7 +75,7 @@ impl Lowering<'_> {
         number: u32,
         following: Strip,
     ) -> Result<Strip, AllocError>
-        requires { IsLaidOut self.now.program.now.model self.now.program.now.table.list }
+        requires { HasLayouts self.now.program.now }
         ensures { IfOk result (λ made.
             Builds self.now graph.old graph.new (used_one (typed e.now) number) made following) }
     {
@@ -93,7 +93,7 @@ impl Lowering<'_> {
         number: u32,
         following: Strip,
     ) -> Result<u32, AllocError>
-        requires { IsLaidOut self.now.program.now.model self.now.program.now.table.list }
+        requires { HasLayouts self.now.program.now }
         ensures { IfOk result (λ made.
             UsesIn (program_of self.now) (typed e.now) number (built_of graph.old)
             (built_of graph.new) made (point_of following)) }
@@ -113,7 +113,7 @@ impl Lowering<'_> {
         number: u32,
         following: Strip,
     ) -> Result<Strip, AllocError>
-        requires { IsLaidOut self.now.program.now.model self.now.program.now.table.list }
+        requires { HasLayouts self.now.program.now }
         ensures { IfOk result (λ made.
             Builds self.now graph.old graph.new
             (used_both (typed first.now) (typed second.now) number) made following) }
@@ -134,7 +134,7 @@ impl Lowering<'_> {
         number: u32,
         following: Strip,
     ) -> Result<Strip, AllocError>
-        requires { IsLaidOut self.now.program.now.model self.now.program.now.table.list }
+        requires { HasLayouts self.now.program.now }
         ensures { IfOk result (λ made.
             Builds self.now graph.old graph.new
             (used_both (earlier order (typed pointer.now) (typed amount.now))
@@ -159,7 +159,7 @@ impl Lowering<'_> {
         number: u32,
         following: Strip,
     ) -> Result<Strip, AllocError>
-        requires { IsLaidOut self.now.program.now.model self.now.program.now.table.list }
+        requires { HasLayouts self.now.program.now }
         ensures { IfOk result (λ made.
             UsesAround (program_of self.now) (typed update.now) (typed object.now) (typed right.now)
             more number (built_of graph.old) (built_of graph.new) (point_of made)
@@ -180,7 +180,7 @@ impl Lowering<'_> {
         number: u32,
         following: Strip,
     ) -> Result<Strip, AllocError>
-        requires { IsLaidOut self.now.program.now.model self.now.program.now.table.list }
+        requires { HasLayouts self.now.program.now }
         ensures { IfOk result (λ made.
             Builds self.now graph.old graph.new (used_row (typed_list row.now) number) made
             following) }
@@ -205,7 +205,7 @@ impl Lowering<'_> {
         number: u32,
         following: Strip,
     ) -> Result<Strip, AllocError>
-        requires { IsLaidOut self.now.program.now.model self.now.program.now.table.list }
+        requires { HasLayouts self.now.program.now }
         ensures { IfOk result (λ made.
             Builds self.now graph.old graph.new
             (formed place (And (typed left.now) (typed right.now)) number) made following) }
@@ -230,7 +230,7 @@ impl Lowering<'_> {
         number: u32,
         following: Strip,
     ) -> Result<Strip, AllocError>
-        requires { IsLaidOut self.now.program.now.model self.now.program.now.table.list }
+        requires { HasLayouts self.now.program.now }
         ensures { IfOk result (λ made.
             Builds self.now graph.old graph.new
             (formed place (Or (typed left.now) (typed right.now)) number) made following) }
@@ -256,7 +256,7 @@ impl Lowering<'_> {
         number: u32,
         following: Strip,
     ) -> Result<Strip, AllocError>
-        requires { IsLaidOut self.now.program.now.model self.now.program.now.table.list }
+        requires { HasLayouts self.now.program.now }
         ensures { IfOk result (λ made.
             Builds self.now graph.old graph.new
             (formed place (Choice (typed test.now) (typed first.now) (typed second.now)) number)
@@ -281,7 +281,7 @@ impl Lowering<'_> {
         number: u32,
         following: Strip,
     ) -> Result<Strip, AllocError>
-        requires { IsLaidOut self.now.program.now.model self.now.program.now.table.list }
+        requires { HasLayouts self.now.program.now }
         ensures { IfOk result (λ made.
             Builds self.now graph.old graph.new
             (formed place (Comma (typed first.now) (typed second.now)) number) made following) }

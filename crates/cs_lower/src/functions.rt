@@ -1,8 +1,7 @@
 //! The lowering of functions, and of the whole program.
 ghost use Rattle.std.specs.Prelude.{◌≡◌, IfOk, Some, option_map};
-ghost use Rattle.cs_types.specs.Layout.{IsLaidOut};
 ghost use Rattle.cs_types.specs.Shape.{shape_of};
-ghost use Rattle.cs_ast.specs.TypedProgram.{typed_program, routine};
+ghost use Rattle.cs_ast.specs.TypedProgram.{HasLayouts, typed_program, routine};
 ghost use Rattle.cs_ast.specs.TypedView.{statement};
 ghost use Rattle.cs_meaning.specs.Calls.{falls_off};
 ghost use Rattle.cs_cfg.specs.GraphView as view;
@@ -33,7 +32,7 @@ use std::collections::BTreeMap;
 /// allocation has the arguments that its function takes (C11 7.22.3). A function that works with integers alone has a graph that does so.
 /// Its only error is want of memory.
 pub fn lower(alloc: Global, program: &Program) -> Result<Code, AllocError>
-    requires { IsLaidOut program.now.model program.now.table.list }
+    requires { HasLayouts program.now }
     ensures placed { IfOk result (λ code.
         AllocationsHaveArguments (typed_program program.now)
         → IsPlaced (view.code code) (typed_program program.now)) }
@@ -57,7 +56,7 @@ fn lower_function(
     program: &Program,
     function: &Function,
 ) -> Result<Option<Flow>, AllocError>
-    requires { IsLaidOut program.now.model program.now.table.list }
+    requires { HasLayouts program.now }
     ensures { IfOk result (λ made.
         HasGraph (typed_program program.now) (routine function.now) (option_map view.flow made)) }
 {
@@ -77,7 +76,7 @@ fn lower_body(
     function: &Function,
     body: &Stmt,
 ) -> Result<Flow, AllocError>
-    requires laid_out { IsLaidOut program.now.model program.now.table.list }
+    requires laid_out { HasLayouts program.now }
     requires own { (routine function.now).body ≡ Some (statement body.now) }
     ensures graph { IfOk result (λ flow.
         StatementHasArguments (statement body.now)

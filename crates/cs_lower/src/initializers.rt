@@ -1,6 +1,6 @@
 //! The lowering of declarations (C11 6.7.9).
 ghost use Rattle.std.specs.Prelude.{◌≡◌, ◌∷◌, [], map, IfOk, Some, option_map, option_copied};
-ghost use Rattle.cs_types.specs.Layout.{IsLaidOut};
+ghost use Rattle.cs_ast.specs.TypedProgram.{HasLayouts};
 ghost use Rattle.cs_ast.specs.TypedView.{typed, initial};
 ghost use Rattle.cs_meaning.specs.Initials as initials;
 ghost use Rattle.cs_meaning.specs.Types as types;
@@ -33,7 +33,7 @@ impl Lowering<'_> {
         first: Option<&Initial>,
         following: Strip,
     ) -> Result<Strip, AllocError>
-        requires { IsLaidOut self.now.program.now.model self.now.program.now.table.list }
+        requires { HasLayouts self.now.program.now }
         ensures { IfOk result (λ made.
             Declares (program_of self.now) (function_of self.now) place declaration
             (option_map initial (option_copied first.entry)) (built_of graph.old)
@@ -60,7 +60,7 @@ impl Lowering<'_> {
         first: &Initial,
         following: Strip,
     ) -> Result<Strip, AllocError>
-        requires { IsLaidOut self.now.program.now.model self.now.program.now.table.list }
+        requires { HasLayouts self.now.program.now }
         ensures { IfOk result (λ made.
             Declares (program_of self.now) (function_of self.now) place declaration
             (Some (initial first.now)) (built_of graph.old) (built_of graph.new) (point_of made)
@@ -91,7 +91,7 @@ impl Lowering<'_> {
         first: &Initial,
         following: Strip,
     ) -> Result<Strip, AllocError>
-        requires { IsLaidOut self.now.program.now.model self.now.program.now.table.list }
+        requires { HasLayouts self.now.program.now }
         ensures { IfOk result (λ made.
             StoresPieces (program_of self.now) (function_of self.now) place declaration
             (initials.pieces (program_of self.now) (type_in (function_of self.now) declaration) 0
@@ -113,7 +113,7 @@ impl Lowering<'_> {
         pieces: &[Piece],
         following: Strip,
     ) -> Result<Strip, AllocError>
-        requires { IsLaidOut self.now.program.now.model self.now.program.now.table.list }
+        requires { HasLayouts self.now.program.now }
         ensures { IfOk result (λ made.
             StoresPieces (program_of self.now) (function_of self.now) place declaration
             (map piece_of pieces.now) (built_of graph.old) (built_of graph.new) (point_of made)
@@ -137,7 +137,7 @@ impl Lowering<'_> {
         piece: Piece,
         following: Strip,
     ) -> Result<Strip, AllocError>
-        requires { IsLaidOut self.now.program.now.model self.now.program.now.table.list }
+        requires { HasLayouts self.now.program.now }
         ensures { IfOk result (λ made.
             StoresPieces (program_of self.now) (function_of self.now) place declaration
             (piece_of piece.entry ∷ []) (built_of graph.old) (built_of graph.new) (point_of made)
@@ -164,7 +164,7 @@ impl Lowering<'_> {
         value: &Expr,
         following: Strip,
     ) -> Result<Strip, AllocError>
-        requires { IsLaidOut self.now.program.now.model self.now.program.now.table.list }
+        requires { HasLayouts self.now.program.now }
         ensures { IfOk result (λ made.
             StoresPieces (program_of self.now) (function_of self.now) place declaration
             (initials.Evaluated offset (typed value.now) ∷ []) (built_of graph.old)

@@ -1,6 +1,6 @@
 //! The lowering of loops (C11 6.8.5).
 ghost use Rattle.std.specs.Prelude.{ℕ, IfOk, option_map, option_copied};
-ghost use Rattle.cs_types.specs.Layout.{IsLaidOut};
+ghost use Rattle.cs_ast.specs.TypedProgram.{HasLayouts};
 ghost use Rattle.cs_ast.specs.TypedTree.{While, Do, For};
 ghost use Rattle.cs_ast.specs.TypedView.{typed, some_typed, statement, statement_list};
 ghost use Rattle.cs_cfg.specs.Placing.{split};
@@ -130,7 +130,7 @@ impl Lowering<'_> {
         one: u32,
         other: u32,
     ) -> Result<Strip, AllocError>
-        requires { IsLaidOut self.now.program.now.model self.now.program.now.table.list }
+        requires { HasLayouts self.now.program.now }
         ensures { IfOk result (λ made.
             BuildsBefore self.now graph.old graph.new (used_one (typed test.now) 0) made
             (split place 0 one other)) }
@@ -147,7 +147,7 @@ impl Lowering<'_> {
         body: Strip,
         end: u32,
     ) -> Result<Strip, AllocError>
-        requires { IsLaidOut self.now.program.now.model self.now.program.now.table.list }
+        requires { HasLayouts self.now.program.now }
         ensures { IfOk result (λ made.
             TestsFor (program_of self.now) place (option_map typed (option_copied test.entry))
             (built_of graph.old) (built_of graph.new) (point_of made) (point_of body) end) }
@@ -169,7 +169,7 @@ impl Lowering<'_> {
         last: Option<&Expr>,
         head: u32,
     ) -> Result<u32, AllocError>
-        requires { IsLaidOut self.now.program.now.model self.now.program.now.table.list }
+        requires { HasLayouts self.now.program.now }
         ensures { IfOk result (λ made.
             EndsFor (program_of self.now) (option_map typed (option_copied last.entry))
             (built_of graph.old) (built_of graph.new) made head) }

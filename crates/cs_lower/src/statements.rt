@@ -1,6 +1,6 @@
 //! The lowering of statements (C11 6.8).
 ghost use Rattle.std.specs.Prelude.{ℕ, IfOk, option_map, option_copied};
-ghost use Rattle.cs_types.specs.Layout.{IsLaidOut};
+ghost use Rattle.cs_ast.specs.TypedProgram.{HasLayouts};
 ghost use Rattle.cs_ast.specs.declared.place.Place.{Place};
 ghost use Rattle.cs_ast.specs.TypedTree.{Run, If, IfElse, Goto, Label};
 ghost use Rattle.cs_ast.specs.TypedView.{typed, statement, statement_list};
@@ -81,7 +81,7 @@ impl Lowering<'_> {
         e: &Expr,
         following: Strip,
     ) -> Result<Strip, AllocError>
-        requires { IsLaidOut self.now.program.now.model self.now.program.now.table.list }
+        requires { HasLayouts self.now.program.now }
         ensures { IfOk result (λ made.
             (out again : ℕ)
             → BuildsStatement self.now graph.old graph.new (Run place (typed e.now)) out again
@@ -270,7 +270,7 @@ impl Lowering<'_> {
         place: Place,
         value: Option<&Expr>,
     ) -> Result<Strip, AllocError>
-        requires { IsLaidOut self.now.program.now.model self.now.program.now.table.list }
+        requires { HasLayouts self.now.program.now }
         ensures { IfOk result (λ made.
             Returns (program_of self.now) (function_of self.now) place
             (option_map typed (option_copied value.entry)) (built_of graph.old) (built_of graph.new)

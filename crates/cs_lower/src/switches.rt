@@ -1,6 +1,6 @@
 //! The lowering of `switch` (C11 6.8.4.2).
 ghost use Rattle.std.specs.Prelude.{◌≡◌, ◌++◌, ℕ, [], IfOk, OnOk, length, map};
-ghost use Rattle.cs_types.specs.Layout.{IsLaidOut};
+ghost use Rattle.cs_ast.specs.TypedProgram.{HasLayouts};
 ghost use Rattle.cs_ast.specs.TypedTree.{Switch};
 ghost use Rattle.cs_ast.specs.TypedView.{typed, statement_list};
 ghost use Rattle.cs_meaning.specs.Statements.{default_item};
@@ -61,7 +61,7 @@ impl Lowering<'_> {
         blocks: &[u32],
         end: u32,
     ) -> Result<Strip, AllocError>
-        requires { IsLaidOut self.now.program.now.model self.now.program.now.table.list }
+        requires { HasLayouts self.now.program.now }
         ensures { IfOk result (λ made.
             BuildsBefore self.now graph.old graph.new (used_one (typed value.now) 0) made
             (leads_to place cases.now blocks.now end)) }

@@ -1,7 +1,7 @@
 //! What an expression does with its parts.
 ghost use Rattle.std.specs.Prelude.{◌≡◌, IfOk, Some, option_map};
 ghost use Rattle.cs_types.specs.Shape.{shape_of};
-ghost use Rattle.cs_types.specs.Layout.{IsLaidOut};
+ghost use Rattle.cs_ast.specs.TypedProgram.{HasLayouts};
 ghost use Rattle.cs_ast.specs.TypedView.{typed, typed_list, form};
 ghost use Rattle.cs_meaning.specs.Access as meaning;
 ghost use Rattle.cs_meaning.specs.Expressions.{count_all};
@@ -27,7 +27,7 @@ use std::alloc::AllocError;
 impl Lowering<'_> {
     /// What an expression does with its parts, before a strip.
     pub fn act(&self, e: &Expr, number: u32, following: Strip) -> Result<Strip, AllocError>
-        requires { IsLaidOut self.now.program.now.model self.now.program.now.table.list }
+        requires { HasLayouts self.now.program.now }
         ensures { IfOk result (λ made.
             point_of made ≡ acted (program_of self.now) (typed e.now) number
             (point_of following)) }
@@ -51,7 +51,7 @@ impl Lowering<'_> {
 
     // The operation that does what an expression does with its parts, if it does something with them.
     fn work_of(&self, e: &Expr) -> Result<Option<Work>, AllocError>
-        requires { IsLaidOut self.now.program.now.model self.now.program.now.table.list }
+        requires { HasLayouts self.now.program.now }
         ensures { IfOk result (λ made.
             option_map view.work made ≡ standing.work_of (program_of self.now) (shape_of e.now.ty)
             (form e.now.kind.value)) }
@@ -129,7 +129,7 @@ impl Lowering<'_> {
         direction: Direction,
         gives: Gives,
     ) -> Result<Option<Work>, AllocError>
-        requires { IsLaidOut self.now.program.now.model self.now.program.now.table.list }
+        requires { HasLayouts self.now.program.now }
         ensures { IfOk result (λ made.
             option_map view.work made
             ≡ Some (graph.Move (meaning.access_of (typed object.now))

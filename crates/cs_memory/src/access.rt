@@ -1,8 +1,7 @@
 //! Loads and stores (C11 6.3.2.1, 6.5.16): what is checked and shown on the way to an object, and what memory gives and keeps.
 ghost use Rattle.std.specs.Prelude.{◌≡◌, pos, neg_ℤ, ◌-ℤ◌, IfOk, OnOk, IfErr, IfSome, None, map};
 ghost use Rattle.cs_types.specs.Shape.{shape_of};
-ghost use Rattle.cs_types.specs.Layout.{IsLaidOut};
-ghost use Rattle.cs_ast.specs.TypedProgram.{typed_program};
+ghost use Rattle.cs_ast.specs.TypedProgram.{HasLayouts, typed_program};
 ghost use Rattle.cs_events.specs.Acts.{Act, Stops};
 ghost use Rattle.cs_events.specs.declared.outcome.Outcome.TheVariants.{Fault};
 ghost use Rattle.cs_meaning.specs.Machine.{State};
@@ -83,7 +82,7 @@ fn begins_at(
     block: &Block,
     offset: i128,
 ) -> Result<bool, AllocError>
-    requires { IsLaidOut program.now.model program.now.table.list }
+    requires { HasLayouts program.now }
     ensures { IfOk result (λ holds.
         holds ≡ meaning.begins_at (typed_program program.now) (shape_of ty.now)
         (object_of object.now) (block_of block.now) offset) }

@@ -1,7 +1,6 @@
 //! What is found in a scalar of memory.
 ghost use Rattle.std.specs.Prelude.{◌≡◌, IfOk, OnOk, IfErr, Some, None, if◌then◌else◌};
-ghost use Rattle.cs_types.specs.Layout.{IsLaidOut};
-ghost use Rattle.cs_ast.specs.TypedProgram.{typed_program};
+ghost use Rattle.cs_ast.specs.TypedProgram.{HasLayouts, typed_program};
 ghost use Rattle.cs_meaning.specs.Memory as meaning;
 ghost use Rattle.cs_meaning.specs.Access as access;
 ghost use Rattle.cs_objects.specs.Prepared.{IsReady};
@@ -37,7 +36,7 @@ fn position(
     block: &Block,
     offset: u64,
 ) -> Result<u64, AllocError>
-    requires { IsLaidOut program.now.model program.now.table.list }
+    requires { HasLayouts program.now }
     ensures { IfOk result (λ position.
         position ≡ meaning.position (typed_program program.now) (object_of object.now)
         (block_of block.now) offset) }
@@ -65,7 +64,7 @@ pub fn cell_position(
     block: &Block,
     offset: u64,
 ) -> Result<Option<u64>, AllocError>
-    requires { IsLaidOut program.now.model program.now.table.list }
+    requires { HasLayouts program.now }
     ensures { IfOk result (λ position.
         position ≡ (if meaning.has_cells (typed_program program.now) (object_of object.now)
         (block_of block.now)
@@ -101,7 +100,7 @@ fn scalar_at<'a>(
     block: &Block<'a>,
     offset: u64,
 ) -> Result<BlockType<'a>, AllocError>
-    requires { IsLaidOut program.now.model program.now.table.list }
+    requires { HasLayouts program.now }
     ensures { IfOk result (λ found.
         type_of found ≡ meaning.scalar_at (typed_program program.now) (object_of object.now)
         (block_of block.now) offset) }
@@ -118,7 +117,7 @@ fn filled<'a>(
     scalar: BlockType<'a>,
     offset: u64,
 ) -> Result<Found<'a>, AllocError>
-    requires { IsLaidOut program.now.model program.now.table.list }
+    requires { HasLayouts program.now }
     ensures { IfOk result (λ found.
         found_of found ≡ meaning.filled (typed_program program.now) (fill_of fill.now)
         (type_of scalar.entry) offset) }
@@ -153,7 +152,7 @@ fn found_in<'a>(
     block: &Block<'a>,
     offset: u64,
 ) -> Result<Found<'a>, AllocError>
-    requires { IsLaidOut program.now.model program.now.table.list }
+    requires { HasLayouts program.now }
     ensures { IfOk result (λ found.
         found_of found ≡ meaning.found_in (typed_program program.now) (object_of object.now)
         (Some (block_of block.now)) offset) }
@@ -178,7 +177,7 @@ impl<'a> Memory<'a> {
         object: &Object,
         offset: u64,
     ) -> Result<Found<'a>, AllocError>
-        requires { IsLaidOut program.now.model program.now.table.list }
+        requires { HasLayouts program.now }
         ensures { IfOk result (λ found.
             found_of found ≡ meaning.found_in (typed_program program.now) (object_of object.now)
             (memory_of self.now (object_of object.now)) offset) }

@@ -1,8 +1,7 @@
 //! The block that comes with a pointer that is an input.
 ghost use Rattle.std.specs.Prelude.{◌≡◌, IfOk, OnOk};
 ghost use Rattle.cs_types.specs.Shape.{shape_of, pointer};
-ghost use Rattle.cs_types.specs.Layout.{IsLaidOut};
-ghost use Rattle.cs_ast.specs.TypedProgram.{typed_program};
+ghost use Rattle.cs_ast.specs.TypedProgram.{HasLayouts, typed_program};
 ghost use Rattle.cs_events.specs.Objects.{StartBlock};
 ghost use Rattle.cs_meaning.specs.Memory as meaning;
 ghost use Rattle.cs_meaning.specs.Inputs as opening;
@@ -21,7 +20,7 @@ use std::alloc::{AllocError, Global};
 
 // The bytes of the block after an unknown pointer: so many elements, or as many as such a block has.
 fn start_bytes(program: &Program, element: BlockType, count: Option<u64>) -> Result<u64, AllocError>
-    requires { IsLaidOut program.now.model program.now.table.list }
+    requires { HasLayouts program.now }
     ensures { IfOk result (λ bytes.
         bytes ≡ meaning.start_extent (typed_program program.now) (type_of element.entry) count) }
 {
@@ -45,7 +44,7 @@ fn start_block<'a>(
     target: &'a CType,
     count: Option<u64>,
 ) -> Result<Block<'a>, AllocError>
-    requires { IsLaidOut program.now.model program.now.table.list }
+    requires { HasLayouts program.now }
     ensures { IfOk result (λ made.
         block_of made ≡ meaning.start_block (typed_program program.now) path (shape_of target.now)
         count) }
@@ -66,7 +65,7 @@ impl<'a> Memory<'a> {
         count: Option<u64>,
         cell: &Cell,
     ) -> Result<(), AllocError>
-        requires { IsLaidOut program.now.model program.now.table.list }
+        requires { HasLayouts program.now }
         ensures memory { OnOk result
             (memory_of self.new ≡ opening.opened (typed_program program.now) path.now
             (type_of scalar.entry) count (cell_of cell.now) (memory_of self.old)) }
@@ -89,7 +88,7 @@ impl<'a> Memory<'a> {
         count: Option<u64>,
         cell: &Cell,
     ) -> Result<(), AllocError>
-        requires { IsLaidOut program.now.model program.now.table.list }
+        requires { HasLayouts program.now }
         ensures memory { OnOk result
             (memory_of self.new ≡ opening.opened (typed_program program.now) path.now
             (shape_of ty.now) count (cell_of cell.now) (memory_of self.old)) }
@@ -113,7 +112,7 @@ impl<'a> Memory<'a> {
         count: Option<u64>,
         cell: &Cell,
     ) -> Result<(), AllocError>
-        requires { IsLaidOut program.now.model program.now.table.list }
+        requires { HasLayouts program.now }
         ensures memory { OnOk result
             (memory_of self.new ≡ opening.opened (typed_program program.now) path.now
             (pointer (shape_of target.now)) count (cell_of cell.now) (memory_of self.old)) }
@@ -135,7 +134,7 @@ impl<'a> Memory<'a> {
         target: &'a CType,
         count: Option<u64>,
     ) -> Result<(), AllocError>
-        requires { IsLaidOut program.now.model program.now.table.list }
+        requires { HasLayouts program.now }
         ensures memory { OnOk result
             (memory_of self.new ≡ meaning.with_new_block (StartBlock path.now)
             (meaning.start_block (typed_program program.now) path.now (shape_of target.now) count)

@@ -1,8 +1,7 @@
 //! Values and texts written to objects of memory.
 ghost use Rattle.std.specs.Prelude.{◌≡◌, IfOk, OnOk, map, unwrap_or};
 ghost use Rattle.cs_types.specs.Shape.{shape_of, void};
-ghost use Rattle.cs_types.specs.Layout.{IsLaidOut};
-ghost use Rattle.cs_ast.specs.TypedProgram.{typed_program};
+ghost use Rattle.cs_ast.specs.TypedProgram.{HasLayouts, typed_program};
 ghost use Rattle.cs_meaning.specs.Memory as meaning;
 ghost use Rattle.cs_meaning.specs.Access as access;
 ghost use Rattle.cs_meaning.specs.Initials.{byte_cell};
@@ -85,7 +84,7 @@ impl<'a> Memory<'a> {
         from: u64,
         bytes: &[u8],
     ) -> Result<(), AllocError>
-        requires { IsLaidOut program.now.model program.now.table.list }
+        requires { HasLayouts program.now }
         ensures memory { OnOk result
             (memory_of self.new ≡ meaning.changed
             (access.write_bytes (typed_program program.now) from bytes.now) (object_of object.now)
@@ -110,7 +109,7 @@ impl<'a> Memory<'a> {
         from: u64,
         bytes: &[u8],
     ) -> Result<(), AllocError>
-        requires { IsLaidOut program.now.model program.now.table.list }
+        requires { HasLayouts program.now }
         ensures memory { OnOk result
             (memory_of self.new ≡ meaning.changed
             (spells (typed_program program.now) (type_of ty.entry) from bytes.now)
@@ -130,7 +129,7 @@ impl<'a> Memory<'a> {
 
 // The cell of a byte of a text, in the scalar that begins at an offset of a type.
 fn spelled(program: &Program, ty: BlockType, at: u64, byte: u8) -> Result<Cell, AllocError>
-    requires { IsLaidOut program.now.model program.now.table.list }
+    requires { HasLayouts program.now }
     ensures { IfOk result (λ cell.
         cell_of cell ≡ byte_cell program.now.model
         (unwrap_or (scalar_of (typed_program program.now) (type_of ty.entry) at) void) byte) }

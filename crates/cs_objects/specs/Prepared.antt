@@ -3,9 +3,8 @@ use Rattle.std.specs.Prelude.{◌≡◌, ℕ, ◌<◌, ◌^◌, nat_le, List, le
 use Rattle.std.specs.Option.{option_and_then}
 use Rattle.std.specs.declared.alloc.Global.{Global}
 use Rattle.cs_types.specs.Shape.{struct}
-use Rattle.cs_types.specs.Layout.{IsLaidOut}
 use Rattle.cs_ast.specs.declared.typed.program.Program.{Program}
-use Rattle.cs_ast.specs.TypedProgram.{TypedProgram, typed_program}
+use Rattle.cs_ast.specs.TypedProgram.{HasLayouts, TypedProgram, typed_program}
 use Rattle.cs_events.specs.Objects.{GlobalObject, LiteralObject}
 use Rattle.cs_meaning.specs.Memory as meaning
 use Rattle.cs_meaning.specs.Steps.{static_memory}
@@ -47,5 +46,5 @@ pub record IsPrepared (prepared : Prepared) (program : Program) : Type 0 where
 
 -- the program's structs are laid out, and what its runs share is prepared
 pub record IsReady (setting : Setting) : Type 0 where
-  pub laid_out : IsLaidOut setting.program.now.model setting.program.now.table.list
+  pub laid_out : HasLayouts setting.program.now
   pub prepared : IsPrepared setting.prepared.now setting.program.now

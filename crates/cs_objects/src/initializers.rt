@@ -19,8 +19,7 @@ pub struct Initializer<'a> {
 
 impl<'a> Initializer<'a> {
     ghost use Rattle.std.specs.Prelude.{◌≡◌, IfOk, map};
-    ghost use Rattle.cs_types.specs.Layout.{IsLaidOut};
-    ghost use Rattle.cs_ast.specs.TypedProgram.{typed_program};
+    ghost use Rattle.cs_ast.specs.TypedProgram.{HasLayouts, typed_program};
     ghost use Rattle.cs_meaning.specs.Initials as initials;
     ghost use Rattle.cs_values.specs.View.{cell_of};
     ghost use Rattle.cs_objects.specs.BlockView.{type_of, piece_of};
@@ -51,7 +50,7 @@ impl<'a> Initializer<'a> {
         scalar: BlockType,
         offset: u64,
     ) -> Result<Cell, AllocError>
-        requires { IsLaidOut program.now.model program.now.table.list }
+        requires { HasLayouts program.now }
         ensures { IfOk result (λ cell.
             cell_of cell ≡ initials.initial_cell (typed_program program.now)
             (type_of scalar.entry)

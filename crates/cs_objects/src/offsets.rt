@@ -1,8 +1,7 @@
 //! Where the scalars of a type lie.
 ghost use Rattle.std.specs.Prelude.{◌≡◌, ◌++◌, ◌∷◌, [], OnOk, IfOk};
 ghost use Rattle.cs_types.specs.Shape.{shape_of, array};
-ghost use Rattle.cs_types.specs.Layout.{IsLaidOut};
-ghost use Rattle.cs_ast.specs.TypedProgram.{typed_program};
+ghost use Rattle.cs_ast.specs.TypedProgram.{HasLayouts, typed_program};
 ghost use Rattle.cs_meaning.specs.Types as types;
 ghost use Rattle.cs_objects.specs.TypeView.{offsets_from, member_offsets};
 
@@ -14,7 +13,7 @@ use std::alloc::AllocError;
 
 /// The offsets of a type's scalars, in order (C11 6.7.2.1).
 pub fn type_offsets(program: &Program, ty: &CType) -> Result<Vec<u64>, AllocError>
-    requires { IsLaidOut program.now.model program.now.table.list }
+    requires { HasLayouts program.now }
     ensures { IfOk result (λ offsets.
         offsets.items ≡ types.scalar_offsets (typed_program program.now) (shape_of ty.now)) }
 {
@@ -32,7 +31,7 @@ fn push_offsets(
     from: u64,
     made: &mut Vec<u64>,
 ) -> Result<(), AllocError>
-    requires { IsLaidOut program.now.model program.now.table.list }
+    requires { HasLayouts program.now }
     ensures { OnOk result (made.new.items
         ≡ made.old.items ++ offsets_from (typed_program program.now) from (shape_of ty.now)) }
 {
@@ -67,7 +66,7 @@ fn push_elements(
     from: u64,
     made: &mut Vec<u64>,
 ) -> Result<(), AllocError>
-    requires { IsLaidOut program.now.model program.now.table.list }
+    requires { HasLayouts program.now }
     ensures { OnOk result (made.new.items
         ≡ made.old.items
         ++ offsets_from (typed_program program.now) from (array (shape_of element.now) count)) }
@@ -97,7 +96,7 @@ fn push_members(
     from: u64,
     made: &mut Vec<u64>,
 ) -> Result<(), AllocError>
-    requires { IsLaidOut program.now.model program.now.table.list }
+    requires { HasLayouts program.now }
     ensures { OnOk result (made.new.items
         ≡ made.old.items ++ member_offsets (typed_program program.now) from members.now) }
 {

@@ -1,8 +1,7 @@
 //! The pieces of an initializer (C11 6.7.9), and what an object holds by those of a constant one.
 ghost use Rattle.std.specs.Prelude.{◌≡◌, ◌+◌, ◌++◌, ◌∷◌, List, map, take, nat_le, IsTrue, IfSome, IfOk, OnOk};
 ghost use Rattle.cs_types.specs.Shape.{Shape, struct};
-ghost use Rattle.cs_types.specs.Layout.{IsLaidOut};
-ghost use Rattle.cs_ast.specs.TypedProgram.{TypedProgram, typed_program};
+ghost use Rattle.cs_ast.specs.TypedProgram.{HasLayouts, TypedProgram, typed_program};
 ghost use Rattle.cs_ast.specs.TypedView.{initial, initial_list};
 ghost use Rattle.cs_meaning.specs.Types as types;
 ghost use Rattle.cs_meaning.specs.Initials as initials;
@@ -27,7 +26,7 @@ pub fn pieces<'a>(
     ty: BlockType<'a>,
     first: &'a Initial,
 ) -> Result<Vec<Piece<'a>>, AllocError>
-    requires { IsLaidOut program.now.model program.now.table.list }
+    requires { HasLayouts program.now }
     ensures { IfOk result (λ made.
         map piece_of made.items ≡ initials.pieces (typed_program program.now) (type_of ty.entry) 0
         (initial first.now)) }
@@ -46,7 +45,7 @@ fn push_pieces<'a>(
     first: &'a Initial,
     made: &mut Vec<Piece<'a>>,
 ) -> Result<(), AllocError>
-    requires { IsLaidOut program.now.model program.now.table.list }
+    requires { HasLayouts program.now }
     ensures { OnOk result (map piece_of made.new.items
         ≡ map piece_of made.old.items
         ++ initials.pieces (typed_program program.now) (type_of ty.entry) from
@@ -74,7 +73,7 @@ fn push_parts<'a>(
     parts: &'a [Initial],
     made: &mut Vec<Piece<'a>>,
 ) -> Result<(), AllocError>
-    requires { IsLaidOut program.now.model program.now.table.list }
+    requires { HasLayouts program.now }
     ensures { OnOk result (map piece_of made.new.items
         ≡ map piece_of made.old.items
         ++ initials.pieces_from (typed_program program.now) (type_of ty.entry) from 0
@@ -125,7 +124,7 @@ impl<'a> BlockType<'a> {
 
     // Where a part of an array or of a struct begins.
     fn part_offset(self, program: &'a Program, number: u64) -> Result<u64, AllocError>
-        requires { IsLaidOut program.now.model program.now.table.list }
+        requires { HasLayouts program.now }
         ensures { IfOk result (λ offset.
             offset ≡ types.part_offset (typed_program program.now) (type_of self.entry) number) }
     {
@@ -248,7 +247,7 @@ pub fn initial_cell(
     pieces: &[Piece],
     offset: u64,
 ) -> Result<Cell, AllocError>
-    requires { IsLaidOut program.now.model program.now.table.list }
+    requires { HasLayouts program.now }
     ensures { IfOk result (λ cell.
         cell_of cell ≡ initials.initial_cell (typed_program program.now) (type_of scalar.entry)
         (map piece_of pieces.now) offset) }
@@ -268,7 +267,7 @@ fn piece_cell(
     piece: &Piece,
     offset: u64,
 ) -> Result<Option<Cell>, AllocError>
-    requires { IsLaidOut program.now.model program.now.table.list }
+    requires { HasLayouts program.now }
     ensures { IfOk result (λ found.
         (others : List initials.Piece)
         → initials.initial_cell (typed_program program.now) (type_of scalar.entry)

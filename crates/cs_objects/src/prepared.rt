@@ -1,8 +1,7 @@
 //! What the runs of a program share: its static objects as a run begins with them, and where the scalars of its structs lie.
 ghost use Rattle.std.specs.Prelude.{◌≡◌, ◌<◌, ℕ, length, option_map, IfOk, map};
 ghost use Rattle.cs_types.specs.Shape.{shape_of};
-ghost use Rattle.cs_types.specs.Layout.{IsLaidOut};
-ghost use Rattle.cs_ast.specs.TypedProgram.{typed_program, file_object};
+ghost use Rattle.cs_ast.specs.TypedProgram.{HasLayouts, typed_program, file_object};
 ghost use Rattle.cs_meaning.specs.Steps as steps;
 ghost use Rattle.cs_meaning.specs.Types as types;
 ghost use Rattle.cs_objects.specs.BlockView.{block_of, fill_of};
@@ -46,7 +45,7 @@ const PREPARED_BYTES: u64 = 1 << 15;
 impl<'a> Prepared<'a> {
     /// Prepares the runs of a program.
     pub fn new(alloc: Global, program: &'a Program) -> Result<Prepared<'a>, AllocError>
-        requires { IsLaidOut program.now.model program.now.table.list }
+        requires { HasLayouts program.now }
         ensures { IfOk result (λ prepared. IsPrepared prepared program.now) }
     {
         let globals = global_blocks(alloc, program)?;
@@ -100,7 +99,7 @@ pub fn scalar_offsets<'a>(setting: &Setting<'a>, ty: &CType) -> Result<Offsets<'
 
 // The offsets of the scalars of each struct of the program's table.
 fn struct_offsets(alloc: Global, program: &Program) -> Result<Vec<Option<Vec<u64>>>, AllocError>
-    requires { IsLaidOut program.now.model program.now.table.list }
+    requires { HasLayouts program.now }
     ensures count { IfOk result (λ made. length made.items ≡ length program.now.table.list) }
     ensures offsets { IfOk result (λ made.
         (tag : ℕ) → tag < length program.now.table.list
@@ -117,7 +116,7 @@ fn struct_offsets(alloc: Global, program: &Program) -> Result<Vec<Option<Vec<u64
 
 // The offsets of the scalars of a struct, unless it is large.
 fn one_struct(program: &Program, tag: u32) -> Result<Option<Vec<u64>>, AllocError>
-    requires { IsLaidOut program.now.model program.now.table.list }
+    requires { HasLayouts program.now }
     ensures { IfOk result (λ made.
         option_map (λ offsets. offsets.items) made
         ≡ prepared_offsets (typed_program program.now) tag) }
@@ -132,7 +131,7 @@ fn one_struct(program: &Program, tag: u32) -> Result<Option<Vec<u64>>, AllocErro
 
 // The file-scope objects.
 fn global_blocks(alloc: Global, program: &Program) -> Result<Vec<Block<'_>>, AllocError>
-    requires { IsLaidOut program.now.model program.now.table.list }
+    requires { HasLayouts program.now }
     ensures { IfOk result (λ made.
         map block_of made.items ≡ map (steps.global_block (typed_program program.now))
         (map file_object program.now.globals.items)) }
@@ -152,7 +151,7 @@ fn global_fill<'a>(
     program: &'a Program,
     object: &'a FileObject,
 ) -> Result<Fill<'a>, AllocError>
-    requires { IsLaidOut program.now.model program.now.table.list }
+    requires { HasLayouts program.now }
     ensures { IfOk result (λ fill.
         fill_of fill ≡ steps.global_fill (typed_program program.now) (file_object object.now)
         object.now.constant (file_object object.now).initial) }

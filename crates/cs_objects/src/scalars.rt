@@ -1,8 +1,8 @@
 //! What begins at an offset of an object's type: scalars and structs.
 ghost use Rattle.std.specs.Prelude.{◌≡◌, ◌==◌, ◌&&◌, ℕ, Bool, nat_lt, IfOk, option_map, if◌then◌else◌};
 ghost use Rattle.cs_types.specs.Shape.{shape_of, integer, struct, same_shape};
-ghost use Rattle.cs_types.specs.Layout.{IsLaidOut, complete_count, members_of};
-ghost use Rattle.cs_ast.specs.TypedProgram.{typed_program};
+ghost use Rattle.cs_types.specs.Layout.{complete_count, members_of};
+ghost use Rattle.cs_ast.specs.TypedProgram.{HasLayouts, typed_program};
 ghost use Rattle.cs_meaning.specs.Types as types;
 ghost use Rattle.cs_objects.specs.BlockView.{type_of};
 ghost use Rattle.cs_objects.specs.TypeView.{in_found, in_member};
@@ -16,7 +16,7 @@ use std::alloc::AllocError;
 impl<'a> BlockType<'a> {
     /// The bytes of the type; an incomplete one has none (C11 6.5.3.4).
     pub fn size(self, program: &Program) -> Result<u64, AllocError>
-        requires { IsLaidOut program.now.model program.now.table.list }
+        requires { HasLayouts program.now }
         ensures { IfOk result (λ bytes.
             bytes ≡ types.size_of (typed_program program.now) (type_of self.entry)) }
     {
@@ -34,7 +34,7 @@ impl<'a> BlockType<'a> {
         program: &'a Program,
         offset: u64,
     ) -> Result<Option<BlockType<'a>>, AllocError>
-        requires { IsLaidOut program.now.model program.now.table.list }
+        requires { HasLayouts program.now }
         ensures { IfOk result (λ found.
             option_map type_of found ≡ types.scalar_of (typed_program program.now)
             (type_of self.entry) offset) }
@@ -78,7 +78,7 @@ impl<'a> BlockType<'a> {
 
     /// Whether an object of a type begins at an offset of this one: a scalar of that very type, or that struct.
     pub fn begins(self, program: &'a Program, ty: &CType, offset: u64) -> Result<bool, AllocError>
-        requires { IsLaidOut program.now.model program.now.table.list }
+        requires { HasLayouts program.now }
         ensures { IfOk result (λ holds.
             holds ≡ types.begins (typed_program program.now) (shape_of ty.now)
             (type_of self.entry) offset) }
@@ -94,7 +94,7 @@ impl<'a> BlockType<'a> {
 
     // Whether a struct begins at an offset of this type.
     fn begins_struct(self, program: &Program, wanted: u32, offset: u64) -> Result<bool, AllocError>
-        requires { IsLaidOut program.now.model program.now.table.list }
+        requires { HasLayouts program.now }
         ensures { IfOk result (λ holds.
             holds ≡ types.begins (typed_program program.now) (struct wanted) (type_of self.entry)
             offset) }
@@ -164,7 +164,7 @@ pub fn members_of(program: &Program, number: u32) -> Option<&[Member]>
 
 // The struct in which an offset of a type lies, once the arrays around it are divided away, and the offset there.
 fn struct_at(program: &Program, ty: &CType, offset: u64) -> Result<Option<(u32, u64)>, AllocError>
-    requires { IsLaidOut program.now.model program.now.table.list }
+    requires { HasLayouts program.now }
     ensures { IfOk result (λ found.
         (in_struct : ℕ → ℕ → Bool)
         → types.begins_in (typed_program program.now) in_struct (shape_of ty.now) offset
@@ -195,7 +195,7 @@ fn begins_in_struct(
     number: u32,
     offset: u64,
 ) -> Result<bool, AllocError>
-    requires { IsLaidOut program.now.model program.now.table.list }
+    requires { HasLayouts program.now }
     ensures { IfOk result (λ holds.
         holds ≡ types.begins_in_struct (typed_program program.now) wanted depth number offset) }
 {
@@ -227,7 +227,7 @@ fn begins_in_members(
     members: &[Member],
     offset: u64,
 ) -> Result<bool, AllocError>
-    requires { IsLaidOut program.now.model program.now.table.list }
+    requires { HasLayouts program.now }
     ensures { IfOk result (λ holds.
         holds ≡ types.some_member (in_member (typed_program program.now) wanted depth offset)
         members.now) }

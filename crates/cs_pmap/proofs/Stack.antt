@@ -5,7 +5,7 @@ use Rattle.std.proofs.lemmas.List.{append-nil}
 use Rattle.std.specs.Prelude.{Option, None, Some}
 use Rattle.std.specs.Borrow.{Bor}
 use Rattle.cs_pmap.specs.Keys.{EntryList}
-use Rattle.cs_pmap.specs.Pending.{pending, HasRoom}
+use Rattle.cs_pmap.specs.Pending.{pending, FitsCapacity}
 use Rattle.cs_pmap.specs.Tree.{IsBalanced, branch_entries}
 use Rattle.cs_pmap.specs.declared.tree.Branch.{Branch}
 
@@ -17,38 +17,38 @@ module _ {V : Type 0} where
   pending-push (Some c ∷ cs) b =
       rw (pending-push cs b) (ap (λ r. (b.now.key, b.now.value) ∷ r) (append_assoc b.now.right.0 (pending cs) ((c.now.key, c.now.value) ∷ c.now.right.0)))
 
-  pub HasRoom-push : (room : ℕ) (bs : List (Option (Bor (Branch V)))) (b : Bor (Branch V)) → HasRoom room bs → b.now.height + length bs ≤ room
-      → IsBalanced b.now → HasRoom room (bs ++ Some b ∷ [])
-  HasRoom-push room [] b h fits balanced = (omega arith, balanced, tt)
-  HasRoom-push room (None ∷ cs) b h fits balanced = absurd h
-  HasRoom-push room (Some c ∷ cs) b h fits balanced = (h.0, h.1, HasRoom-push (room - 1) cs b h.2 (omega arith) balanced)
+  pub FitsCapacity-push : (room : ℕ) (bs : List (Option (Bor (Branch V)))) (b : Bor (Branch V)) → FitsCapacity room bs → b.now.height + length bs ≤ room
+      → IsBalanced b.now → FitsCapacity room (bs ++ Some b ∷ [])
+  FitsCapacity-push room [] b h fits balanced = (omega arith, balanced, tt)
+  FitsCapacity-push room (None ∷ cs) b h fits balanced = absurd h
+  FitsCapacity-push room (Some c ∷ cs) b h fits balanced = (h.0, h.1, FitsCapacity-push (room - 1) cs b h.2 (omega arith) balanced)
 
   -- what is known when the last branch leaves the stack
   pub record Popped (room : ℕ) (bs : List (Option (Bor (Branch V)))) (b : Branch V) : Type 0 where
-    pub rest : HasRoom room bs
+    pub rest : FitsCapacity room bs
     pub fits : b.height + length bs ≤ room
     pub balanced : IsBalanced b
 
-  HasRoom-pop : (room : ℕ) (bs : List (Option (Bor (Branch V)))) (b : Bor (Branch V)) → HasRoom room (bs ++ Some b ∷ []) → Popped room bs b.now
-  HasRoom-pop room [] b h = record { rest = tt; fits = omega arith; balanced = h.1 }
-  HasRoom-pop room (None ∷ cs) b h = absurd h
-  HasRoom-pop room (Some c ∷ cs) b h =
-      let under = HasRoom-pop (room - 1) cs b h.2 in
+  FitsCapacity-pop : (room : ℕ) (bs : List (Option (Bor (Branch V)))) (b : Bor (Branch V)) → FitsCapacity room (bs ++ Some b ∷ []) → Popped room bs b.now
+  FitsCapacity-pop room [] b h = record { rest = tt; fits = omega arith; balanced = h.1 }
+  FitsCapacity-pop room (None ∷ cs) b h = absurd h
+  FitsCapacity-pop room (Some c ∷ cs) b h =
+      let under = FitsCapacity-pop (room - 1) cs b h.2 in
       let positive : 0 < b.now.height = omega (arith, under.balanced.height) in
       record { rest = (h.0, h.1, under.rest); fits = omega (arith, under.fits); balanced = under.balanced }
 
-  pub popped : (room same_room : ℕ) (items bs : List (Option (Bor (Branch V)))) (b : Bor (Branch V)) → HasRoom room items → items ≡ bs ++ Some b ∷ []
+  pub popped : (room same_room : ℕ) (items bs : List (Option (Bor (Branch V)))) (b : Bor (Branch V)) → FitsCapacity room items → items ≡ bs ++ Some b ∷ []
       → same_room ≡ room → Popped same_room bs b.now
-  popped room same_room items bs b h e r = rw r (HasRoom-pop room bs b (subst (HasRoom room) e h))
+  popped room same_room items bs b h e r = rw r (FitsCapacity-pop room bs b (subst (FitsCapacity room) e h))
 
-  no_blank : (room : ℕ) (bs : List (Option (Bor (Branch V)))) → HasRoom room (bs ++ None ∷ []) → ⊥
+  no_blank : (room : ℕ) (bs : List (Option (Bor (Branch V)))) → FitsCapacity room (bs ++ None ∷ []) → ⊥
   no_blank room [] h = h
   no_blank room (None ∷ cs) h = h
   no_blank room (Some c ∷ cs) h = no_blank (room - 1) cs h.2
 
   -- no place of the stack is empty
-  pub not_blank : (room : ℕ) (items bs : List (Option (Bor (Branch V)))) → HasRoom room items → items ≡ bs ++ None ∷ [] → ⊥
-  not_blank room items bs h e = no_blank room bs (subst (HasRoom room) e h)
+  pub not_blank : (room : ℕ) (items bs : List (Option (Bor (Branch V)))) → FitsCapacity room items → items ≡ bs ++ None ∷ [] → ⊥
+  not_blank room items bs h e = no_blank room bs (subst (FitsCapacity room) e h)
 
   -- a branch's tree has a level at least
   pub tall : {tree : EntryList V × ℕ} (b : Bor (Branch V)) → (tree ≡ (branch_entries b.now, b.now.height)) × IsBalanced b.now → 0 < tree.1
@@ -56,7 +56,7 @@ module _ {V : Type 0} where
 
   -- while a tree's left sides go on the stack: the stack fits, so does the tree, and both together hold all the entries
   pub record Descends (room : ℕ) (bs : List (Option (Bor (Branch V)))) (tree : EntryList V × ℕ) (all : EntryList V) : Type 0 where
-    pub fits : HasRoom room bs
+    pub fits : FitsCapacity room bs
     pub tree_fits : tree.1 + length bs ≤ room
     pub entries : tree.0 ++ pending bs ≡ all
 
@@ -67,7 +67,7 @@ module _ {V : Type 0} where
       let tall : tree.1 ≡ b.now.height = ap (λ t. t.1) is.0 in
       let pushed = length-append bs (Some b ∷ []) in
       record {
-        fits = rw (e, w) (HasRoom-push room bs b down.fits (omega (arith, down.tree_fits)) is.1);
+        fits = rw (e, w) (FitsCapacity-push room bs b down.fits (omega (arith, down.tree_fits)) is.1);
         tree_fits = rw (e, w) (omega (arith, down.tree_fits, is.1.height));
         entries = rw (e, pending-push bs b) (sym (append_assoc b.now.left.0 ((b.now.key, b.now.value) ∷ b.now.right.0) (pending bs))
             ∙ ap (λ t. t.0 ++ pending bs) (sym is.0) ∙ down.entries);

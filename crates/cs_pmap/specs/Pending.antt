@@ -13,7 +13,7 @@ module _ {V : Type 0} where
   pending (Some b ∷ bs) = pending bs ++ (b.now.key, b.now.value) ∷ b.now.right.0
 
   -- each place has a branch, which is balanced and, with the branches under it on the stack, is low enough for its height
-  abbrev pub HasRoom : ℕ → List (Option (Bor (Branch V))) → Type 0
-  HasRoom room [] = Unit {0}
-  HasRoom room (None ∷ bs) = ⊥
-  HasRoom room (Some b ∷ bs) = (b.now.height ≤ room) × IsBalanced b.now × HasRoom (room - 1) bs
+  abbrev pub FitsCapacity : ℕ → List (Option (Bor (Branch V))) → Type 0
+  FitsCapacity capacity [] = Unit {0}
+  FitsCapacity capacity (None ∷ bs) = ⊥
+  FitsCapacity capacity (Some b ∷ bs) = (b.now.height ≤ capacity) × IsBalanced b.now × FitsCapacity (capacity - 1) bs

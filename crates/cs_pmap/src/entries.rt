@@ -1,7 +1,7 @@
 //! An iterator over a tree in the order of its keys.
 ghost use Rattle.std.specs.Prelude.{◌≡◌, ◌+◌, ◌≤◌, ◌++◌, IfOk};
 ghost use Rattle.std.specs.Iterator.{YieldsFirstBy, item_count};
-ghost use Rattle.cs_pmap.specs.Pending.{pending, HasRoom};
+ghost use Rattle.cs_pmap.specs.Pending.{pending, FitsCapacity};
 ghost use Rattle.smallvec.specs.SmallVec.{small_vec_len};
 
 use crate::tree::{Branch, Key, Tree};
@@ -19,13 +19,13 @@ pub struct Entries<'a, V> {
 
 impl<'a, V> Model for Entries<'a, V> {
     ghost use Rattle.cs_pmap.specs.Keys.{EntryList};
-    ghost use Rattle.cs_pmap.specs.Pending.{pending, HasRoom};
+    ghost use Rattle.cs_pmap.specs.Pending.{pending, FitsCapacity};
 
     ghost Value = { EntryList V };
 
     ghost view = { λ e. pending e.stack.items };
 
-    ghost invariant = { λ e. HasRoom e.stack.capacity e.stack.items };
+    ghost invariant = { λ e. FitsCapacity e.stack.capacity e.stack.items };
 }
 
 impl<'a, V> Entries<'a, V> {
@@ -55,10 +55,10 @@ impl<'a, V> Iterator for Entries<'a, V> {
 
 // Puts on the stack the root of the tree, the root of its left side, and so on.
 fn push_left_sides<'a, V>(stack: &mut SmallVec<Option<&'a Branch<V>>, 8>, mut tree: &'a Tree<V>)
-    requires fits { HasRoom stack.old.capacity stack.old.items }
+    requires fits { FitsCapacity stack.old.capacity stack.old.items }
     requires room { tree.now.1 + small_vec_len stack.old ≤ stack.old.capacity }
     ensures entries { pending stack.new.items ≡ tree.now.0 ++ pending stack.old.items }
-    ensures fits { HasRoom stack.new.capacity stack.new.items }
+    ensures fits { FitsCapacity stack.new.capacity stack.new.items }
 {
     while let Some(branch) = tree.branch() {
         stack.push_reserved(Some(branch));

@@ -4,7 +4,7 @@ use Rattle.cs_events.specs.declared.outcome.Outcome.{Outcome}
 use Rattle.cs_events.specs.Operations.{is_true}
 use Rattle.cs_events.specs.Acts.{Act}
 use Rattle.cs_events.specs.Runs.{Setting, Log, Performed, Continues, Finishes, perform, with_operation, with_allocation, with_access, with_read, with_touch}
-use Rattle.cs_events.specs.Runs.{has_room, number_of, read_cell}
+use Rattle.cs_events.specs.Runs.{allows_event, number_of, read_cell}
 use Rattle.cs_events.specs.Simulation.{Yields, both_go, both_stop, both_read, both_ask, both_allocate, both_reach, both_touch}
 
 -- a state is another one seen in some way
@@ -17,10 +17,10 @@ module _ {S T : Type 0} (seen : S → T) where
   seen_so (Continues next log) = Continues (seen next) log
   seen_so (Finishes outcome log) = Finishes outcome log
 
-  if_room : (room : Bool) (a : Performed S) (b : Performed T) (outcome : Outcome) (log : Log) → b ≡ seen_so a
+  if_allowed : (room : Bool) (a : Performed S) (b : Performed T) (outcome : Outcome) (log : Log) → b ≡ seen_so a
       → (if room then b else Finishes outcome log) ≡ seen_so (if room then a else Finishes outcome log)
-  if_room true a b outcome log same = same
-  if_room false a b outcome log same = refl
+  if_allowed true a b outcome log same = same
+  if_allowed false a b outcome log same = refl
 
   performs : (setting : Setting) (log : Log) {a : Act S} {b : Act T} → Yields (Seen seen) a b → perform setting log b ≡ seen_so (perform setting log a)
   unfolding perform
@@ -29,13 +29,13 @@ module _ {S T : Type 0} (seen : S → T) where
   performs setting log (both_read {path = path} {kind = kind} same) =
       performs setting (with_read log path kind) (same (read_cell setting path kind))
   performs setting log (both_ask {at = at} {operation = operation} same) =
-      if_room (has_room setting log) _ _ _ log
+      if_allowed (allows_event setting log) _ _ _ log
       (performs setting (with_operation setting log at operation) (same (number_of setting log operation)))
   performs setting log (both_allocate {at = at} {path = path} same) =
-      if_room (has_room setting log) _ _ _ log
+      if_allowed (allows_event setting log) _ _ _ log
       (performs setting (with_allocation setting log at path) (same (is_true (setting.inputs path))))
   performs setting log (both_reach {at = at} {object = object} {offset = offset} same) =
-      if_room (has_room setting log) _ _ _ log (performs setting (with_access log at object offset) same)
+      if_allowed (allows_event setting log) _ _ _ log (performs setting (with_access log at object offset) same)
   performs setting log (both_touch {touch = touch} same) = performs setting (with_touch log touch) same
 
   -- where one act leads on, so does the other

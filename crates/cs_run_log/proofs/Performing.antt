@@ -14,7 +14,7 @@ use Rattle.cs_events.specs.declared.input.InputKind.{InputKind}
 use Rattle.cs_events.specs.Touches.{Touch}
 use Rattle.cs_events.specs.Acts.{Act, Goes, Stops, Reads, Asks, Allocates, Reaches, Touches}
 use Rattle.cs_events.specs.Runs.{Setting, Log, Continues, Finishes, perform, with_operation, with_allocation, with_access, with_read, with_touch}
-use Rattle.cs_events.specs.Runs.{has_room, number_of, read_cell}
+use Rattle.cs_events.specs.Runs.{allows_event, number_of, read_cell}
 use Rattle.cs_meaning.specs.Machine.{State}
 use Rattle.cs_objects.proofs.Pushing.{map-push}
 
@@ -37,21 +37,21 @@ perform-Touches s log touch act = refl
 
 pub perform-Asks : (s : Setting) (log : Log) (at : Place) (operation : Operation) (onward : ℤ → Act State)
     → perform s log (Asks at operation onward)
-    ≡ (if has_room s log then perform s (with_operation s log at operation) (onward (number_of s log operation))
+    ≡ (if allows_event s log then perform s (with_operation s log at operation) (onward (number_of s log operation))
     else Finishes (Over Events at) log)
 unfolding perform
 perform-Asks s log at operation onward = refl
 
 pub perform-Allocates : (s : Setting) (log : Log) (at : Place) (path : Path) (onward : Bool → Act State)
     → perform s log (Allocates at path onward)
-    ≡ (if has_room s log then perform s (with_allocation s log at path) (onward (is_true (s.inputs path)))
+    ≡ (if allows_event s log then perform s (with_allocation s log at path) (onward (is_true (s.inputs path)))
     else Finishes (Over Events at) log)
 unfolding perform
 perform-Allocates s log at path onward = refl
 
 pub perform-Reaches : (s : Setting) (log : Log) (at : Place) (object : Object) (offset : ℤ) (act : Act State)
     → perform s log (Reaches at object offset act)
-    ≡ (if has_room s log then perform s (with_access log at object offset) act else Finishes (Over Events at) log)
+    ≡ (if allows_event s log then perform s (with_access log at object offset) act else Finishes (Over Events at) log)
 unfolding perform
 perform-Reaches s log at object offset act = refl
 

@@ -107,7 +107,7 @@ impl Log {
         ensures ok { IfOk result (Gives setting.now self.old self.new (Asks place operation)) }
         ensures err { IfErr result (StopsIn setting.now self.old self.new (Asks place operation)) }
     {
-        if !self.has_room(setting) {
+        if !self.allows_event(setting) {
             return Err(Stop::Outcome(Outcome::Over(Budget::Events, place)));
         }
         let guess = self.used_guess(setting, operation);
@@ -122,7 +122,7 @@ impl Log {
         ensures ok { OnOk result (GoesOn setting.now self.old self.new (shows_then place label)) }
         ensures err { IfErr result (EndsIn setting.now self.old self.new (shows_then place label)) }
     {
-        if !self.has_room(setting) {
+        if !self.allows_event(setting) {
             return Err(Stop::Outcome(Outcome::Over(Budget::Events, place)));
         }
         self.push(
@@ -161,7 +161,7 @@ impl Log {
         ensures ok { IfOk result (Gives setting.now self.old self.new (Allocates place path)) }
         ensures err { IfErr result (StopsIn setting.now self.old self.new (Allocates place path)) }
     {
-        if !self.has_room(setting) {
+        if !self.allows_event(setting) {
             return Err(Stop::Outcome(Outcome::Over(Budget::Events, place)));
         }
         let given = is_true(setting.inputs.get(&path));
@@ -183,7 +183,7 @@ impl Log {
         ensures err { IfErr result
             (EndsIn setting.now self.old self.new (Reaches place (object_of object.now) offset)) }
     {
-        if !self.has_room(setting) {
+        if !self.allows_event(setting) {
             return Err(Stop::Outcome(Outcome::Over(Budget::Events, place)));
         }
         let object = Box::new(*self.events.allocator(), object.copy()?)?;
@@ -202,8 +202,8 @@ impl Log {
     }
 
     // Whether one more event may be passed.
-    fn has_room(&self, setting: &Setting) -> bool
-        ensures { result ≡ runs.has_room (setting_of setting.now) (log_of self.now) }
+    fn allows_event(&self, setting: &Setting) -> bool
+        ensures { result ≡ runs.allows_event (setting_of setting.now) (log_of self.now) }
     {
         (self.events.len() as u64) < setting.budgets.events
     }

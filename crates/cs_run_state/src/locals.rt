@@ -1,8 +1,7 @@
 //! Locals of the frame that runs: what is stored in them, and the pieces of initializers (C11 6.7.9).
 ghost use Rattle.std.specs.Prelude.{◌≡◌, OnOk, Some, map};
-ghost use Rattle.cs_types.specs.Layout.{IsLaidOut};
 ghost use Rattle.cs_types.specs.Shape.{shape_of};
-ghost use Rattle.cs_ast.specs.TypedProgram.{typed_program};
+ghost use Rattle.cs_ast.specs.TypedProgram.{HasLayouts, typed_program};
 ghost use Rattle.cs_ast.specs.TypedView.{initial};
 ghost use Rattle.cs_events.specs.Acts.{Goes};
 ghost use Rattle.cs_events.specs.Objects.{LocalObject};
@@ -64,7 +63,7 @@ impl<'a> Machine<'a> {
         offset: u64,
         bytes: &[u8],
     ) -> Result<(), AllocError>
-        requires { IsLaidOut program.now.model program.now.table.list }
+        requires { HasLayouts program.now }
         ensures { OnOk result (Goes (state_of self.new)
             ≡ meaning.spell_local (typed_program program.now) declaration offset bytes.now
             (state_of self.old)) }
@@ -82,7 +81,7 @@ impl<'a> Machine<'a> {
         declaration: u32,
         first: &'a Initial,
     ) -> Result<(), AllocError>
-        requires { IsLaidOut program.now.model program.now.table.list }
+        requires { HasLayouts program.now }
         ensures { OnOk result (state_of self.new
             ≡ machine.to_do (meaning.stores_pieces place declaration
             (initials.pieces (typed_program program.now)

@@ -1,8 +1,7 @@
 //! The state in which the exploration of an entry begins.
 ghost use Rattle.std.specs.Prelude.{◌≡◌, ℤ, pos, IsTrue, [], length, map, replicate, slice_get, Some, option_map, unwrap_or, IfOk, OnOk};
 ghost use Rattle.cs_types.specs.Shape.{shape_of};
-ghost use Rattle.cs_types.specs.Layout.{IsLaidOut};
-ghost use Rattle.cs_ast.specs.TypedProgram.{typed_program, variable, routine};
+ghost use Rattle.cs_ast.specs.TypedProgram.{HasLayouts, typed_program, variable, routine};
 ghost use Rattle.cs_ranges.specs.Interval.{IsInside};
 ghost use Rattle.cs_ranges.specs.RangeSet.{contains, IsInhabited};
 ghost use Rattle.cs_events.specs.Operations as operations;
@@ -52,7 +51,7 @@ impl State {
         entry: u32,
         tables: &mut Tables,
     ) -> Result<State, AllocError>
-        requires laid_out { IsLaidOut program.now.model program.now.table.list }
+        requires laid_out { HasLayouts program.now }
         requires sizes { HaveSizes (typed_program program.now)
             (parameters_of (routine_of (typed_program program.now) entry)) }
         requires names { DifferInName
@@ -103,7 +102,7 @@ impl State {
         parameters: &[Local],
         tables: &mut Tables,
     ) -> Result<(), AllocError>
-        requires laid_out { IsLaidOut program.now.model program.now.table.list }
+        requires laid_out { HasLayouts program.now }
         requires sizes { HaveSizes (typed_program program.now) (map variable parameters.now) }
         requires names { DifferInName (map variable parameters.now) }
         requires new { HasReceived (typed_program program.now) (naming tables.old)
@@ -128,7 +127,7 @@ impl State {
         parameter: &Local,
         tables: &mut Tables,
     ) -> Result<(), AllocError>
-        requires laid_out { IsLaidOut program.now.model program.now.table.list }
+        requires laid_out { HasLayouts program.now }
         requires sizes { HasSizes (typed_program program.now) (shape_of parameter.now.ty) }
         ensures tables { Extends (naming tables.old) (naming tables.new) }
         ensures ok { OnOk result (Receives (typed_program program.now) (naming tables.new) number
@@ -154,7 +153,7 @@ impl State {
         parameter: &Local,
         tables: &mut Tables,
     ) -> Result<Value, AllocError>
-        requires laid_out { IsLaidOut program.now.model program.now.table.list }
+        requires laid_out { HasLayouts program.now }
         requires sizes { HasSizes (typed_program program.now) (shape_of parameter.now.ty) }
         ensures tables { Extends (naming tables.old) (naming tables.new) }
         ensures ok { IfOk result (λ value. Gives (typed_program program.now) (naming tables.new)

@@ -1,8 +1,8 @@
 //! The blocks after unknown pointers.
 ghost use Rattle.std.specs.Prelude.{◌≡◌, IfOk};
-ghost use Rattle.cs_types.specs.Layout.{IsLaidOut, HasSmallSizes};
+ghost use Rattle.cs_types.specs.Layout.{HasSmallSizes};
 ghost use Rattle.cs_types.specs.Shape.{shape_of};
-ghost use Rattle.cs_ast.specs.TypedProgram.{typed_program};
+ghost use Rattle.cs_ast.specs.TypedProgram.{HasLayouts, typed_program};
 ghost use Rattle.cs_meaning.specs.Types as types;
 ghost use Rattle.cs_meaning.specs.Memory as meaning;
 
@@ -12,7 +12,7 @@ use std::alloc::AllocError;
 
 // The bytes of what a pointer to a type points to: after a `void *` these are single bytes (C11 6.3.2.3).
 fn element_size(program: &Program, target: &CType) -> u64
-    requires laid_out { IsLaidOut program.now.model program.now.table.list }
+    requires laid_out { HasLayouts program.now }
     requires small { HasSmallSizes program.now.model program.now.table.list (shape_of target.now) }
     ensures { result
         ≡ types.size_of (typed_program program.now) (types.element_of (shape_of target.now)) }
@@ -29,7 +29,7 @@ fn element_size(program: &Program, target: &CType) -> u64
 
 /// The bytes of the block after an unknown pointer: so many elements, or as many as such a block has.
 pub fn start_bytes(program: &Program, target: &CType, count: Option<u64>) -> Result<u64, AllocError>
-    requires laid_out { IsLaidOut program.now.model program.now.table.list }
+    requires laid_out { HasLayouts program.now }
     requires small { HasSmallSizes program.now.model program.now.table.list (shape_of target.now) }
     ensures { IfOk result (λ bytes. bytes
         ≡ meaning.start_extent (typed_program program.now)

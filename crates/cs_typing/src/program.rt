@@ -1,7 +1,6 @@
 //! The typed program of a file.
 ghost use Rattle.std.specs.Prelude.{◌≡◌, IfOk};
-ghost use Rattle.cs_types.specs.Layout.{IsLaidOut};
-ghost use Rattle.cs_ast.specs.TypedProgram.{typed_program};
+ghost use Rattle.cs_ast.specs.TypedProgram.{HasLayouts, typed_program};
 ghost use Rattle.cs_scopes.specs.Verdicts.{Answers};
 ghost use Rattle.cs_typing.specs.Programs.{constants_in, typed};
 ghost use Rattle.cs_well_formed.specs.Files.{IsFileTree};
@@ -58,7 +57,7 @@ pub fn typed(
     file: &[RawExternal],
 ) -> Result<Program, TypeRefusal>
     ensures reported { Answers typed_program (typed model files.now tokens.now file.now) result }
-    ensures laid_out { IfOk result (λ program. IsLaidOut program.model program.table.list) }
+    ensures laid_out { IfOk result (λ program. HasLayouts program) }
     ensures well_formed { IsFileTree files.now tokens.now file.now
         → IfOk result (λ program. IsWellFormed (typed_program program)) }
 {

@@ -1,8 +1,7 @@
 //! What constant expressions give (C11 6.6).
 ghost use Rattle.std.specs.Prelude.{◌≡◌, ◌+ℤ◌, ◌*ℤ◌, pos, IfOk};
 ghost use Rattle.cs_types.specs.Shape.{shape_of, integer};
-ghost use Rattle.cs_types.specs.Layout.{IsLaidOut};
-ghost use Rattle.cs_ast.specs.TypedProgram.{typed_program};
+ghost use Rattle.cs_ast.specs.TypedProgram.{HasLayouts, typed_program};
 ghost use Rattle.cs_ast.specs.TypedView.{typed};
 ghost use Rattle.cs_events.specs.Objects.{NumberCell};
 ghost use Rattle.cs_events.specs.Operations as operations;
@@ -24,7 +23,7 @@ use std::alloc::AllocError;
 /// The value of a constant expression: each operation has its own result.
 #[cycle(constant)]
 pub fn constant(program: &Program, e: &Expr) -> Result<Cell, AllocError>
-    requires { IsLaidOut program.now.model program.now.table.list }
+    requires { HasLayouts program.now }
     ensures { IfOk result (λ cell.
         cell_of cell ≡ initials.constant (typed_program program.now) (typed e.now)) }
 {
@@ -103,7 +102,7 @@ pub fn constant(program: &Program, e: &Expr) -> Result<Cell, AllocError>
 // The number of a constant expression; a pointer counts as 0.
 #[cycle(constant)]
 fn constant_number(program: &Program, e: &Expr) -> Result<i128, AllocError>
-    requires { IsLaidOut program.now.model program.now.table.list }
+    requires { HasLayouts program.now }
     ensures { IfOk result (λ number.
         number ≡ initials.number_in
         (initials.constant (typed_program program.now) (typed e.now))) }
@@ -115,7 +114,7 @@ fn constant_number(program: &Program, e: &Expr) -> Result<i128, AllocError>
 // Whether a constant expression is other than 0 and null.
 #[cycle(constant)]
 fn constant_truth(program: &Program, e: &Expr) -> Result<bool, AllocError>
-    requires { IsLaidOut program.now.model program.now.table.list }
+    requires { HasLayouts program.now }
     ensures { IfOk result (λ holds.
         holds ≡ initials.is_set (initials.constant (typed_program program.now) (typed e.now))) }
 {
@@ -142,7 +141,7 @@ pub fn integer_of(ty: &CType) -> IntType
 
 /// The bytes of what a pointer of a type points to (C11 6.2.5, paragraph 20).
 pub fn target_size(program: &Program, ty: &CType) -> Result<u64, AllocError>
-    requires { IsLaidOut program.now.model program.now.table.list }
+    requires { HasLayouts program.now }
     ensures { IfOk result (λ bytes.
         bytes ≡ types.size_of (typed_program program.now) (types.target_of (shape_of ty.now))) }
 {

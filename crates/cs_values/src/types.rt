@@ -2,7 +2,7 @@
 ghost use Rattle.std.specs.Prelude.{◌≡◌, ◌*◌, ◌^◌, ◌≤◌, IsTrue, IfOk};
 ghost use Rattle.cs_types.specs.Shape.{shape_of, array};
 ghost use Rattle.cs_types.specs.Layout.{IsLaidOut, HasSmallSizes, IsSmall};
-ghost use Rattle.cs_ast.specs.TypedProgram.{typed_program};
+ghost use Rattle.cs_ast.specs.TypedProgram.{HasLayouts, typed_program};
 ghost use Rattle.cs_meaning.specs.Types as types;
 
 use cs_ast::typed::program::Program;
@@ -11,7 +11,7 @@ use std::alloc::AllocError;
 
 /// The bytes of a type; an incomplete one has none (C11 6.5.3.4). More than 2^40 bytes are want of memory.
 pub fn size_of(program: &Program, ty: &CType) -> Result<u64, AllocError>
-    requires { IsLaidOut program.now.model program.now.table.list }
+    requires { HasLayouts program.now }
     ensures { IfOk result (λ bytes.
         bytes ≡ types.size_of (typed_program program.now) (shape_of ty.now)) }
 {

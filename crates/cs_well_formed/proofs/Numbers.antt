@@ -16,7 +16,7 @@ use Rattle.cs_types.specs.Layout.{complete_of}
 use Rattle.cs_types.specs.Shape.{Shape, void, integer, pointer, array, struct}
 use Rattle.cs_ast.specs.declared.token.IntegerConstant.{IntegerConstant}
 use Rattle.cs_scopes.specs.Sizes.{limited, bytes_in}
-use Rattle.cs_expressions.specs.Primary.{has_room, first_with_room, unsigned_types, decimal_types, other_types, constant_type}
+use Rattle.cs_expressions.specs.Primary.{can_represent, first_representing, unsigned_types, decimal_types, other_types, constant_type}
 use Rattle.cs_ast.specs.HeldTokens.{IsHeldConstant}
 
 -- every type holds the numbers to 127
@@ -85,12 +85,12 @@ bytes_in-small model table (struct number) n h =
 
 -- the first type that can represent a number does, if the last one does
 first-InRange : (model : DataModel) (n : ℕ) (last : IntType) (types : List IntType) → InRange model last (pos n)
-    → InRange model (first_with_room model n last types) (pos n)
+    → InRange model (first_representing model n last types) (pos n)
 first-InRange model n last [] h = h
-first-InRange model n last (ty ∷ types) h = by_room (has_room model ty n) refl (first-InRange model n last types h)
+first-InRange model n last (ty ∷ types) h = by_room (can_represent model ty n) refl (first-InRange model n last types h)
   where
-    by_room : (room : Bool) → has_room model ty n ≡ room → InRange model (first_with_room model n last types) (pos n)
-        → InRange model (cond room ty (first_with_room model n last types)) (pos n)
+    by_room : (room : Bool) → can_represent model ty n ≡ room → InRange model (first_representing model n last types) (pos n)
+        → InRange model (cond room ty (first_representing model n last types)) (pos n)
     by_room true is rest = upto-InRange model ty n (under (greatest_of model ty) is)
       where
         under : (high : ℤ) → int_le (pos n) high ≡ true → pos n ≤ℤ high
@@ -109,8 +109,8 @@ constant-InRange model k h = by_suffix k.unsigned refl k.decimal refl
     widest_signed below = record { from_least = omega (arith, ints); to_greatest = omega (arith, ints) }
 
     by_suffix : (unsigned : Bool) → k.unsigned ≡ unsigned → (decimal : Bool) → k.decimal ≡ decimal
-        → InRange model (cond unsigned (first_with_room model k.value ULLong (unsigned_types k.length))
-        (cond decimal (first_with_room model k.value LLong (decimal_types k.length)) (first_with_room model k.value ULLong (other_types k.length))))
+        → InRange model (cond unsigned (first_representing model k.value ULLong (unsigned_types k.length))
+        (cond decimal (first_representing model k.value LLong (decimal_types k.length)) (first_representing model k.value ULLong (other_types k.length))))
         (pos k.value)
     by_suffix true is decimal is' = first-InRange model k.value ULLong (unsigned_types k.length) widest
     by_suffix false is true is' = first-InRange model k.value LLong (decimal_types k.length) (widest_signed (h.fits_signed is' is))

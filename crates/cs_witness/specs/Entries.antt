@@ -1,7 +1,6 @@
 -- Entries whose runs are replayed.
 use Rattle.std.specs.Prelude.{ℕ}
-use Rattle.cs_ast.specs.TypedProgram.{typed_program}
-use Rattle.cs_types.specs.Layout.{IsLaidOut}
+use Rattle.cs_ast.specs.TypedProgram.{HasLayouts, typed_program}
 use Rattle.cs_events.specs.declared.outcome.RunBudgets.{RunBudgets}
 use Rattle.cs_meaning.specs.ProgramRuns.{ProgramRun, RunGives}
 use Rattle.cs_cfg.specs.GraphView as view
@@ -16,7 +15,7 @@ use Rattle.cs_witness.specs.declared.entry.Entry.{Entry}
 -- the runs of an entry can be replayed: the structs of the program are laid out, what its runs share is prepared, and the code is its
 -- lowering. A function without a body has no runs, and its replays are refused
 pub record CanRun (entry : Entry) : Type 0 where
-  pub laid_out : IsLaidOut entry.program.now.model entry.program.now.table.list
+  pub laid_out : HasLayouts entry.program.now
   pub prepared : IsPrepared entry.prepared.now entry.program.now
   pub lowered : IsLowered (view.code entry.code.now) (typed_program entry.program.now)
 

@@ -124,7 +124,7 @@ fn add_try(
     ensures { OnOk result (tries.new.items ≡ take 64 (tries.old.items
         ++ insert_entry path_order inputs.now path.now number ∷ [])) }
 {
-    if !has_room(tries) {
+    if !takes_more(tries) {
         return Ok(());
     }
     let other = with_number(alloc, inputs, path, number)?;
@@ -132,7 +132,7 @@ fn add_try(
     Ok(())
 }
 
-fn has_room(tries: &Vec<Inputs>) -> bool
+fn takes_more(tries: &Vec<Inputs>) -> bool
     ensures { result ≡ nat_lt (length tries.now.items) 64 }
 {
     tries.len() < MOST_TRIES

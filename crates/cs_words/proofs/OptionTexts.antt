@@ -135,16 +135,16 @@ pub alone : (word body name tail : List ℕ) (setting : Setting) → word ≡ 45
 alone word body name tail setting is cut named none =
     is ∙ ap (λ (t : List ℕ). 45 ∷ 45 ∷ t) (cut.whole ∙ ap (λ (t : List ℕ). name ++ t) none ∙ append-nil name ∙ sym named)
 
-joined_at : (name tail text : List ℕ) (mark : ℕ) → IsEmptyOrAt 61 tail → tail ≡ mark ∷ text → tail ≡ codes "=" ++ text
-joined_at name [] text mark at is = absurd (cc)
-joined_at name (b ∷ bs) text mark at is =
+joined_at : (name tail text : List ℕ) (separator : ℕ) → IsEmptyOrAt 61 tail → tail ≡ separator ∷ text → tail ≡ codes "=" ++ text
+joined_at name [] text separator at is = absurd (cc)
+joined_at name (b ∷ bs) text separator at is =
     let rest : bs ≡ text = ap (drop 1) is in
     (λ i. at i ∷ rest i)
 
-pub with_text : (word body name tail text : List ℕ) (mark : ℕ) (setting : Setting) → word ≡ 45 ∷ 45 ∷ body → SplitsBefore 61 body name tail
-    → setting_text setting ≡ name → tail ≡ mark ∷ text → word ≡ option_text setting (Some text)
-with_text word body name tail text mark setting is cut named marked =
-    is ∙ ap (λ (t : List ℕ). 45 ∷ 45 ∷ t) (cut.whole ∙ ap (λ (t : List ℕ). name ++ t) (joined_at name tail text mark cut.at marked)
+pub with_text : (word body name tail text : List ℕ) (separator : ℕ) (setting : Setting) → word ≡ 45 ∷ 45 ∷ body → SplitsBefore 61 body name tail
+    → setting_text setting ≡ name → tail ≡ separator ∷ text → word ≡ option_text setting (Some text)
+with_text word body name tail text separator setting is cut named marked =
+    is ∙ ap (λ (t : List ℕ). 45 ∷ 45 ∷ t) (cut.whole ∙ ap (λ (t : List ℕ). name ++ t) (joined_at name tail text separator cut.at marked)
     ∙ ap (λ (t : List ℕ). t ++ (codes "=" ++ text)) (sym named)) ∙ sym (after_dashes setting (Some text))
 
 pub unknown : (word body name tail : List ℕ) → word ≡ 45 ∷ 45 ∷ body → SplitsBefore 61 body name tail

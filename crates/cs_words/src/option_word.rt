@@ -1,12 +1,11 @@
 //! Words that name an option.
-ghost use Rattle.std.specs.Prelude.{◌≡◌, ◌==◌, ℕ, List, Option, MatchOption};
-ghost use Rattle.std.specs.List.{position_or_len};
-ghost use Rattle.cs_inputs.specs.Reading.{SplitsBefore};
+ghost use Rattle.std.specs.Prelude.{◌≡◌, ℕ, List, Option, MatchOption};
 ghost use Rattle.cs_words.specs.Settings as given;
 ghost use Rattle.cs_words.specs.Settings.{option_text};
 ghost use Rattle.cs_words.specs.Scan.{IsOption, setting_in};
 
 use crate::setting::{Setting, setting_named};
+use cs_inputs::split_before;
 
 /// A word `--name`, or `--name=value` with the value's text.
 #[derive(Clone, Copy, Debug)]
@@ -37,18 +36,4 @@ pub fn option_of(word: &[u8]) -> Option<OptionWord<'_>>
         Some((_, text)) => Some(OptionWord::With(setting, text)),
         None => Some(OptionWord::Alone(setting)),
     }
-}
-
-// The bytes before the first separator, and the rest from it on; all and nothing if there is none.
-fn split_before(text: &[u8], mark: u8) -> (&[u8], &[u8])
-    ensures { SplitsBefore mark text.now result.0.now result.1.now }
-{
-    text.split_at(length_before(text, mark))
-}
-
-// How many bytes come before the first separator.
-fn length_before(text: &[u8], mark: u8) -> usize
-    ensures { result ≡ position_or_len (λ b. b == mark) text.now }
-{
-    text.iter().take_while(|byte| **byte != mark).count()
 }

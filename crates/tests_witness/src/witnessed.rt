@@ -1,6 +1,5 @@
 //! What the witness says of suspects of a function of a file.
-ghost use Rattle.cs_types.specs.Layout.{IsLaidOut};
-ghost use Rattle.cs_ast.specs.TypedProgram.{typed_program};
+ghost use Rattle.cs_ast.specs.TypedProgram.{HasLayouts, typed_program};
 ghost use Rattle.cs_cfg.specs.GraphView as view;
 ghost use Rattle.cs_cfg.specs.Lowered.{IsLowered};
 ghost use Rattle.cs_objects.specs.Prepared.{IsPrepared};
@@ -53,7 +52,7 @@ fn prepared_said(
     code: &Code,
     lines: &str,
 ) -> Result<Vec<u8>, AllocError>
-    requires laid_out { IsLaidOut program.now.model program.now.table.list }
+    requires laid_out { HasLayouts program.now }
     requires prepared { IsPrepared prepared.now program.now }
     requires lowered { IsLowered (view.code code.now) (typed_program program.now) }
 {

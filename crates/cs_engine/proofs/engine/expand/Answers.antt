@@ -16,7 +16,7 @@ returns-clause-grows g c =
     grows_on c.args.findings.now (record c.args.findings.now { tables = c.find.new.tables }) c.add_all.new.self
     (grows_same c.args.findings.now (record c.args.findings.now { tables = c.find.new.tables }) refl refl refl refl)
     (grows_on (record c.args.findings.now { tables = c.find.new.tables }) c.add_ends.new.self c.add_all.new.self c.in_ok-add_ends.ensures.grows
-    (grows_on c.add_ends.new.self c.add_cuts.new.self c.add_all.new.self c.in_ok-add_cuts.ensures.grows c.in_ok-room.ensures.grows))
+    (grows_on c.add_ends.new.self c.add_cuts.new.self c.add_all.new.self c.in_ok-add_cuts.ensures.grows c.in_ok-added.ensures.grows))
 
 pub returns-clause-expands : goal.returns-clause-expands
 returns-clause-expands g c every entry explores gone kept =
@@ -34,5 +34,5 @@ returns-clause-expands g c every entry explores gone kept =
     subst (λ (cuts : List Cut). AddsCuts cuts c.add_ends.new.self c.add_cuts.new.self) c.deref-2.ensures.value c.in_ok-add_cuts.ensures.adds in
     expanded_kept c.args.exploration.now entry explores c.keys_are_exact.ensures c.args.findings.now c.add_ends.new.self c.add_cuts.new.self
     c.add_all.new.self c.find.new.tables c.args.row from there c.find.new.self.made.items c.find.new.self.ends.items c.find.new.self.cuts.items
-    c.find.ensures.extends c.in_ok-add_ends.ensures.adds cutting c.in_ok-room.ensures.rest comes gone c.have_each_once.ensures.bases
-    c.have_each_once.ensures.syms c.in_ok-room.ensures.grows.nodes kept c.in_ok-room.room c.in_ok-room.ensures.all
+    c.find.ensures.extends c.in_ok-add_ends.ensures.adds cutting c.in_ok-added.ensures.rest comes gone c.have_each_once.ensures.bases
+    c.have_each_once.ensures.syms c.in_ok-added.ensures.grows.nodes kept c.in_ok-added.added c.in_ok-added.ensures.all

@@ -17,7 +17,7 @@ loop-preserved g c = record {
   kept = λ every entry explores first.
       let so_far = c.loop.invariant.kept every entry explores first in
       let given = c.in-Some.ensures.some in
-      subst (λ (room : Bool). LeadsOn c.args.exploration.now entry room c.expand.new.findings) c.if-not-branch.false
+      subst (λ (added : Bool). LeadsOn c.args.exploration.now entry added c.expand.new.findings) c.if-not-branch.false
       (c.in_ok-expand.ensures.expands (λ fault. subst (Any (λ one. one ≡ fault)) (sym c.loop.invariant.kinds) (every fault)) entry explores
       (λ waits. given.gone waits.0 waits.1)
       (given_kept c.args.exploration.now entry explores c.loop.findings c.next.new.self c.in-Some.row given c.next.ensures.rest so_far));
@@ -33,7 +33,7 @@ pub returns-then-not-branch-clause-done : goal.returns-then-not-branch-clause-do
 returns-then-not-branch-clause-done g c every entry explores first =
     let so_far = c.loop.invariant.kept every entry explores first in
     let given = c.in-Some.ensures.some in
-    subst (λ (room : Bool). LeadsOn c.args.exploration.now entry room c.expand.new.findings) c.if-not-branch.true
+    subst (λ (added : Bool). LeadsOn c.args.exploration.now entry added c.expand.new.findings) c.if-not-branch.true
     (c.in_ok-expand.ensures.expands (λ fault. subst (Any (λ one. one ≡ fault)) (sym c.loop.invariant.kinds) (every fault)) entry explores
     (λ waits. given.gone waits.0 waits.1)
     (given_kept c.args.exploration.now entry explores c.loop.findings c.next.new.self c.in-Some.row given c.next.ensures.rest so_far))

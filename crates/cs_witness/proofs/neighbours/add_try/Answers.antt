@@ -9,8 +9,8 @@ use Rattle.cs_inputs.specs.PathOrder.{path_order}
 use Rattle.cs_witness.proofs.Tries.{joins, stays_out}
 use Rattle.cs_witness.proofs.neighbours.add_try.Goals as goal
 
-pub returns-then-not-has_room : goal.returns-then-not-has_room
-returns-then-not-has_room c =
+pub returns-then-not-takes_more : goal.returns-then-not-takes_more
+returns-then-not-takes_more c =
     let tries = c.args.tries.now.items in
     let full : 64 ≤ length tries = grind (arith, nat_tests) in
     stays_out 64 tries (insert_entry path_order c.args.inputs.now c.args.path.now c.args.number) full c.requires

@@ -20,6 +20,6 @@ pub returns-in_ok-add_new-in-None-clause-added : goal.returns-in_ok-add_new-in-N
 returns-in_ok-add_new-in-None-clause-added g c = (
   subst (λ now. IsUnseen g.K.PartialEq.eq c.args.key now.keys) c.self.view_is
       (none_passes (g.K.PartialEq.eq c.args.key) c.self.inside.keys.entries (sym c.number_of.ensures ∙ c.in-None.is)),
-  c.in_ok-add_new-in-None.ensures.room,
+  c.in_ok-add_new-in-None.ensures.below_limit,
   c.in_ok-add_new-in-None.ensures.new,
 )

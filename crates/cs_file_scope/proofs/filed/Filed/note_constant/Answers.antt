@@ -4,8 +4,8 @@ use Rattle.cs_ast.specs.TypedProgram.{FileObject, file_object}
 use Rattle.cs_file_scope.specs.Objects.{with_globals, made_constant}
 use Rattle.cs_file_scope.specs.View.{filed_of}
 use Rattle.cs_file_scope.proofs.ChangedParts.{changed_at, changed_past}
-use Rattle.cs_file_scope.proofs.filed.Filed.mark.Goals as goal
-use Rattle.cs_file_scope.proofs.filed.Filed.mark.Goals.{then-global, else-global}
+use Rattle.cs_file_scope.proofs.filed.Filed.note_constant.Goals as goal
+use Rattle.cs_file_scope.proofs.filed.Filed.note_constant.Goals.{then-global, else-global}
 
 pub returns-after-global : goal.returns-after-global
 returns-after-global c =
