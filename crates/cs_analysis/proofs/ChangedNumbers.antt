@@ -1,5 +1,6 @@
 -- A symbol that is given another number: what that makes of the inputs and guesses of a valuation's run, by the symbol's name. For `IsEvident`.
-use Rattle.std.proofs.Common.{◌≡◌, ◌≢◌, ℕ, zero, suc, ◌==◌, ℤ, Bool, true, false, cond, List, [], ◌∷◌, map, All, Some, slice_get, inl, inr}
+use Rattle.std.proofs.Common.{◌≡◌, ◌≢◌, ℕ, zero, suc, ◌==◌, ℤ, Bool, true, false, cond, List, [], ◌∷◌, map, All, Some, slice_get, inl}
+use Rattle.std.proofs.Common.{inr}
 use Rattle.std.proofs.Common.{if◌then◌else◌, refl, sym, ap, ◌∙◌, subst}
 use Rattle.std.specs.Prelude.{nat_lt, filter}
 use Rattle.std.proofs.lemmas.Bool.Decides.{eqb_tells}
@@ -67,13 +68,15 @@ here_too : (b : Bool) (number own other : ℤ) → (if b then number else other)
 here_too true number own other = refl
 here_too false number own other = refl
 
-one_of_two : (first second : Bool) (number own before after : ℤ) → (first ≡ true → second ≡ true → ⊥) → after ≡ (if second then number else before)
+one_of_two : (first second : Bool) (number own before after : ℤ) → (first ≡ true → second ≡ true → ⊥)
+    → after ≡ (if second then number else before)
     → (if first then own else after) ≡ (if second then number else (if first then own else before))
 one_of_two true true number own before after apart is = absurd (apart refl refl)
 one_of_two true false number own before after apart is = refl
 one_of_two false second number own before after apart is = is
 
-first_apart : {Name : Type 0} (first : Name) (names : List Name) → HasEachOnce (first ∷ names) → (symbol : ℕ) → slice_get names symbol ≡ Some first → ⊥
+first_apart : {Name : Type 0} (first : Name) (names : List Name) → HasEachOnce (first ∷ names) → (symbol : ℕ) → slice_get names symbol ≡ Some first
+    → ⊥
 first_apart first names once symbol there =
     let same : 0 ≡ suc symbol = once 0 (suc symbol) first refl there in
     absurd (cc)
@@ -139,7 +142,8 @@ module _ (names : List SymName) where
       | inr apart ↦ by (is_guess event name) refl apart.1
     ]
       where
-        by : (b : Bool) → is_guess event name ≡ b → guess ≢ symbol → with_number symbol number v guess ≡ (if is_guess event name then number else v guess)
+        by : (b : Bool) → is_guess event name ≡ b → guess ≢ symbol
+            → with_number symbol number v guess ≡ (if is_guess event name then number else v guess)
         by true is apart =
             let named_so : slice_get names symbol ≡ Some (GuessAt event)
             = subst (λ (n : SymName). slice_get names symbol ≡ Some n) (guess_named event name is) there in

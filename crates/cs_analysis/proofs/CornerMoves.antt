@@ -102,16 +102,19 @@ module _ (names : Naming) where
       abbrev IsItsEnd : ℤ → Type 0
       IsItsEnd number = (number ≡ range.least) ⊎ (number ≡ range.greatest)
 
-      its_number : (symbol : Option Sym) → symbol ≡ Some own → (number : ℤ) (other : Sym) → symbol ≡ Some other → moved (one number) other.0 ≡ number
+      its_number : (symbol : Option Sym) → symbol ≡ Some own → (number : ℤ) (other : Sym) → symbol ≡ Some other
+          → moved (one number) other.0 ≡ number
       its_number symbol is number other same =
           subst (λ (s : ℕ). moved (one number) s ≡ number) (the_symbol symbol own other is same) (number_there own.0 number v)
 
-      has_end : (symbol : Option Sym) (ends : Interval) → IsOverOne symbol ends → (number : ℤ) → IsItsEnd number → HasEnd names symbol ends (moved (one number))
+      has_end : (symbol : Option Sym) (ends : Interval) → IsOverOne symbol ends → (number : ℤ) → IsItsEnd number
+          → HasEnd names symbol ends (moved (one number))
       has_end symbol ends (inl none) number is = λ other there named. absurd (none other there named)
       has_end symbol ends (inr (is, low, high)) number (inl least) = λ other there named. inl (its_number symbol is number other there ∙ least ∙ low)
       has_end symbol ends (inr (is, low, high)) number (inr most) = λ other there named. inr (its_number symbol is number other there ∙ most ∙ high)
 
-      agrees : (symbol : Option Sym) (ends : Interval) → IsOverOne symbol ends → (w : Valuation) → KeepsUnnamed w → (number : ℤ) → w own.0 ≡ number
+      agrees : (symbol : Option Sym) (ends : Interval) → IsOverOne symbol ends → (w : Valuation) → KeepsUnnamed w
+          → (number : ℤ) → w own.0 ≡ number
           → AgreeAt symbol w (moved (one number))
       agrees symbol ends (inl none) w kept number same =
           λ other there. kept other (none other there)
@@ -209,7 +212,8 @@ module _ (names : Naming) where
       is_right x y (inl least) = λ other so named. inl (at_second x y other so ∙ least ∙ right_low)
       is_right x y (inr most) = λ other so named. inr (at_second x y other so ∙ most ∙ right_high)
 
-      is_corner : (x y : ℤ) → (x ≡ left.least) ⊎ (x ≡ left.greatest) → (y ≡ right.least) ⊎ (y ≡ right.greatest) → IsAtEnds names asked v (moved (two x y))
+      is_corner : (x y : ℤ) → (x ≡ left.least) ⊎ (x ≡ left.greatest) → (y ≡ right.least) ⊎ (y ≡ right.greatest)
+          → IsAtEnds names asked v (moved (two x y))
       is_corner x y one other = record { left = is_left x y one; right = is_right x y other; others = beside x y }
 
       abbrev all_four : List Moves

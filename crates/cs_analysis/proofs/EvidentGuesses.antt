@@ -1,5 +1,6 @@
 -- The suspected guesses of an end of an exploration are evident: the corners of the valuation are those of the suspected guess.
-use Rattle.std.proofs.Common.{◌≡◌, ◌≢◌, ◌⊎◌, inl, inr, ◌<◌, ℕ, ℤ, List, [], ◌∷◌, map, length, Option, None, Some, All, slice_get}
+use Rattle.std.proofs.Common.{◌≡◌, ◌≢◌, ◌⊎◌, inl, inr, ◌<◌, ℕ, ℤ, List, [], ◌∷◌, map, length, Option, None, Some, All}
+use Rattle.std.proofs.Common.{slice_get}
 use Rattle.std.proofs.Common.{refl, sym, ap, ◌∙◌, subst, arith}
 use Rattle.std.specs.Prelude.{option_map, Contains}
 use Rattle.std.specs.FinMap as finite
@@ -125,7 +126,8 @@ module _ (code : Code) (program : TypedProgram) (entry : ℕ) (budgets : RunBudg
           → ChangedCome program entry budgets suspect (changes_of names.syms moves) event cornered.passed cornered.at operation
           (operands_under cornered.meant (after names.syms moves v))
       come_changed moves event comes run other is so =
-          subst (λ (o : Operation). Comes program entry budgets other cornered.passed (Operates cornered.at o)) (sym (cornered.same (after names.syms moves v)))
+          subst (λ (o : Operation). Comes program entry budgets other cornered.passed (Operates cornered.at o))
+          (sym (cornered.same (after names.syms moves v)))
           (comes_alike code program entry budgets lowered works (before event (run_at names state (after names.syms moves v))) other
           (changed_alike moves event run other is so) cornered.passed (Operates cornered.at (operation_of (after names.syms moves v) cornered.meant)) comes)
 
@@ -159,7 +161,8 @@ module _ (code : Code) (program : TypedProgram) (entry : ℕ) (budgets : RunBudg
             operands_alike x w asked.asks asked.left asked.right cornered.meant cornered.asks
             (λ own is. also own (none.0 own is) ∙ sym (kept own (none.0 own is))) (λ own is. also own (none.1 own is) ∙ sym (kept own (none.1 own is)))
 
-        none_differs : HasNone → (w : Valuation) → KeepsUnnamed names once asked v w → (others : Others Valuation) → EachIs (IsAtEnds names asked v) others
+        none_differs : HasNone → (w : Valuation) → KeepsUnnamed names once asked v w
+            → (others : Others Valuation) → EachIs (IsAtEnds names asked v) others
             → AllOthers (λ (pair : Pair). pair ≡ operands_under cornered.meant w) (each_other (operands_under cornered.meant) others)
         none_differs none w kept (One x) ends = same_everywhere none w x kept (keeps_unnamed names once asked v x ends)
         none_differs none w kept (Two x y) ends = (
@@ -279,7 +282,8 @@ module _ (code : Code) (program : TypedProgram) (entry : ℕ) (budgets : RunBudg
             )
 
         corners_come_later : (later : ℕ) (other : SuspectedGuess) (its : List Changes) (changes : Changes) → number < later
-            → slice_get suspect.guesses.items later ≡ Some other → AreCorners other.left other.right its → Contains its changes → ComesLater changes other
+            → slice_get suspect.guesses.items later ≡ Some other → AreCorners other.left other.right its → Contains its changes
+            → ComesLater changes other
         corners_come_later later other its changes before there are within =
             let found = from_place (suspected names v) all later other
             (subst (λ (list : List SuspectedGuess). slice_get list later ≡ Some other) guesses there) in

@@ -48,12 +48,14 @@ plain_cell (Scalar cell) plain = plain
 plain_cell (Whole cells) plain = absurd plain
 plain_cell NoOperand plain = tt
 
-there_after : (change : Block → Block) → ((block : Block) → IsPlainBlock block → IsPlainBlock (change block)) → (found : Option Block) → IsPlainThere found
+there_after : (change : Block → Block) → ((block : Block) → IsPlainBlock block → IsPlainBlock (change block))
+    → (found : Option Block) → IsPlainThere found
     → IsPlainThere (option_map change found)
 there_after change keeps None plain = tt
 there_after change keeps (Some block) plain = keeps block plain
 
-pub memory_after : (change : Block → Block) → ((block : Block) → IsPlainBlock block → IsPlainBlock (change block)) → (object : Object) (memory : Memory)
+pub memory_after : (change : Block → Block) → ((block : Block) → IsPlainBlock block → IsPlainBlock (change block))
+    → (object : Object) (memory : Memory)
     → IsPlainMemory memory → IsPlainMemory (changed change object memory)
 memory_after change keeps object memory plain frame declaration =
     either IsPlainThere (same_object object (LocalObject frame declaration)) _ _
@@ -64,7 +66,8 @@ written_cell : (cell other : Cell) (found : Option Cell) → IsPlainCell cell �
 written_cell cell other found plain before true is = subst IsPlainCell (same_Some cell other is) plain
 written_cell cell other found plain before false is = before is
 
-pub operand_written : (program : TypedProgram) (ty : Shape) (offset : ℕ) (operand : Operand) → IsPlainOperand operand → (block : Block) → IsPlainBlock block
+pub operand_written : (program : TypedProgram) (ty : Shape) (offset : ℕ) (operand : Operand) → IsPlainOperand operand
+    → (block : Block) → IsPlainBlock block
     → IsPlainBlock (access.write_operand program ty offset operand block)
 operand_written program ty offset (Scalar cell) plain block before =
     record {

@@ -26,7 +26,8 @@ use Rattle.cs_corners.specs.Corners.{operands_under}
 use Rattle.cs_analysis.proofs.CornerMoves.{AgreeAt}
 
 module _ (v w : Valuation) where
-  value_alike_with : (symbol : Option Sym) (slope at value : ℤ) → AgreeAt symbol v w → value_with v symbol slope at value ≡ value_with w symbol slope at value
+  value_alike_with : (symbol : Option Sym) (slope at value : ℤ) → AgreeAt symbol v w
+      → value_with v symbol slope at value ≡ value_with w symbol slope at value
   value_alike_with None slope at value agree = refl
   value_alike_with (Some own) slope at value agree = ap (λ (n : ℤ). value_with (λ symbol. n) (Some own) slope at value) (agree own refl)
 
@@ -54,26 +55,27 @@ module _ (v w : Valuation) where
 itself : (n : ℤ) → int_eq n n ≡ true
 itself n = (Decides-int_eq n n).1 refl
 
-module _ (others : Others Pair) (left right : ℤ) (one : left_differs (left, right) others ≡ false) (other : right_differs (left, right) others ≡ false) where
-  no_binary : (op : BinOp) (far : Bool) → binary_ground op far (left, right) others ≡ false
-  no_binary Add far = simp (one, other)
-  no_binary Sub far = simp (one, other)
-  no_binary Mul far = simp (one, other)
-  no_binary Shl far = simp (one, other)
-  no_binary Div far = simp (one, other)
-  no_binary Rem far = simp (one, other)
-  no_binary Shr far = simp (one, other)
-  no_binary And far = simp (one, other)
-  no_binary Xor far = simp (one, other)
-  no_binary Or far = simp (one, other)
+module _ (others : Others Pair) (left right : ℤ) (one : left_differs (left, right) others ≡ false) (other : right_differs (left, right) others ≡ false)
+  where
+    no_binary : (op : BinOp) (far : Bool) → binary_ground op far (left, right) others ≡ false
+    no_binary Add far = simp (one, other)
+    no_binary Sub far = simp (one, other)
+    no_binary Mul far = simp (one, other)
+    no_binary Shl far = simp (one, other)
+    no_binary Div far = simp (one, other)
+    no_binary Rem far = simp (one, other)
+    no_binary Shr far = simp (one, other)
+    no_binary And far = simp (one, other)
+    no_binary Xor far = simp (one, other)
+    no_binary Or far = simp (one, other)
 
-  no_comparison : (op : CmpOp) → comparison_ground op (left, right) others ≡ false
-  no_comparison Equal = simp (one, other)
-  no_comparison Differs = simp (one, other)
-  no_comparison Less = simp (one, other)
-  no_comparison AtMost = simp (one, other)
-  no_comparison More = simp (one, other)
-  no_comparison AtLeast = simp (one, other)
+    no_comparison : (op : CmpOp) → comparison_ground op (left, right) others ≡ false
+    no_comparison Equal = simp (one, other)
+    no_comparison Differs = simp (one, other)
+    no_comparison Less = simp (one, other)
+    no_comparison AtMost = simp (one, other)
+    no_comparison More = simp (one, other)
+    no_comparison AtLeast = simp (one, other)
 
 module _ (model : DataModel) (others : Others Pair) where
   none_without : (operation : Operation) → left_differs (operands operation) others ≡ false → right_differs (operands operation) others ≡ false

@@ -61,7 +61,8 @@ module _ (code : Code) (program : TypedProgram) (entry : ℕ) (budgets : RunBudg
       ]))
 
   -- and where one of them comes, the other does
-  pub comes_alike : (one other : ProgramRun) → AreAlike one other → (events : List Event) (pending : Pending) → Comes program entry budgets one events pending
+  pub comes_alike : (one other : ProgramRun) → AreAlike one other
+      → (events : List Event) (pending : Pending) → Comes program entry budgets one events pending
       → Comes program entry budgets other events pending
   comes_alike one other same events pending comes =
       let setting : Setting = setting_of program one budgets in

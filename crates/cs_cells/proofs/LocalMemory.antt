@@ -18,7 +18,7 @@ use Rattle.cs_store.specs.declared.value.Value.{Value}
 use Rattle.cs_store.specs.declared.value.Value.TheVariants as value
 use Rattle.cs_store.specs.declared.value.Fill.TheVariants as fill
 use Rattle.cs_store.specs.declared.value.Fill as store
-use Rattle.cs_store.specs.declared.value.Found.TheVariants as found
+use Rattle.cs_store.specs.declared.value.Binding.TheVariants as found
 use Rattle.cs_store.specs.Contents.{Contents, held_in}
 use Rattle.cs_store.specs.Held.{Regions, contents_of, held}
 use Rattle.cs_state.specs.declared.state.State.{State}

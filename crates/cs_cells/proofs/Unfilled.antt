@@ -10,8 +10,8 @@ use Rattle.cs_store.proofs.Keys.{same_key}
 use Rattle.cs_store.specs.declared.value.Value.{Value}
 use Rattle.cs_store.specs.declared.value.Fill as store
 use Rattle.cs_store.specs.declared.value.Fill.TheVariants.{Unset}
-use Rattle.cs_store.specs.declared.value.Found.{Found}
-use Rattle.cs_store.specs.declared.value.Found.TheVariants.{Direct, Fill}
+use Rattle.cs_store.specs.declared.value.Binding.{Binding}
+use Rattle.cs_store.specs.declared.value.Binding.TheVariants.{Direct, Fill}
 use Rattle.cs_store.specs.Contents.{Contents, held_in}
 use Rattle.cs_events.specs.Objects.{Cell}
 use Rattle.cs_meaning.specs.Memory.{Block}
@@ -43,7 +43,7 @@ unbound direct =
     (n, finite.get-entries direct (n, 0) ∙ none_above (finite.entries direct) n (omega arith))
 
 -- what is found was bound
-abbrev pub bound_value : Found → Option Value
+abbrev pub bound_value : Binding → Option Value
 bound_value (Direct value) = Some value
 bound_value (Fill fill) = None
 
@@ -64,7 +64,7 @@ unset_fill contents never =
     never offset contents.fill (ap (λ bound. option_map_or (λ value. Direct value) bound (Fill contents.fill)) none)
 
 -- an object with what was bound in it
-abbrev pub bound_over : (Value → Cell) → (ℕ → Found) → Block → Block
+abbrev pub bound_over : (Value → Cell) → (ℕ → Binding) → Block → Block
 bound_over cell found block = record block { written = λ offset. option_map cell (bound_value (found offset)) }
 
 -- what is held at the offsets of a region that was never filled says all of what was written to its object

@@ -11,8 +11,8 @@ use Rattle.cs_store.specs.declared.value.Value.{Value}
 use Rattle.cs_terms.specs.declared.symbol.Sym.{Sym}
 use Rattle.cs_store.specs.declared.value.Fill as store
 use Rattle.cs_store.specs.declared.value.Fill.TheVariants.{Unset}
-use Rattle.cs_store.specs.declared.value.Found.{Found}
-use Rattle.cs_store.specs.declared.value.Found.TheVariants.{Direct, Fill}
+use Rattle.cs_store.specs.declared.value.Binding.{Binding}
+use Rattle.cs_store.specs.declared.value.Binding.TheVariants.{Direct, Fill}
 use Rattle.cs_store.specs.Held.{held}
 use Rattle.cs_events.specs.Objects.{LocalObject}
 use Rattle.cs_meaning.specs.Memory.{UnsetFill, changed, write_cell, refill}

@@ -18,7 +18,7 @@ use cs_progress::{Context, Pause};
 use cs_ranges::{GREATEST, LEAST, RangeSet};
 use cs_regions::Base;
 use cs_state::{Block, State, Tables};
-use cs_store::{Fill, Found, Value};
+use cs_store::{Binding, Fill, Value};
 use cs_terms::{Sym, SymName};
 use cs_types::{CType, IntType, start_extent};
 use cs_values::paths::root_path;
@@ -122,8 +122,8 @@ fn found(
         → contents ≡ Contents.Here (value_held (held state.now.store base offset))) }
 {
     match state.store.load(base, offset) {
-        Found::Direct(value) => Ok(Contents::Here(value)),
-        Found::Fill(fill) => unbound(context, state, tables, base, offset, fill),
+        Binding::Direct(value) => Ok(Contents::Here(value)),
+        Binding::Fill(fill) => unbound(context, state, tables, base, offset, fill),
     }
 }
 

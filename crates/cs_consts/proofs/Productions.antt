@@ -20,7 +20,7 @@ use Rattle.cs_scopes.specs.declared.refusal.TypeRefusal.{TypeRefusal}
 use Rattle.cs_scopes.specs.declared.refusal.TypeRefusal.TheVariants as refusal
 use Rattle.cs_scopes.specs.declared.refusal.TypeCode.{TypeCode}
 use Rattle.cs_scopes.specs.declared.refusal.TypeCode.TheVariants as code
-use Rattle.cs_scopes.specs.declared.scope.Function.{Function}
+use Rattle.cs_scopes.specs.declared.scope.DeclaredFunction.{DeclaredFunction}
 use Rattle.cs_scopes.specs.Meanings.{Signature, signature_of}
 use Rattle.cs_scopes.specs.Verdicts.{Verdict, Fine, Fault, lift, lift2, lift3, IsRefused, Yields}
 use Rattle.cs_scopes.specs.Faults.{least_code, unless_fault}
@@ -373,7 +373,7 @@ call_counts at target count f fault v a h =
     counted (length f.parameters) count _ (first_none (call_fault target count f) fault (no_fault at (least_code (call_fault target count f) fault) v a h))
 
 -- the same of a function itself
-pub call_passes : {A : Type 0} (at : Place) (target : Option Shape) (count : ℕ) (f : Function) (said : Option TypeCode) (fault : Option TypeCode)
+pub call_passes : {A : Type 0} (at : Place) (target : Option Shape) (count : ℕ) (f : DeclaredFunction) (said : Option TypeCode) (fault : Option TypeCode)
     (v : Verdict A) (a : A) → said ≡ call_fault target count (signature_of f) → unless_fault at (least_code said fault) v ≡ Fine a
     → count ≡ vec_len f.parameters
 call_passes at target count f said fault v a is h =

@@ -28,7 +28,7 @@ use cs_expressions::{
 };
 use cs_names::Bytes;
 use cs_scopes::{
-    Context, Function, TypeCode, TypeRefusal, arrayed, complete_at, least_code, type_named,
+    Context, DeclaredFunction, TypeCode, TypeRefusal, arrayed, complete_at, least_code, type_named,
 };
 use cs_types::{CType, IntType, is_void};
 use std::alloc::{AllocError, Global};
@@ -536,7 +536,7 @@ fn call_with(
     context: &Context,
     place: Place,
     target: Option<&CType>,
-    function: &Function,
+    function: &DeclaredFunction,
     values: Vec<Expr>,
 ) -> Result<Expr, TypeRefusal>
     requires { vec_len values ≡ vec_len function.now.parameters }
@@ -557,7 +557,7 @@ fn arguments_of(
     literals: &mut Vec<Bytes>,
     place: Place,
     fault: Option<TypeCode>,
-    function: &Function,
+    function: &DeclaredFunction,
     arguments: &[RawExpr],
 ) -> Result<Vec<Expr>, TypeRefusal>
     ensures reported { Answers (λ list. typed_list list.items)

@@ -24,7 +24,7 @@ use Rattle.cs_cfg.specs.Graph.{Code}
 use Rattle.cs_cfg.specs.Working.{CodeState}
 use Rattle.cs_regions.specs.declared.base.Base.TheVariants.{Local}
 use Rattle.cs_regions.specs.Numbering.{IsNumbered}
-use Rattle.cs_store.specs.declared.value.Found.TheVariants.{Direct}
+use Rattle.cs_store.specs.declared.value.Binding.TheVariants.{Direct}
 use Rattle.cs_store.specs.declared.value.Value.{Value}
 use Rattle.cs_store.specs.declared.value.Value.TheVariants as values
 use Rattle.cs_store.specs.Held.{held}

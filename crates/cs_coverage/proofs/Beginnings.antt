@@ -37,7 +37,7 @@ use Rattle.cs_regions.specs.declared.base.Base.TheVariants.{Local}
 use Rattle.cs_regions.specs.Numbering.{IsNumbered}
 use Rattle.cs_store.specs.declared.value.Fill as store
 use Rattle.cs_store.specs.declared.value.Fill.TheVariants.{Unset as UnsetFill}
-use Rattle.cs_store.specs.declared.value.Found.TheVariants.{Direct, Fill}
+use Rattle.cs_store.specs.declared.value.Binding.TheVariants.{Direct, Fill}
 use Rattle.cs_store.specs.declared.value.Value.{Value}
 use Rattle.cs_store.specs.declared.value.Value.TheVariants as values
 use Rattle.cs_store.specs.Contents.{Contents, filled}

@@ -12,7 +12,7 @@ use Rattle.cs_regions.specs.declared.base.Base.{Base}
 use Rattle.cs_store.specs.declared.value.Value.{Value}
 use Rattle.cs_store.specs.declared.value.Value.TheVariants as value
 use Rattle.cs_store.specs.declared.value.Fill.TheVariants.{Unset}
-use Rattle.cs_store.specs.declared.value.Found.TheVariants.{Direct, Fill}
+use Rattle.cs_store.specs.declared.value.Binding.TheVariants.{Direct, Fill}
 use Rattle.cs_store.specs.Contents.{Contents, bindings_of, filled}
 use Rattle.cs_store.specs.Held.{contents_of, regions_of}
 use Rattle.cs_store.specs.Listings.{origin_of, has_origin}

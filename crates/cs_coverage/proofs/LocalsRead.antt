@@ -19,7 +19,7 @@ use Rattle.cs_cfg.specs.Spots.{point_of}
 use Rattle.cs_terms.specs.Term.{Valuation, value_of}
 use Rattle.cs_regions.specs.declared.base.Base.{Base}
 use Rattle.cs_store.specs.declared.value.Fill.TheVariants.{Unset}
-use Rattle.cs_store.specs.declared.value.Found.TheVariants as found
+use Rattle.cs_store.specs.declared.value.Binding.TheVariants as found
 use Rattle.cs_store.specs.declared.value.Value.{Value}
 use Rattle.cs_store.specs.declared.value.Value.TheVariants as value
 use Rattle.cs_store.specs.Contents.{Contents}

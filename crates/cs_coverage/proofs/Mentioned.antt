@@ -14,7 +14,7 @@ use Rattle.cs_constraints.specs.Constraints.{set_of}
 use Rattle.cs_regions.specs.declared.base.Base.{Base}
 use Rattle.cs_store.specs.declared.value.Value.{Value}
 use Rattle.cs_store.specs.declared.value.Value.TheVariants as value
-use Rattle.cs_store.specs.declared.value.Found.TheVariants.{Direct, Fill}
+use Rattle.cs_store.specs.declared.value.Binding.TheVariants.{Direct, Fill}
 use Rattle.cs_store.specs.Held.{contents_of, held}
 use Rattle.cs_state.specs.declared.block.Block.{Block}
 use Rattle.cs_state.specs.declared.read_cells.ReadCell.{ReadCell}

@@ -13,12 +13,12 @@ use cs_ast::Place;
 use cs_ast::raw::expression::{RawExpr, RawExprKind};
 use cs_ast::typed::expression::Expr;
 use cs_ast::typed::operator::Allocator;
-use cs_scopes::{Callee, Function, Meaning, Scope, TypeCode, TypeRefusal, least};
+use cs_scopes::{Callee, DeclaredFunction, Meaning, Scope, TypeCode, TypeRefusal, least};
 use cs_types::{CType, DataModel, IntType};
 use std::alloc::{AllocError, Global};
 
 /// The function that is called: its name alone, in parentheses or not.
-pub fn called<'a>(scope: &'a Scope, function: &RawExpr) -> Option<&'a Function>
+pub fn called<'a>(scope: &'a Scope, function: &RawExpr) -> Option<&'a DeclaredFunction>
     ensures { option_map signature_of (option_copied result)
         ≡ called scope.now.declarations function.now.kind.value }
 {
@@ -30,7 +30,7 @@ pub fn called<'a>(scope: &'a Scope, function: &RawExpr) -> Option<&'a Function>
 }
 
 // The function that a name stands for.
-fn function_in(meaning: Option<&Meaning>) -> Option<&Function>
+fn function_in(meaning: Option<&Meaning>) -> Option<&DeclaredFunction>
     ensures { option_map signature_of (option_copied result)
         ≡ function_in (option_map meaning_of (option_copied meaning.entry)) }
 {
@@ -62,7 +62,11 @@ fn is_pointer_target(target: Option<&CType>) -> bool
 
 /// What a call's place says of the number of arguments, and of what the result goes to: an allocation goes to a pointer.
 #[tactic(auto, unfolding(crate::specs::Calls::call_fault))]
-pub fn call_fault(target: Option<&CType>, count: usize, function: &Function) -> Option<TypeCode>
+pub fn call_fault(
+    target: Option<&CType>,
+    count: usize,
+    function: &DeclaredFunction,
+) -> Option<TypeCode>
     ensures { result ≡ call_fault (shape_in target.entry) count (signature_of function.now) }
 {
     if function.parameters.len() != count {
@@ -157,7 +161,7 @@ pub fn call_of(
     alloc: Global,
     place: Place,
     target: Option<&CType>,
-    function: &Function,
+    function: &DeclaredFunction,
     arguments: Vec<Expr>,
 ) -> Result<Expr, TypeRefusal>
     ensures { Yields (call_of place (shape_in target.entry) (signature_of function.now)

@@ -13,7 +13,9 @@ use cs_ast::Token;
 use cs_ast::raw::external::RawExternal;
 use cs_declarations::Environment;
 use cs_names::Name;
-use cs_scopes::{Callee, Context, Declaration, Declarations, Function, Meaning, Scope, Tags};
+use cs_scopes::{
+    Callee, Context, Declaration, Declarations, DeclaredFunction, Meaning, Scope, Tags,
+};
 use cs_types::{CType, DataModel, StructTable, Structs, size_type};
 use indexmap::IndexSet;
 use std::alloc::{AllocError, Global};
@@ -33,7 +35,7 @@ fn declare_library_function(
 {
     declarations.declare(Declaration {
         name: Name::from_slice(alloc, name)?,
-        meaning: Meaning::Function(Function {
+        meaning: Meaning::Function(DeclaredFunction {
             callee,
             result: result_type,
             parameters,

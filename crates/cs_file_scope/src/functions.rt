@@ -17,7 +17,7 @@ use cs_ast::raw::declaration::RawFunction;
 use cs_ast::typed::program::{Function, Local};
 use cs_declarations::Head;
 use cs_names::Name;
-use cs_scopes::{Callee, Function as Signature, Meaning, TypeCode, TypeRefusal};
+use cs_scopes::{Callee, DeclaredFunction, Meaning, TypeCode, TypeRefusal};
 use cs_types::CType;
 use std::alloc::{AllocError, Global};
 
@@ -52,7 +52,7 @@ fn signature(
     number: u32,
     returns: &CType,
     parameters: &[Local],
-) -> Result<Signature, AllocError>
+) -> Result<DeclaredFunction, AllocError>
     ensures { IfOk result (λ made.
         signature_of made ≡ numbered number (shape_of returns.now)
         (map variable parameters.now)) }
@@ -61,7 +61,7 @@ fn signature(
     for parameter in parameters {
         types.push(parameter.ty.copy(alloc)?)?;
     }
-    Ok(Signature {
+    Ok(DeclaredFunction {
         callee: Callee::Numbered(number),
         result: returns.copy(alloc)?,
         parameters: types,

@@ -16,7 +16,7 @@ use cs_ast::typed::program::Program;
 use cs_events::Label;
 use cs_inputs::{Path, Root};
 use cs_memory::access::is_constant;
-use cs_memory::found::Found;
+use cs_memory::found::ScalarContents;
 use cs_memory::memory::Memory;
 use cs_model::Standing;
 use cs_objects::Setting;
@@ -90,7 +90,7 @@ fn received<'a>(
     ensures counts { IfOk result (λ _. KeepsCounts memory.old memory.new) }
 {
     let path = root_path(*memory.heap.allocator(), Root::Call(call));
-    let cell = memory.receive(log, setting, Found::Unknown(path, returns))?;
+    let cell = memory.receive(log, setting, ScalarContents::Unknown(path, returns))?;
     Ok(Operand::Scalar(cell))
 }
 

@@ -10,10 +10,10 @@ use Rattle.cs_lexer.specs.declared.digits.Base.{Base}
 use Rattle.cs_lexer.specs.declared.digits.Base.TheVariants.{Octal, Decimal, Hexadecimal}
 use Rattle.cs_lexer.specs.declared.directive.FileName.{FileName}
 use Rattle.cs_lexer.specs.declared.directive.FileName.TheVariants.{Absent, Given, Bad}
-use Rattle.cs_lexer.specs.declared.found.Found.{Found}
-use Rattle.cs_lexer.specs.declared.found.Found.TheVariants.{Gap, Marker, Token, Refused}
-use Rattle.cs_lexer.specs.declared.found.Fault.{Fault}
-use Rattle.cs_lexer.specs.declared.found.Fault.TheVariants as faults
+use Rattle.cs_lexer.specs.declared.lexeme.Lexeme.{Lexeme}
+use Rattle.cs_lexer.specs.declared.lexeme.Lexeme.TheVariants.{Gap, Marker, Token, Refused}
+use Rattle.cs_lexer.specs.declared.lexeme.Fault.{Fault}
+use Rattle.cs_lexer.specs.declared.lexeme.Fault.TheVariants as faults
 use Rattle.cs_ast.specs.declared.token.IntegerConstant.{IntegerConstant}
 use Rattle.cs_lexer.specs.Escapes.{item_at}
 use Rattle.cs_lexer.specs.declared.escape.Item.{Item}
@@ -41,7 +41,7 @@ LineFits None = Unit {0}
 LineFits (Some line) = line ≤ 2147483647
 
 -- a piece has a byte or more
-abbrev pub Advances : Found → Type 0
+abbrev pub Advances : Lexeme → Type 0
 Advances (Gap size) = 0 < size
 Advances (Marker size next name) = (0 < size) × LineFits next
 Advances (Token size kind) = 0 < size
@@ -97,13 +97,13 @@ directive_advances b bytes is =
     pragma_advances (starts_with nat_eq (skip_blanks (drop 1 line)) (112 ∷ 114 ∷ 97 ∷ 103 ∷ 109 ∷ 97 ∷ [])) (skip_blanks (drop 1 line))
     (whole_length (length line) is_ended) is_ended (whole_some (length line) is_ended (some_run is_inside b bytes (grind (arith, nat_tests))))
 
-comment_advances : (inside : List ℕ) (found : Found) → CommentGives inside found → Advances found
+comment_advances : (inside : List ℕ) (found : Lexeme) → CommentGives inside found → Advances found
 comment_advances inside (Gap size) h = omega arith
 comment_advances inside (Refused fault size) h = tt
 comment_advances inside (Marker size next name) h = absurd h
 comment_advances inside (Token size kind) h = absurd h
 
-word_advances : (word : List ℕ) (found : Found) → 0 < length word → WordGives word found → Advances found
+word_advances : (word : List ℕ) (found : Lexeme) → 0 < length word → WordGives word found → Advances found
 word_advances word (Gap size) some h = omega arith
 word_advances word (Token size kind) some h = omega arith
 word_advances word (Refused fault size) some h = absurd h
@@ -113,7 +113,7 @@ punctuator_token : (bytes : List ℕ) (size : ℕ) (kind : TokenKind) → Punctu
 punctuator_token bytes size (kinds.Punctuator punctuator) h = omega (arith, h.0, punctuator_has_one punctuator)
 punctuator_token bytes size _ h = absurd h
 
-punctuator_advances : (bytes : List ℕ) (found : Found) → PunctuatorGives bytes found → Advances found
+punctuator_advances : (bytes : List ℕ) (found : Lexeme) → PunctuatorGives bytes found → Advances found
 punctuator_advances bytes (Token size kind) h = punctuator_token bytes size kind h
 punctuator_advances bytes (Refused fault size) h = tt
 punctuator_advances bytes (Gap size) h = absurd h
@@ -123,16 +123,16 @@ text_token : (body : List ℕ) (size : ℕ) (kind : TokenKind) → TextBodyGives
 text_token body size (kinds.Text values) h = omega (arith, h.0)
 text_token body size _ h = absurd h
 
-text_advances : (body : List ℕ) (found : Found) → TextBodyGives body found → Advances found
+text_advances : (body : List ℕ) (found : Lexeme) → TextBodyGives body found → Advances found
 text_advances body (Token size kind) h = text_token body size kind h
 text_advances body (Refused fault size) h = tt
 text_advances body (Gap size) h = absurd h
 text_advances body (Marker size next name) h = absurd h
 
-refused_advances : (found : Found) → found ≡ Refused faults.Unclosed 0 → Advances found
+refused_advances : (found : Lexeme) → found ≡ Refused faults.Unclosed 0 → Advances found
 refused_advances found is = subst Advances (sym is) tt
 
-quoted_advances : (bytes : List ℕ) (end : Option ℕ) (found : Found) → TextIn bytes end found → Advances found
+quoted_advances : (bytes : List ℕ) (end : Option ℕ) (found : Lexeme) → TextIn bytes end found → Advances found
 quoted_advances bytes None found h = refused_advances found h
 quoted_advances bytes (Some count) found h = text_advances _ found h
 
@@ -182,12 +182,12 @@ number_advances b bytes digit =
     (prefix_length base + length (run base digits) + (suffix_of (drop (length (run base digits)) digits)).bytes) (b ∷ bytes) (omega arith)
 
 -- the classes, one test after another
-choose : (t : Bool) (one other : Class) (bytes : List ℕ) (found : Found) → (t ≡ true → BeginsAs one bytes found → Advances found)
+choose : (t : Bool) (one other : Class) (bytes : List ℕ) (found : Lexeme) → (t ≡ true → BeginsAs one bytes found → Advances found)
     → (t ≡ false → BeginsAs other bytes found → Advances found) → BeginsAs (cond t one other) bytes found → Advances found
 choose true one other bytes found here elsewhere h = here refl h
 choose false one other bytes found here elsewhere h = elsewhere refl h
 
-other_advances : (b : ℕ) (bytes : List ℕ) (found : Found) → BeginsAs (other_class b) (b ∷ bytes) found → Advances found
+other_advances : (b : ℕ) (bytes : List ℕ) (found : Lexeme) → BeginsAs (other_class b) (b ∷ bytes) found → Advances found
 other_advances b bytes found =
     choose (is_digit b) classes.Number _ (b ∷ bytes) found (λ digit is. subst Advances (sym is) (number_advances b bytes digit)) (λ _.
     choose (b == 39) classes.Character _ (b ∷ bytes) found (λ _ is. subst Advances (sym is) (character_advances bytes (closing 39 false bytes))) (λ _.
@@ -195,7 +195,7 @@ other_advances b bytes found =
     (λ _ h. punctuator_advances (b ∷ bytes) found h)))
 
 -- a piece at the front of some bytes has a byte or more
-pub advances : (is_line_start : Bool) (bytes : List ℕ) (found : Found) → 0 < length bytes → Begins is_line_start bytes found → Advances found
+pub advances : (is_line_start : Bool) (bytes : List ℕ) (found : Lexeme) → 0 < length bytes → Begins is_line_start bytes found → Advances found
 advances is_line_start [] found some = absurd (omega arith)
 advances is_line_start (b ∷ bytes) found some =
     choose (is_line_start && (b == 35)) classes.Directive _ (b ∷ bytes) found

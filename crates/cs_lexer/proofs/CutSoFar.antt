@@ -5,7 +5,7 @@ use Rattle.std.specs.Prelude.{codes, ◌==◌}
 use Rattle.cs_ast.specs.declared.token.Token.{Token}
 use Rattle.cs_lexer.specs.declared.spot.Spot.{Spot}
 use Rattle.cs_ast.specs.declared.token.TokenKind.{TokenKind}
-use Rattle.cs_lexer.specs.declared.found.Found.TheVariants as found
+use Rattle.cs_lexer.specs.declared.lexeme.Lexeme.TheVariants as found
 use Rattle.cs_lexer.specs.Files.{file_number}
 use Rattle.cs_lexer.specs.Pieces.{Begins}
 use Rattle.cs_lexer.specs.Spots.{start, line_of, column_on, step, spot_after, IsWithin}

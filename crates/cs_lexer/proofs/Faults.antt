@@ -4,8 +4,8 @@ use Rattle.std.specs.Prelude.{slice_get}
 use Rattle.cs_limits.specs.declared.TheConstants.{MOST_TOKENS}
 use Rattle.cs_ast.specs.declared.place.Place.{Place}
 use Rattle.cs_ast.specs.declared.token.Token.{Token}
-use Rattle.cs_lexer.specs.declared.found.Fault.{Fault}
-use Rattle.cs_lexer.specs.declared.found.Fault.TheVariants.{BadByte, Unclosed, WideNumber, BadLine}
+use Rattle.cs_lexer.specs.declared.lexeme.Fault.{Fault}
+use Rattle.cs_lexer.specs.declared.lexeme.Fault.TheVariants.{BadByte, Unclosed, WideNumber, BadLine}
 use Rattle.cs_lexer.specs.Cuttings.{IsRefusedAt}
 use Rattle.cs_lexer.specs.Lexing.{IsFirstFault, IsRefused, refusal_of, tokens_of}
 

@@ -7,7 +7,7 @@ use Rattle.std.proofs.lemmas.List.Sums.{prefix_len-le-length}
 use Rattle.cs_ast.specs.declared.place.Place.{Place}
 use Rattle.cs_ast.specs.declared.token.Token.{Token}
 use Rattle.cs_lexer.specs.declared.spot.Spot.{Spot}
-use Rattle.cs_lexer.specs.declared.found.Fault.{Fault}
+use Rattle.cs_lexer.specs.declared.lexeme.Fault.{Fault}
 use Rattle.cs_lexer.specs.declared.cut.End.{End}
 use Rattle.cs_lexer.specs.declared.cut.End.TheVariants.{Refused}
 use Rattle.cs_lexer.specs.Files.{file_number, with_file}

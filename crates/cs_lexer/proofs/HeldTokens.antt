@@ -17,9 +17,9 @@ use Rattle.cs_lexer.specs.declared.directive.FileName.{FileName}
 use Rattle.cs_lexer.specs.declared.directive.FileName.TheVariants.{Absent, Given, Bad}
 use Rattle.cs_lexer.specs.declared.escape.Item.{Item}
 use Rattle.cs_lexer.specs.declared.escape.Item.TheVariants as items
-use Rattle.cs_lexer.specs.declared.found.Fault.TheVariants.{BadByte, WideNumber}
-use Rattle.cs_lexer.specs.declared.found.Found.{Found}
-use Rattle.cs_lexer.specs.declared.found.Found.TheVariants as found
+use Rattle.cs_lexer.specs.declared.lexeme.Fault.TheVariants.{BadByte, WideNumber}
+use Rattle.cs_lexer.specs.declared.lexeme.Lexeme.{Lexeme}
+use Rattle.cs_lexer.specs.declared.lexeme.Lexeme.TheVariants as found
 use Rattle.cs_lexer.specs.declared.number.Suffix.{Suffix}
 use Rattle.cs_lexer.specs.declared.piece.Class.{Class}
 use Rattle.cs_lexer.specs.declared.piece.Class.TheVariants as class
@@ -43,13 +43,13 @@ use Rattle.cs_lexer.specs.Held.{LexedTokensAreHeld}
 -- ---- pieces
 
 -- a piece that is a token is not too wide
-abbrev PieceIsHeld : Found → Type 0
+abbrev PieceIsHeld : Lexeme → Type 0
 PieceIsHeld (found.Token size kind) = IsHeldToken kind
 PieceIsHeld (found.Gap size) = Unit {0}
 PieceIsHeld (found.Marker size next name) = Unit {0}
 PieceIsHeld (found.Refused fault size) = Unit {0}
 
-either-held : (b : Bool) (one other : Found) → PieceIsHeld one → PieceIsHeld other → PieceIsHeld (cond b one other)
+either-held : (b : Bool) (one other : Lexeme) → PieceIsHeld one → PieceIsHeld other → PieceIsHeld (cond b one other)
 either-held true one other h k = h
 either-held false one other h k = k
 
@@ -70,7 +70,7 @@ directive-held bytes =
     let line = take_while is_inside bytes in
     line-held (skip_blanks (drop 1 line)) (whole_length (length line) (nat_lt (length line) (length bytes))) (nat_lt (length line) (length bytes))
 
-comment-held : (inside : List ℕ) (piece : Found) → CommentGives inside piece → PieceIsHeld piece
+comment-held : (inside : List ℕ) (piece : Lexeme) → CommentGives inside piece → PieceIsHeld piece
 comment-held inside (found.Gap size) h = tt
 comment-held inside (found.Refused fault size) h = tt
 comment-held inside (found.Token size kind) h = absurd h
@@ -81,7 +81,7 @@ word_is-held word (token.Number constant) h = absurd h
 word_is-held word (token.Character value) h = absurd h
 word_is-held word other h = tt
 
-word-held : (word : List ℕ) (piece : Found) → WordGives word piece → PieceIsHeld piece
+word-held : (word : List ℕ) (piece : Lexeme) → WordGives word piece → PieceIsHeld piece
 word-held word (found.Token size kind) h = word_is-held word kind h.1
 word-held word (found.Gap size) h = tt
 word-held word (found.Marker size next name) h = tt
@@ -92,7 +92,7 @@ punctuator_is-held bytes size (token.Number constant) h = absurd h
 punctuator_is-held bytes size (token.Character value) h = absurd h
 punctuator_is-held bytes size other h = tt
 
-punctuator-held : (bytes : List ℕ) (piece : Found) → PunctuatorGives bytes piece → PieceIsHeld piece
+punctuator-held : (bytes : List ℕ) (piece : Lexeme) → PunctuatorGives bytes piece → PieceIsHeld piece
 punctuator-held bytes (found.Token size kind) h = punctuator_is-held bytes size kind h
 punctuator-held bytes (found.Gap size) h = tt
 punctuator-held bytes (found.Marker size next name) h = tt
@@ -103,13 +103,13 @@ text_is-held body size (token.Number constant) h = absurd h
 text_is-held body size (token.Character value) h = absurd h
 text_is-held body size other h = tt
 
-text_body-held : (body : List ℕ) (piece : Found) → TextBodyGives body piece → PieceIsHeld piece
+text_body-held : (body : List ℕ) (piece : Lexeme) → TextBodyGives body piece → PieceIsHeld piece
 text_body-held body (found.Token size kind) h = text_is-held body size kind h
 text_body-held body (found.Gap size) h = tt
 text_body-held body (found.Marker size next name) h = tt
 text_body-held body (found.Refused fault size) h = tt
 
-text-held : (bytes : List ℕ) (count : Option ℕ) (piece : Found) → TextIn bytes count piece → PieceIsHeld piece
+text-held : (bytes : List ℕ) (count : Option ℕ) (piece : Lexeme) → TextIn bytes count piece → PieceIsHeld piece
 text-held bytes None piece h = subst PieceIsHeld (sym h) tt
 text-held bytes (Some count) piece h = text_body-held (take count bytes) piece h
 
@@ -135,7 +135,7 @@ constant-held : (base : Base) (value : Option ℕ) (suffix : Suffix) (size : ℕ
 constant-held base None suffix size bytes h = tt
 constant-held base (Some value) suffix size bytes h = by_test (is_too_wide base suffix value) refl
   where
-    made : Found
+    made : Lexeme
     made = found.Token size (token.Number (record { value = value; decimal = is_decimal base; unsigned = suffix.unsigned; length = suffix.length }))
 
     by_test : (b : Bool) → is_too_wide base suffix value ≡ b
@@ -178,7 +178,7 @@ character-held : (bytes : List ℕ) (count : Option ℕ) → PieceIsHeld (charac
 character-held bytes None = tt
 character-held bytes (Some count) = character_of-held (take count bytes)
 
-piece-held : (c : Class) (bytes : List ℕ) (piece : Found) → BeginsAs c bytes piece → PieceIsHeld piece
+piece-held : (c : Class) (bytes : List ℕ) (piece : Lexeme) → BeginsAs c bytes piece → PieceIsHeld piece
 piece-held class.Directive bytes piece h = subst PieceIsHeld (sym h) (directive-held bytes)
 piece-held class.Space bytes piece h = subst PieceIsHeld (sym h) tt
 piece-held class.BlockComment bytes piece h = comment-held (drop 2 bytes) piece h

@@ -6,9 +6,9 @@ use Rattle.cs_ast.specs.declared.token.Token as tokens
 use Rattle.cs_lexer.specs.declared.spot.Spot.{Spot}
 use Rattle.cs_lexer.specs.declared.cut.End.{End}
 use Rattle.cs_lexer.specs.declared.cut.End.TheVariants as ends
-use Rattle.cs_lexer.specs.declared.found.Fault.{Fault}
-use Rattle.cs_lexer.specs.declared.found.Found.{Found}
-use Rattle.cs_lexer.specs.declared.found.Found.TheVariants.{Gap, Marker, Token, Refused}
+use Rattle.cs_lexer.specs.declared.lexeme.Fault.{Fault}
+use Rattle.cs_lexer.specs.declared.lexeme.Lexeme.{Lexeme}
+use Rattle.cs_lexer.specs.declared.lexeme.Lexeme.TheVariants.{Gap, Marker, Token, Refused}
 use Rattle.cs_lexer.specs.Pieces.{Begins}
 use Rattle.cs_lexer.specs.Spots.{start, spot_after}
 use Rattle.cs_lexer.specs.Cuttings.{Reaches, begins, gap, marker, token, token_at, begun, file_after, files_after, marked_spot, IsWhole, IsRefusedAt, EndsAs}
@@ -23,7 +23,7 @@ pub record Cut : Type 0 where
   pub rest : List ℕ
 
 -- how far it is cut after the piece that was found; nothing is cut after a fault
-abbrev following : Cut → Found → Option Cut
+abbrev following : Cut → Lexeme → Option Cut
 following c (Gap size) = Some (record { files = c.files; list = c.list; spot = spot_after c.spot (take size c.rest); rest = drop size c.rest })
 following c (Marker size next name) = Some (record {
   files = files_after c.files name;
@@ -37,7 +37,7 @@ following c (Refused fault size) = None
 
 -- one piece more is cut
 record CutsPiece (c d : Cut) : Type 0 where
-  found : Found
+  found : Lexeme
   some : 0 < length c.rest
   is : Begins c.spot.is_line_start c.rest found
   leads : following c found ≡ Some d

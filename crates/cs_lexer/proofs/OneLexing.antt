@@ -2,8 +2,8 @@
 use Rattle.std.proofs.Common.{◌≡◌, ℕ, List, length, refl, sym, ap, ◌∙◌, arith}
 use Rattle.cs_ast.specs.declared.place.Place.{Place}
 use Rattle.cs_lexer.specs.declared.cut.End.TheVariants as ends
-use Rattle.cs_lexer.specs.declared.found.Fault.{Fault}
-use Rattle.cs_lexer.specs.declared.found.Fault.TheVariants as faults
+use Rattle.cs_lexer.specs.declared.lexeme.Fault.{Fault}
+use Rattle.cs_lexer.specs.declared.lexeme.Fault.TheVariants as faults
 use Rattle.cs_lexer.specs.declared.refusal.LexRefusal.{LexRefusal}
 use Rattle.cs_lexer.specs.declared.refusal.LexRefusal.TheVariants.{BadByte, Unclosed, WideNumber, BadLine, TooManyTokens, Memory}
 use Rattle.cs_lexer.specs.declared.lexer.Lexed.{Lexed}

@@ -4,9 +4,9 @@ use Rattle.std.proofs.Common.{sym, ap, ◌∙◌, arith}
 use Rattle.std.proofs.lemmas.Bool.{cases_lt}
 use Rattle.cs_ast.specs.declared.token.TokenKind.{TokenKind}
 use Rattle.cs_ast.specs.declared.token.TokenKind.TheVariants as kinds
-use Rattle.cs_lexer.specs.declared.found.Fault.{Fault}
-use Rattle.cs_lexer.specs.declared.found.Found.{Found}
-use Rattle.cs_lexer.specs.declared.found.Found.TheVariants.{Gap, Marker, Token, Refused}
+use Rattle.cs_lexer.specs.declared.lexeme.Fault.{Fault}
+use Rattle.cs_lexer.specs.declared.lexeme.Lexeme.{Lexeme}
+use Rattle.cs_lexer.specs.declared.lexeme.Lexeme.TheVariants.{Gap, Marker, Token, Refused}
 use Rattle.cs_lexer.specs.declared.piece.Class.{Class}
 use Rattle.cs_lexer.specs.declared.piece.Class.TheVariants as class
 use Rattle.cs_lexer.specs.declared.escape.Item.TheVariants as items
@@ -26,7 +26,7 @@ same_end bytes m n h i = elim (cases_lt m n) [
   | inr above ↦ elim (cases_lt n m) [ inl below ↦ absurd (h.first n below i.here) | inr other ↦ omega arith ]
 ]
 
-comment_once : (inside : List ℕ) (f g : Found) → CommentGives inside f → CommentGives inside g → f ≡ g
+comment_once : (inside : List ℕ) (f g : Lexeme) → CommentGives inside f → CommentGives inside g → f ≡ g
 comment_once inside (Gap m) (Gap n) h i = ap Gap (h.1 ∙ ap (λ count. count + 4) (same_end inside h.0 i.0 h.2 i.2) ∙ sym i.1)
 comment_once inside (Gap m) (Refused fault n) h i = absurd (i.2 h.0 h.2.here)
 comment_once inside (Refused fault m) (Gap n) h i = absurd (h.2 i.0 i.2.here)
@@ -97,7 +97,7 @@ fault_once body f g m n h i =
     let one : f ≡ g = cc in
     ap (λ x. Refused x m) one ∙ ap (λ x. Refused g x) size
 
-body_once : (body : List ℕ) (f g : Found) → TextBodyGives body f → TextBodyGives body g → f ≡ g
+body_once : (body : List ℕ) (f g : Lexeme) → TextBodyGives body f → TextBodyGives body g → f ≡ g
 body_once body (Token m a) (Token n b) h i = text_token_once body m n a b h i
 body_once body (Token m a) (Refused fault n) h i = absurd (text_or_fault body m a fault n h i)
 body_once body (Refused fault m) (Token n b) h i = absurd (text_or_fault body n b fault m i h)
@@ -109,11 +109,11 @@ body_once body (Refused f m) (Marker n next name) h i = absurd i
 body_once body (Gap m) g h i = absurd h
 body_once body (Marker m next name) g h i = absurd h
 
-text_once : (bytes : List ℕ) (closing : Option ℕ) (f g : Found) → TextIn bytes closing f → TextIn bytes closing g → f ≡ g
+text_once : (bytes : List ℕ) (closing : Option ℕ) (f g : Lexeme) → TextIn bytes closing f → TextIn bytes closing g → f ≡ g
 text_once bytes None f g h i = h ∙ sym i
 text_once bytes (Some count) f g h i = body_once (take count bytes) f g h i
 
-class_once : (c : Class) (bytes : List ℕ) (f g : Found) → BeginsAs c bytes f → BeginsAs c bytes g → f ≡ g
+class_once : (c : Class) (bytes : List ℕ) (f g : Lexeme) → BeginsAs c bytes f → BeginsAs c bytes g → f ≡ g
 class_once class.Directive bytes f g h i = h ∙ sym i
 class_once class.Space bytes f g h i = h ∙ sym i
 class_once class.BlockComment bytes f g h i = comment_once (drop 2 bytes) f g h i
@@ -125,5 +125,5 @@ class_once class.Text bytes f g h i = text_once (drop 1 bytes) (closing 34 false
 class_once class.Punctuator bytes f g h i = punctuator_once bytes f g h i
 
 -- bytes begin with one piece, or with one fault
-pub begins_once : (is_line_start : Bool) (bytes : List ℕ) (f g : Found) → Begins is_line_start bytes f → Begins is_line_start bytes g → f ≡ g
+pub begins_once : (is_line_start : Bool) (bytes : List ℕ) (f g : Lexeme) → Begins is_line_start bytes f → Begins is_line_start bytes g → f ≡ g
 begins_once is_line_start bytes f g h i = class_once (class_of is_line_start bytes) bytes f g h i

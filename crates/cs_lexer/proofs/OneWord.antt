@@ -14,8 +14,8 @@ use Rattle.cs_ast.specs.declared.token.Punctuator.TheVariants as punctuator
 use Rattle.cs_ast.specs.declared.token.TokenKind.{TokenKind}
 use Rattle.cs_ast.specs.declared.token.TokenKind.TheVariants as kinds
 use Rattle.cs_ast.specs.declared.token.TokenKind.TheVariants.{Keyword, Unsupported, Attribute, Name}
-use Rattle.cs_lexer.specs.declared.found.Found.{Found}
-use Rattle.cs_lexer.specs.declared.found.Found.TheVariants.{Gap, Marker, Token, Refused}
+use Rattle.cs_lexer.specs.declared.lexeme.Lexeme.{Lexeme}
+use Rattle.cs_lexer.specs.declared.lexeme.Lexeme.TheVariants.{Gap, Marker, Token, Refused}
 use Rattle.cs_lexer.specs.Spellings.{keyword_text, unsupported_text, punctuator_text}
 use Rattle.cs_lexer.specs.Punctuators.{NoPunctuator, IsPunctuatorToken, PunctuatorGives}
 use Rattle.cs_lexer.specs.Words.{dropped_words, attribute_words, is_dropped, is_attribute, IsPlain, WordIs, WordGives}
@@ -161,7 +161,7 @@ dropped_alone word (Name name) h i = contrary (is_dropped word) h i.1.kept
 dropped_alone word _ h i = i
 
 -- a word is dropped or is one token
-pub word_once : (word : List ℕ) (f g : Found) → WordGives word f → WordGives word g → f ≡ g
+pub word_once : (word : List ℕ) (f g : Lexeme) → WordGives word f → WordGives word g → f ≡ g
 word_once word (Gap m) (Gap n) h i = ap Gap (h.0 ∙ sym i.0)
 word_once word (Gap m) (Token n b) h i = absurd (dropped_alone word b h.1 i.1)
 word_once word (Token m a) (Gap n) h i = absurd (dropped_alone word a i.1 h.1)
@@ -187,7 +187,7 @@ no_punctuator_token : (bytes : List ℕ) (m : ℕ) (a : TokenKind) → IsPunctua
 no_punctuator_token bytes m (kinds.Punctuator k) h none = none k h.1.begins
 no_punctuator_token bytes m _ h none = h
 
-pub punctuator_once : (bytes : List ℕ) (f g : Found) → PunctuatorGives bytes f → PunctuatorGives bytes g → f ≡ g
+pub punctuator_once : (bytes : List ℕ) (f g : Lexeme) → PunctuatorGives bytes f → PunctuatorGives bytes g → f ≡ g
 punctuator_once bytes (Token m a) (Token n b) h i = punctuator_token_once bytes m n a b h i
 punctuator_once bytes (Token m a) (Refused fault n) h i = absurd (no_punctuator_token bytes m a h i.2)
 punctuator_once bytes (Refused fault m) (Token n b) h i = absurd (no_punctuator_token bytes n b i h.2)

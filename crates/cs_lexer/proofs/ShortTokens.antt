@@ -14,9 +14,9 @@ use Rattle.cs_lexer.specs.declared.directive.FileName.{FileName}
 use Rattle.cs_lexer.specs.declared.directive.FileName.TheVariants.{Absent, Given, Bad}
 use Rattle.cs_lexer.specs.declared.escape.Item.{Item}
 use Rattle.cs_lexer.specs.declared.escape.Item.TheVariants as items
-use Rattle.cs_lexer.specs.declared.found.Fault.TheVariants.{BadByte, WideNumber}
-use Rattle.cs_lexer.specs.declared.found.Found.{Found}
-use Rattle.cs_lexer.specs.declared.found.Found.TheVariants as found
+use Rattle.cs_lexer.specs.declared.lexeme.Fault.TheVariants.{BadByte, WideNumber}
+use Rattle.cs_lexer.specs.declared.lexeme.Lexeme.{Lexeme}
+use Rattle.cs_lexer.specs.declared.lexeme.Lexeme.TheVariants as found
 use Rattle.cs_lexer.specs.declared.number.Suffix.{Suffix}
 use Rattle.cs_lexer.specs.declared.piece.Class.{Class}
 use Rattle.cs_lexer.specs.declared.piece.Class.TheVariants as class
@@ -45,13 +45,13 @@ abbrev KindFits : ℕ → ℕ → TokenKind → Type 0
 KindFits left size (token.Text bytes) = (length bytes < size) × (length bytes < left)
 KindFits left size other = Unit {0}
 
-abbrev PieceFits : ℕ → Found → Type 0
+abbrev PieceFits : ℕ → Lexeme → Type 0
 PieceFits left (found.Token size kind) = KindFits left size kind
 PieceFits left (found.Gap size) = Unit {0}
 PieceFits left (found.Marker size next name) = Unit {0}
 PieceFits left (found.Refused fault size) = Unit {0}
 
-either-fits : (left : ℕ) (b : Bool) (one other : Found) → PieceFits left one → PieceFits left other → PieceFits left (cond b one other)
+either-fits : (left : ℕ) (b : Bool) (one other : Lexeme) → PieceFits left one → PieceFits left other → PieceFits left (cond b one other)
 either-fits left true one other h k = h
 either-fits left false one other h k = k
 
@@ -72,7 +72,7 @@ directive-fits left bytes =
     let line = take_while is_inside bytes in
     line-fits left (skip_blanks (drop 1 line)) (whole_length (length line) (nat_lt (length line) (length bytes))) (nat_lt (length line) (length bytes))
 
-comment-fits : (left : ℕ) (inside : List ℕ) (piece : Found) → CommentGives inside piece → PieceFits left piece
+comment-fits : (left : ℕ) (inside : List ℕ) (piece : Lexeme) → CommentGives inside piece → PieceFits left piece
 comment-fits left inside (found.Token size kind) h = absurd h
 comment-fits left inside (found.Gap size) h = tt
 comment-fits left inside (found.Refused fault size) h = tt
@@ -82,7 +82,7 @@ word_is-fits : (left size : ℕ) (word : List ℕ) (kind : TokenKind) → WordIs
 word_is-fits left size word (token.Text bytes) h = absurd h
 word_is-fits left size word other h = tt
 
-word-fits : (left : ℕ) (word : List ℕ) (piece : Found) → WordGives word piece → PieceFits left piece
+word-fits : (left : ℕ) (word : List ℕ) (piece : Lexeme) → WordGives word piece → PieceFits left piece
 word-fits left word (found.Token size kind) h = word_is-fits left size word kind h.1
 word-fits left word (found.Gap size) h = tt
 word-fits left word (found.Marker size next name) h = tt
@@ -92,7 +92,7 @@ punctuator_is-fits : (left : ℕ) (bytes : List ℕ) (size : ℕ) (kind : TokenK
 punctuator_is-fits left bytes size (token.Text values) h = absurd h
 punctuator_is-fits left bytes size other h = tt
 
-punctuator-fits : (left : ℕ) (bytes : List ℕ) (piece : Found) → PunctuatorGives bytes piece → PieceFits left piece
+punctuator-fits : (left : ℕ) (bytes : List ℕ) (piece : Lexeme) → PunctuatorGives bytes piece → PieceFits left piece
 punctuator-fits left bytes (found.Token size kind) h = punctuator_is-fits left bytes size kind h
 punctuator-fits left bytes (found.Gap size) h = tt
 punctuator-fits left bytes (found.Marker size next name) h = tt
@@ -175,17 +175,17 @@ text_is-fits left body size (token.Text values) within h =
     (omega (arith, h.0, read), omega (arith, read))
 text_is-fits left body size other within h = tt
 
-text_body-fits : (left : ℕ) (body : List ℕ) (piece : Found) → length body < left → TextBodyGives body piece → PieceFits left piece
+text_body-fits : (left : ℕ) (body : List ℕ) (piece : Lexeme) → length body < left → TextBodyGives body piece → PieceFits left piece
 text_body-fits left body (found.Token size kind) within h = text_is-fits left body size kind within h
 text_body-fits left body (found.Gap size) within h = tt
 text_body-fits left body (found.Marker size next name) within h = tt
 text_body-fits left body (found.Refused fault size) within h = tt
 
-text-fits : (left : ℕ) (bytes : List ℕ) (count : Option ℕ) (piece : Found) → length bytes < left → TextIn bytes count piece → PieceFits left piece
+text-fits : (left : ℕ) (bytes : List ℕ) (count : Option ℕ) (piece : Lexeme) → length bytes < left → TextIn bytes count piece → PieceFits left piece
 text-fits left bytes None piece within h = subst (PieceFits left) (sym h) tt
 text-fits left bytes (Some count) piece within h = text_body-fits left (take count bytes) piece (omega (arith, length-take count bytes)) h
 
-piece-fits : (c : Class) (bytes : List ℕ) (piece : Found) → 0 < length bytes → BeginsAs c bytes piece → PieceFits (length bytes) piece
+piece-fits : (c : Class) (bytes : List ℕ) (piece : Lexeme) → 0 < length bytes → BeginsAs c bytes piece → PieceFits (length bytes) piece
 piece-fits class.Directive bytes piece some h = subst (PieceFits (length bytes)) (sym h) (directive-fits (length bytes) bytes)
 piece-fits class.Space bytes piece some h = subst (PieceFits (length bytes)) (sym h) tt
 piece-fits class.BlockComment bytes piece some h = comment-fits (length bytes) (drop 2 bytes) piece h

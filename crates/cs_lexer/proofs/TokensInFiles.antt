@@ -5,7 +5,7 @@ use Rattle.std.specs.Prelude.{is_some}
 use Rattle.std.specs.List.{All, AllByRecursion}
 use Rattle.std.proofs.lemmas.List.Elements.{All-nil, All-push, All-same, All-from_recursion, recursion_from_All}
 use Rattle.cs_ast.specs.declared.token.Token.{Token}
-use Rattle.cs_lexer.specs.declared.found.Found.TheVariants as found
+use Rattle.cs_lexer.specs.declared.lexeme.Lexeme.TheVariants as found
 use Rattle.cs_lexer.specs.declared.spot.Spot.{Spot}
 use Rattle.cs_lexer.specs.Attributes.{has_group, group_length, without_attributes}
 use Rattle.cs_lexer.specs.Cuttings.{Reaches, begins, gap, marker, token, token_at, files_after}

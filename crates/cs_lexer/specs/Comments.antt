@@ -1,8 +1,8 @@
 -- Where comments end (C11 6.4.9).
 use Rattle.std.specs.Prelude.{◌≡◌, ℕ, ◌+◌, ◌<◌, Bool, not, ◌==◌, List, length, slice_index}
-use Rattle.cs_lexer.specs.declared.found.Fault.TheVariants.{Unclosed}
-use Rattle.cs_lexer.specs.declared.found.Found.{Found}
-use Rattle.cs_lexer.specs.declared.found.Found.TheVariants.{Gap, Refused}
+use Rattle.cs_lexer.specs.declared.lexeme.Fault.TheVariants.{Unclosed}
+use Rattle.cs_lexer.specs.declared.lexeme.Lexeme.{Lexeme}
+use Rattle.cs_lexer.specs.declared.lexeme.Lexeme.TheVariants.{Gap, Refused}
 
 -- a byte other than a line feed
 abbrev pub is_inside : ℕ → Bool
@@ -20,7 +20,7 @@ pub record IsFirstEnd (bytes : List ℕ) (count : ℕ) : Type 0 where
   pub first : (k : ℕ) → k < count → IsEnd bytes k → ⊥
 
 -- a comment goes on to the first `*/` after its `/*`, and is refused at its first byte where there is none
-abbrev pub CommentGives : List ℕ → Found → Type 0
+abbrev pub CommentGives : List ℕ → Lexeme → Type 0
 CommentGives inside (Gap size) = (count : ℕ) × (size ≡ count + 4) × IsFirstEnd inside count
 CommentGives inside (Refused fault size) = (fault ≡ Unclosed) × (size ≡ 0) × ((k : ℕ) → IsEnd inside k → ⊥)
 CommentGives inside _ = ⊥

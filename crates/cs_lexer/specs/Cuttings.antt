@@ -5,8 +5,8 @@ use Rattle.cs_ast.specs.declared.place.Place.{Place}
 use Rattle.cs_ast.specs.declared.token.Token as tokens
 use Rattle.cs_ast.specs.declared.token.TokenKind.{TokenKind}
 use Rattle.cs_ast.specs.declared.token.TokenKind.TheVariants.{Text, Character}
-use Rattle.cs_lexer.specs.declared.found.Fault.{Fault}
-use Rattle.cs_lexer.specs.declared.found.Found.TheVariants as found
+use Rattle.cs_lexer.specs.declared.lexeme.Fault.{Fault}
+use Rattle.cs_lexer.specs.declared.lexeme.Lexeme.TheVariants as found
 use Rattle.cs_lexer.specs.declared.spot.Spot.{Spot}
 use Rattle.cs_lexer.specs.declared.cut.End.{End}
 use Rattle.cs_lexer.specs.declared.cut.End.TheVariants.{Whole, Refused}

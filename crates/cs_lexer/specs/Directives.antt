@@ -4,9 +4,9 @@ use Rattle.std.specs.Prelude.{Option, Some, None, if◌then◌else◌}
 use Rattle.std.specs.List.{take_while, list_all, starts_with}
 use Rattle.std.specs.Str.{is_utf8}
 use Rattle.cs_lexer.specs.declared.digits.Base.TheVariants.{Decimal}
-use Rattle.cs_lexer.specs.declared.found.Fault.TheVariants.{BadLine}
-use Rattle.cs_lexer.specs.declared.found.Found.{Found}
-use Rattle.cs_lexer.specs.declared.found.Found.TheVariants.{Gap, Marker, Refused}
+use Rattle.cs_lexer.specs.declared.lexeme.Fault.TheVariants.{BadLine}
+use Rattle.cs_lexer.specs.declared.lexeme.Lexeme.{Lexeme}
+use Rattle.cs_lexer.specs.declared.lexeme.Lexeme.TheVariants.{Gap, Marker, Refused}
 use Rattle.cs_lexer.specs.declared.directive.FileName.{FileName}
 use Rattle.cs_lexer.specs.declared.directive.FileName.TheVariants.{Absent, Given, Bad}
 use Rattle.cs_lexer.specs.Classes.{is_blank, begins_with}
@@ -63,17 +63,17 @@ file_name bytes = if list_all is_blank bytes then Absent else (if begins_blank b
 abbrev pub next_line : ℕ → Bool → Option ℕ
 next_line line is_ended = if is_ended then Some line else None
 
-abbrev pub with_name : FileName → Option ℕ → ℕ → Found
+abbrev pub with_name : FileName → Option ℕ → ℕ → Lexeme
 with_name Absent next size = Marker size next None
 with_name (Given name) next size = Marker size next (Some name)
 with_name Bad next size = Refused BadLine 0
 
-abbrev pub with_line : Option ℕ → FileName → ℕ → Bool → Found
+abbrev pub with_line : Option ℕ → FileName → ℕ → Bool → Lexeme
 with_line None file size is_ended = Refused BadLine 0
 with_line (Some line) file size is_ended = with_name file (next_line line is_ended) size
 
 -- the linemarker with these bytes after its `#` and blanks
-abbrev pub marker : List ℕ → ℕ → Bool → Found
+abbrev pub marker : List ℕ → ℕ → Bool → Lexeme
 marker body size is_ended = with_line (line_number (number_part body)) (file_name (drop (length (run Decimal (number_part body))) (number_part body))) size
     is_ended
 
@@ -82,10 +82,10 @@ abbrev pub whole_length : ℕ → Bool → ℕ
 whole_length count is_ended = if is_ended then count + 1 else count
 
 -- a pragma is skipped, and any other line is a linemarker
-abbrev pub line_of : List ℕ → ℕ → Bool → Found
+abbrev pub line_of : List ℕ → ℕ → Bool → Lexeme
 line_of body size is_ended = if starts_with nat_eq body (codes "pragma") then Gap size else marker body size is_ended
 
 -- the line that bytes begin with, the first of them being its `#`
-abbrev pub directive_at : List ℕ → Found
+abbrev pub directive_at : List ℕ → Lexeme
 directive_at bytes = (let line = take_while is_inside bytes in let is_ended = nat_lt (length line) (length bytes) in
     line_of (skip_blanks (drop 1 line)) (whole_length (length line) is_ended) is_ended)

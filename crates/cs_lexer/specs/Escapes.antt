@@ -3,7 +3,7 @@ use Rattle.std.specs.Prelude.{ℕ, ◌+◌, ◌<◌, Bool, false, ◌&&◌, ◌=
 use Rattle.std.specs.Prelude.{if◌then◌else◌}
 use Rattle.cs_lexer.specs.declared.digits.Base.{Base}
 use Rattle.cs_lexer.specs.declared.digits.Base.TheVariants.{Octal, Hexadecimal}
-use Rattle.cs_lexer.specs.declared.found.Fault.TheVariants.{BadByte, WideNumber}
+use Rattle.cs_lexer.specs.declared.lexeme.Fault.TheVariants.{BadByte, WideNumber}
 use Rattle.cs_lexer.specs.declared.escape.Item.{Item}
 use Rattle.cs_lexer.specs.declared.escape.Item.TheVariants.{Byte, Refused}
 use Rattle.cs_lexer.specs.Classes.{is_octal_digit, is_hexadecimal_digit}

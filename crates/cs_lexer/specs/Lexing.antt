@@ -3,8 +3,8 @@ use Rattle.std.specs.Prelude.{◌≡◌, ℕ, ◌<◌, ◌≤◌, List, length, 
 use Rattle.cs_limits.specs.declared.TheConstants.{MOST_TOKENS}
 use Rattle.cs_ast.specs.declared.place.Place.{Place}
 use Rattle.cs_ast.specs.declared.token.Token.{Token}
-use Rattle.cs_lexer.specs.declared.found.Fault.{Fault}
-use Rattle.cs_lexer.specs.declared.found.Fault.TheVariants as faults
+use Rattle.cs_lexer.specs.declared.lexeme.Fault.{Fault}
+use Rattle.cs_lexer.specs.declared.lexeme.Fault.TheVariants as faults
 use Rattle.cs_lexer.specs.declared.cut.End.{End}
 use Rattle.cs_lexer.specs.declared.refusal.LexRefusal.{LexRefusal}
 use Rattle.cs_lexer.specs.declared.refusal.LexRefusal.TheVariants.{BadByte, Unclosed, WideNumber, BadLine, TooManyTokens, Memory}

@@ -7,9 +7,9 @@ use Rattle.cs_ast.specs.declared.token.Length.{Length}
 use Rattle.cs_ast.specs.declared.token.Length.TheVariants.{Plain, Long, LongLong}
 use Rattle.cs_lexer.specs.declared.number.Suffix.{Suffix}
 use Rattle.cs_ast.specs.declared.token.TokenKind.TheVariants.{Number}
-use Rattle.cs_lexer.specs.declared.found.Fault.TheVariants.{BadByte, WideNumber}
-use Rattle.cs_lexer.specs.declared.found.Found.{Found}
-use Rattle.cs_lexer.specs.declared.found.Found.TheVariants.{Token, Refused}
+use Rattle.cs_lexer.specs.declared.lexeme.Fault.TheVariants.{BadByte, WideNumber}
+use Rattle.cs_lexer.specs.declared.lexeme.Lexeme.{Lexeme}
+use Rattle.cs_lexer.specs.declared.lexeme.Lexeme.TheVariants.{Token, Refused}
 use Rattle.cs_lexer.specs.Classes.{is_hexadecimal_digit, is_name_byte, begins_with}
 use Rattle.cs_lexer.specs.Digits.{run, value_of}
 
@@ -72,7 +72,7 @@ abbrev pub is_too_wide : Base → Suffix → ℕ → Bool
 is_too_wide base suffix value = is_decimal base && (not suffix.unsigned && nat_le (2 ^ 63) value)
 
 -- the constant with this value and suffix, of so many of the bytes
-abbrev pub constant : Base → Option ℕ → Suffix → ℕ → List ℕ → Found
+abbrev pub constant : Base → Option ℕ → Suffix → ℕ → List ℕ → Lexeme
 constant base None suffix size bytes = Refused WideNumber 0
 constant base (Some value) suffix size bytes =
     if is_too_wide base suffix value then Refused WideNumber 0
@@ -80,7 +80,7 @@ constant base (Some value) suffix size bytes =
     else Token size (Number (record { value = value; decimal = is_decimal base; unsigned = suffix.unsigned; length = suffix.length })))
 
 -- the integer constant that bytes begin with: as many digits of its base as there are, then its suffix
-abbrev pub number_at : List ℕ → Found
+abbrev pub number_at : List ℕ → Lexeme
 number_at bytes = (let base = base_of bytes in let digits = drop (prefix_length base) bytes in let count = length (run base digits) in
     let suffix = suffix_of (drop count digits) in
     constant base (value_of base (run base digits)) suffix (prefix_length base + count + suffix.bytes) bytes)

@@ -3,8 +3,8 @@ use Rattle.std.specs.Prelude.{◌≡◌, ℕ, Bool, ◌&&◌, ◌==◌, List, []
 use Rattle.std.specs.List.{take_while}
 use Rattle.cs_lexer.specs.declared.piece.Class.{Class}
 use Rattle.cs_lexer.specs.declared.piece.Class.TheVariants.{Directive, Space, BlockComment, LineComment, Word, Number, Character, Text, Punctuator}
-use Rattle.cs_lexer.specs.declared.found.Found.{Found}
-use Rattle.cs_lexer.specs.declared.found.Found.TheVariants.{Gap}
+use Rattle.cs_lexer.specs.declared.lexeme.Lexeme.{Lexeme}
+use Rattle.cs_lexer.specs.declared.lexeme.Lexeme.TheVariants.{Gap}
 use Rattle.cs_lexer.specs.Classes.{is_space, is_letter, is_digit, is_name_byte, begins_with}
 use Rattle.cs_lexer.specs.Comments.{is_inside, CommentGives}
 use Rattle.cs_lexer.specs.Directives.{directive_at}
@@ -28,7 +28,7 @@ class_of is_line_start (b ∷ bytes) =
     else (if is_letter b then Word else other_class b))))
 
 -- the piece of a class that bytes begin with, which goes on as far as it can
-abbrev pub BeginsAs : Class → List ℕ → Found → Type 0
+abbrev pub BeginsAs : Class → List ℕ → Lexeme → Type 0
 BeginsAs Directive bytes found = found ≡ directive_at bytes
 BeginsAs Space bytes found = found ≡ Gap (length (take_while is_space bytes))
 BeginsAs BlockComment bytes found = CommentGives (drop 2 bytes) found
@@ -40,5 +40,5 @@ BeginsAs Text bytes found = TextGives bytes found
 BeginsAs Punctuator bytes found = PunctuatorGives bytes found
 
 -- the piece that bytes begin with
-abbrev pub Begins : Bool → List ℕ → Found → Type 0
+abbrev pub Begins : Bool → List ℕ → Lexeme → Type 0
 Begins is_line_start bytes found = BeginsAs (class_of is_line_start bytes) bytes found

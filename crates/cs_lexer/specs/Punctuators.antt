@@ -3,9 +3,9 @@ use Rattle.std.specs.Prelude.{◌≡◌, ℕ, ◌≤◌, List, length, take}
 use Rattle.cs_ast.specs.declared.token.Punctuator as punctuators
 use Rattle.cs_ast.specs.declared.token.TokenKind.{TokenKind}
 use Rattle.cs_ast.specs.declared.token.TokenKind.TheVariants.{Punctuator}
-use Rattle.cs_lexer.specs.declared.found.Fault.TheVariants.{BadByte}
-use Rattle.cs_lexer.specs.declared.found.Found.{Found}
-use Rattle.cs_lexer.specs.declared.found.Found.TheVariants.{Token, Refused}
+use Rattle.cs_lexer.specs.declared.lexeme.Fault.TheVariants.{BadByte}
+use Rattle.cs_lexer.specs.declared.lexeme.Lexeme.{Lexeme}
+use Rattle.cs_lexer.specs.declared.lexeme.Lexeme.TheVariants.{Token, Refused}
 use Rattle.cs_lexer.specs.Spellings.{punctuator_text}
 
 -- the bytes begin with the punctuator
@@ -27,7 +27,7 @@ IsPunctuatorToken bytes size (Punctuator punctuator) = (size ≡ length (punctua
 IsPunctuatorToken bytes size _ = ⊥
 
 -- the longest punctuator is the token, and a byte that begins none is bad
-abbrev pub PunctuatorGives : List ℕ → Found → Type 0
+abbrev pub PunctuatorGives : List ℕ → Lexeme → Type 0
 PunctuatorGives bytes (Token size kind) = IsPunctuatorToken bytes size kind
 PunctuatorGives bytes (Refused fault size) = (fault ≡ BadByte) × (size ≡ 0) × NoPunctuator bytes
 PunctuatorGives bytes _ = ⊥

@@ -3,10 +3,10 @@ use Rattle.std.specs.Prelude.{◌≡◌, ℕ, ℤ, pos, negsuc, ◌+◌, ◌-◌
 use Rattle.std.specs.Prelude.{◌++◌, length, take, drop, Option, Some, None, option_map, if◌then◌else◌}
 use Rattle.cs_ast.specs.declared.token.TokenKind.{TokenKind}
 use Rattle.cs_ast.specs.declared.token.TokenKind.TheVariants.{Character, Text}
-use Rattle.cs_lexer.specs.declared.found.Fault.{Fault}
-use Rattle.cs_lexer.specs.declared.found.Fault.TheVariants.{BadByte, Unclosed}
-use Rattle.cs_lexer.specs.declared.found.Found.{Found}
-use Rattle.cs_lexer.specs.declared.found.Found.TheVariants.{Token, Refused}
+use Rattle.cs_lexer.specs.declared.lexeme.Fault.{Fault}
+use Rattle.cs_lexer.specs.declared.lexeme.Fault.TheVariants.{BadByte, Unclosed}
+use Rattle.cs_lexer.specs.declared.lexeme.Lexeme.{Lexeme}
+use Rattle.cs_lexer.specs.declared.lexeme.Lexeme.TheVariants.{Token, Refused}
 use Rattle.cs_lexer.specs.declared.escape.Item.{Item}
 use Rattle.cs_lexer.specs.declared.escape.Item.TheVariants as items
 use Rattle.cs_lexer.specs.Escapes.{item_at}
@@ -25,21 +25,21 @@ abbrev pub signed : ℕ → ℤ
 signed byte = if nat_lt byte 128 then pos byte else negsuc (255 - byte)
 
 -- the constant whose one item this is, of all the bytes between its quotes
-abbrev pub character_with : Item → ℕ → Found
+abbrev pub character_with : Item → ℕ → Lexeme
 character_with (items.Refused fault) count = Refused fault 1
 character_with (items.Byte byte size) count = if nat_lt size count then Refused BadByte (size + 1) else Token (count + 2) (Character (signed byte))
 
 -- the character constant with these bytes between its quotes
-abbrev pub character_of : List ℕ → Found
+abbrev pub character_of : List ℕ → Lexeme
 character_of [] = Refused BadByte 0
 character_of (b ∷ bytes) = character_with (item_at (b ∷ bytes)) (length (b ∷ bytes))
 
-abbrev pub character_in : List ℕ → Option ℕ → Found
+abbrev pub character_in : List ℕ → Option ℕ → Lexeme
 character_in bytes None = Refused Unclosed 0
 character_in bytes (Some count) = character_of (take count bytes)
 
 -- the character constant that bytes begin with, the first of them being its quote
-abbrev pub character_at : List ℕ → Found
+abbrev pub character_at : List ℕ → Lexeme
 character_at bytes = character_in (drop 1 bytes) (closing 39 false (drop 1 bytes))
 
 -- the body stands for these bytes as far as the rest of it
@@ -63,15 +63,15 @@ IsTextToken body size (Text values) = (size ≡ length body + 2) × Reads body v
 IsTextToken body size _ = ⊥
 
 -- a literal has the bytes that all of its body stands for, or is refused at its first bad item
-abbrev pub TextBodyGives : List ℕ → Found → Type 0
+abbrev pub TextBodyGives : List ℕ → Lexeme → Type 0
 TextBodyGives body (Token size kind) = IsTextToken body size kind
 TextBodyGives body (Refused fault size) = BadItem body fault size
 TextBodyGives body _ = ⊥
 
-abbrev pub TextIn : List ℕ → Option ℕ → Found → Type 0
+abbrev pub TextIn : List ℕ → Option ℕ → Lexeme → Type 0
 TextIn bytes None found = found ≡ Refused Unclosed 0
 TextIn bytes (Some count) found = TextBodyGives (take count bytes) found
 
 -- the string literal that bytes begin with, the first of them being its quote
-abbrev pub TextGives : List ℕ → Found → Type 0
+abbrev pub TextGives : List ℕ → Lexeme → Type 0
 TextGives bytes found = TextIn (drop 1 bytes) (closing 34 false (drop 1 bytes)) found

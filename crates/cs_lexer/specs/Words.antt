@@ -6,8 +6,8 @@ use Rattle.cs_ast.specs.declared.token.Keyword as keywords
 use Rattle.cs_ast.specs.declared.token.Unsupported as left_outs
 use Rattle.cs_ast.specs.declared.token.TokenKind.{TokenKind}
 use Rattle.cs_ast.specs.declared.token.TokenKind.TheVariants.{Keyword, Unsupported, Attribute, Name}
-use Rattle.cs_lexer.specs.declared.found.Found.{Found}
-use Rattle.cs_lexer.specs.declared.found.Found.TheVariants.{Gap, Token}
+use Rattle.cs_lexer.specs.declared.lexeme.Lexeme.{Lexeme}
+use Rattle.cs_lexer.specs.declared.lexeme.Lexeme.TheVariants.{Gap, Token}
 use Rattle.cs_lexer.specs.Spellings.{keyword_text, unsupported_text}
 
 -- the words that are dropped wherever they stand
@@ -43,7 +43,7 @@ WordIs word (Name name) = (name ≡ word) × IsPlain word
 WordIs word _ = ⊥
 
 -- a word is dropped or a token, with all of its bytes
-abbrev pub WordGives : List ℕ → Found → Type 0
+abbrev pub WordGives : List ℕ → Lexeme → Type 0
 WordGives word (Gap size) = (size ≡ length word) × IsTrue (is_dropped word)
 WordGives word (Token size kind) = (size ≡ length word) × WordIs word kind
 WordGives word _ = ⊥

@@ -3,7 +3,7 @@ ghost use Rattle.std.specs.Prelude.{◌≡◌, ℕ, ◌<◌, ◌^◌, length, ta
 ghost use Rattle.std.specs.List.{take_while};
 ghost use Rattle.cs_lexer.specs.Comments.{IsEnd, IsFirstEnd, CommentGives, is_inside};
 
-use crate::found::{Fault, Found};
+use crate::lexeme::{Fault, Lexeme};
 use crate::part::following;
 
 /// How many bytes at the front are none of them a line feed.
@@ -28,12 +28,12 @@ fn comment_end(bytes: &[u8]) -> Option<usize>
 }
 
 /// The comment that bytes begin with, the first of them being `/*`.
-pub fn comment(bytes: &[u8]) -> Found
+pub fn comment(bytes: &[u8]) -> Lexeme
     requires { length bytes.now < 2 ^ 32 }
     ensures { CommentGives (drop 2 bytes.now) result }
 {
     match comment_end(following(bytes, 2)) {
-        Some(count) => Found::Gap(count + 4),
-        None => Found::Refused(Fault::Unclosed, 0),
+        Some(count) => Lexeme::Gap(count + 4),
+        None => Lexeme::Refused(Fault::Unclosed, 0),
     }
 }

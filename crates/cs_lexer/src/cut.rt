@@ -5,7 +5,7 @@ ghost use Rattle.cs_lexer.specs.Spots as spots;
 ghost use Rattle.cs_lexer.specs.Cuttings.{IsCutting, file_after, files_after};
 
 use crate::files::Files;
-use crate::found::{Fault, Found};
+use crate::lexeme::{Fault, Lexeme};
 use crate::part::{begins_with, following, front};
 use crate::piece::piece;
 use crate::spot::{Spot, line_of, spot_after, start};
@@ -125,22 +125,22 @@ pub fn cut(alloc: Global, text: &[u8]) -> Result<Cutting, AllocError>
     let mut rest = text;
     while !rest.is_empty() {
         match piece(alloc, spot.is_line_start, rest)? {
-            Found::Gap(size) => {
+            Lexeme::Gap(size) => {
                 spot = spot_after(spot, front(rest, size));
                 rest = following(rest, size);
             }
-            Found::Marker(size, next, name) => {
+            Lexeme::Marker(size, next, name) => {
                 let file = marked_file(&mut files, spot, name)?;
                 spot = marked_spot(spot, file, next, front(rest, size));
                 rest = following(rest, size);
             }
-            Found::Token(size, kind) => {
+            Lexeme::Token(size, kind) => {
                 let place = spot.place;
                 tokens.push(Token { kind, place })?;
                 spot = spot_after(spot, front(rest, size));
                 rest = following(rest, size);
             }
-            Found::Refused(fault, size) => {
+            Lexeme::Refused(fault, size) => {
                 return refused(alloc, tokens, files, spot, rest, fault, size);
             }
         }

@@ -8,7 +8,7 @@ ghost use Rattle.cs_lexer.specs.Directives as spec;
 use crate::byte::is_blank;
 use crate::comment::line_length;
 use crate::digits::{Base, digit_count, leading_value};
-use crate::found::{Fault, Found};
+use crate::lexeme::{Fault, Lexeme};
 use crate::part::{begins_with, following, front};
 use crate::quoted::closing;
 use cs_names::Name;
@@ -162,19 +162,19 @@ fn next_line(line: u32, is_ended: bool) -> Option<u32>
 }
 
 // The linemarker with these bytes after its `#` and blanks.
-fn marker(alloc: Global, body: &[u8], size: usize, is_ended: bool) -> Result<Found, AllocError>
+fn marker(alloc: Global, body: &[u8], size: usize, is_ended: bool) -> Result<Lexeme, AllocError>
     ensures { IfOk result (λ found. found ≡ spec.marker body.now size is_ended) }
 {
     let number = number_part(body);
     let Some(line) = line_number(number) else {
-        return Ok(Found::Refused(Fault::BadLine, 0));
+        return Ok(Lexeme::Refused(Fault::BadLine, 0));
     };
     let next = next_line(line, is_ended);
     let rest = following(number, digit_count(Base::Decimal, number));
     match file_name(alloc, rest)? {
-        FileName::Absent => Ok(Found::Marker(size, next, None)),
-        FileName::Given(name) => Ok(Found::Marker(size, next, Some(name))),
-        FileName::Bad => Ok(Found::Refused(Fault::BadLine, 0)),
+        FileName::Absent => Ok(Lexeme::Marker(size, next, None)),
+        FileName::Given(name) => Ok(Lexeme::Marker(size, next, Some(name))),
+        FileName::Bad => Ok(Lexeme::Refused(Fault::BadLine, 0)),
     }
 }
 
@@ -187,7 +187,7 @@ fn whole_length(length: usize, is_ended: bool) -> usize
 }
 
 /// The line that bytes begin with, the first of them being its `#`.
-pub fn directive(alloc: Global, bytes: &[u8]) -> Result<Found, AllocError>
+pub fn directive(alloc: Global, bytes: &[u8]) -> Result<Lexeme, AllocError>
     requires { length bytes.now < 2 ^ 32 }
     ensures { IfOk result (λ found. found ≡ spec.directive_at bytes.now) }
 {
@@ -196,7 +196,7 @@ pub fn directive(alloc: Global, bytes: &[u8]) -> Result<Found, AllocError>
     let size = whole_length(length, is_ended);
     let body = skip_blanks(following(front(bytes, length), 1));
     if body.starts_with(b"pragma".as_slice()) {
-        return Ok(Found::Gap(size));
+        return Ok(Lexeme::Gap(size));
     }
     marker(alloc, body, size, is_ended)
 }

@@ -4,7 +4,7 @@ ghost use Rattle.cs_lexer.specs.Escapes as spec;
 
 use crate::byte::is_octal_digit;
 use crate::digits::{Base, digit_count, is_digit_of, leading_value};
-use crate::found::Fault;
+use crate::lexeme::Fault;
 use crate::part::front;
 
 /// The first byte that a constant or a literal stands for, with the number of bytes that it is written in.

@@ -12,7 +12,7 @@ mod digits;
 mod directive;
 mod escape;
 mod files;
-mod found;
+mod lexeme;
 mod lexer;
 mod number;
 mod part;

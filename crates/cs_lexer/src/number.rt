@@ -4,7 +4,7 @@ ghost use Rattle.cs_lexer.specs.Numbers as spec;
 
 use crate::byte::is_name_byte;
 use crate::digits::{Base, digit_count, is_digit_of, leading_value};
-use crate::found::{Fault, Found};
+use crate::lexeme::{Fault, Lexeme};
 use crate::part::{begins_with, following};
 use cs_ast::{IntegerConstant, Length, TokenKind};
 
@@ -151,17 +151,17 @@ fn is_decimal(base: Base) -> bool
 }
 
 // The constant with this value and suffix, of so many of the bytes.
-fn constant(base: Base, value: Option<u64>, suffix: Suffix, size: usize, bytes: &[u8]) -> Found
+fn constant(base: Base, value: Option<u64>, suffix: Suffix, size: usize, bytes: &[u8]) -> Lexeme
     ensures { result ≡ spec.constant base value suffix size bytes.now }
 {
     let Some(value) = value else {
-        return Found::Refused(Fault::WideNumber, 0);
+        return Lexeme::Refused(Fault::WideNumber, 0);
     };
     if is_too_wide(base, suffix, value) {
-        return Found::Refused(Fault::WideNumber, 0);
+        return Lexeme::Refused(Fault::WideNumber, 0);
     }
     if goes_on(following(bytes, size)) {
-        return Found::Refused(Fault::BadByte, size);
+        return Lexeme::Refused(Fault::BadByte, size);
     }
     let constant = IntegerConstant {
         value,
@@ -169,11 +169,11 @@ fn constant(base: Base, value: Option<u64>, suffix: Suffix, size: usize, bytes: 
         unsigned: suffix.unsigned,
         length: suffix.length,
     };
-    Found::Token(size, TokenKind::Number(constant))
+    Lexeme::Token(size, TokenKind::Number(constant))
 }
 
 /// The integer constant that bytes begin with, the first of them being a digit.
-pub fn number(bytes: &[u8]) -> Found
+pub fn number(bytes: &[u8]) -> Lexeme
     requires { length bytes.now < 2 ^ 32 }
     ensures { result ≡ spec.number_at bytes.now }
 {

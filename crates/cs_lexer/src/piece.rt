@@ -8,7 +8,7 @@ ghost use Rattle.cs_lexer.specs.Classes as classes;
 use crate::byte::{is_digit, is_letter, is_name_byte, is_space};
 use crate::comment::{comment, line_length};
 use crate::directive::directive;
-use crate::found::Found;
+use crate::lexeme::Lexeme;
 use crate::number::number;
 use crate::part::{begins_with, front};
 use crate::punctuator::punctuator;
@@ -90,15 +90,15 @@ fn leading_word(bytes: &[u8]) -> &[u8]
 }
 
 /// The piece at the front of bytes, of which there are some.
-pub fn piece(alloc: Global, is_line_start: bool, bytes: &[u8]) -> Result<Found, AllocError>
+pub fn piece(alloc: Global, is_line_start: bool, bytes: &[u8]) -> Result<Lexeme, AllocError>
     requires { length bytes.now < 2 ^ 32 }
     ensures { IfOk result (λ found. Begins is_line_start bytes.now found) }
 {
     match class_of(is_line_start, bytes) {
         Class::Directive => directive(alloc, bytes),
-        Class::Space => Ok(Found::Gap(space_length(bytes))),
+        Class::Space => Ok(Lexeme::Gap(space_length(bytes))),
         Class::BlockComment => Ok(comment(bytes)),
-        Class::LineComment => Ok(Found::Gap(line_length(bytes))),
+        Class::LineComment => Ok(Lexeme::Gap(line_length(bytes))),
         Class::Word => word(alloc, leading_word(bytes)),
         Class::Number => Ok(number(bytes)),
         Class::Character => Ok(character(bytes)),

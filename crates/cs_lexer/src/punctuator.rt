@@ -3,7 +3,7 @@ ghost use Rattle.std.specs.Prelude.{◌≡◌, length, MatchOption};
 ghost use Rattle.cs_lexer.specs.Spellings.{punctuator_text};
 ghost use Rattle.cs_lexer.specs.Punctuators.{NoPunctuator, IsLongestPunctuator, PunctuatorGives};
 
-use crate::found::{Fault, Found};
+use crate::lexeme::{Fault, Lexeme};
 use crate::part::front;
 use crate::spelling::punctuator_spelled;
 use cs_ast::{Punctuator, TokenKind};
@@ -52,14 +52,14 @@ fn punctuator_length(punctuator: Punctuator) -> usize
 }
 
 /// The punctuator that bytes begin with; a byte that begins no token is bad.
-pub fn punctuator(bytes: &[u8]) -> Found
+pub fn punctuator(bytes: &[u8]) -> Lexeme
     ensures { PunctuatorGives bytes.now result }
 {
     match longest_punctuator(bytes) {
-        Some(punctuator) => Found::Token(
+        Some(punctuator) => Lexeme::Token(
             punctuator_length(punctuator),
             TokenKind::Punctuator(punctuator),
         ),
-        None => Found::Refused(Fault::BadByte, 0),
+        None => Lexeme::Refused(Fault::BadByte, 0),
     }
 }

@@ -4,7 +4,7 @@ ghost use Rattle.cs_lexer.specs.Quoted as spec;
 ghost use Rattle.cs_lexer.specs.Quoted.{TextGives, TextBodyGives};
 
 use crate::escape::{Item, first_item};
-use crate::found::{Fault, Found};
+use crate::lexeme::{Fault, Lexeme};
 use crate::part::{following, front};
 use cs_ast::TokenKind;
 use cs_names::Bytes;
@@ -39,39 +39,39 @@ fn signed(byte: u8) -> i32
 }
 
 // The character constant with these bytes between its quotes.
-fn character_of(body: &[u8]) -> Found
+fn character_of(body: &[u8]) -> Lexeme
     requires { length body.now < 2 ^ 32 }
     ensures { result ≡ spec.character_of body.now }
 {
     if body.is_empty() {
-        return Found::Refused(Fault::BadByte, 0);
+        return Lexeme::Refused(Fault::BadByte, 0);
     }
     match first_item(body) {
-        Item::Refused(fault) => Found::Refused(fault, 1),
+        Item::Refused(fault) => Lexeme::Refused(fault, 1),
         Item::Byte(byte, size) => {
             if size < body.len() {
-                Found::Refused(Fault::BadByte, size + 1)
+                Lexeme::Refused(Fault::BadByte, size + 1)
             } else {
-                Found::Token(body.len() + 2, TokenKind::Character(signed(byte)))
+                Lexeme::Token(body.len() + 2, TokenKind::Character(signed(byte)))
             }
         }
     }
 }
 
 /// The character constant that bytes begin with, the first of them being its quote.
-pub fn character(bytes: &[u8]) -> Found
+pub fn character(bytes: &[u8]) -> Lexeme
     requires { length bytes.now < 2 ^ 32 }
     ensures { result ≡ spec.character_at bytes.now }
 {
     let more = following(bytes, 1);
     match closing(b'\'', more) {
         Some(count) => character_of(front(more, count)),
-        None => Found::Refused(Fault::Unclosed, 0),
+        None => Lexeme::Refused(Fault::Unclosed, 0),
     }
 }
 
 // The string literal with these bytes between its quotes.
-fn text_of(alloc: Global, body: &[u8]) -> Result<Found, AllocError>
+fn text_of(alloc: Global, body: &[u8]) -> Result<Lexeme, AllocError>
     requires { length body.now < 2 ^ 32 }
     ensures { IfOk result (λ found. TextBodyGives body.now found) }
 {
@@ -84,21 +84,21 @@ fn text_of(alloc: Global, body: &[u8]) -> Result<Found, AllocError>
                 rest = following(rest, size);
             }
             Item::Refused(fault) => {
-                return Ok(Found::Refused(fault, body.len() + 1 - rest.len()));
+                return Ok(Lexeme::Refused(fault, body.len() + 1 - rest.len()));
             }
         }
     }
-    Ok(Found::Token(body.len() + 2, TokenKind::Text(Bytes::from_vec(values))))
+    Ok(Lexeme::Token(body.len() + 2, TokenKind::Text(Bytes::from_vec(values))))
 }
 
 /// The string literal that bytes begin with, the first of them being its quote.
-pub fn text(alloc: Global, bytes: &[u8]) -> Result<Found, AllocError>
+pub fn text(alloc: Global, bytes: &[u8]) -> Result<Lexeme, AllocError>
     requires { length bytes.now < 2 ^ 32 }
     ensures { IfOk result (λ found. TextGives bytes.now found) }
 {
     let more = following(bytes, 1);
     match closing(b'"', more) {
         Some(count) => text_of(alloc, front(more, count)),
-        None => Ok(Found::Refused(Fault::Unclosed, 0)),
+        None => Ok(Lexeme::Refused(Fault::Unclosed, 0)),
     }
 }

@@ -3,7 +3,7 @@ ghost use Rattle.std.specs.Prelude.{◌≡◌};
 ghost use Rattle.cs_lexer.specs.declared.refusal.LexRefusal.TheVariants.{Memory};
 ghost use Rattle.cs_lexer.specs.Lexing as spec;
 
-use crate::found::Fault;
+use crate::lexeme::Fault;
 use cs_ast::Place;
 use cs_names::Name;
 use std::alloc::{AllocError, AllocFailed};

@@ -6,7 +6,7 @@ ghost use Rattle.std.specs.Cmp.Lexicographic.{pointwise};
 ghost use Rattle.cs_lexer.specs.Words as spec;
 ghost use Rattle.cs_lexer.specs.Words.{WordGives};
 
-use crate::found::Found;
+use crate::lexeme::Lexeme;
 use crate::spelling::{keyword_spelled, unsupported_spelled};
 use cs_ast::TokenKind;
 use cs_names::Name;
@@ -53,21 +53,21 @@ fn is_attribute(text: &[u8]) -> bool
 }
 
 /// What a word is.
-pub fn word(alloc: Global, text: &[u8]) -> Result<Found, AllocError>
+pub fn word(alloc: Global, text: &[u8]) -> Result<Lexeme, AllocError>
     ensures { IfOk result (λ found. WordGives text.now found) }
 {
     if let Some(keyword) = keyword_spelled(text) {
-        return Ok(Found::Token(text.len(), TokenKind::Keyword(keyword)));
+        return Ok(Lexeme::Token(text.len(), TokenKind::Keyword(keyword)));
     }
     if let Some(unsupported) = unsupported_spelled(text) {
-        return Ok(Found::Token(text.len(), TokenKind::Unsupported(unsupported)));
+        return Ok(Lexeme::Token(text.len(), TokenKind::Unsupported(unsupported)));
     }
     if is_dropped(text) {
-        return Ok(Found::Gap(text.len()));
+        return Ok(Lexeme::Gap(text.len()));
     }
     if is_attribute(text) {
-        return Ok(Found::Token(text.len(), TokenKind::Attribute));
+        return Ok(Lexeme::Token(text.len(), TokenKind::Attribute));
     }
     let name = Name::from_slice(alloc, text)?;
-    Ok(Found::Token(text.len(), TokenKind::Name(name)))
+    Ok(Lexeme::Token(text.len(), TokenKind::Name(name)))
 }

@@ -23,7 +23,7 @@ use std::alloc::AllocError;
 
 /// What is found in a scalar.
 #[derive(Drop)]
-pub enum Found<'a> {
+pub enum ScalarContents<'a> {
     Holds(Cell),
     /// An input that isn't looked up yet, by its path and the scalar's type.
     Unknown(Path, BlockType<'a>),
@@ -116,22 +116,22 @@ fn filled<'a>(
     fill: &Fill,
     scalar: BlockType<'a>,
     offset: u64,
-) -> Result<Found<'a>, AllocError>
+) -> Result<ScalarContents<'a>, AllocError>
     requires { HasLayouts program.now }
     ensures { IfOk result (λ found.
         found_of found ≡ meaning.filled (typed_program program.now) (fill_of fill.now)
         (type_of scalar.entry) offset) }
 {
     match fill {
-        Fill::Unset => Ok(Found::Holds(Cell::Unset)),
-        Fill::Zero => Ok(Found::Holds(zero_of(scalar))),
+        Fill::Unset => Ok(ScalarContents::Holds(Cell::Unset)),
+        Fill::Zero => Ok(ScalarContents::Holds(zero_of(scalar))),
         Fill::Initial(initializer) => {
             let cell = initializer.cell(program, scalar, offset)?;
-            Ok(Found::Holds(cell))
+            Ok(ScalarContents::Holds(cell))
         }
         Fill::Input(root) => {
             let path = cell_path(root, offset)?;
-            Ok(Found::Unknown(path, scalar))
+            Ok(ScalarContents::Unknown(path, scalar))
         }
     }
 }
@@ -151,7 +151,7 @@ fn found_in<'a>(
     object: &Object,
     block: &Block<'a>,
     offset: u64,
-) -> Result<Found<'a>, AllocError>
+) -> Result<ScalarContents<'a>, AllocError>
     requires { HasLayouts program.now }
     ensures { IfOk result (λ found.
         found_of found ≡ meaning.found_in (typed_program program.now) (object_of object.now)
@@ -160,7 +160,7 @@ fn found_in<'a>(
     match block.written.get(&offset) {
         Some(cell) => {
             let cell = cell.copy()?;
-            Ok(Found::Holds(cell))
+            Ok(ScalarContents::Holds(cell))
         }
         None => {
             let scalar = scalar_at(program, object, block, offset)?;
@@ -176,7 +176,7 @@ impl<'a> Memory<'a> {
         program: &'a Program,
         object: &Object,
         offset: u64,
-    ) -> Result<Found<'a>, AllocError>
+    ) -> Result<ScalarContents<'a>, AllocError>
         requires { HasLayouts program.now }
         ensures { IfOk result (λ found.
             found_of found ≡ meaning.found_in (typed_program program.now) (object_of object.now)
@@ -184,7 +184,7 @@ impl<'a> Memory<'a> {
     {
         match self.block(object) {
             Some(block) => found_in(program, object, block, offset),
-            None => Ok(Found::Holds(Cell::Unset)),
+            None => Ok(ScalarContents::Holds(Cell::Unset)),
         }
     }
 
@@ -193,7 +193,7 @@ impl<'a> Memory<'a> {
         &mut self,
         log: &mut Log,
         setting: &Setting<'a>,
-        found: Found<'a>,
+        found: ScalarContents<'a>,
     ) -> Result<Cell, Stop>
         requires { IsReady setting.now }
         ensures ok { IfOk result (λ cell.
@@ -207,8 +207,8 @@ impl<'a> Memory<'a> {
         ensures counts { IfOk result (λ _. KeepsCounts self.old self.new) }
     {
         match found {
-            Found::Holds(cell) => Ok(cell),
-            Found::Unknown(path, scalar) => {
+            ScalarContents::Holds(cell) => Ok(cell),
+            ScalarContents::Unknown(path, scalar) => {
                 let cell = self.look_up(log, setting, path, scalar)?;
                 Ok(cell)
             }

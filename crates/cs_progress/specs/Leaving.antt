@@ -5,7 +5,7 @@ use Rattle.cs_regions.specs.declared.base.Base.{Base}
 use Rattle.cs_regions.specs.declared.base.Base.TheVariants.{Local}
 use Rattle.cs_regions.specs.Numbering.{IsNumbered}
 use Rattle.cs_store.specs.declared.value.Fill.TheVariants.{Unset}
-use Rattle.cs_store.specs.declared.value.Found.TheVariants.{Fill}
+use Rattle.cs_store.specs.declared.value.Binding.TheVariants.{Fill}
 use Rattle.cs_store.specs.declared.value.Value.{Value}
 use Rattle.cs_store.specs.Held.{Regions, held}
 use Rattle.cs_terms.specs.Term.{Valuation}

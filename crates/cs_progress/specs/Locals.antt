@@ -10,8 +10,8 @@ use Rattle.cs_store.specs.declared.value.Value.{Value}
 use Rattle.cs_store.specs.declared.value.Value.TheVariants as value
 use Rattle.cs_store.specs.declared.value.Fill as store
 use Rattle.cs_store.specs.declared.value.Fill.TheVariants.{Unset}
-use Rattle.cs_store.specs.declared.value.Found.{Found}
-use Rattle.cs_store.specs.declared.value.Found.TheVariants.{Direct, Fill}
+use Rattle.cs_store.specs.declared.value.Binding.{Binding}
+use Rattle.cs_store.specs.declared.value.Binding.TheVariants.{Direct, Fill}
 use Rattle.cs_store.specs.Held.{Regions, held}
 use Rattle.cs_state.specs.declared.frame.Frame.{Frame}
 use Rattle.cs_state.specs.declared.state.State.{State}
@@ -24,7 +24,7 @@ abbrev pub IsUnfilled : Regions → ℕ → ℕ → Type 0
 IsUnfilled regions base offset = (fill : store.Fill) → held regions base offset ≡ Fill fill → fill ≡ Unset
 
 -- what is held there then: what was bound, else nothing that was ever set
-abbrev pub value_held : Found → Value
+abbrev pub value_held : Binding → Value
 value_held (Direct value) = value
 value_held (Fill fill) = value.Unset
 

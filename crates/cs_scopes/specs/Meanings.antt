@@ -3,7 +3,7 @@ use Rattle.std.specs.Prelude.{ℕ, ℤ, List, map}
 use Rattle.cs_types.specs.declared.ctype.CType.{CType}
 use Rattle.cs_types.specs.Shape.{Shape, shape_of}
 use Rattle.cs_scopes.specs.declared.scope.Callee.{Callee}
-use Rattle.cs_scopes.specs.declared.scope.Function.{Function as Declared}
+use Rattle.cs_scopes.specs.declared.scope.DeclaredFunction.{DeclaredFunction as Declared}
 use Rattle.cs_scopes.specs.declared.scope.Meaning.{Meaning as Said}
 use Rattle.cs_scopes.specs.declared.scope.Meaning.TheVariants as said
 use Rattle.cs_scopes.specs.declared.scope.Declaration.{Declaration as Written}

@@ -28,7 +28,7 @@ pub use moves::direction_of;
 pub use parts::{Parts, parts_of};
 pub use refusal::{TypeCode, TypeRefusal};
 pub use scalars::{few, has_few_scalars, scalars_in};
-pub use scope::{Callee, Declaration, Function, Meaning, Tag, TagMeaning};
+pub use scope::{Callee, Declaration, DeclaredFunction, Meaning, Tag, TagMeaning};
 pub use sizes::bytes_in;
 pub use type_names::{
     array_of, arrayed, complete_at, enum_type, starred, type_named, typedef_type,

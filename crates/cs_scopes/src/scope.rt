@@ -21,12 +21,12 @@ pub enum Meaning {
     Global(u32, CType),
     /// An object of the running function, by its declaration's number.
     Local(u32, CType),
-    Function(Function),
+    Function(DeclaredFunction),
 }
 
 /// A function: what a call of it is, and the types of its result and its parameters.
 #[derive(Drop)]
-pub struct Function {
+pub struct DeclaredFunction {
     pub callee: Callee,
     pub result: CType,
     pub parameters: Vec<CType>,

@@ -11,8 +11,8 @@ use Rattle.cs_regions.specs.declared.base.Base.TheVariants.{Entry, Local}
 use Rattle.cs_store.specs.declared.value.Value.{Value}
 use Rattle.cs_store.specs.declared.value.Fill as store
 use Rattle.cs_store.specs.declared.value.Fill.TheVariants.{Unset as UnsetFill}
-use Rattle.cs_store.specs.declared.value.Found.{Found}
-use Rattle.cs_store.specs.declared.value.Found.TheVariants.{Direct, Fill}
+use Rattle.cs_store.specs.declared.value.Binding.{Binding}
+use Rattle.cs_store.specs.declared.value.Binding.TheVariants.{Direct, Fill}
 use Rattle.cs_store.specs.Held.{held}
 use Rattle.cs_ast.specs.TypedProgram.{TypedProgram, Variable}
 use Rattle.cs_meaning.specs.Steps.{parameter_path}
@@ -27,7 +27,7 @@ use Rattle.cs_state.specs.Writes.{with_memory, with_known}
 use Rattle.cs_state.proofs.Received.{IsGiven, given, holds_kept, same_input, same_entry, same_local, same_name}
 
 -- a binding is no fill
-IsFill : Found → Type 0
+IsFill : Binding → Type 0
 IsFill (Direct value) = ⊥
 IsFill (Fill fill) = Unit {0}
 

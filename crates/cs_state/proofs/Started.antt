@@ -10,8 +10,8 @@ use Rattle.cs_constraints.specs.Constraints.{set_of}
 use Rattle.cs_store.specs.declared.value.Value.{Value}
 use Rattle.cs_store.specs.declared.value.Fill as store
 use Rattle.cs_store.specs.declared.value.Fill.TheVariants.{Unset as UnsetFill}
-use Rattle.cs_store.specs.declared.value.Found.{Found}
-use Rattle.cs_store.specs.declared.value.Found.TheVariants.{Direct, Fill}
+use Rattle.cs_store.specs.declared.value.Binding.{Binding}
+use Rattle.cs_store.specs.declared.value.Binding.TheVariants.{Direct, Fill}
 use Rattle.cs_store.specs.Held.{held}
 use Rattle.cs_ast.specs.TypedProgram.{TypedProgram, Routine, Variable}
 use Rattle.cs_meaning.specs.Machine.{routine_of, no_routine, NOWHERE}
@@ -25,7 +25,7 @@ use Rattle.cs_state.specs.Starting.{IsFresh, HasReceived, IsStart, IsParameter}
 use Rattle.cs_state.specs.Writes.{with_known}
 use Rattle.cs_state.proofs.ReceivedMore.{direct_no_fill}
 
-fill_in : Found → store.Fill
+fill_in : Binding → store.Fill
 fill_in (Direct value) = UnsetFill
 fill_in (Fill fill) = fill
 

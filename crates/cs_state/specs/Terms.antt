@@ -11,7 +11,7 @@ use Rattle.cs_terms.specs.Term.{value_at, IsTerm}
 use Rattle.cs_constraints.specs.Constraints.{Sets, set_of, IsDeclared}
 use Rattle.cs_store.specs.declared.value.Value.{Value}
 use Rattle.cs_store.specs.declared.value.Value.TheVariants as value
-use Rattle.cs_store.specs.declared.value.Found.TheVariants.{Direct}
+use Rattle.cs_store.specs.declared.value.Binding.TheVariants.{Direct}
 use Rattle.cs_store.specs.Held.{Regions, held}
 use Rattle.cs_state.specs.declared.block.Block.{Block}
 use Rattle.cs_state.specs.declared.frame.Frame.{Frame}

@@ -6,7 +6,7 @@ ghost use Rattle.std.specs.FinMap.{insert};
 ghost use Rattle.cs_ranges.specs.RangeSet.{IsInhabited};
 ghost use Rattle.cs_terms.specs.Term.{IsTerm};
 ghost use Rattle.cs_constraints.specs.Constraints.{set_of, IsDeclared, HasValuesInside, Keeps, RulesOut};
-ghost use Rattle.cs_store.specs.declared.value.Found.TheVariants as found;
+ghost use Rattle.cs_store.specs.declared.value.Binding.TheVariants as found;
 ghost use Rattle.cs_store.specs.declared.value.Fill.TheVariants as fill;
 ghost use Rattle.cs_constraints.specs.Sets.{has_sym};
 ghost use Rattle.cs_store.specs.Contents.{after_leaves};

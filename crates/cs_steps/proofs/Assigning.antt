@@ -21,7 +21,7 @@ use Rattle.cs_regions.specs.declared.base.Base.TheVariants.{Local}
 use Rattle.cs_regions.specs.Numbering.{IsNumbered}
 use Rattle.cs_store.specs.declared.value.Value.{Value}
 use Rattle.cs_store.specs.declared.value.Fill.TheVariants.{Unset}
-use Rattle.cs_store.specs.declared.value.Found.TheVariants.{Fill}
+use Rattle.cs_store.specs.declared.value.Binding.TheVariants.{Fill}
 use Rattle.cs_store.specs.Held.{held}
 use Rattle.cs_state.specs.declared.state.State.{State}
 use Rattle.cs_state.specs.declared.temporary.Temporary.{Temporary}

@@ -22,8 +22,8 @@ use Rattle.cs_regions.specs.declared.base.Base.{Base}
 use Rattle.cs_regions.specs.Numbering.{IsNumbered}
 use Rattle.cs_store.specs.declared.value.Value.{Value}
 use Rattle.cs_store.specs.declared.value.Value.TheVariants as value
-use Rattle.cs_store.specs.declared.value.Found.{Found as Held}
-use Rattle.cs_store.specs.declared.value.Found.TheVariants as found
+use Rattle.cs_store.specs.declared.value.Binding.{Binding as Held}
+use Rattle.cs_store.specs.declared.value.Binding.TheVariants as found
 use Rattle.cs_store.specs.Held.{held}
 use Rattle.cs_state.specs.declared.state.State.{State}
 use Rattle.cs_state.specs.declared.temporary.Temporary.{Temporary}

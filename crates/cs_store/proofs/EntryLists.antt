@@ -20,7 +20,7 @@ use Rattle.cs_pmap.proofs.SortedEntries.{Sorted, IsTrue-T, find_middle}
 use Rattle.cs_pmap.proofs.AtBranch.{key_cmp_total}
 use Rattle.cs_store.specs.declared.value.Value.{Value}
 use Rattle.cs_store.specs.declared.value.Fill.{Fill}
-use Rattle.cs_store.specs.declared.value.Found.TheVariants as found
+use Rattle.cs_store.specs.declared.value.Binding.TheVariants as found
 use Rattle.cs_store.specs.declared.value.Fill.TheVariants.{Unset}
 use Rattle.cs_store.specs.Contents.{Contents, HasOffsets, HoldsNothing, IsListing, by_number, filled}
 use Rattle.cs_store.specs.Held.{Regions, AreInUse, IsRegionListing}

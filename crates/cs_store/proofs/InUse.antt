@@ -12,8 +12,8 @@ use Rattle.cs_pmap.proofs.AtBranch.{key_cmp_total}
 use Rattle.cs_store.specs.declared.value.Value.{Value}
 use Rattle.cs_store.specs.declared.value.Fill.{Fill}
 use Rattle.cs_store.specs.declared.value.Fill.TheVariants.{Unset}
-use Rattle.cs_store.specs.declared.value.Found.{Found}
-use Rattle.cs_store.specs.declared.value.Found.TheVariants as found
+use Rattle.cs_store.specs.declared.value.Binding.{Binding}
+use Rattle.cs_store.specs.declared.value.Binding.TheVariants as found
 use Rattle.cs_store.specs.Contents.{Contents, HasOffsets, HoldsNothing, after_leaves, filled, held_in, last_leaf}
 use Rattle.cs_store.specs.Held.{Regions, AreInUse, HasPlainKeys, held}
 use Rattle.cs_store.proofs.Keys.{same_key, key_itself, no_offsets, other_key}
@@ -34,7 +34,7 @@ filled_something fill differ nothing = differ (same (sym (held_filled fill 0) �
     same e = cc
 
 -- and one to which leaves were bound
-pub leaves_something : (leaves : List (ℕ × Value)) (contents : Contents) (before : ℕ → Found) → false ≡ (length leaves == 0)
+pub leaves_something : (leaves : List (ℕ × Value)) (contents : Contents) (before : ℕ → Binding) → false ≡ (length leaves == 0)
     → ((o : ℕ) → held_in contents o ≡ after_leaves leaves o (before o)) → ¬ HoldsNothing contents
 leaves_something [] contents before some e = absurd (false≢true some)
 leaves_something (leaf ∷ leaves) contents before some e =

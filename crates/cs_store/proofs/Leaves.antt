@@ -17,8 +17,8 @@ use Rattle.cs_store.proofs.Keys.{key_itself, other_key, more_offsets}
 use Rattle.cs_store.specs.declared.write.Write.{Write}
 use Rattle.cs_store.specs.Writes.{decided, last_decided}
 use Rattle.cs_store.specs.declared.value.Value.{Value}
-use Rattle.cs_store.specs.declared.value.Found.{Found}
-use Rattle.cs_store.specs.declared.value.Found.TheVariants.{Direct}
+use Rattle.cs_store.specs.declared.value.Binding.{Binding}
+use Rattle.cs_store.specs.declared.value.Binding.TheVariants.{Direct}
 use Rattle.cs_store.specs.Contents.{Contents, HasOffsets, held_in, with_binding, keyed, after_leaves, last_leaf}
 use Rattle.cs_store.proofs.Regions.{bound_here, bound_elsewhere}
 
@@ -92,7 +92,7 @@ bases_step bases i m b more =
     ∙ ap (λ bs. cond (list_any (λ x. nat_eq b x) bs) None (get m (b, 0))) (sym (drop_more bases i 0 more))
 
 -- one more write is done
-pub writes_step : (writes : List Write) (i : ℕ) (d : Write) (b o : ℕ) (before : Found) → i < length writes
+pub writes_step : (writes : List Write) (i : ℕ) (d : Write) (b o : ℕ) (before : Binding) → i < length writes
     → unwrap_or (last_decided (drop (i + 1) writes) b o) (unwrap_or (decided (get_or writes i d) b o) before)
     ≡ unwrap_or (last_decided (drop i writes) b o) before
 writes_step writes i d b o before more =

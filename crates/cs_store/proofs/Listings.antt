@@ -16,16 +16,16 @@ pub is_there : (there : Bool) (given found : ℤ) → Some found ≡ then_some t
 is_there true given found e = (refl, same_Some found given e)
 is_there false given found e = absurd (none-some found (sym e))
 
-abbrev Binding : Type 0
-Binding = ℕ × Value
+abbrev Entry : Type 0
+Entry = ℕ × Value
 
 -- what is written, and what is left, are all bindings
-pub record IsPartlyListed (all : List Binding) (words : List ℕ) (symbols : List Sym) (count : ℕ) (left : List Binding) : Type 0 where
+pub record IsPartlyListed (all : List Entry) (words : List ℕ) (symbols : List Sym) (count : ℕ) (left : List Entry) : Type 0 where
   pub written : fold list_binding words left ≡ fold list_binding [] all
   pub mentioned : symbols ++ symbols_in left ≡ symbols_in all
   pub counted : count + length left ≡ length all
 
-pub none_listed : (all : List Binding) (words : List ℕ) (symbols : List Sym) (left : List Binding) → words ≡ [] → symbols ≡ [] → left ≡ all
+pub none_listed : (all : List Entry) (words : List ℕ) (symbols : List Sym) (left : List Entry) → words ≡ [] → symbols ≡ [] → left ≡ all
     → IsPartlyListed all words symbols 0 left
 none_listed all words symbols left empty none same = record {
   written = λ i. fold list_binding (empty i) (same i);
@@ -33,7 +33,7 @@ none_listed all words symbols left empty none same = record {
   counted = omega (arith, ap length same);
 }
 
-pub one_more_listed : (all left rest : List Binding) (binding : Binding) (words : List ℕ) (symbols : List Sym) (count more : ℕ)
+pub one_more_listed : (all left rest : List Entry) (binding : Entry) (words : List ℕ) (symbols : List Sym) (count more : ℕ)
     → left ≡ binding ∷ rest → more ≡ count + 1 → IsPartlyListed all words symbols count left
     → IsPartlyListed all (list_binding words binding) (symbols ++ option_to_list (symbol_in binding.1)) more rest
 one_more_listed all left rest binding words symbols count more is counted before =
@@ -46,7 +46,7 @@ one_more_listed all left rest binding words symbols count more is counted before
       counted = omega arith;
     }
 
-pub all_listed : (all left : List Binding) (words : List ℕ) (symbols : List Sym) (count : ℕ) → left ≡ []
+pub all_listed : (all left : List Entry) (words : List ℕ) (symbols : List Sym) (count : ℕ) → left ≡ []
     → IsPartlyListed all words symbols count left → record { words = with_word words count; symbols = symbols } ≡ listing_of all
 all_listed all left words symbols count none before =
     let written : words ≡ fold list_binding [] all = sym (ap (λ left. fold list_binding words left) none) ∙ before.written in

@@ -11,8 +11,8 @@ use Rattle.std.proofs.lemmas.Bool.Decides.{eqb_tells}
 use Rattle.cs_store.specs.declared.value.Value.{Value}
 use Rattle.cs_store.specs.declared.value.Fill.TheVariants.{Unset}
 use Rattle.cs_store.specs.declared.value.Fill.{Fill}
-use Rattle.cs_store.specs.declared.value.Found.{Found}
-use Rattle.cs_store.specs.declared.value.Found.TheVariants as found
+use Rattle.cs_store.specs.declared.value.Binding.{Binding}
+use Rattle.cs_store.specs.declared.value.Binding.TheVariants as found
 use Rattle.cs_pmap.specs.Keys.{key_cmp}
 use Rattle.cs_store.specs.Contents.{Contents, filled, held_in, with_binding}
 use Rattle.cs_store.specs.Held.{Regions, contents_of, held}
@@ -72,7 +72,7 @@ absent_from bases b absent = by (list_any (λ x. nat_eq b x) bases) refl
     by false none = none
 
 -- what is held is nothing or what it was, as the base region is among those dropped
-pub dropped_or_kept : (bases : List ℕ) (b : ℕ) (new old : Found) → (Contains bases b → new ≡ found.Fill Unset)
+pub dropped_or_kept : (bases : List ℕ) (b : ℕ) (new old : Binding) → (Contains bases b → new ≡ found.Fill Unset)
     → ((Contains bases b → ⊥) → new ≡ old)
     → new ≡ unwrap_or (cond (list_any (λ x. nat_eq b x) bases) (Some (found.Fill Unset)) None) old
 dropped_or_kept bases b new old dropped kept = by (list_any (λ x. nat_eq b x) bases) refl

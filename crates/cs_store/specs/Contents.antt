@@ -9,8 +9,8 @@ use Rattle.cs_pmap.specs.Keys.{key_cmp, EntryList}
 use Rattle.cs_store.specs.declared.value.Fill.{Fill}
 use Rattle.cs_store.specs.declared.value.Fill.TheVariants.{Unset}
 use Rattle.cs_store.specs.declared.value.Value.{Value}
-use Rattle.cs_store.specs.declared.value.Found.{Found}
-use Rattle.cs_store.specs.declared.value.Found.TheVariants as found
+use Rattle.cs_store.specs.declared.value.Binding.{Binding}
+use Rattle.cs_store.specs.declared.value.Binding.TheVariants as found
 
 -- a fill, and direct bindings, keyed by the offset beside a zero
 pub record Contents : Type 0 where
@@ -32,7 +32,7 @@ abbrev pub filled : Fill → Contents
 filled fill = record { fill = fill; direct = finite.empty }
 
 -- what is held at an offset: what was bound there, or else the fill
-abbrev pub held_in : Contents → ℕ → Found
+abbrev pub held_in : Contents → ℕ → Binding
 held_in contents offset =
     option_map_or (λ value. found.Direct value) (finite.get contents.direct (offset, 0)) (found.Fill contents.fill)
 
@@ -52,7 +52,7 @@ last_leaf (leaf ∷ leaves) offset =
     option_or (last_leaf leaves offset) (if nat_eq leaf.0 offset then Some leaf.1 else None)
 
 -- what is held at an offset after leaves were bound: the last leaf there, or what was held before
-abbrev pub after_leaves : List (ℕ × Value) → ℕ → Found → Found
+abbrev pub after_leaves : List (ℕ × Value) → ℕ → Binding → Binding
 after_leaves leaves offset before = option_map_or (λ value. found.Direct value) (last_leaf leaves offset) before
 
 -- nothing is held: no cell was bound since the fill, and that is unset

@@ -6,7 +6,7 @@ use Rattle.std.specs.List.{Contains}
 use Rattle.std.specs.List.Sorted.{IsStrictlyIncreasing}
 use Rattle.cs_pmap.specs.Keys.{key_cmp}
 use Rattle.cs_store.specs.declared.value.Fill.TheVariants.{Unset}
-use Rattle.cs_store.specs.declared.value.Found.{Found}
+use Rattle.cs_store.specs.declared.value.Binding.{Binding}
 use Rattle.cs_store.specs.Contents.{Contents, filled, held_in, by_number, HasOffsets, HoldsNothing}
 
 -- the contents of base regions, keyed by the region's number beside a zero
@@ -18,7 +18,7 @@ abbrev pub contents_of : Regions → ℕ → Contents
 contents_of store base = unwrap_or (get store (base, 0)) (filled Unset)
 
 -- what a store holds at an offset of a base region
-abbrev pub held : Regions → ℕ → ℕ → Found
+abbrev pub held : Regions → ℕ → ℕ → Binding
 held store base offset = held_in (contents_of store base) offset
 
 -- each region is kept under its number beside a zero, and holds something, each value under its offset beside a zero

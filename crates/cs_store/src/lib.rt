@@ -10,5 +10,5 @@ mod write;
 pub use listing::{Listing, origin};
 pub use region::{Bindings, Region};
 pub use store::{EachRegion, Store};
-pub use value::{Fill, Found, Value};
+pub use value::{Binding, Fill, Value};
 pub use write::{Write, replayed};

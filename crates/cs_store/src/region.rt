@@ -6,7 +6,7 @@ ghost use Rattle.cs_store.specs.Contents.{filled, held_in, with_binding, keyed, 
 ghost use Rattle.cs_store.specs.Listings.{listing_of};
 
 use crate::listing::Listing;
-use crate::value::{Fill, Found, Value};
+use crate::value::{Binding, Fill, Value};
 use cs_pmap::{Entries, PMap};
 use std::alloc::{AllocError, Global};
 use std::marker::Model;
@@ -68,12 +68,12 @@ impl Region {
     }
 
     /// What the region holds at an offset.
-    pub fn at(&self, offset: u64) -> Found
+    pub fn at(&self, offset: u64) -> Binding
         ensures { result ≡ held_in self.now offset }
     {
         match self.direct.get((offset, 0)) {
-            Some(value) => Found::Direct(*value),
-            None => Found::Fill(self.fill),
+            Some(value) => Binding::Direct(*value),
+            None => Binding::Fill(self.fill),
         }
     }
 

@@ -7,7 +7,7 @@ ghost use Rattle.cs_store.specs.Contents.{Contents, HoldsNothing, after_leaves, 
 ghost use Rattle.cs_store.specs.Held.{contents_of, held, regions_of, HasPlainKeys, IsRegionListing};
 
 use crate::region::{Bindings, Region};
-use crate::value::{Fill, Found, Value};
+use crate::value::{Binding, Fill, Value};
 use cs_pmap::{Entries, PMap};
 use std::alloc::{AllocError, Global};
 use std::marker::Model;
@@ -53,7 +53,7 @@ impl Model for Store {
 impl Store {
     /// Nothing is written.
     pub fn new(alloc: Global) -> Store
-        ensures { (base offset : ℕ) → held result base offset ≡ Found.Fill Fill.Unset }
+        ensures { (base offset : ℕ) → held result base offset ≡ Binding.Fill Fill.Unset }
     {
         Store {
             alloc,
@@ -64,7 +64,7 @@ impl Store {
     }
 
     /// The value that was last bound at the offset since the region's last fill or drop, or else its fill.
-    pub fn load(&self, base: u64, offset: u64) -> Found
+    pub fn load(&self, base: u64, offset: u64) -> Binding
         ensures { result ≡ held self.now base offset }
     {
         self.region(base).at(offset)
@@ -84,7 +84,7 @@ impl Store {
 
     /// Binds a value at an offset.
     pub fn bind(&mut self, base: u64, offset: u64, value: Value) -> Result<(), AllocError>
-        ensures here { OnOk result (held self.new base offset ≡ Found.Direct value) }
+        ensures here { OnOk result (held self.new base offset ≡ Binding.Direct value) }
         ensures elsewhere { OnOk result ((b o : ℕ) → (b ≢ base) ⊎ (o ≢ offset)
             → held self.new b o ≡ held self.old b o) }
         ensures err { OnErr result (self.new ≡ self.old) }
@@ -96,7 +96,7 @@ impl Store {
 
     /// Fills a base region, whose direct bindings are dropped.
     pub fn bind_default(&mut self, base: u64, fill: Fill) -> Result<(), AllocError>
-        ensures here { OnOk result ((o : ℕ) → held self.new base o ≡ Found.Fill fill) }
+        ensures here { OnOk result ((o : ℕ) → held self.new base o ≡ Binding.Fill fill) }
         ensures elsewhere { OnOk result ((b o : ℕ) → b ≢ base
             → held self.new b o ≡ held self.old b o) }
         ensures err { OnErr result (self.new ≡ self.old) }
@@ -128,7 +128,7 @@ impl Store {
     /// Drops what base regions hold, as those of a frame that ended. Where memory is refused, none is dropped.
     pub fn drop_frame(&mut self, bases: &[u64]) -> Result<(), AllocError>
         ensures dropped { OnOk result ((b o : ℕ) → Contains bases.now b
-            → held self.new b o ≡ Found.Fill Fill.Unset) }
+            → held self.new b o ≡ Binding.Fill Fill.Unset) }
         ensures others { OnOk result ((b o : ℕ) → (Contains bases.now b → ⊥)
             → held self.new b o ≡ held self.old b o) }
         ensures err { OnErr result (self.new ≡ self.old) }

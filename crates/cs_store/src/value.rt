@@ -32,7 +32,7 @@ pub enum Value {
 
 /// What a store holds at an offset of a base region.
 #[derive(Clone, Copy, PartialEq, Eq, Debug)]
-pub enum Found {
+pub enum Binding {
     /// The value that was bound there.
     Direct(Value),
     /// The fill of the base region, where no value was bound since.

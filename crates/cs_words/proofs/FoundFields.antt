@@ -10,8 +10,8 @@ use Rattle.cs_results.specs.declared.budgets.Budgets.{Budgets}
 use Rattle.cs_results.specs.Selected.{every_kind}
 use Rattle.cs_events.specs.declared.outcome.RunBudgets.{RunBudgets}
 use Rattle.cs_types.specs.declared.data_model.DataModel.TheVariants.{Lp64, Ilp32}
-use Rattle.cs_words.specs.declared.setting.Setting.TheVariants.{Visits, Depth, Events, Nodes, Splits, Kinds, Entry, Format, Model}
-use Rattle.cs_words.specs.Options.{Setting}
+use Rattle.cs_words.specs.declared.option_name.OptionName.TheVariants.{Visits, Depth, Events, Nodes, Splits, Kinds, Entry, Format, Model}
+use Rattle.cs_words.specs.Options.{OptionName}
 use Rattle.cs_words.specs.Values.{DataModel, IsNumberIn, IsVisits, IsDepth, IsEvents, IsNodes, IsSplits, IsKinds, IsFormat, IsModel, format_text}
 use Rattle.cs_words.specs.Values.{model_text}
 use Rattle.cs_words.specs.Settings.{Given, text_of, IsGivenOr, AreBudgets, AreAnalysisBudgets, AreSelectedKinds, IsNamed, IsEntry, IsJson, IsDataModel}
@@ -57,7 +57,7 @@ one_value Yields one_reported default None one other h k = h ∙ sym k
 one_value Yields one_reported default (Some text) one other h k = one_reported text one other h k
 
 -- ---- the fields of all options
-pub not_set : (setting : Setting) (reported : Option (List ℕ)) (settings : Settings) → IsSetTo setting reported settings
+pub not_set : (setting : OptionName) (reported : Option (List ℕ)) (settings : Settings) → IsSetTo setting reported settings
     → is_set setting settings ≡ false → reported ≡ None
 not_set Visits reported settings h e = unset IsVisits reported settings.visits h e
 not_set Depth reported settings h e = unset IsDepth reported settings.depth h e
@@ -69,7 +69,7 @@ not_set Entry reported settings h e = unset (IsKept is_name) reported settings.e
 not_set Format reported settings h e = unset IsFormat reported settings.json h e
 not_set Model reported settings h e = unset IsModel reported settings.model h e
 
-pub none_is_unset : (setting : Setting) (settings : Settings) → IsSetTo setting None settings → is_set setting settings ≡ false
+pub none_is_unset : (setting : OptionName) (settings : Settings) → IsSetTo setting None settings → is_set setting settings ≡ false
 none_is_unset Visits settings h = ap is_some h
 none_is_unset Depth settings h = ap is_some h
 none_is_unset Events settings h = ap is_some h
@@ -91,7 +91,7 @@ passes test None found h = tt
 passes test (Some text) found h = h.2.1
 
 -- a text that is given is that of a value of its option
-abbrev pub IsReported : Setting → Option (List ℕ) → Type 0
+abbrev pub IsReported : OptionName → Option (List ℕ) → Type 0
 IsReported Visits reported = IsReportedBy IsVisits reported
 IsReported Depth reported = IsReportedBy IsDepth reported
 IsReported Events reported = IsReportedBy IsEvents reported
@@ -102,7 +102,7 @@ IsReported Entry reported = PassesIfGiven is_name reported
 IsReported Format reported = IsReportedBy IsFormat reported
 IsReported Model reported = IsReportedBy IsModel reported
 
-pub reported_from : (setting : Setting) (reported : Option (List ℕ)) (settings : Settings) → IsSetTo setting reported settings
+pub reported_from : (setting : OptionName) (reported : Option (List ℕ)) (settings : Settings) → IsSetTo setting reported settings
     → IsReported setting reported
 reported_from Visits reported settings h = reported_by IsVisits reported settings.visits h
 reported_from Depth reported settings h = reported_by IsDepth reported settings.depth h
@@ -114,7 +114,7 @@ reported_from Entry reported settings h = passes is_name reported settings.entry
 reported_from Format reported settings h = reported_by IsFormat reported settings.json h
 reported_from Model reported settings h = reported_by IsModel reported settings.model h
 
-pub reported_some : (setting : Setting) (text : List ℕ) → HasValue setting text → IsReported setting (Some text)
+pub reported_some : (setting : OptionName) (text : List ℕ) → HasValue setting text → IsReported setting (Some text)
 reported_some Visits text h = h
 reported_some Depth text h = h
 reported_some Events text h = h
@@ -126,7 +126,7 @@ reported_some Format text h = h
 reported_some Model text h = h
 
 -- ---- the values that are asked for
-pub some_budgets : (given : List Given) → ((setting : Setting) → IsReported setting (text_of setting given))
+pub some_budgets : (given : List Given) → ((setting : OptionName) → IsReported setting (text_of setting given))
     → (budgets : RunBudgets) × AreBudgets given budgets
 some_budgets given reported =
     let visits = given_or IsVisits 4 (text_of Visits given) (reported Visits) in
@@ -134,7 +134,7 @@ some_budgets given reported =
     let events = given_or IsEvents 20000 (text_of Events given) (reported Events) in
     (record { visits = visits.0; depth = depth.0; events = events.0 }, record { visits = visits.1; depth = depth.1; events = events.1 })
 
-pub some_analysis_budgets : (given : List Given) → ((setting : Setting) → IsReported setting (text_of setting given))
+pub some_analysis_budgets : (given : List Given) → ((setting : OptionName) → IsReported setting (text_of setting given))
     → (budgets : Budgets) × AreAnalysisBudgets given budgets
 some_analysis_budgets given reported =
     let visits = given_or IsVisits 4 (text_of Visits given) (reported Visits) in
@@ -150,7 +150,7 @@ kinds_given : (reported : Option (List ℕ)) → PassesIfGiven are_kinds reporte
 kinds_given None h = tt
 kinds_given (Some text) h = some_kinds text h
 
-pub some_selected : (given : List Given) → ((setting : Setting) → IsReported setting (text_of setting given))
+pub some_selected : (given : List Given) → ((setting : OptionName) → IsReported setting (text_of setting given))
     → (kinds : List Kind) × AreSelectedKinds given kinds
 some_selected given reported = given_or IsKinds every_kind (text_of Kinds given) (kinds_given (text_of Kinds given) (reported Kinds))
 
@@ -158,19 +158,19 @@ entry_given : (reported : Option (List ℕ)) → PassesIfGiven is_name reported 
 entry_given None h = (None, refl)
 entry_given (Some text) h = (Some text, (h, refl))
 
-pub some_entry : (given : List Given) → ((setting : Setting) → IsReported setting (text_of setting given))
+pub some_entry : (given : List Given) → ((setting : OptionName) → IsReported setting (text_of setting given))
     → (entry : Option (List ℕ)) × IsEntry given entry
 some_entry given reported = entry_given (text_of Entry given) (reported Entry)
 
-pub some_json : (given : List Given) → ((setting : Setting) → IsReported setting (text_of setting given)) → (json : Bool) × IsJson given json
+pub some_json : (given : List Given) → ((setting : OptionName) → IsReported setting (text_of setting given)) → (json : Bool) × IsJson given json
 some_json given reported = given_or IsFormat false (text_of Format given) (reported Format)
 
-pub some_model : (given : List Given) → ((setting : Setting) → IsReported setting (text_of setting given))
+pub some_model : (given : List Given) → ((setting : OptionName) → IsReported setting (text_of setting given))
     → (model : DataModel) × IsDataModel given model
 some_model given reported = given_or IsModel Lp64 (text_of Model given) (reported Model)
 
 pub budgets_found : (given : List Given) (settings : Settings) (budgets : RunBudgets)
-    → ((setting : Setting) → IsSetTo setting (text_of setting given) settings) → budgets.visits ≡ unwrap_or settings.visits 4
+    → ((setting : OptionName) → IsSetTo setting (text_of setting given) settings) → budgets.visits ≡ unwrap_or settings.visits 4
     → budgets.depth ≡ unwrap_or settings.depth 5 → budgets.events ≡ unwrap_or settings.events 20000 → AreBudgets given budgets
 budgets_found given settings budgets fields v d e = record {
   visits = unwrapped IsVisits 4 (text_of Visits given) settings.visits budgets.visits (fields Visits) v;
@@ -179,7 +179,7 @@ budgets_found given settings budgets fields v d e = record {
 }
 
 pub analysis_budgets_found : (given : List Given) (settings : Settings) (budgets : Budgets)
-    → ((setting : Setting) → IsSetTo setting (text_of setting given) settings) → budgets.visits ≡ unwrap_or settings.visits 4
+    → ((setting : OptionName) → IsSetTo setting (text_of setting given) settings) → budgets.visits ≡ unwrap_or settings.visits 4
     → budgets.depth ≡ unwrap_or settings.depth 5 → budgets.events ≡ unwrap_or settings.events 20000
     → budgets.nodes ≡ unwrap_or settings.nodes 150000 → budgets.splits ≡ unwrap_or settings.splits 64 → AreAnalysisBudgets given budgets
 analysis_budgets_found given settings budgets fields v d e n s = record {
@@ -200,7 +200,7 @@ kinds_from (Some text) (Some kept) kinds h is =
     let texts : kept.now ≡ text = ap (λ (b : Bor (List ℕ)). b.now) same ∙ h.2.0 in
     kinds_named text kinds h.2.1 (subst (λ (t : List ℕ). kinds ≡ are_kinds_of t) texts is)
 
-pub kinds_found : (given : List Given) (settings : Settings) (kinds : List Kind) → ((setting : Setting) → IsSetTo setting (text_of setting given) settings)
+pub kinds_found : (given : List Given) (settings : Settings) (kinds : List Kind) → ((setting : OptionName) → IsSetTo setting (text_of setting given) settings)
     → AreKindsOf settings.kinds kinds → AreSelectedKinds given kinds
 kinds_found given settings kinds fields is = kinds_from (text_of Kinds given) settings.kinds kinds (fields Kinds) is
 
@@ -215,15 +215,15 @@ entry_from (Some text) (Some kept) entry h is =
     (h.2.1, is ∙ ap Some texts)
 
 pub entry_found : (given : List Given) (settings : Settings) (entry : Option (List ℕ))
-    → ((setting : Setting) → IsSetTo setting (text_of setting given) settings)
+    → ((setting : OptionName) → IsSetTo setting (text_of setting given) settings)
     → entry ≡ option_map (λ (text : Bor (List ℕ)). text.now) settings.entry → IsEntry given entry
 entry_found given settings entry fields is = entry_from (text_of Entry given) settings.entry entry (fields Entry) is
 
-pub json_found : (given : List Given) (settings : Settings) (json : Bool) → ((setting : Setting) → IsSetTo setting (text_of setting given) settings)
+pub json_found : (given : List Given) (settings : Settings) (json : Bool) → ((setting : OptionName) → IsSetTo setting (text_of setting given) settings)
     → json ≡ unwrap_or settings.json false → IsJson given json
 json_found given settings json fields e = unwrapped IsFormat false (text_of Format given) settings.json json (fields Format) e
 
-pub model_found : (given : List Given) (settings : Settings) (model : DataModel) → ((setting : Setting) → IsSetTo setting (text_of setting given) settings)
+pub model_found : (given : List Given) (settings : Settings) (model : DataModel) → ((setting : OptionName) → IsSetTo setting (text_of setting given) settings)
     → model ≡ unwrap_or settings.model Lp64 → IsDataModel given model
 model_found given settings model fields e = unwrapped IsModel Lp64 (text_of Model given) settings.model model (fields Model) e
 
@@ -245,7 +245,7 @@ pub model_reported : (given : List Given) (model : DataModel) (text : List ℕ) 
 model_reported given model text h e = reported_value IsModel Lp64 (text_of Model given) model text h e
 
 -- an option whose value is a budget
-abbrev pub IsNumberSetting : Setting → Type 0
+abbrev pub IsNumberSetting : OptionName → Type 0
 IsNumberSetting Visits = Unit {0}
 IsNumberSetting Depth = Unit {0}
 IsNumberSetting Events = Unit {0}
@@ -256,7 +256,7 @@ IsNumberSetting Entry = ⊥
 IsNumberSetting Format = ⊥
 IsNumberSetting Model = ⊥
 
-pub analysis_number_reported : (given : List Given) (budgets : Budgets) (setting : Setting) (text : List ℕ) → AreAnalysisBudgets given budgets
+pub analysis_number_reported : (given : List Given) (budgets : Budgets) (setting : OptionName) (text : List ℕ) → AreAnalysisBudgets given budgets
     → IsNumberSetting setting → text_of setting given ≡ Some text → HasValue setting text
 analysis_number_reported given budgets Visits text h is e = reported_value IsVisits 4 (text_of Visits given) budgets.visits text h.visits e
 analysis_number_reported given budgets Depth text h is e = reported_value IsDepth 5 (text_of Depth given) budgets.depth text h.depth e

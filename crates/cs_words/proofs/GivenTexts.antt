@@ -1,7 +1,7 @@
 -- Settings one after the other: which texts are given to which options, and that none is given twice.
 use Rattle.std.proofs.Common.{◌≡◌, ℕ, Bool, true, false, List, [], ◌∷◌, ◌++◌, Option, Some, None, ap, sym, ◌∙◌, refl}
 use Rattle.std.specs.Prelude.{if◌then◌else◌}
-use Rattle.cs_words.specs.Options.{Verb, Setting, takes}
+use Rattle.cs_words.specs.Options.{Verb, OptionName, takes}
 use Rattle.cs_words.specs.Settings.{Given, is_same, text_of, AreTaken, AreDifferent}
 use Rattle.cs_words.proofs.OptionTexts.{same_place, is_same-itself}
 
@@ -14,7 +14,7 @@ choose : (test : Bool) (text : List ℕ) (one other both : Option (List ℕ)) �
 choose true text one other both e = refl
 choose false text one other both e = e
 
-pub text_append : (setting : Setting) (given later : List Given)
+pub text_append : (setting : OptionName) (given later : List Given)
     → text_of setting (given ++ later) ≡ first_some (text_of setting given) (text_of setting later)
 text_append setting [] later = refl
 text_append setting (g ∷ gs) later =
@@ -43,7 +43,7 @@ same_first : (g h : Given) (given later : List Given) (same : Bool) → is_same 
 same_first g h given later false is none = refl
 same_first g h given later true is none =
     let settings : g.setting ≡ h.setting = same_place g.setting h.setting is in
-    absurd (given_somewhere g given later (ap (λ (s : Setting). text_of s (given ++ g ∷ later)) settings ∙ none))
+    absurd (given_somewhere g given later (ap (λ (s : OptionName). text_of s (given ++ g ∷ later)) settings ∙ none))
 
 pub not_given : (g : Given) (given later : List Given) → AreDifferent (given ++ g ∷ later) → text_of g.setting given ≡ None
 not_given g [] later different = refl
@@ -56,11 +56,11 @@ branch : (test : Bool) (text : List ℕ) (other : Option (List ℕ)) → (if tes
 branch true text other e = absurd (cc)
 branch false text other e = (refl, e)
 
-other_way : (one other : Setting) (same : Bool) → is_same other one ≡ same → is_same one other ≡ false → same ≡ false
+other_way : (one other : OptionName) (same : Bool) → is_same other one ≡ same → is_same one other ≡ false → same ≡ false
 other_way one other false is differs = refl
 other_way one other true is differs =
     let places : other ≡ one = same_place other one is in
-    absurd (let h : is_same one one ≡ false = ap (λ (s : Setting). is_same one s) (sym places) ∙ differs in let k = is_same-itself one in cc)
+    absurd (let h : is_same one one ≡ false = ap (λ (s : OptionName). is_same one s) (sym places) ∙ differs in let k = is_same-itself one in cc)
 
 pub different_more : (g : Given) (given : List Given) → AreDifferent given → text_of g.setting given ≡ None → AreDifferent (given ++ g ∷ [])
 different_more g [] different none = (refl, tt)
@@ -81,7 +81,7 @@ taken_here verb g [] later taken = taken.0
 taken_here verb g (h ∷ hs) later taken = taken_here verb g hs later taken.1
 
 -- the text that an option has with one more setting
-pub text_more : (setting : Setting) (g : Given) (given : List Given) → is_same setting g.setting ≡ false
+pub text_more : (setting : OptionName) (g : Given) (given : List Given) → is_same setting g.setting ≡ false
     → text_of setting (given ++ g ∷ []) ≡ text_of setting given
 text_more setting g given other =
     text_append setting given (g ∷ []) ∙ ap (λ (b : Bool). first_some (text_of setting given) (if b then Some g.text else None)) other

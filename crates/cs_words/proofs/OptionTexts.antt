@@ -9,9 +9,9 @@ use Rattle.std.proofs.lemmas.List.{append-nil}
 use Rattle.cs_inputs.specs.PathText.{is_name}
 use Rattle.cs_inputs.specs.Reading.{SplitsBefore, IsEmptyOrAt}
 use Rattle.cs_inputs.proofs.Splits.{one_cut}
-use Rattle.cs_words.specs.declared.setting.Setting.TheVariants.{Visits, Depth, Events, Nodes, Splits, Kinds, Entry, Format, Model}
+use Rattle.cs_words.specs.declared.option_name.OptionName.TheVariants.{Visits, Depth, Events, Nodes, Splits, Kinds, Entry, Format, Model}
 use Rattle.cs_words.specs.declared.verb.Verb.TheVariants.{Analyze, Flow, Replay, Generate}
-use Rattle.cs_words.specs.Options.{Verb, Setting, verb_text, setting_text}
+use Rattle.cs_words.specs.Options.{Verb, OptionName, verb_text, setting_text}
 use Rattle.cs_words.specs.Settings.{option_text, place_of, is_same}
 
 -- ---- commands and options by their texts and places
@@ -29,13 +29,13 @@ verb_back Generate = refl
 pub same_verb : (one other : Verb) → verb_text one ≡ verb_text other → one ≡ other
 same_verb one other e = sym (verb_back one) ∙ ap verb_of e ∙ verb_back other
 
-setting_of : List ℕ → Setting
+setting_of : List ℕ → OptionName
 setting_of name = if pointwise nat_eq name (codes "visits") then Visits else if pointwise nat_eq name (codes "depth") then Depth
     else if pointwise nat_eq name (codes "events") then Events else if pointwise nat_eq name (codes "nodes") then Nodes
     else if pointwise nat_eq name (codes "splits") then Splits else if pointwise nat_eq name (codes "kinds") then Kinds
     else if pointwise nat_eq name (codes "entry") then Entry else if pointwise nat_eq name (codes "format") then Format else Model
 
-setting_back : (setting : Setting) → setting_of (setting_text setting) ≡ setting
+setting_back : (setting : OptionName) → setting_of (setting_text setting) ≡ setting
 unfolding setting_of
 setting_back Visits = refl
 setting_back Depth = refl
@@ -47,15 +47,15 @@ setting_back Entry = refl
 setting_back Format = refl
 setting_back Model = refl
 
-same_setting : (one other : Setting) → setting_text one ≡ setting_text other → one ≡ other
+same_setting : (one other : OptionName) → setting_text one ≡ setting_text other → one ≡ other
 same_setting one other e = sym (setting_back one) ∙ ap setting_of e ∙ setting_back other
 
-setting_at : ℕ → Setting
+setting_at : ℕ → OptionName
 setting_at place = if nat_eq place 0 then Visits else if nat_eq place 1 then Depth else if nat_eq place 2 then Events
     else if nat_eq place 3 then Nodes else if nat_eq place 4 then Splits else if nat_eq place 5 then Kinds else if nat_eq place 6 then Entry
     else if nat_eq place 7 then Format else Model
 
-place_back : (setting : Setting) → setting_at (place_of setting) ≡ setting
+place_back : (setting : OptionName) → setting_at (place_of setting) ≡ setting
 unfolding setting_at
 place_back Visits = refl
 place_back Depth = refl
@@ -67,10 +67,10 @@ place_back Entry = refl
 place_back Format = refl
 place_back Model = refl
 
-pub same_place : (one other : Setting) → is_same one other ≡ true → one ≡ other
+pub same_place : (one other : OptionName) → is_same one other ≡ true → one ≡ other
 same_place one other e = sym (place_back one) ∙ ap setting_at (eqb-true (place_of one) (place_of other) e) ∙ place_back other
 
-pub is_same-itself : (setting : Setting) → is_same setting setting ≡ true
+pub is_same-itself : (setting : OptionName) → is_same setting setting ≡ true
 is_same-itself Visits = refl
 is_same-itself Depth = refl
 is_same-itself Events = refl
@@ -82,7 +82,7 @@ is_same-itself Format = refl
 is_same-itself Model = refl
 
 -- ---- an option's word is cut at its first `=`
-no_equals : (setting : Setting) → list_all (λ b. not (b == 61)) (setting_text setting) ≡ true
+no_equals : (setting : OptionName) → list_all (λ b. not (b == 61)) (setting_text setting) ≡ true
 no_equals Visits = refl
 no_equals Depth = refl
 no_equals Events = refl
@@ -101,7 +101,7 @@ tail_at : (text : Option (List ℕ)) → IsEmptyOrAt 61 (tail_text text)
 tail_at None = tt
 tail_at (Some text) = refl
 
-pub after_dashes : (setting : Setting) (text : Option (List ℕ)) → option_text setting text ≡ codes "--" ++ (setting_text setting ++ tail_text text)
+pub after_dashes : (setting : OptionName) (text : Option (List ℕ)) → option_text setting text ≡ codes "--" ++ (setting_text setting ++ tail_text text)
 after_dashes setting None = ap (λ (t : List ℕ). 45 ∷ 45 ∷ t) (sym (append-nil (setting_text setting)))
 after_dashes setting (Some text) = ap (λ (t : List ℕ). 45 ∷ 45 ∷ t) (append_assoc (setting_text setting) (codes "=") text)
 
@@ -111,12 +111,12 @@ same_tail None (Some text) e = absurd (cc)
 same_tail (Some text) None e = absurd (cc)
 same_tail (Some one) (Some other) e = ap Some (ap (drop 1) e)
 
-pub same_cut_text : (one : Setting) (name tail : List ℕ) (text : Option (List ℕ)) → list_all (λ b. not (b == 61)) name ≡ true → IsEmptyOrAt 61 tail
+pub same_cut_text : (one : OptionName) (name tail : List ℕ) (text : Option (List ℕ)) → list_all (λ b. not (b == 61)) name ≡ true → IsEmptyOrAt 61 tail
     → setting_text one ++ tail_text text ≡ name ++ tail → (setting_text one ≡ name) × (tail_text text ≡ tail)
 same_cut_text one name tail text none at e = one_cut 61 (setting_text one) name (tail_text text) tail (no_equals one) none (tail_at text) at e
 
 -- a word is of one option, and with one value's text or none
-pub same_option : (one other : Setting) (text reported : Option (List ℕ)) → option_text one text ≡ option_text other reported
+pub same_option : (one other : OptionName) (text reported : Option (List ℕ)) → option_text one text ≡ option_text other reported
     → (one ≡ other) × (text ≡ reported)
 same_option one other text reported e =
     let bodies : setting_text one ++ tail_text text ≡ setting_text other ++ tail_text reported =
@@ -125,12 +125,12 @@ same_option one other text reported e =
     (same_setting one other cut.0, same_tail text reported cut.1)
 
 -- an option's word is no name
-pub no_name : (setting : Setting) (text : Option (List ℕ)) → is_name (option_text setting text) ≡ false
+pub no_name : (setting : OptionName) (text : Option (List ℕ)) → is_name (option_text setting text) ≡ false
 no_name setting None = refl
 no_name setting (Some text) = refl
 
 -- ---- what `option_of` finds
-pub alone : (word body name tail : List ℕ) (setting : Setting) → word ≡ 45 ∷ 45 ∷ body → SplitsBefore 61 body name tail
+pub alone : (word body name tail : List ℕ) (setting : OptionName) → word ≡ 45 ∷ 45 ∷ body → SplitsBefore 61 body name tail
     → setting_text setting ≡ name → tail ≡ [] → word ≡ option_text setting None
 alone word body name tail setting is cut named none =
     is ∙ ap (λ (t : List ℕ). 45 ∷ 45 ∷ t) (cut.whole ∙ ap (λ (t : List ℕ). name ++ t) none ∙ append-nil name ∙ sym named)
@@ -141,19 +141,19 @@ joined_at name (b ∷ bs) text separator at is =
     let rest : bs ≡ text = ap (drop 1) is in
     (λ i. at i ∷ rest i)
 
-pub with_text : (word body name tail text : List ℕ) (separator : ℕ) (setting : Setting) → word ≡ 45 ∷ 45 ∷ body → SplitsBefore 61 body name tail
+pub with_text : (word body name tail text : List ℕ) (separator : ℕ) (setting : OptionName) → word ≡ 45 ∷ 45 ∷ body → SplitsBefore 61 body name tail
     → setting_text setting ≡ name → tail ≡ separator ∷ text → word ≡ option_text setting (Some text)
 with_text word body name tail text separator setting is cut named marked =
     is ∙ ap (λ (t : List ℕ). 45 ∷ 45 ∷ t) (cut.whole ∙ ap (λ (t : List ℕ). name ++ t) (joined_at name tail text separator cut.at marked)
     ∙ ap (λ (t : List ℕ). t ++ (codes "=" ++ text)) (sym named)) ∙ sym (after_dashes setting (Some text))
 
 pub unknown : (word body name tail : List ℕ) → word ≡ 45 ∷ 45 ∷ body → SplitsBefore 61 body name tail
-    → ((setting : Setting) → setting_text setting ≡ name → ⊥) → (setting : Setting) (text : Option (List ℕ)) → word ≡ option_text setting text
+    → ((setting : OptionName) → setting_text setting ≡ name → ⊥) → (setting : OptionName) (text : Option (List ℕ)) → word ≡ option_text setting text
     → ⊥
 unknown word body name tail is cut none setting text e =
     let bodies : setting_text setting ++ tail_text text ≡ name ++ tail = ap (drop 2) (sym (after_dashes setting text) ∙ sym e ∙ is) ∙ cut.whole in
     none setting (same_cut_text setting name tail text cut.none cut.at bodies).0
 
 pub no_dashes : (word : List ℕ) → ((body : List ℕ) → word ≡ 45 ∷ 45 ∷ body → ⊥)
-    → (setting : Setting) (text : Option (List ℕ)) → word ≡ option_text setting text → ⊥
+    → (setting : OptionName) (text : Option (List ℕ)) → word ≡ option_text setting text → ⊥
 no_dashes word none setting text e = none (setting_text setting ++ tail_text text) (e ∙ after_dashes setting text)

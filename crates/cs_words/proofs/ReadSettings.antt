@@ -5,9 +5,9 @@ use Rattle.std.proofs.Common.{append_assoc, inl, inr, ◌≤◌, lit<, lit≤}
 use Rattle.std.specs.Prelude.{◌⊎◌, codes}
 use Rattle.std.proofs.lemmas.List.{append-nil}
 use Rattle.cs_words.specs.declared.command.Command.TheVariants.{Analyze, Flow, Replay, Generate}
-use Rattle.cs_words.specs.declared.setting.Setting.TheVariants.{Visits, Depth, Events, Nodes, Splits, Kinds, Entry, Format, Model}
+use Rattle.cs_words.specs.declared.option_name.OptionName.TheVariants.{Visits, Depth, Events, Nodes, Splits, Kinds, Entry, Format, Model}
 use Rattle.cs_words.specs.declared.verb.Verb.TheVariants as verbs
-use Rattle.cs_words.specs.Options.{Verb, Setting, verb_text, takes}
+use Rattle.cs_words.specs.Options.{Verb, OptionName, verb_text, takes}
 use Rattle.cs_words.specs.Values.{IsNumberIn}
 use Rattle.cs_words.specs.Settings.{Given, option_text, BeginWithSetting, BeginWithSettings, is_same, text_of, AreTaken, AreDifferent}
 use Rattle.cs_words.specs.Meaning.{Command, AskFor, WordsMean, BeginsACommand}
@@ -59,7 +59,7 @@ pub record AreSpelled (verb : Verb) (given : List Given) (done : List (List ℕ)
   pub words : BeginWithSettings given [] done
   pub taken : AreTaken verb given
   pub different : AreDifferent given
-  pub reported : (setting : Setting) → IsReported setting (text_of setting given)
+  pub reported : (setting : OptionName) → IsReported setting (text_of setting given)
 
 pub means_with : (verb : Verb) (given : List Given) (done others : List (List ℕ)) (command : Command) → BeginWithSettings given [] done
     → AreTaken verb given → AreDifferent given → AskFor verb given others command → WordsMean ((verb_text verb ∷ done) ++ others) command
@@ -79,7 +79,7 @@ nothing : (greatest : ℕ) → 0 ≤ greatest → IsNumberIn 0 greatest (codes "
 nothing greatest h = record { digits = refl; some = lit< tt; few = lit≤ tt; value = refl; from_least = lit≤ tt; to_greatest = h }
 
 -- they go on to some command
-completed : (verb : Verb) (given : List Given) → ((setting : Setting) → IsReported setting (text_of setting given))
+completed : (verb : Verb) (given : List Given) → ((setting : OptionName) → IsReported setting (text_of setting given))
     → (others : List (List ℕ)) × (command : Command) × AskFor verb given others command
 completed verbs.Analyze given reported =
     let budgets = some_analysis_budgets given reported in
@@ -113,10 +113,10 @@ begins verb given done s =
     (end.0, end.1, means_with verb given done end.0 end.1 s.words s.taken s.different end.2)
 
 reported_more : (g : Given) (given : List Given) → text_of g.setting given ≡ None → HasValue g.setting g.text
-    → ((setting : Setting) → IsReported setting (text_of setting given)) → (setting : Setting) (same : Bool) → is_same setting g.setting ≡ same
+    → ((setting : OptionName) → IsReported setting (text_of setting given)) → (setting : OptionName) (same : Bool) → is_same setting g.setting ≡ same
     → IsReported setting (text_of setting (given ++ g ∷ []))
 reported_more g given none value reported setting true is =
-    subst (λ (s : Setting). IsReported s (text_of s (given ++ g ∷ []))) (sym (same_place setting g.setting is))
+    subst (λ (s : OptionName). IsReported s (text_of s (given ++ g ∷ []))) (sym (same_place setting g.setting is))
     (subst (λ (t : Option (List ℕ)). IsReported g.setting t) (sym (text_here g given [] none)) (reported_some g.setting g.text value))
 reported_more g given none value reported setting false is =
     subst (λ (t : Option (List ℕ)). IsReported setting t) (sym (text_more setting g given is)) (reported setting)
@@ -142,10 +142,10 @@ spelled_by verb words settings rest read = record {
 }
 
 fields_more : (g : Given) (given : List Given) (before after : Settings) → text_of g.setting given ≡ None → IsSetBesides g.setting g.text before after
-    → ((setting : Setting) → IsSetTo setting (text_of setting given) before) → (setting : Setting) (same : Bool) → is_same setting g.setting ≡ same
+    → ((setting : OptionName) → IsSetTo setting (text_of setting given) before) → (setting : OptionName) (same : Bool) → is_same setting g.setting ≡ same
     → IsSetTo setting (text_of setting (given ++ g ∷ [])) after
 fields_more g given before after none set fields setting true is =
-    subst (λ (s : Setting). IsSetTo s (text_of s (given ++ g ∷ [])) after) (sym (same_place setting g.setting is))
+    subst (λ (s : OptionName). IsSetTo s (text_of s (given ++ g ∷ [])) after) (sym (same_place setting g.setting is))
     (subst (λ (t : Option (List ℕ)). IsSetTo g.setting t after) (sym (text_here g given [] none)) set.here)
 fields_more g given before after none set fields setting false is =
     subst (λ (t : Option (List ℕ)). IsSetTo setting t after) (sym (text_more setting g given is))
@@ -168,7 +168,7 @@ read_more verb g words before after rest own left read whole begins taken unset 
     }
 
 -- ---- an option's word that goes on
-asked_value : (verb : Verb) (setting : Setting) (given : List Given) (others : List (List ℕ)) (command : Command) (text : List ℕ)
+asked_value : (verb : Verb) (setting : OptionName) (given : List Given) (others : List (List ℕ)) (command : Command) (text : List ℕ)
     → AskFor verb given others command → takes verb setting ≡ true → text_of setting given ≡ Some text → HasValue setting text
 asked_value verbs.Analyze Visits given others (Analyze words) text asks taken e = analysis_number_reported given words.budgets Visits text asks.budgets tt e
 asked_value verbs.Analyze Depth given others (Analyze words) text asks taken e = analysis_number_reported given words.budgets Depth text asks.budgets tt e
@@ -198,14 +198,14 @@ asked_value verbs.Replay setting given others (Generate words) text asks taken e
 asked_value verbs.Generate setting given others command text asks taken e = absurd (cc)
 
 -- what is known of an option whose word goes on to a command
-pub record IsGoodOption (verb : Verb) (given : List Given) (setting : Setting) (reported : Option (List ℕ)) (following : List (List ℕ)) : Type 0 where
+pub record IsGoodOption (verb : Verb) (given : List Given) (setting : OptionName) (reported : Option (List ℕ)) (following : List (List ℕ)) : Type 0 where
   pub text : List ℕ
   pub taken : takes verb setting ≡ true
   pub new : text_of setting given ≡ None
   pub value : HasValue setting text
   pub place : (reported ≡ Some text) ⊎ ((reported ≡ None) × (rest : List (List ℕ)) × (following ≡ text ∷ rest))
 
-good_here : (verb : Verb) (given later : List Given) (g : Given) (others : List (List ℕ)) (command : Command) (setting : Setting)
+good_here : (verb : Verb) (given later : List Given) (g : Given) (others : List (List ℕ)) (command : Command) (setting : OptionName)
     (reported : Option (List ℕ)) (following : List (List ℕ)) → setting ≡ g.setting
     → ((reported ≡ Some g.text) ⊎ ((reported ≡ None) × (rest : List (List ℕ)) × (following ≡ g.text ∷ rest)))
     → AreTaken verb (given ++ g ∷ later) → AreDifferent (given ++ g ∷ later) → AskFor verb (given ++ g ∷ later) others command
@@ -215,15 +215,15 @@ good_here verb given later g others command setting reported following same plac
     let new : text_of g.setting given ≡ None = not_given g given later different in
     let value : HasValue g.setting g.text =
     asked_value verb g.setting (given ++ g ∷ later) others command g.text asks takes_it (text_here g given later new) in
-    subst (λ (s : Setting). IsGoodOption verb given s reported following) (sym same)
+    subst (λ (s : OptionName). IsGoodOption verb given s reported following) (sym same)
     (record { text = g.text; taken = takes_it; new = new; value = value; place = place })
 
-begin_alone : (setting : Setting) (reported : Option (List ℕ)) (word : List ℕ) (following others : List (List ℕ))
+begin_alone : (setting : OptionName) (reported : Option (List ℕ)) (word : List ℕ) (following others : List (List ℕ))
     → word ≡ option_text setting reported → word ∷ following ≡ others → BeginWithNoOption others → ⊥
 begin_alone setting reported word following [] is e absent = absurd (cc)
 begin_alone setting reported word following (w ∷ ws) is e absent = absent setting reported (sym (heads word w following ws e).0 ∙ is)
 
-named : (verb : Verb) (given later : List Given) (others following : List (List ℕ)) (command : Command) (setting : Setting) (reported : Option (List ℕ))
+named : (verb : Verb) (given later : List Given) (others following : List (List ℕ)) (command : Command) (setting : OptionName) (reported : Option (List ℕ))
     (word : List ℕ) → word ≡ option_text setting reported → BeginWithNoOption others → BeginWithSettings later others (word ∷ following)
     → AreTaken verb (given ++ later) → AreDifferent (given ++ later) → AskFor verb (given ++ later) others command
     → IsGoodOption verb given setting reported following
@@ -241,7 +241,7 @@ named verb given (g ∷ gs) others following command setting reported word is ab
         let same = same_option setting g.setting reported (Some g.text) (sym is ∙ first.0) in
         good_here verb given gs g others command setting reported following same.0 (inl same.1) taken different asks
 
-pub good_option : (verb : Verb) (given : List Given) (following : List (List ℕ)) (command : Command) (setting : Setting) (reported : Option (List ℕ))
+pub good_option : (verb : Verb) (given : List Given) (following : List (List ℕ)) (command : Command) (setting : OptionName) (reported : Option (List ℕ))
     (word : List ℕ) → word ≡ option_text setting reported → GoOn verb given (word ∷ following) command
     → IsGoodOption verb given setting reported following
 good_option verb given following command setting reported word is on =

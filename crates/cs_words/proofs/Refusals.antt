@@ -5,8 +5,8 @@ use Rattle.std.specs.Prelude.{◌⊎◌, codes}
 use Rattle.std.proofs.lemmas.List.{append-nil}
 use Rattle.cs_types.specs.declared.data_model.DataModel.TheVariants.{Lp64}
 use Rattle.cs_words.specs.declared.option_word.OptionWord.{OptionWord}
-use Rattle.cs_words.specs.declared.setting.Setting.TheVariants.{Visits, Depth, Events, Nodes, Splits, Kinds, Entry, Format, Model}
-use Rattle.cs_words.specs.Options.{Verb, Setting, verb_text, takes}
+use Rattle.cs_words.specs.declared.option_name.OptionName.TheVariants.{Visits, Depth, Events, Nodes, Splits, Kinds, Entry, Format, Model}
+use Rattle.cs_words.specs.Options.{Verb, OptionName, verb_text, takes}
 use Rattle.cs_words.specs.Settings.{Given, option_text, BeginWithSettings, text_of}
 use Rattle.cs_words.specs.Meaning.{Command, AskFor, WordsMean, BeginsACommand, EndBefore, AreRefusedAt}
 use Rattle.cs_words.specs.Scan.{Settings, IsSetTo, is_set, HasValue, IsSetBesides, AreReadTo, AreReadWhole, BeginWithNoOption, IsFirstOption, setting_in}
@@ -145,7 +145,7 @@ bad_joined verb words settings rest others number option text read first counts 
     absent {more} good = at good.text more good.value good.place
 
 -- some value of each option
-sample : (setting : Setting) → (text : List ℕ) × HasValue setting text
+sample : (setting : OptionName) → (text : List ℕ) × HasValue setting text
 sample Visits = (codes "1", (1, record { digits = refl; some = lit< tt; few = lit≤ tt; value = refl; from_least = lit≤ tt; to_greatest = lit≤ tt }))
 sample Depth = (codes "1", (1, record { digits = refl; some = lit< tt; few = lit≤ tt; value = refl; from_least = lit≤ tt; to_greatest = lit≤ tt }))
 sample Events = (codes "1", (1, record { digits = refl; some = lit< tt; few = lit≤ tt; value = refl; from_least = lit≤ tt; to_greatest = lit≤ tt }))

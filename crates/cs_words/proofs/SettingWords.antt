@@ -5,7 +5,7 @@ use Rattle.cs_inputs.specs.InputText.{is_digit}
 use Rattle.cs_inputs.specs.PathText.{is_name}
 use Rattle.cs_words.specs.declared.command.Command.TheVariants.{Analyze, Flow, Replay, Generate}
 use Rattle.cs_words.specs.declared.verb.Verb.TheVariants as verbs
-use Rattle.cs_words.specs.Options.{Verb, Setting}
+use Rattle.cs_words.specs.Options.{Verb, OptionName}
 use Rattle.cs_words.specs.Settings.{Given, option_text, BeginWithSetting, BeginWithSettings}
 use Rattle.cs_words.specs.Meaning.{Command, AskFor}
 use Rattle.cs_words.specs.Scan.{BeginWithNoOption}
@@ -84,7 +84,7 @@ named_first entry numbers (word ∷ words) named e = λ setting text is.
     (let both : true ≡ false = sym named ∙ absent in absurd (cc))
 
 -- digits begin with no option's dashes
-dashes : (setting : Setting) (text : Option (List ℕ)) → list_all is_digit (option_text setting text) ≡ false
+dashes : (setting : OptionName) (text : Option (List ℕ)) → list_all is_digit (option_text setting text) ≡ false
 dashes setting None = refl
 dashes setting (Some text) = refl
 

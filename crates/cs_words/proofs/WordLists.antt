@@ -11,11 +11,11 @@ use Rattle.cs_inputs.specs.PathText.{is_name}
 use Rattle.cs_types.specs.declared.data_model.DataModel.TheVariants.{Lp64}
 use Rattle.cs_words.specs.declared.command.Command.TheVariants.{Flow, Generate}
 use Rattle.cs_words.specs.declared.option_word.OptionWord.{OptionWord}
-use Rattle.cs_words.specs.declared.scan.Found.{Found}
+use Rattle.cs_words.specs.declared.scan.ParsedOptions.{ParsedOptions}
 use Rattle.cs_words.specs.declared.refusal.WordsRefusal.{WordsRefusal}
 use Rattle.cs_words.specs.declared.refusal.WordsRefusal.TheVariants.{Words, Memory}
 use Rattle.cs_words.specs.declared.verb.Verb.TheVariants as verbs
-use Rattle.cs_words.specs.Options.{Verb, Setting, verb_text, takes}
+use Rattle.cs_words.specs.Options.{Verb, OptionName, verb_text, takes}
 use Rattle.cs_words.specs.Meaning.{Word, words_text, Command, BeginsACommand, AreRefusedAt}
 use Rattle.cs_words.specs.Scan.{Settings, is_set, HasValue, IsSetBesides, AreReadTo, AreReadWhole, IsFirstOption, setting_in, text_in, IsRefusal}
 use Rattle.cs_words.specs.Scan.{IsRefusalBefore, IsRefusalFor, IsRight, AreInputsRead}
@@ -96,17 +96,17 @@ unfit_option verb words rest others settings option refusal read first counts fa
     refusal_before words rest refusal counts (λ number c.
     unfit verb (words_text words) settings (words_text rest) (words_text others) number option read first c fault)
 
-abbrev pub IsValueRead : (words at left : List Word) (setting : Setting) (text : List ℕ) (before : Settings) → Result Found WordsRefusal → Type 0
+abbrev pub IsValueRead : (words at left : List Word) (setting : OptionName) (text : List ℕ) (before : Settings) → Result ParsedOptions WordsRefusal → Type 0
 IsValueRead words at left setting text before result =
     MatchResult result (λ after. IsSetBesides setting text before after.settings × (after.rest.now ≡ left))
     (λ refusal. (HasValue setting text → ⊥) × IsRefusalBefore (length words) (length at) refusal)
 
-abbrev pub IsSettingRead : (verb : Verb) (words : List Word) → Result Found WordsRefusal → Type 0
+abbrev pub IsSettingRead : (verb : Verb) (words : List Word) → Result ParsedOptions WordsRefusal → Type 0
 IsSettingRead verb words result =
     MatchResult result (λ after. AreReadTo verb (words_text words) after.settings (words_text after.rest.now)) (IsRefusal (words_text words))
 
 pub joined_step : (verb : Verb) (words rest others : List Word) (settings : Settings) (option : OptionWord) (text : List ℕ)
-    (result : Result Found WordsRefusal) → AreReadTo verb (words_text words) settings (words_text rest)
+    (result : Result ParsedOptions WordsRefusal) → AreReadTo verb (words_text words) settings (words_text rest)
     → IsFirstOption option (words_text others) (words_text rest) → text_in option ≡ Some text → takes verb (setting_in option) ≡ true
     → is_set (setting_in option) settings ≡ false → IsValueRead words rest others (setting_in option) text settings result
     → IsSettingRead verb words result
@@ -118,7 +118,7 @@ joined_step verb words rest others settings option text (Err refusal) read first
     bad_joined verb (words_text words) settings (words_text rest) (words_text others) number option text read first c is h.0)
 
 pub after_step : (verb : Verb) (words rest others left : List Word) (settings : Settings) (option : OptionWord) (text : List ℕ)
-    (result : Result Found WordsRefusal) → AreReadTo verb (words_text words) settings (words_text rest)
+    (result : Result ParsedOptions WordsRefusal) → AreReadTo verb (words_text words) settings (words_text rest)
     → IsFirstOption option (words_text others) (words_text rest) → text_in option ≡ None → words_text others ≡ text ∷ words_text left
     → takes verb (setting_in option) ≡ true → is_set (setting_in option) settings ≡ false
     → IsValueRead words others left (setting_in option) text settings result → IsSettingRead verb words result

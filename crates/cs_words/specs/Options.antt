@@ -2,8 +2,8 @@
 use Rattle.std.specs.Prelude.{ℕ, List, codes, Bool, true, false}
 pub use Rattle.cs_words.specs.declared.verb.Verb.{Verb}
 use Rattle.cs_words.specs.declared.verb.Verb.TheVariants.{Analyze, Flow, Replay, Generate}
-pub use Rattle.cs_words.specs.declared.setting.Setting.{Setting}
-use Rattle.cs_words.specs.declared.setting.Setting.TheVariants.{Visits, Depth, Events, Nodes, Splits, Kinds, Entry, Format, Model}
+pub use Rattle.cs_words.specs.declared.option_name.OptionName.{OptionName}
+use Rattle.cs_words.specs.declared.option_name.OptionName.TheVariants.{Visits, Depth, Events, Nodes, Splits, Kinds, Entry, Format, Model}
 
 -- a command's word
 abbrev pub verb_text : Verb → List ℕ
@@ -13,7 +13,7 @@ verb_text Replay = codes "replay"
 verb_text Generate = codes "generate"
 
 -- an option's name
-abbrev pub setting_text : Setting → List ℕ
+abbrev pub setting_text : OptionName → List ℕ
 setting_text Visits = codes "visits"
 setting_text Depth = codes "depth"
 setting_text Events = codes "events"
@@ -25,7 +25,7 @@ setting_text Format = codes "format"
 setting_text Model = codes "model"
 
 -- which command has which options
-abbrev pub takes : Verb → Setting → Bool
+abbrev pub takes : Verb → OptionName → Bool
 takes Analyze setting = true
 takes Flow Model = true
 takes Flow setting = false

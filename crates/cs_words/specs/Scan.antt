@@ -13,19 +13,19 @@ use Rattle.cs_inputs.specs.declared.refusal.PathRefusal.{PathRefusal}
 use Rattle.cs_inputs.specs.declared.refusal.PathRefusal.TheVariants as paths
 use Rattle.cs_inputs.specs.InputText.{SpellsInput}
 pub use Rattle.cs_words.specs.declared.settings.Settings.{Settings}
-use Rattle.cs_words.specs.declared.setting.Setting.TheVariants.{Visits, Depth, Events, Nodes, Splits, Kinds, Entry, Format, Model}
+use Rattle.cs_words.specs.declared.option_name.OptionName.TheVariants.{Visits, Depth, Events, Nodes, Splits, Kinds, Entry, Format, Model}
 use Rattle.cs_words.specs.declared.option_word.OptionWord.{OptionWord}
 use Rattle.cs_words.specs.declared.option_word.OptionWord.TheVariants.{Alone, With}
 use Rattle.cs_words.specs.declared.refusal.WordsRefusal.{WordsRefusal}
 use Rattle.cs_words.specs.declared.refusal.WordsRefusal.TheVariants.{Words, Memory}
-pub use Rattle.cs_words.specs.Options.{Setting}
+pub use Rattle.cs_words.specs.Options.{OptionName}
 use Rattle.cs_words.specs.Options.{Verb, verb_text}
 use Rattle.cs_words.specs.Values.{DataModel, IsVisits, IsDepth, IsEvents, IsNodes, IsSplits, IsKinds, IsFormat, IsModel}
 use Rattle.cs_words.specs.Settings.{Given, option_text, BeginWithSettings, is_same, text_of, AreTaken, AreDifferent}
 use Rattle.cs_words.specs.Meaning.{Command, WordsMean, AreEntered, AreRefusedAt}
 
 -- the option that a word names, and the value's text in it
-abbrev pub setting_in : OptionWord → Setting
+abbrev pub setting_in : OptionWord → OptionName
 setting_in (Alone setting) = setting
 setting_in (With setting text) = setting
 
@@ -66,7 +66,7 @@ abbrev pub IsKept : (List ℕ → Bool) → List ℕ → Bor (List ℕ) → Type
 IsKept test text kept = (kept.now ≡ text) × IsTrue (test text)
 
 -- an option's field is the value of its text, if it's given
-abbrev pub IsSetTo : Setting → Option (List ℕ) → Settings → Type 0
+abbrev pub IsSetTo : OptionName → Option (List ℕ) → Settings → Type 0
 IsSetTo Visits text settings = IsFound IsVisits text settings.visits
 IsSetTo Depth text settings = IsFound IsDepth text settings.depth
 IsSetTo Events text settings = IsFound IsEvents text settings.events
@@ -78,7 +78,7 @@ IsSetTo Format text settings = IsFound IsFormat text settings.json
 IsSetTo Model text settings = IsFound IsModel text settings.model
 
 -- whether an option's field is set
-abbrev pub is_set : Setting → Settings → Bool
+abbrev pub is_set : OptionName → Settings → Bool
 is_set Visits settings = is_some settings.visits
 is_set Depth settings = is_some settings.depth
 is_set Events settings = is_some settings.events
@@ -90,7 +90,7 @@ is_set Format settings = is_some settings.json
 is_set Model settings = is_some settings.model
 
 -- a text is that of some value of an option
-abbrev pub HasValue : Setting → List ℕ → Type 0
+abbrev pub HasValue : OptionName → List ℕ → Type 0
 HasValue Visits text = (value : ℕ) × IsVisits text value
 HasValue Depth text = (value : ℕ) × IsDepth text value
 HasValue Events text = (value : ℕ) × IsEvents text value
@@ -102,9 +102,9 @@ HasValue Format text = (value : Bool) × IsFormat text value
 HasValue Model text = (value : DataModel) × IsModel text value
 
 -- settings with one more: the option is set to the text's value, and the others are as before
-pub record IsSetBesides (setting : Setting) (text : List ℕ) (before after : Settings) : Type 0 where
+pub record IsSetBesides (setting : OptionName) (text : List ℕ) (before after : Settings) : Type 0 where
   pub here : IsSetTo setting (Some text) after
-  pub elsewhere : (other : Setting) → is_same other setting ≡ false → (reported : Option (List ℕ)) → IsSetTo other reported before
+  pub elsewhere : (other : OptionName) → is_same other setting ≡ false → (reported : Option (List ℕ)) → IsSetTo other reported before
       → IsSetTo other reported after
 
 -- words that are read up to the rest: a command's word, and settings of its options that the fields tell
@@ -115,12 +115,12 @@ pub record AreReadTo (verb : Verb) (words : List (List ℕ)) (settings : Setting
   pub spelled : BeginWithSettings given [] done
   pub taken : AreTaken verb given
   pub different : AreDifferent given
-  pub fields : (setting : Setting) → IsSetTo setting (text_of setting given) settings
+  pub fields : (setting : OptionName) → IsSetTo setting (text_of setting given) settings
 
 -- the first word isn't an option's
 abbrev pub BeginWithNoOption : List (List ℕ) → Type 0
 BeginWithNoOption [] = Unit {0}
-BeginWithNoOption (word ∷ words) = (setting : Setting) (text : Option (List ℕ)) → word ≡ option_text setting text → ⊥
+BeginWithNoOption (word ∷ words) = (setting : OptionName) (text : Option (List ℕ)) → word ≡ option_text setting text → ⊥
 
 -- all settings are read
 pub record AreReadWhole (verb : Verb) (words : List (List ℕ)) (settings : Settings) (rest : List (List ℕ)) : Type 0 where

@@ -7,18 +7,18 @@ use Rattle.cs_model.specs.declared.kind.Kind.{Kind}
 use Rattle.cs_results.specs.declared.budgets.Budgets.{Budgets}
 use Rattle.cs_results.specs.Selected.{every_kind}
 use Rattle.cs_types.specs.declared.data_model.DataModel.TheVariants.{Lp64}
-use Rattle.cs_words.specs.declared.setting.Setting.TheVariants.{Visits, Depth, Events, Nodes, Splits, Kinds, Entry, Format, Model}
-pub use Rattle.cs_words.specs.Options.{Setting}
+use Rattle.cs_words.specs.declared.option_name.OptionName.TheVariants.{Visits, Depth, Events, Nodes, Splits, Kinds, Entry, Format, Model}
+pub use Rattle.cs_words.specs.Options.{OptionName}
 use Rattle.cs_words.specs.Options.{Verb, setting_text, takes}
 use Rattle.cs_words.specs.Values.{DataModel, IsVisits, IsDepth, IsEvents, IsNodes, IsSplits, IsKinds, IsFormat, IsModel}
 
 -- a setting
 pub record Given : Type 0 where
-  pub setting : Setting
+  pub setting : OptionName
   pub text : List ℕ
 
 -- the word `--name`, or `--name=value` with a value's text
-abbrev pub option_text : Setting → Option (List ℕ) → List ℕ
+abbrev pub option_text : OptionName → Option (List ℕ) → List ℕ
 option_text setting None = codes "--" ++ setting_text setting
 option_text setting (Some text) = codes "--" ++ setting_text setting ++ codes "=" ++ text
 
@@ -34,7 +34,7 @@ BeginWithSettings (given ∷ rest) others words = (following : List (List ℕ)) 
     × BeginWithSettings rest others following
 
 -- the options' places in their table, which tell them apart
-abbrev pub place_of : Setting → ℕ
+abbrev pub place_of : OptionName → ℕ
 place_of Visits = 0
 place_of Depth = 1
 place_of Events = 2
@@ -45,11 +45,11 @@ place_of Entry = 6
 place_of Format = 7
 place_of Model = 8
 
-abbrev pub is_same : Setting → Setting → Bool
+abbrev pub is_same : OptionName → OptionName → Bool
 is_same one other = nat_eq (place_of one) (place_of other)
 
 -- the text of an option's value, if it's given
-abbrev pub text_of : Setting → List Given → Option (List ℕ)
+abbrev pub text_of : OptionName → List Given → Option (List ℕ)
 text_of setting [] = None
 text_of setting (given ∷ rest) = if is_same setting given.setting then Some given.text else text_of setting rest
 

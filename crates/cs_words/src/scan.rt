@@ -4,15 +4,15 @@ ghost use Rattle.cs_words.specs.Meaning.{words_text};
 ghost use Rattle.cs_words.specs.Options.{verb_text};
 ghost use Rattle.cs_words.specs.Scan.{AreReadTo, AreReadWhole, IsFirstOption, IsRefusal, IsRefusalBefore, IsSetBesides, HasValue};
 
+use crate::option_name::OptionName;
 use crate::option_word::{OptionWord, option_of};
 use crate::refusal::WordsRefusal;
-use crate::setting::Setting;
 use crate::settings::Settings;
 use crate::verb::{Verb, takes};
 
 /// The settings that are found, and the words that are left after them.
 #[derive(Clone, Copy, Debug)]
-pub struct Found<'a> {
+pub struct ParsedOptions<'a> {
     pub settings: Settings<'a>,
     pub rest: &'a [String],
 }
@@ -22,13 +22,13 @@ pub fn settings_of<'a>(
     verb: Verb,
     words: &[String],
     following: &'a [String],
-) -> Result<Found<'a>, WordsRefusal>
+) -> Result<ParsedOptions<'a>, WordsRefusal>
     requires { words_text words.now ≡ verb_text verb ∷ words_text following.now }
     ensures { MatchResult result (λ found.
         AreReadWhole verb (words_text words.now) found.settings (words_text found.rest.now))
         (IsRefusal (words_text words.now)) }
 {
-    let mut found = Found {
+    let mut found = ParsedOptions {
         settings: Settings::none(),
         rest: following,
     };
@@ -45,10 +45,10 @@ pub fn settings_of<'a>(
 fn with_option<'a>(
     verb: Verb,
     words: &[String],
-    found: Found<'a>,
+    found: ParsedOptions<'a>,
     option: OptionWord<'a>,
     others: &'a [String],
-) -> Result<Found<'a>, WordsRefusal>
+) -> Result<ParsedOptions<'a>, WordsRefusal>
     requires read { AreReadTo verb (words_text words.now) found.settings
         (words_text found.rest.now) }
     requires first { IsFirstOption option (words_text others.now) (words_text found.rest.now) }
@@ -89,11 +89,11 @@ fn with_option<'a>(
 fn with_value<'a>(
     words: &[String],
     settings: Settings<'a>,
-    setting: Setting,
+    setting: OptionName,
     text: &'a [u8],
     at: &[String],
     left: &'a [String],
-) -> Result<Found<'a>, WordsRefusal>
+) -> Result<ParsedOptions<'a>, WordsRefusal>
     requires { length at.now ≤ length words.now }
     ensures { MatchResult result (λ after.
         IsSetBesides setting text.now settings.entry after.settings
@@ -102,7 +102,7 @@ fn with_value<'a>(
         × IsRefusalBefore (length words.now) (length at.now) refusal) }
 {
     match settings.with(setting, text) {
-        Some(settings) => Ok(Found {
+        Some(settings) => Ok(ParsedOptions {
             settings,
             rest: left,
         }),

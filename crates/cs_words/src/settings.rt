@@ -6,7 +6,7 @@ ghost use Rattle.cs_words.specs.Scan.{IsSetTo, IsSetBesides, HasValue, AreKindsO
 
 use crate::kinds::{Kinds, are_kinds};
 use crate::name::is_name;
-use crate::setting::Setting;
+use crate::option_name::OptionName;
 use crate::value::{format_named, model_named, number_in};
 use cs_events::RunBudgets;
 use cs_names::Name;
@@ -31,7 +31,7 @@ pub struct Settings<'a> {
 impl<'a> Settings<'a> {
     /// No option is found.
     pub fn none() -> Settings<'a>
-        ensures { (setting : scanned.Setting) → IsSetTo setting None result }
+        ensures { (setting : scanned.OptionName) → IsSetTo setting None result }
     {
         Settings {
             visits: None,
@@ -47,61 +47,61 @@ impl<'a> Settings<'a> {
     }
 
     /// Whether an option is found.
-    pub fn has(self, setting: Setting) -> bool
+    pub fn has(self, setting: OptionName) -> bool
         ensures { result ≡ scanned.is_set setting self.entry }
     {
         match setting {
-            Setting::Visits => self.visits.is_some(),
-            Setting::Depth => self.depth.is_some(),
-            Setting::Events => self.events.is_some(),
-            Setting::Nodes => self.nodes.is_some(),
-            Setting::Splits => self.splits.is_some(),
-            Setting::Kinds => self.kinds.is_some(),
-            Setting::Entry => self.entry.is_some(),
-            Setting::Format => self.json.is_some(),
-            Setting::Model => self.model.is_some(),
+            OptionName::Visits => self.visits.is_some(),
+            OptionName::Depth => self.depth.is_some(),
+            OptionName::Events => self.events.is_some(),
+            OptionName::Nodes => self.nodes.is_some(),
+            OptionName::Splits => self.splits.is_some(),
+            OptionName::Kinds => self.kinds.is_some(),
+            OptionName::Entry => self.entry.is_some(),
+            OptionName::Format => self.json.is_some(),
+            OptionName::Model => self.model.is_some(),
         }
     }
 
     /// The settings with one more, if the text is that of a value of the option.
-    pub fn with(self, setting: Setting, text: &'a [u8]) -> Option<Settings<'a>>
+    pub fn with(self, setting: OptionName, text: &'a [u8]) -> Option<Settings<'a>>
         ensures { MatchOption result (HasValue setting text.now
             → ⊥) (λ after. IsSetBesides setting text.now self.entry after) }
     {
         match setting {
-            Setting::Visits => Some(Settings {
+            OptionName::Visits => Some(Settings {
                 visits: Some(number_in(text, 1, 1_000)?),
                 ..self
             }),
-            Setting::Depth => Some(Settings {
+            OptionName::Depth => Some(Settings {
                 depth: Some(number_in(text, 1, 64)?),
                 ..self
             }),
-            Setting::Events => Some(Settings {
+            OptionName::Events => Some(Settings {
                 events: Some(number_in(text, 1, 1_000_000)?),
                 ..self
             }),
-            Setting::Nodes => Some(Settings {
+            OptionName::Nodes => Some(Settings {
                 nodes: Some(number_in(text, 1, 200_000)?),
                 ..self
             }),
-            Setting::Splits => Some(Settings {
+            OptionName::Splits => Some(Settings {
                 splits: Some(number_in(text, 1, 4_096)?),
                 ..self
             }),
-            Setting::Kinds => Some(Settings {
+            OptionName::Kinds => Some(Settings {
                 kinds: Some(kinds_text(text)?),
                 ..self
             }),
-            Setting::Entry => Some(Settings {
+            OptionName::Entry => Some(Settings {
                 entry: Some(name_text(text)?),
                 ..self
             }),
-            Setting::Format => Some(Settings {
+            OptionName::Format => Some(Settings {
                 json: Some(format_named(text)?),
                 ..self
             }),
-            Setting::Model => Some(Settings {
+            OptionName::Model => Some(Settings {
                 model: Some(model_named(text)?),
                 ..self
             }),

@@ -3,7 +3,7 @@ ghost use Rattle.std.specs.Prelude.{◌≡◌, ◌≢◌, MatchOption};
 ghost use Rattle.cs_words.specs.Options as options;
 ghost use Rattle.cs_words.specs.Options.{verb_text};
 
-use crate::setting::Setting;
+use crate::option_name::OptionName;
 
 /// The commands.
 #[derive(Clone, Copy, PartialEq, Eq, Debug)]
@@ -29,15 +29,15 @@ pub fn verb_named(word: &[u8]) -> Option<Verb>
 }
 
 /// Whether a command has an option.
-pub fn takes(verb: Verb, setting: Setting) -> bool
+pub fn takes(verb: Verb, setting: OptionName) -> bool
     ensures { result ≡ options.takes verb setting }
 {
     match verb {
         Verb::Analyze => true,
-        Verb::Flow => matches!(setting, Setting::Model),
+        Verb::Flow => matches!(setting, OptionName::Model),
         Verb::Replay => matches!(
             setting,
-            Setting::Visits | Setting::Depth | Setting::Events | Setting::Model
+            OptionName::Visits | OptionName::Depth | OptionName::Events | OptionName::Model
         ),
         Verb::Generate => false,
     }

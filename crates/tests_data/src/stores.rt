@@ -1,5 +1,5 @@
 //! Stores written and read, with ample memory.
-use cs_store::{Fill, Found, Store, Value, Write, replayed};
+use cs_store::{Binding, Fill, Store, Value, Write, replayed};
 use cs_terms::Lin;
 use std::alloc::{AllocError, Global};
 use std::process::Abort;
@@ -29,13 +29,13 @@ fn written(alloc: Global) -> Result<Store, AllocError> {
 }
 
 fn assert_held(rt: &impl Abort, store: &Store) {
-    assert!(rt; store.load(1, 0) == Found::Direct(Value::Null));
-    assert!(rt; store.load(1, 4) == Found::Fill(Fill::Input));
-    assert!(rt; store.load(1, 8) == Found::Direct(number(5)));
-    assert!(rt; store.load(2, 0) == Found::Direct(number(3)));
-    assert!(rt; store.load(2, 4) == Found::Direct(Value::Start(6, 16)));
-    assert!(rt; store.load(2, 8) == Found::Fill(Fill::Unset));
-    assert!(rt; store.load(3, 0) == Found::Fill(Fill::Unset));
+    assert!(rt; store.load(1, 0) == Binding::Direct(Value::Null));
+    assert!(rt; store.load(1, 4) == Binding::Fill(Fill::Input));
+    assert!(rt; store.load(1, 8) == Binding::Direct(number(5)));
+    assert!(rt; store.load(2, 0) == Binding::Direct(number(3)));
+    assert!(rt; store.load(2, 4) == Binding::Direct(Value::Start(6, 16)));
+    assert!(rt; store.load(2, 8) == Binding::Fill(Fill::Unset));
+    assert!(rt; store.load(3, 0) == Binding::Fill(Fill::Unset));
 }
 
 #[test]
@@ -99,9 +99,9 @@ fn a_dropped_frame_is_gone_from_one_copy_alone(rt: HostRuntime) -> Result<(), Fa
     let store = written(rt.alloc())?;
     let mut other = store.copy()?;
     other.drop_frame(&[5, 1])?;
-    assert!(rt; other.load(1, 8) == Found::Fill(Fill::Unset));
-    assert!(rt; other.load(2, 0) == Found::Direct(number(3)));
-    assert!(rt; store.load(1, 8) == Found::Direct(number(5)));
+    assert!(rt; other.load(1, 8) == Binding::Fill(Fill::Unset));
+    assert!(rt; other.load(2, 0) == Binding::Direct(number(3)));
+    assert!(rt; store.load(1, 8) == Binding::Direct(number(5)));
     Ok(())
 }
 
@@ -119,7 +119,7 @@ fn replays_writes_in_order(rt: HostRuntime) -> Result<(), Fail> {
         bind(0, 8, number(3)),
     ];
     let store = replayed(rt.alloc(), &writes)?;
-    assert!(rt; store.load(0, 4) == Found::Fill(fill));
-    assert!(rt; store.load(0, 8) == Found::Direct(number(3)));
+    assert!(rt; store.load(0, 4) == Binding::Fill(fill));
+    assert!(rt; store.load(0, 8) == Binding::Direct(number(3)));
     Ok(())
 }

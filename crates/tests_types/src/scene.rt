@@ -2,7 +2,8 @@
 
 use cs_names::Name;
 use cs_scopes::{
-    Callee, Context, Declaration, Declarations, Function, Meaning, Scope, Tag, TagMeaning, Tags,
+    Callee, Context, Declaration, Declarations, DeclaredFunction, Meaning, Scope, Tag, TagMeaning,
+    Tags,
 };
 use cs_types::{
     CType, DataModel, IntType, Member, Members, StructTable, StructType, Structs, size_type,
@@ -54,7 +55,7 @@ fn function(
     gives: CType,
     parameters: Vec<CType>,
 ) -> Result<(), AllocError> {
-    let function = Function {
+    let function = DeclaredFunction {
         callee,
         result: gives,
         parameters,

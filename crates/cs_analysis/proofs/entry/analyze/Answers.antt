@@ -30,7 +30,8 @@ returns-clause-complete g c = λ every integer.
     let shown = subst (λ (suspects : List Suspect). ListsEvident entry suspects given) c.deref-2.ensures.value c.in_ok-witnessed.ensures.found in
     misses_none code program entry.budgets explored given c.requires.runs.lowered integer covered
     (all_of code program entry.function entry.budgets explored given (lowered_entry code program entry.function c.requires.runs.lowered is) works
-    c.have_each_once.ensures.syms (c.in_ok-explored.ensures.ends every works) c.in_ok-found.found.items c.in_ok-found.ensures.each c.in_ok-found.ensures.all shown
+    c.have_each_once.ensures.syms (c.in_ok-explored.ensures.ends every works) c.in_ok-found.found.items c.in_ok-found.ensures.each c.in_ok-found.ensures.all
+    shown
     c.in_ok-cuts.cuts.items c.in_ok-witnessed.ensures.cuts (λ none. sym c.deref.ensures.value ∙ c.in_ok-cuts.ensures.some none))
 
 pub returns-clause-reasons : goal.returns-clause-reasons
@@ -54,7 +55,8 @@ returns-clause-reasons g c = λ every integer cut listed.
     (c.in_ok-cuts.ensures.nodes nodes (subst (Contains c.in_ok-cuts.cuts.items) one.1 here)) in
     let shown = subst (λ (suspects : List Suspect). ListsEvident entry suspects given) c.deref-2.ensures.value c.in_ok-witnessed.ensures.found in
     let all = all_of code program entry.function entry.budgets explored given (lowered_entry code program entry.function c.requires.runs.lowered is) works
-    c.have_each_once.ensures.syms (c.in_ok-explored.ensures.ends every works) c.in_ok-found.found.items c.in_ok-found.ensures.each c.in_ok-found.ensures.all shown
+    c.have_each_once.ensures.syms (c.in_ok-explored.ensures.ends every works) c.in_ok-found.found.items c.in_ok-found.ensures.each c.in_ok-found.ensures.all
+    shown
     c.in_ok-cuts.cuts.items c.in_ok-witnessed.ensures.cuts (λ none. sym c.deref.ensures.value ∙ c.in_ok-cuts.ensures.some none) in
     record {
       nodes = nodes;

@@ -2,8 +2,8 @@ use Rattle.std.proofs.Common.{◌≡◌, ℕ, sym, ap, ◌∙◌}
 use Rattle.std.proofs.lemmas.Result.{IfOk-weaker}
 use Rattle.cs_store.specs.declared.value.Value.TheVariants.{Unset}
 use Rattle.cs_store.specs.declared.value.Fill.TheVariants as fill
-use Rattle.cs_store.specs.declared.value.Found.{Found}
-use Rattle.cs_store.specs.declared.value.Found.TheVariants.{Fill}
+use Rattle.cs_store.specs.declared.value.Binding.{Binding}
+use Rattle.cs_store.specs.declared.value.Binding.TheVariants.{Fill}
 use Rattle.cs_store.specs.Held.{held}
 use Rattle.cs_state.specs.Naming.{Naming, naming, Extends}
 use Rattle.cs_progress.specs.Locals.{IsLocalOf, value_held}
@@ -18,4 +18,4 @@ returns-in-Fill c =
     (λ (contents : Contents). (names : Naming) (frame count : ℕ) → Extends (naming c.args.tables.now) names
     → IsLocalOf names.bases frame count c.args.base → c.in-Fill.fill ≡ fill.Unset → contents ≡ Here Unset) _
     (λ contents here names frame count extends local unfilled.
-    here names frame count extends local (unfilled c.in-Fill.fill is) ∙ ap (λ (it : Found). Here (value_held it)) (sym is)) c.unbound.ensures
+    here names frame count extends local (unfilled c.in-Fill.fill is) ∙ ap (λ (it : Binding). Here (value_held it)) (sym is)) c.unbound.ensures

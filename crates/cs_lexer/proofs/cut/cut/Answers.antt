@@ -1,7 +1,7 @@
 use Rattle.std.proofs.Common.{◌≡◌, ◌<◌, ◌∙◌, ℕ, List, length, false, ap, sym, subst, arith}
 use Rattle.std.specs.Prelude.{◌==◌}
 use Rattle.std.proofs.lemmas.Bool.Decides.{nat_tests}
-use Rattle.cs_lexer.specs.declared.found.Found.TheVariants.{Gap, Marker, Token}
+use Rattle.cs_lexer.specs.declared.lexeme.Lexeme.TheVariants.{Gap, Marker, Token}
 use Rattle.cs_lexer.specs.Pieces.{Begins}
 use Rattle.cs_lexer.specs.Cuttings.{marked_spot}
 use Rattle.cs_lexer.proofs.Advancing.{advances}

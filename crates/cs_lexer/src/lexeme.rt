@@ -18,7 +18,7 @@ pub enum Fault {
 
 /// The piece that bytes begin with, with the number of its bytes, or the fault in it.
 #[derive(Drop)]
-pub enum Found {
+pub enum Lexeme {
     /// White space, a comment, a pragma or a dropped word.
     Gap(usize),
     /// A linemarker: the number of the line after it, if there is one, and the name of the file, if it is given.

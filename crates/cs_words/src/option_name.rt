@@ -5,7 +5,7 @@ ghost use Rattle.cs_words.specs.Options.{setting_text};
 
 /// The options of the commands.
 #[derive(Clone, Copy, PartialEq, Eq, Debug)]
-pub enum Setting {
+pub enum OptionName {
     /// How often one frame may reach a loop head or a label.
     Visits,
     /// How many frames there may be at a time.
@@ -27,20 +27,20 @@ pub enum Setting {
 }
 
 /// The option with this name.
-pub fn setting_named(name: &[u8]) -> Option<Setting>
-    ensures { MatchOption result ((setting : options.Setting)
+pub fn option_named(name: &[u8]) -> Option<OptionName>
+    ensures { MatchOption result ((setting : options.OptionName)
         → setting_text setting ≢ name.now) (λ setting. setting_text setting ≡ name.now) }
 {
     match name {
-        b"visits" => Some(Setting::Visits),
-        b"depth" => Some(Setting::Depth),
-        b"events" => Some(Setting::Events),
-        b"nodes" => Some(Setting::Nodes),
-        b"splits" => Some(Setting::Splits),
-        b"kinds" => Some(Setting::Kinds),
-        b"entry" => Some(Setting::Entry),
-        b"format" => Some(Setting::Format),
-        b"model" => Some(Setting::Model),
+        b"visits" => Some(OptionName::Visits),
+        b"depth" => Some(OptionName::Depth),
+        b"events" => Some(OptionName::Events),
+        b"nodes" => Some(OptionName::Nodes),
+        b"splits" => Some(OptionName::Splits),
+        b"kinds" => Some(OptionName::Kinds),
+        b"entry" => Some(OptionName::Entry),
+        b"format" => Some(OptionName::Format),
+        b"model" => Some(OptionName::Model),
         _ => None,
     }
 }
