@@ -7,7 +7,7 @@ use Rattle.cs_results.specs.RunBudgets.{run_budgets}
 use Rattle.cs_state.specs.Naming.{naming}
 use Rattle.cs_explored.specs.declared.explored.Explored.{Explored}
 use Rattle.cs_coverage.specs.IntegerEntries.{IsIntegerEntry}
-use Rattle.cs_engine.specs.Cuts.{IsCutForNodes}
+use Rattle.cs_guesses.specs.Cuts.{IsCutForNodes}
 
 -- each cut is one for want of nodes: one more row was refused, which is as exact as the others
 abbrev pub AreCutForNodes : Code → TypedProgram → ℕ → Budgets → Explored → Type 0

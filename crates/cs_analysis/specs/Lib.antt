@@ -1,3 +1,2 @@
 pub mod Integers
-pub mod Ends
 pub mod Cuts

@@ -12,7 +12,7 @@ ghost use Rattle.cs_findings.specs.Runs.{run_budgets};
 ghost use Rattle.cs_operators.specs.Asking.{HasEveryKind};
 ghost use Rattle.cs_analysis.specs.Cuts.{AreCutForNodes};
 ghost use Rattle.cs_analysis.specs.Integers.{KeepsToIntegers};
-ghost use Rattle.cs_analysis.specs.Ends.{HasExactEndsOnIntegers};
+ghost use Rattle.cs_completeness.specs.Ends.{HasExactEndsOnIntegers};
 ghost use Rattle.cs_witness.specs.Entries.{CanRun};
 
 use cs_checker::Checker;

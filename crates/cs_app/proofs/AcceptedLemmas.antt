@@ -20,11 +20,12 @@ use Rattle.cs_words.specs.declared.command.ReplayWords.{ReplayWords}
 use Rattle.cs_words.specs.declared.command.Command.TheVariants.{Analyze, Flow, Replay, Generate}
 use Rattle.cs_program.specs.Trees.{Parses, HasProgram, typed_tree}
 use Rattle.cs_entries.specs.Named.{entry_of}
-use Rattle.cs_app.specs.Refusals.{IsLexLine, IsSyntaxLine, type_line, IsRefusal, too_long, by_lexing, by_syntax, by_type}
+use Rattle.cs_commands.specs.Refusals.{IsLexLine, IsSyntaxLine, type_line, IsRefusal, too_long, by_lexing, by_syntax, by_type}
 use Rattle.cs_answers.specs.declared.status.Status.{Status}
 use Rattle.cs_answers.specs.declared.status.Status.TheVariants.{BadFile, NoEntry}
 use Rattle.cs_app.specs.Analyses.{LacksEntry, IsAnalysisAnswer, entries_named}
-use Rattle.cs_app.specs.Answers.{IsProgramAnswer, IsReplayAnswer, Accepts, IsAnswer, IsLeft, IsFileAnswer, IsAnswered, Suits, IsAcceptable, model_of}
+use Rattle.cs_app.specs.Answers.{IsProgramAnswer, Accepts, IsAnswer, IsLeft, IsFileAnswer, IsAnswered, Suits, IsAcceptable, model_of}
+use Rattle.cs_commands.specs.Replays.{IsReplayAnswer}
 use Rattle.cs_app.specs.Answers.{IsTypeRefused, refused_line, IsRefusedWith}
 use Rattle.cs_app.proofs.AnswerLemmas.{yields_answer, outcome_answers}
 use Rattle.cs_app.specs.Laws.{RefusedIsNotAccepted, TreesAreRefusedByTypes}

@@ -28,16 +28,16 @@ use Rattle.cs_program.specs.declared.refusal.FileRefusal.{FileRefusal}
 use Rattle.cs_program.specs.declared.refusal.FileRefusal.TheVariants as file_refusal
 use Rattle.cs_program.specs.Answers.{IsProgramOf, IsRefusedFor}
 use Rattle.cs_program.specs.Trees.{Parses, typed_tree}
-use Rattle.cs_app.specs.Refusals.{IsFileLine, IsSyntaxLine, IsTypeLine, too_long, by_lexing, by_syntax, by_type}
+use Rattle.cs_commands.specs.Refusals.{IsFileLine, IsSyntaxLine, IsTypeLine, too_long, by_lexing, by_syntax, by_type}
 use Rattle.cs_answers.specs.declared.status.Status.{Status}
 use Rattle.cs_answers.specs.declared.status.Status.TheVariants.{Clean, Found, BadWords, BadFile, ReadFault, WriteFault, Memory, NoEntry}
 use Rattle.cs_answers.specs.declared.answer.Answer.{Answer}
 use Rattle.cs_answers.specs.declared.answer.Failure.{Failure}
 use Rattle.cs_results.specs.Selected.{every_kind, lists_report}
 use Rattle.cs_app.specs.Answers.{IsProgramAnswer, IsAnswer, IsLeft, IsFileAnswer, IsWhole, IsAnswered, IsDone, Reads, file_of, model_of}
-use Rattle.cs_app.specs.Answers.{IsReplayAnswer, outcome_status}
+use Rattle.cs_commands.specs.Replays.{IsReplayAnswer, outcome_status}
 use Rattle.cs_app.specs.Analyses.{IsAnalysisAnswer}
-use Rattle.cs_app.proofs.ReplayLemmas.{no_outcome}
+use Rattle.cs_commands.proofs.ReplayLemmas.{no_outcome}
 
 -- ---- a program
 -- a status that no analysis answers

@@ -1,4 +1,3 @@
-pub mod ReplayLemmas
 pub mod AnswerLemmas
 pub mod AnalysisLemmas
 pub mod AcceptedLemmas

@@ -14,7 +14,7 @@ use Rattle.cs_results.specs.Selected.{every_kind}
 use Rattle.cs_results.specs.declared.budgets.Budgets.{Budgets}
 use Rattle.cs_results.specs.declared.result.EntryResult.{EntryResult}
 use Rattle.cs_words.specs.declared.command.AnalyzeWords.{AnalyzeWords}
-use Rattle.cs_app.specs.Results.{IsResultsAnswer, results_status}
+use Rattle.cs_commands.specs.Results.{IsResultsAnswer, results_status}
 use Rattle.cs_entries.specs.Named.{entry_of}
 use Rattle.cs_answers.specs.declared.status.Status.{Status}
 use Rattle.cs_answers.specs.declared.status.Status.TheVariants.{NoEntry}

@@ -14,46 +14,17 @@ use Rattle.cs_lexer.specs.declared.lexer.Lexed.{Lexed}
 use Rattle.cs_scopes.specs.declared.refusal.TypeCode.{TypeCode}
 use Rattle.cs_scopes.specs.Verdicts.{Fault}
 use Rattle.cs_generate.specs.GeneratedFile.{generated_file}
-use Rattle.cs_events.specs.declared.outcome.Outcome.{Outcome}
-use Rattle.cs_events.specs.declared.outcome.Outcome.TheVariants.{Done, Fault, Over}
-use Rattle.cs_events.specs.Runs.{Log}
-use Rattle.cs_meaning.specs.ProgramRuns.{RunGives}
-use Rattle.cs_cfg.specs.FlowText.{program_flow}
-use Rattle.cs_report.specs.ReplayLines.{replay_line}
 use Rattle.cs_words.specs.declared.command.Command.{Command}
 use Rattle.cs_words.specs.declared.command.Command.TheVariants.{Analyze, Flow, Replay, Generate}
-use Rattle.cs_words.specs.declared.command.ReplayWords.{ReplayWords}
 use Rattle.cs_words.specs.Meaning.{WordsMean, AreRefusedAt}
 use Rattle.cs_program.specs.Trees.{Parses, HasProgram, typed_tree}
 use Rattle.cs_entries.specs.Named.{entry_of}
-use Rattle.cs_app.specs.Refusals.{IsRefusal, type_line}
+use Rattle.cs_commands.specs.Flows.{IsFlowAnswer}
+use Rattle.cs_commands.specs.Refusals.{IsRefusal, type_line}
+use Rattle.cs_commands.specs.Replays.{IsReplayAnswer}
 use Rattle.cs_app.specs.Analyses.{IsAnalysisAnswer, IsSummary, entries_named}
 use Rattle.cs_answers.specs.declared.status.Status.{Status}
 use Rattle.cs_answers.specs.declared.status.Status.TheVariants.{Clean, Found, BadWords, BadFile, NoEntry}
-
--- found where a run ends in a fault
-abbrev pub outcome_status : Outcome → Status
-outcome_status (Fault kind place) = Found
-outcome_status (Done returned) = Clean
-outcome_status (Over budget place) = Clean
-
--- the text is the line of the outcome in which the reference machine's run of the entry ends, with these inputs and without guesses
-pub record IsReplayOf (files : List (List ℕ)) (program : TypedProgram) (words : ReplayWords) (entry : ℕ) (status : Status) (text : List ℕ) : Type 0 where
-  pub outcome : Outcome
-  pub log : Log
-  pub ends : RunGives program entry (record { inputs = words.inputs; guesses = [] }) words.budgets outcome log
-  pub says : text ≡ replay_line files outcome
-  pub yields : status ≡ outcome_status outcome
-
--- the replay of the entry that the words name, or the line that says that there is none
-abbrev pub IsReplayAnswer : List (List ℕ) → TypedProgram → ReplayWords → Status → List ℕ → Type 0
-IsReplayAnswer files program words NoEntry text = (entry_of words.entry program ≡ None) × (text ≡ codes "refused entry " ++ (words.entry ++ codes "\n"))
-IsReplayAnswer files program words status text = (entry : ℕ) × (entry_of words.entry program ≡ Some entry)
-    × IsReplayOf files program words entry status text
-
--- the text lists the control points of each function, and what is met next on each way out of them
-abbrev pub IsFlowAnswer : TypedProgram → Status → List ℕ → Type 0
-IsFlowAnswer program status text = (status ≡ Clean) × (text ≡ program_flow program)
 
 -- the data model that a command speaks of
 abbrev pub model_of : Command → DataModel

@@ -10,7 +10,7 @@ use Rattle.cs_scopes.specs.Verdicts.{Fault}
 use Rattle.cs_words.specs.declared.command.Command.{Command}
 use Rattle.cs_answers.specs.declared.status.Status.{Status}
 use Rattle.cs_program.specs.Trees.{Parses, typed_tree}
-use Rattle.cs_app.specs.Refusals.{IsRefusal, type_line}
+use Rattle.cs_commands.specs.Refusals.{IsRefusal, type_line}
 use Rattle.cs_app.specs.Answers.{Accepts, model_of}
 
 -- no file is both

@@ -1,5 +1,3 @@
-pub mod Refusals
-pub mod Results
 pub mod Analyses
 pub mod Answers
 pub mod Laws

@@ -10,13 +10,12 @@ ghost use Rattle.cs_analysis.specs.Integers.{KeepsToIntegers};
 ghost use Rattle.cs_app.specs.Analyses as analyses;
 ghost use Rattle.cs_app.specs.Analyses.{AreGoodResults, IsAnalysis, IsAnalysisAnswer, IsSummary};
 
-use crate::replay::refused_entry;
-use crate::results::{results_answer, results_status};
 use cs_analysis::analyze;
 use cs_answers::Answer;
 use cs_ast::typed::program::{Function, Program};
 use cs_cfg::Code;
 use cs_checker::Checker;
+use cs_commands::{refused_entry, results_answer, results_status};
 use cs_entries::{entry_of, number_of};
 use cs_lower::lower;
 use cs_objects::prepared::Prepared;

@@ -11,9 +11,9 @@ ghost use Rattle.cs_app.specs.Answers.{IsWhole, IsFileAnswer, IsRead, Reads};
 
 use crate::file::answer_to;
 use crate::generated::generated;
-use crate::refused::refused_length;
 use cs_answers::{Answer, Failure, Status};
 use cs_checker::Checker;
+use cs_commands::refused_length;
 use cs_io::{ReadRefusal, Source, read_all};
 use cs_words::{Command, WordsRefusal, words_of};
 use std::alloc::{AllocError, Global};

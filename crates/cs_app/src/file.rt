@@ -5,12 +5,10 @@ ghost use Rattle.cs_well_formed.specs.Programs.{IsWellFormed};
 ghost use Rattle.cs_app.specs.Answers.{IsProgramAnswer, IsAnswer, SuitsFile, model_of};
 
 use crate::analysis::{analysis, summarized};
-use crate::flow::flow;
-use crate::refused::refused;
-use crate::replay::replayed;
 use cs_answers::Answer;
 use cs_ast::typed::program::Program;
 use cs_checker::Checker;
+use cs_commands::{flow, refused, replayed};
 use cs_names::Name;
 use cs_program::program_of;
 use cs_types::DataModel;

@@ -5,12 +5,8 @@ mod analysis;
 mod app;
 mod command;
 mod file;
-mod flow;
 mod generated;
 mod laws;
-mod refused;
-mod replay;
-mod results;
 
 pub use app::csa;
 pub use cs_answers::Status;

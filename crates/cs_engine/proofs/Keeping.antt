@@ -38,7 +38,7 @@ use Rattle.cs_exactness.proofs.ExactGraphs.{exact_graph, finds_faults}
 use Rattle.cs_guesses.proofs.Asked.{are_asked}
 use Rattle.cs_guesses.proofs.Cornered.{are_cornered}
 use Rattle.cs_guesses.proofs.Real.{are_real}
-use Rattle.cs_engine.specs.Cuts.{IsCutForNodes}
+use Rattle.cs_guesses.specs.Cuts.{IsCutForNodes}
 use Rattle.cs_engine.specs.Exploring.{program_of, ExploresIntegers, HasSources, HasReasons, IsUncut, IsKept, IsDone, LeadsOn}
 use Rattle.cs_engine.proofs.Exploring.{ComesOf, full_for_nodes, begun_graph, given_graph, expanded_graph, done_graph}
 use Rattle.cs_engine.proofs.Sourcing.{begun_sources, begun_refused, given_sources, no_cuts, expanded_sources, is_refused, done_sources}

@@ -12,7 +12,7 @@ use Rattle.cs_explored.specs.declared.explored.End.{End}
 use Rattle.cs_explored.specs.declared.explored.Explored.{Explored}
 use Rattle.cs_explored.specs.declared.explored.Row.{Row}
 use Rattle.cs_explored.specs.declared.watch.Rule.{Rule}
-use Rattle.cs_engine.specs.Cuts.{IsCutFor}
+use Rattle.cs_guesses.specs.Cuts.{IsCutFor}
 use Rattle.cs_engine.specs.Recorded.{RecordsAllocations}
 use Rattle.cs_exactness.specs.Graphs.{IsExactGraph}
 use Rattle.cs_exactness.specs.Noted.{EachState}

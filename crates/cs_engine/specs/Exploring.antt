@@ -20,7 +20,7 @@ use Rattle.cs_exactness.specs.Noted.{EachNotesEvents}
 use Rattle.cs_exactness.specs.OwnRuns.{HasOwnRuns}
 use Rattle.cs_exactness.specs.Sources.{AreSourced, IsSourcedGraph, UnderNames}
 use Rattle.cs_guesses.specs.Graphs.{IsGuessedGraph}
-use Rattle.cs_engine.specs.Cuts.{IsCutForNodes}
+use Rattle.cs_guesses.specs.Cuts.{IsCutForNodes}
 
 -- the program that is explored
 abbrev pub program_of : Exploration → TypedProgram

@@ -1,5 +1,4 @@
 pub mod Parameters
 pub mod Exploring
 pub mod Recorded
-pub mod Cuts
 pub mod Exactness

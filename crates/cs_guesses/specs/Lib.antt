@@ -3,3 +3,4 @@ pub mod Asking
 pub mod Real
 pub mod Graphs
 pub mod Cornered
+pub mod Cuts

@@ -13,9 +13,9 @@ use Rattle.cs_suspect_types.specs.declared.suspect.Suspect.{Suspect}
 use Rattle.cs_suspects.specs.Spots.{IsNodes}
 use Rattle.cs_witness.specs.Witnesses.{ListsEvident}
 use Rattle.cs_analysis.specs.Cuts.{AreCutForNodes}
-use Rattle.cs_analysis.proofs.AllShown.{all_of}
-use Rattle.cs_analysis.proofs.CutNodes.{all_nodes, nodes_of, has_reasons}
-use Rattle.cs_analysis.proofs.EveryRun.{integer_entry, lowered_entry, misses_none}
+use Rattle.cs_completeness.proofs.AllShown.{all_of}
+use Rattle.cs_completeness.proofs.CutNodes.{all_nodes, nodes_of, has_reasons}
+use Rattle.cs_completeness.proofs.EveryRun.{integer_entry, lowered_entry, misses_none}
 use Rattle.cs_analysis.proofs.entry.analyze.Goals as goal
 
 pub returns-clause-complete : goal.returns-clause-complete

@@ -9,7 +9,7 @@ use Rattle.cs_eval.proofs.TwoWays.{if_ok_both}
 use Rattle.cs_exactness.specs.Exact.{IsExact}
 use Rattle.cs_exactness.specs.Noted.{EachNotesEvents}
 use Rattle.cs_guesses.specs.Graphs.{IsGuessedGraph}
-use Rattle.cs_engine.specs.Cuts.{IsCutForNodes}
+use Rattle.cs_guesses.specs.Cuts.{IsCutForNodes}
 use Rattle.cs_explored.specs.declared.explored.Explored.{Explored}
 use Rattle.cs_findings.specs.Runs.{run_budgets}
 use Rattle.cs_state.specs.Naming.{naming}

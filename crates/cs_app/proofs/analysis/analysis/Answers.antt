@@ -1,7 +1,7 @@
 use Rattle.std.proofs.Common.{sym, ◌∙◌}
 use Rattle.cs_ast.specs.TypedProgram.{typed_program}
 use Rattle.cs_app.proofs.AnalysisLemmas.{entry_named, analysis_answers, lacking_answers}
-use Rattle.cs_app.proofs.ReplayLemmas.{entry_among}
+use Rattle.cs_commands.proofs.ReplayLemmas.{entry_among}
 use Rattle.cs_app.proofs.analysis.analysis.Goals as goal
 
 pub returns-in_ok-answer-in-Some-entry_of-clause-answer : goal.returns-in_ok-answer-in-Some-entry_of-clause-answer

@@ -2,7 +2,7 @@ use Rattle.std.proofs.Common.{length, map, ap, ◌∙◌, subst}
 use Rattle.cs_ast.specs.TypedProgram.{typed_program}
 use Rattle.cs_report.specs.SummaryLines.{summary_text}
 use Rattle.cs_app.specs.Analyses.{AreGoodResults, DEFAULT_BUDGETS}
-use Rattle.cs_app.specs.Results.{results_status}
+use Rattle.cs_commands.specs.Results.{results_status}
 use Rattle.cs_app.proofs.analysis.summarized.Goals as goal
 
 pub returns-clause-answer : goal.returns-clause-answer

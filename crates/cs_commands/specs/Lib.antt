@@ -1,0 +1,4 @@
+pub mod Refusals
+pub mod Replays
+pub mod Flows
+pub mod Results
