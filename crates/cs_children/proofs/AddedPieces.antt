@@ -13,7 +13,8 @@ use Rattle.cs_eval.specs.declared.piece.Piece.{Piece}
 use Rattle.cs_state.specs.declared.state.State.{State}
 use Rattle.cs_explored.specs.declared.watch.Rule.{Rule}
 use Rattle.cs_children.specs.declared.children.Children.{Children}
-use Rattle.cs_children.specs.Adding.{Adds, AddsChildren, AddsPieces, IsNextEvent, over, shows}
+use Rattle.cs_children.specs.Adding.{Adds, AddsChildren, AddsPieces}
+use Rattle.cs_pieces.specs.Pieces.{IsNextEvent, over, shows}
 
 -- a number of the next event that isn't there, or is there
 pub full_of : (found : Option ℕ) (limit passed : ℕ) (none : Bool) → MatchOption found (limit ≤ passed) (IsNextEvent limit passed)

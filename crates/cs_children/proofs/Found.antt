@@ -45,22 +45,24 @@ use Rattle.cs_operators.specs.Asking.{HasEveryKind}
 use Rattle.cs_explored.specs.declared.child.Child.{Child}
 use Rattle.cs_explored.specs.declared.watch.Rule.{Rule}
 use Rattle.cs_children.specs.declared.children.Children.{Children}
-use Rattle.cs_children.specs.declared.exploration.Exploration.{Exploration}
-use Rattle.cs_children.specs.Adding.{ComesOfPieces, over, shows}
-use Rattle.cs_children.specs.Adding.{Adds, AddsPieces, AddsFaulty, AreOfQuestion, AreOfSwitch, GoesOn}
+use Rattle.cs_successors.specs.declared.exploration.Exploration.{Exploration}
+use Rattle.cs_pieces.specs.Pieces.{ComesOfPieces, over, shows}
+use Rattle.cs_children.specs.Adding.{Adds, AddsPieces, AddsFaulty}
+use Rattle.cs_pieces.specs.Pieces.{AreOfQuestion, AreOfSwitch, GoesOn}
 use Rattle.cs_successors.specs.Coming.{is_declared, IsIntegerState, MentionsNoOthers, StateEnd, OutcomesDiffer, IsAt, EndsIn, ComesOfState}
 use Rattle.cs_successors.specs.Coming.{IsReachedFrom}
 use Rattle.cs_successors.specs.EntryRuns.{stays}
-use Rattle.cs_children.specs.Finding.{code_of, model_of, limits_of, AreNone, Explores, FindsAll, FindsSoFar}
-use Rattle.cs_children.proofs.FaultyParts.{rest_reached, nothing_left}
-use Rattle.cs_children.proofs.IntegerActs.{IsOfIntegers, ShowsNumbers, asks, left_shows, code_shows}
-use Rattle.cs_children.proofs.NotedGuesses.{question_noted, none_noted}
-use Rattle.cs_children.proofs.OwnLabels.{question_tells, cases_tell}
-use Rattle.cs_children.proofs.PiecesCome.{Shows, pieces_come, over_comes}
-use Rattle.cs_children.proofs.Reaching.{Comes, one_end_comes, comes_of, reached_on, reached_itself}
-use Rattle.cs_children.proofs.SilentSteps.{done_reached, waits_reached, begins_in}
-use Rattle.cs_children.proofs.StandingFirst.{stands_first}
-use Rattle.cs_children.proofs.UsedGuesses.{guess_is_used}
+use Rattle.cs_children.specs.Finding.{AreNone, FindsAll, FindsSoFar}
+use Rattle.cs_successors.specs.Explorations.{code_of, model_of, limits_of, Explores}
+use Rattle.cs_pieces.proofs.FaultyParts.{rest_reached, nothing_left}
+use Rattle.cs_pieces.proofs.IntegerActs.{IsOfIntegers, ShowsNumbers, asks, left_shows, code_shows}
+use Rattle.cs_pieces.proofs.NotedGuesses.{question_noted, none_noted}
+use Rattle.cs_pieces.proofs.OwnLabels.{question_tells, cases_tell}
+use Rattle.cs_pieces.proofs.PiecesCome.{Shows, pieces_come, over_comes}
+use Rattle.cs_pieces.proofs.Reaching.{Comes, one_end_comes, comes_of, reached_on, reached_itself}
+use Rattle.cs_pieces.proofs.SilentSteps.{done_reached, waits_reached, begins_in}
+use Rattle.cs_pieces.proofs.StandingFirst.{stands_first}
+use Rattle.cs_pieces.proofs.UsedGuesses.{guess_is_used}
 
 -- names that extend others extend what these extend
 pub extends_on : (one two three : Naming) → Extends one two → Extends two three → Extends one three

@@ -1,16 +1,3 @@
-mod StandingFirst
-mod IntegerActs
-mod OneMoreAnswer
-mod Reaching
-mod SilentSteps
-mod DeclaredSymbols
-mod FaultyParts
-mod UsedGuesses
-mod OwnLabels
-mod PassedPieces
-mod GuessedAsked
-mod NotedGuesses
-mod PiecesCome
 mod Apart
 mod AddedPieces
 mod Found

@@ -12,7 +12,7 @@ use Rattle.cs_terms.specs.declared.term.Lin.{Lin}
 use Rattle.cs_terms.specs.Term.{Valuation, value_with, value_of}
 use Rattle.cs_terms.proofs.Products.{abs-product}
 use Rattle.cs_constraints.specs.Constraints.{Sets, set_of}
-use Rattle.cs_children.specs.Settled.{DependsOn, IsSettled, IsConstantAt}
+use Rattle.cs_pieces.specs.Settled.{DependsOn, IsSettled, IsConstantAt}
 
 -- a function that isn't level has different values at different numbers
 values_differ : (slope at value one other : ℤ) → slope ≢ pos 0 → one ≢ other → affine slope at value one ≢ affine slope at value other

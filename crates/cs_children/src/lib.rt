@@ -2,8 +2,6 @@
 #![tactic(auto)]
 
 mod children;
-mod exploration;
 mod settled;
 
 pub use children::Children;
-pub use exploration::Exploration;

@@ -1,7 +1,7 @@
 //! The terms that lead on after an event.
 ghost use Rattle.std.specs.Prelude.{◌≡◌, true, Some, IfOk, IfSome};
 ghost use Rattle.cs_ranges.specs.Affine.{affine};
-ghost use Rattle.cs_children.specs.Settled.{IsSettled, IsConstantAt};
+ghost use Rattle.cs_pieces.specs.Settled.{IsSettled, IsConstantAt};
 
 use cs_constraints::Constraints;
 use cs_explored::constant;

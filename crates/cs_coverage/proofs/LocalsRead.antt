@@ -34,7 +34,7 @@ use Rattle.cs_state.specs.Objects.{Owner, owner, owner_numbered, local_of, fill_
 use Rattle.cs_cfg.specs.IntegerCode.{HasIntegerCode, count_of_locals}
 use Rattle.cs_progress.specs.Locals.{PointsToLocal, PointToLocals, HasLocalsAlone}
 use Rattle.cs_progress.specs.Stepping.{next_act, next_left}
-use Rattle.cs_steps.proofs.Going.{integer_at}
+use Rattle.cs_spots.proofs.Going.{integer_at}
 use Rattle.cs_coverage.proofs.ReadingNothing.{ReadsNothing, same_left, PointsTo, IsKnown, IsKnownOperand, step_reads}
 
 -- what a local holds

@@ -1,4 +1,1 @@
 pub mod Parameters
-pub mod Exploring
-pub mod Sourcing
-pub mod Keeping

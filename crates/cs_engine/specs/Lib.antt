@@ -1,4 +1,3 @@
 pub mod Parameters
-pub mod Exploring
 pub mod Recorded
 pub mod Exactness

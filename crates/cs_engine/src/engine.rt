@@ -4,17 +4,18 @@ ghost use Rattle.cs_objects.specs.Prepared.{IsReady};
 ghost use Rattle.cs_explored.specs.Found.{IsSound, Grows, AreLinked, AreOfRows};
 ghost use Rattle.cs_operators.specs.Asking.{HasEveryKind};
 ghost use Rattle.cs_coverage.specs.Closing.{Waits, IsOpen};
-ghost use Rattle.cs_engine.specs.Exploring.{ExploresIntegers, IsKept, IsDone, LeadsOn};
-ghost use Rattle.cs_engine.specs.Exploring.{CoversIntegers, CoversOwnOnIntegers, CoversLiveOnIntegers};
-ghost use Rattle.cs_engine.specs.Exploring.{IsExactOnIntegers};
-ghost use Rattle.cs_engine.specs.Exploring.{HasOwnOnIntegers, HasReasonsOnIntegers, HasGuessesOnIntegers};
+ghost use Rattle.cs_invariants.specs.Exploring.{ExploresIntegers, IsKept, IsDone, LeadsOn};
+ghost use Rattle.cs_invariants.specs.Exploring.{CoversIntegers, CoversOwnOnIntegers, CoversLiveOnIntegers};
+ghost use Rattle.cs_invariants.specs.Exploring.{IsExactOnIntegers};
+ghost use Rattle.cs_invariants.specs.Exploring.{HasOwnOnIntegers, HasReasonsOnIntegers, HasGuessesOnIntegers};
 
 use crate::entry::start;
 use crate::numbering::have_each_once;
 use cs_checker::Checker;
-use cs_children::{Children, Exploration};
+use cs_children::Children;
 use cs_explored::{Explored, Findings};
 use cs_keys::laws::keys_are_exact;
+use cs_successors::Exploration;
 use std::alloc::AllocError;
 
 /// Explores the runs of an entry.

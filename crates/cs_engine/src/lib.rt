@@ -5,6 +5,6 @@ mod engine;
 mod entry;
 mod numbering;
 
-pub use cs_children::Exploration;
+pub use cs_successors::Exploration;
 pub use engine::explore;
 pub use numbering::have_each_once;

@@ -36,8 +36,8 @@ use Rattle.cs_progress.specs.Stepping.{BeginsIn}
 use Rattle.cs_progress.proofs.Composing.{leads_on}
 use Rattle.cs_progress.proofs.Looks.{leads_same}
 use Rattle.cs_operators.specs.Pointing.{cell_in, test}
-use Rattle.cs_steps.proofs.Beginning.{begins_in}
-use Rattle.cs_steps.proofs.CutMeanings.{uncut_means}
+use Rattle.cs_spots.proofs.Beginning.{begins_in}
+use Rattle.cs_spots.proofs.CutMeanings.{uncut_means}
 
 -- what an act asks
 abbrev asked_at : Act CodeState → Option (Place × Operation)

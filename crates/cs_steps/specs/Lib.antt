@@ -2,5 +2,4 @@ pub mod Reaching
 pub mod Loading
 pub mod Fetching
 pub mod Storing
-pub mod AtSpots
 pub mod Updating

@@ -6,7 +6,7 @@ ghost use Rattle.cs_cfg.specs.Graph as graph;
 ghost use Rattle.cs_cfg.specs.GraphView as view;
 ghost use Rattle.cs_progress.specs.declared.pause.Pause.TheVariants as pause;
 ghost use Rattle.cs_progress.specs.Stepping.{DoesWorkAndGoesOn, GoesTo, IsMovedOn, IsCutFor};
-ghost use Rattle.cs_steps.specs.AtSpots.{EndsAt, LeadsTo, LeavesBlock};
+ghost use Rattle.cs_spots.specs.AtSpots.{EndsAt, LeadsTo, LeavesBlock};
 
 use cs_ast::Place;
 use cs_cfg::{BlockEnd, CountedPoint, Spot, SwitchCase};

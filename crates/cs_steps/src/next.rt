@@ -7,7 +7,7 @@ ghost use Rattle.cs_cfg.specs.GraphView as view;
 ghost use Rattle.cs_cfg.specs.Working.{takes};
 ghost use Rattle.cs_progress.specs.declared.pause.Pause.TheVariants as pause;
 ghost use Rattle.cs_progress.specs.Stepping.{StepsInLocals, IsCutTo, IsCutForEnd};
-ghost use Rattle.cs_steps.specs.AtSpots.{StandsAt, EndsAt, StepsAtSpot, came_to};
+ghost use Rattle.cs_spots.specs.AtSpots.{StandsAt, EndsAt, StepsAtSpot, came_to};
 
 use crate::ends::{end, reach_counted_point};
 use crate::work::work;

@@ -1,2 +1,3 @@
 pub mod EntryRuns
 pub mod Coming
+pub mod Explorations

@@ -2,7 +2,7 @@ use Rattle.std.proofs.Common.{◌≡◌, to_z, of_z, sym, ap, subst, rules}
 use Rattle.std.proofs.lemmas.Result.{IfOk-weaker}
 use Rattle.std.specs.Int.{w128}
 use Rattle.std.specs.Prelude.{IfOk}
-use Rattle.cs_children.specs.Settled.{IsSettled, IsConstantAt}
+use Rattle.cs_pieces.specs.Settled.{IsSettled, IsConstantAt}
 use Rattle.cs_children.proofs.SettledAnswers.{constant_settled, term_settled}
 use Rattle.cs_children.proofs.settled.settled.Goals as goal
 

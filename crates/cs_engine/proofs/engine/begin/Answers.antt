@@ -2,12 +2,12 @@ use Rattle.std.proofs.Common.{◌≡◌, refl, sym, ap, ◌∙◌, subst}
 use Rattle.cs_state.specs.declared.state.State.{State}
 use Rattle.cs_state.specs.Naming.{naming}
 use Rattle.cs_state.specs.Starting.{IsStart}
-use Rattle.cs_children.specs.Finding.{code_of}
-use Rattle.cs_engine.specs.Exploring.{program_of}
+use Rattle.cs_successors.specs.Explorations.{code_of}
+use Rattle.cs_invariants.specs.Exploring.{program_of}
 use Rattle.cs_explored.specs.declared.findings.Findings.{Findings}
 use Rattle.cs_explored.specs.Placing.{RowGraph}
 use Rattle.cs_explored.proofs.Growing.{grows_on, grows_same}
-use Rattle.cs_engine.proofs.Keeping.{begun_kept}
+use Rattle.cs_invariants.proofs.Keeping.{begun_kept}
 use Rattle.cs_engine.proofs.engine.begin.Goals as goal
 
 pub returns-clause-sound : goal.returns-clause-sound

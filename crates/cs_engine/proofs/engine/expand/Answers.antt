@@ -7,8 +7,8 @@ use Rattle.cs_explored.specs.declared.explored.Row.{Row}
 use Rattle.cs_explored.proofs.Growing.{grows_on, grows_same}
 use Rattle.cs_state.specs.declared.state.State.{State}
 use Rattle.cs_state.specs.Naming.{naming}
-use Rattle.cs_engine.proofs.Exploring.{ComesOf}
-use Rattle.cs_engine.proofs.Keeping.{expanded_kept}
+use Rattle.cs_invariants.proofs.Exploring.{ComesOf}
+use Rattle.cs_invariants.proofs.Keeping.{expanded_kept}
 use Rattle.cs_engine.proofs.engine.expand.Goals as goal
 
 pub returns-clause-grows : goal.returns-clause-grows

@@ -1,8 +1,8 @@
 use Rattle.std.proofs.Common.{◌≡◌, [], Bool, refl, rules, sym, ◌∙◌, subst}
 use Rattle.std.specs.List.{Any}
 use Rattle.cs_explored.proofs.Growing.{grows_not, grows_on, grows_worked}
-use Rattle.cs_engine.specs.Exploring.{LeadsOn}
-use Rattle.cs_engine.proofs.Keeping.{given_kept, done_empty}
+use Rattle.cs_invariants.specs.Exploring.{LeadsOn}
+use Rattle.cs_invariants.proofs.Keeping.{given_kept, done_empty}
 use Rattle.cs_engine.proofs.engine.expand_all.Goals as goal
 
 pub loop-init : goal.loop-init

@@ -2,7 +2,7 @@ use Rattle.std.proofs.Common.{◌≡◌, ℕ, map}
 use Rattle.cs_explored.specs.Found.{Grows}
 use Rattle.cs_operators.specs.Asking.{HasEveryKind}
 use Rattle.cs_coverage.specs.Closing.{Waits}
-use Rattle.cs_engine.specs.Exploring.{ExploresIntegers, IsKept}
+use Rattle.cs_invariants.specs.Exploring.{ExploresIntegers, IsKept}
 use Rattle.cs_engine.proofs.engine.expand_all.Given as goal
 
 abbrev pub invariant-loop : goal.invariant-loop

@@ -1,7 +1,7 @@
 use Rattle.std.proofs.Common.{◌∙◌}
-use Rattle.cs_engine.proofs.Exploring.{covered, own_covered, live_covered}
-use Rattle.cs_engine.proofs.Sourcing.{graph_at_last, guesses_at_last}
-use Rattle.cs_engine.proofs.Keeping.{reasons_at_last}
+use Rattle.cs_invariants.proofs.Exploring.{covered, own_covered, live_covered}
+use Rattle.cs_invariants.proofs.Sourcing.{graph_at_last, guesses_at_last}
+use Rattle.cs_invariants.proofs.Keeping.{reasons_at_last}
 use Rattle.cs_engine.proofs.engine.explore.Goals as goal
 
 pub returns-clause-covers : goal.returns-clause-covers

@@ -4,7 +4,7 @@ use Rattle.cs_cfg.specs.GraphView as view
 use Rattle.cs_cfg.specs.CodeSteps.{do_end}
 use Rattle.cs_progress.proofs.KeptLocals.{have_names}
 use Rattle.cs_steps.proofs.Branching.{test_shows, test_leads}
-use Rattle.cs_steps.proofs.Leaving.{waits_there, drops_and_goes}
+use Rattle.cs_spots.proofs.Leaving.{waits_there, drops_and_goes}
 use Rattle.cs_steps.proofs.ends.branch.Goals as goal
 use Rattle.cs_steps.proofs.ends.branch.Goals.{then-holds, else-holds}
 

@@ -12,9 +12,9 @@ use Rattle.cs_state.specs.Naming.{naming}
 use Rattle.cs_store.specs.declared.value.Value.TheVariants as value
 use Rattle.cs_progress.specs.Locals.{AreIn}
 use Rattle.cs_progress.proofs.Looks.{leads_same}
-use Rattle.cs_steps.proofs.CutMeanings.{uncut_means}
-use Rattle.cs_steps.proofs.KeptStates.{knows_cut}
-use Rattle.cs_steps.proofs.Leaving.{goes_there, runs_out}
+use Rattle.cs_spots.proofs.CutMeanings.{uncut_means}
+use Rattle.cs_spots.proofs.KeptStates.{knows_cut}
+use Rattle.cs_spots.proofs.Leaving.{goes_there, runs_out}
 use Rattle.cs_steps.proofs.ends.end.Goals as goal
 
 pub returns-in-Jump-clause-leaves : goal.returns-in-Jump-clause-leaves

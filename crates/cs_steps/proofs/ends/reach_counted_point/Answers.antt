@@ -2,7 +2,7 @@ use Rattle.std.proofs.Common.{◌≡◌, ℕ, ◌+◌, List, Some, None, sym, ap
 use Rattle.std.specs.Prelude.{slice_get}
 use Rattle.std.proofs.lemmas.Option.{slice_get-get_or, slice_get_past}
 use Rattle.cs_cfg.specs.GraphView as view
-use Rattle.cs_steps.proofs.Counting.{none_over, full_over, waits_over, point_reached}
+use Rattle.cs_spots.proofs.Counting.{none_over, full_over, waits_over, point_reached}
 use Rattle.cs_steps.proofs.ends.reach_counted_point.Goals as goal
 
 pub returns-in_default : goal.returns-in_default

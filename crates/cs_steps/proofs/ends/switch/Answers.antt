@@ -7,8 +7,8 @@ use Rattle.cs_state.specs.Meaning.{meaning}
 use Rattle.cs_progress.specs.declared.next.Next.{Next}
 use Rattle.cs_progress.specs.Answering.{answers_left}
 use Rattle.cs_progress.specs.Stepping.{BeginsIn}
-use Rattle.cs_steps.proofs.Leaving.{waits_there, drops_and_goes}
-use Rattle.cs_steps.proofs.Switching.{case_shows, case_leads}
+use Rattle.cs_spots.proofs.Leaving.{waits_there, drops_and_goes}
+use Rattle.cs_spots.proofs.Switching.{case_shows, case_leads}
 use Rattle.cs_steps.proofs.ends.switch.Goals as goal
 
 pub returns-in_err-select : goal.returns-in_err-select

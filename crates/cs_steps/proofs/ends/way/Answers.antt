@@ -2,7 +2,7 @@ use Rattle.std.proofs.Common.{◌≡◌, ℤ, true, false, pos, get_or, to_z, of
 use Rattle.std.specs.Int.{w128}
 use Rattle.std.specs.Ordering.{int_eq}
 use Rattle.cs_terms.specs.Term.{value_of}
-use Rattle.cs_steps.proofs.Ways.{next_led}
+use Rattle.cs_spots.proofs.Ways.{next_led}
 use Rattle.cs_steps.proofs.ends.way.Goals as goal
 
 pub returns-in-Some-true-clause-leads : goal.returns-in-Some-true-clause-leads

@@ -4,9 +4,9 @@ use Rattle.cs_cfg.specs.GraphView as view
 use Rattle.cs_cfg.specs.Spots.{point_of, after}
 use Rattle.cs_state.specs.declared.state.State.{State}
 use Rattle.cs_cfg.specs.IntegerCode.{IsIntegerWork, count_of_locals}
-use Rattle.cs_steps.proofs.Going.{integer_at}
-use Rattle.cs_steps.proofs.KeptStates.{locals_cut}
-use Rattle.cs_steps.proofs.Stepped.{works_step}
+use Rattle.cs_spots.proofs.Going.{integer_at}
+use Rattle.cs_spots.proofs.KeptStates.{locals_cut}
+use Rattle.cs_spots.proofs.Stepped.{works_step}
 use Rattle.cs_steps.proofs.next.do_operation.Goals as goal
 
 pub returns-clause-steps : goal.returns-clause-steps

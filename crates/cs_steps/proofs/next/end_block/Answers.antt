@@ -2,10 +2,10 @@ use Rattle.std.proofs.Common.{sym, ap, subst}
 use Rattle.cs_cfg.specs.declared.code.Spot.{Spot}
 use Rattle.cs_cfg.specs.GraphView as view
 use Rattle.cs_state.specs.declared.state.State.{State}
-use Rattle.cs_steps.specs.AtSpots.{EndsAt}
-use Rattle.cs_steps.proofs.CutMeanings.{cut_shared, cut_for}
-use Rattle.cs_steps.proofs.KeptStates.{locals_cut_for}
-use Rattle.cs_steps.proofs.Stepped.{ends_step}
+use Rattle.cs_spots.specs.AtSpots.{EndsAt}
+use Rattle.cs_spots.proofs.CutMeanings.{cut_shared, cut_for}
+use Rattle.cs_spots.proofs.KeptStates.{locals_cut_for}
+use Rattle.cs_spots.proofs.Stepped.{ends_step}
 use Rattle.cs_steps.proofs.next.end_block.Goals as goal
 
 pub returns-clause-steps : goal.returns-clause-steps

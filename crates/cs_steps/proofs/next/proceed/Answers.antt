@@ -3,7 +3,7 @@ use Rattle.cs_cfg.specs.GraphView as view
 use Rattle.cs_state.specs.Naming.{naming}
 use Rattle.cs_progress.specs.declared.pause.Pause.{Pause}
 use Rattle.cs_progress.specs.declared.pause.Pause.TheVariants as pause
-use Rattle.cs_steps.proofs.Beginning.{done_steps, waiting_steps}
+use Rattle.cs_spots.proofs.Beginning.{done_steps, waiting_steps}
 use Rattle.cs_steps.proofs.next.proceed.Goals as goal
 
 pub returns-in-Ok-clause-steps : goal.returns-in-Ok-clause-steps

@@ -1,6 +1,6 @@
 use Rattle.cs_cfg.specs.GraphView as view
-use Rattle.cs_steps.proofs.KeptStates.{locals_cut}
-use Rattle.cs_steps.proofs.Stepped.{works_step}
+use Rattle.cs_spots.proofs.KeptStates.{locals_cut}
+use Rattle.cs_spots.proofs.Stepped.{works_step}
 use Rattle.cs_steps.proofs.next.reach.Goals as goal
 
 pub returns : goal.returns

@@ -1,4 +1,4 @@
-use Rattle.cs_steps.proofs.PushedPlaces.{place_pushed}
+use Rattle.cs_spots.proofs.PushedPlaces.{place_pushed}
 use Rattle.cs_steps.proofs.work.name.Goals as goal
 
 pub returns-clause-pushed : goal.returns-clause-pushed

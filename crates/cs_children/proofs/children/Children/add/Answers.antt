@@ -4,8 +4,8 @@ use Rattle.std.proofs.lemmas.Result.{on_ok_weaker}
 use Rattle.std.specs.FinMap as finite
 use Rattle.cs_state.specs.declared.asked.Asked.{Asked}
 use Rattle.cs_state.specs.declared.state.State.{State}
-use Rattle.cs_children.specs.Adding.{asked_for}
-use Rattle.cs_children.proofs.GuessedAsked.{noted_after}
+use Rattle.cs_pieces.specs.Pieces.{asked_for}
+use Rattle.cs_pieces.proofs.GuessedAsked.{noted_after}
 use Rattle.cs_children.proofs.SettledAnswers.{settled_as}
 use Rattle.cs_children.proofs.children.Children.add.Goals as goal
 

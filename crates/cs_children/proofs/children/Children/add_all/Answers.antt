@@ -2,7 +2,7 @@ use Rattle.std.proofs.Common.{List, [], ◌∷◌, ◌++◌, sym, subst}
 use Rattle.std.proofs.lemmas.Result.{on_ok_weaker}
 use Rattle.cs_eval.specs.declared.piece.Piece.{Piece}
 use Rattle.cs_state.specs.declared.state.State.{State}
-use Rattle.cs_children.specs.Adding.{IsOfPiece, AreOfPieces}
+use Rattle.cs_pieces.specs.Pieces.{IsOfPiece, AreOfPieces}
 use Rattle.cs_children.proofs.Apart.{adds_on, matches_on}
 use Rattle.cs_children.proofs.children.Children.add_all.Goals as goal
 

@@ -2,7 +2,7 @@ use Rattle.std.proofs.Common.{◌≡◌, List, [], length, sym, subst, arith}
 use Rattle.std.proofs.lemmas.List.{nil_from_length}
 use Rattle.std.proofs.lemmas.Grind.{common_steps}
 use Rattle.cs_eval.specs.declared.piece.Piece.{Piece}
-use Rattle.cs_children.specs.Adding.{AreOfPieces}
+use Rattle.cs_pieces.specs.Pieces.{AreOfPieces}
 use Rattle.cs_children.proofs.Apart.{adds_none}
 use Rattle.cs_children.proofs.children.Children.add_copies.Goals as goal
 

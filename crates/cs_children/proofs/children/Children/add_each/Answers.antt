@@ -3,7 +3,7 @@ use Rattle.std.proofs.lemmas.List.{append_assoc, append-nil, nil_from_length}
 use Rattle.std.specs.Vec.Iter.{into_iter_items}
 use Rattle.cs_eval.specs.declared.piece.Piece.{Piece}
 use Rattle.cs_state.specs.declared.state.State.{State}
-use Rattle.cs_children.specs.Adding.{IsOfPiece, AreOfPieces}
+use Rattle.cs_pieces.specs.Pieces.{IsOfPiece, AreOfPieces}
 use Rattle.cs_children.proofs.Apart.{adds_none, adds_on, matches_on}
 use Rattle.cs_children.proofs.children.Children.add_each.Goals as goal
 

@@ -3,7 +3,8 @@ use Rattle.std.proofs.Common.{◌≡◌, List, [], ◌++◌, length}
 use Rattle.std.specs.Vec.Iter.{into_iter_items, into_iter_len}
 use Rattle.cs_eval.specs.declared.piece.Piece.{Piece}
 use Rattle.cs_explored.specs.declared.child.Child.{Child}
-use Rattle.cs_children.specs.Adding.{Adds, AreOfPieces}
+use Rattle.cs_children.specs.Adding.{Adds}
+use Rattle.cs_pieces.specs.Pieces.{AreOfPieces}
 use Rattle.cs_children.proofs.children.Children.add_each.Given as goal
 
 abbrev pub invariant-loop-piece : goal.invariant-loop-piece

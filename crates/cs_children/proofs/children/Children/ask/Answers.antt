@@ -6,8 +6,8 @@ use Rattle.cs_eval.specs.Noted.{NotesGuess}
 use Rattle.cs_eval.specs.Splits.{Each}
 use Rattle.cs_state.specs.declared.state.State.{State}
 use Rattle.cs_state.specs.Naming.{naming}
-use Rattle.cs_children.specs.Adding.{AreOfQuestion}
-use Rattle.cs_children.specs.Finding.{model_of}
+use Rattle.cs_pieces.specs.Pieces.{AreOfQuestion}
+use Rattle.cs_successors.specs.Explorations.{model_of}
 use Rattle.cs_children.proofs.AddedPieces.{over_added, pieces_added, not_found}
 use Rattle.cs_children.proofs.children.Children.ask.Goals as goal
 

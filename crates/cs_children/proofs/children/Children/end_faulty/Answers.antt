@@ -3,7 +3,7 @@ use Rattle.std.proofs.lemmas.List.{append_assoc}
 use Rattle.std.specs.Vec.Iter.{into_iter_items}
 use Rattle.cs_access.specs.declared.checking.FaultyPart.{FaultyPart}
 use Rattle.cs_events.specs.declared.outcome.Outcome.TheVariants.{Fault}
-use Rattle.cs_children.specs.Adding.{IsFaultyEnd}
+use Rattle.cs_pieces.specs.Pieces.{IsFaultyEnd}
 use Rattle.cs_successors.specs.Coming.{StateEnd}
 use Rattle.cs_children.proofs.Apart.{adds_none, adds_on, matches_on}
 use Rattle.cs_children.proofs.children.Children.end_faulty.Goals as goal

@@ -2,7 +2,8 @@
 use Rattle.std.proofs.Common.{◌≡◌, List, [], ◌++◌, length}
 use Rattle.std.specs.Vec.Iter.{into_iter_items, into_iter_len}
 use Rattle.cs_access.specs.declared.checking.FaultyPart.{FaultyPart}
-use Rattle.cs_children.specs.Adding.{Adds, AreFaultyEnds, KeepApart}
+use Rattle.cs_children.specs.Adding.{Adds, KeepApart}
+use Rattle.cs_pieces.specs.Pieces.{AreFaultyEnds}
 use Rattle.cs_successors.specs.Coming.{StateEnd}
 use Rattle.cs_children.proofs.children.Children.end_faulty.Given as goal
 

@@ -11,12 +11,14 @@ use Rattle.cs_state.specs.Naming.{Naming, naming, Extends}
 use Rattle.cs_progress.specs.declared.next.Next.{Next}
 use Rattle.cs_progress.specs.declared.next.Next.TheVariants as next
 use Rattle.cs_progress.specs.Stepping.{StepsInLocals}
-use Rattle.cs_steps.specs.AtSpots.{came_to}
+use Rattle.cs_spots.specs.AtSpots.{came_to}
 use Rattle.cs_successors.specs.Coming.{OutcomesDiffer}
 use Rattle.cs_children.specs.declared.children.Children.{Children}
-use Rattle.cs_children.specs.declared.exploration.Exploration.{Exploration}
-use Rattle.cs_children.specs.Adding.{Adds, AddsPieces, AddsFaulty, AreOfQuestion, AreOfSwitch, GoesOn, KeepApart}
-use Rattle.cs_children.specs.Finding.{FindsAll, FindsSoFar, code_of, model_of, limits_of}
+use Rattle.cs_successors.specs.declared.exploration.Exploration.{Exploration}
+use Rattle.cs_children.specs.Adding.{Adds, AddsPieces, AddsFaulty, KeepApart}
+use Rattle.cs_pieces.specs.Pieces.{AreOfQuestion, AreOfSwitch, GoesOn}
+use Rattle.cs_children.specs.Finding.{FindsAll, FindsSoFar}
+use Rattle.cs_successors.specs.Explorations.{code_of, model_of, limits_of}
 use Rattle.cs_children.proofs.Found.{has_every_kind, finds_none_yet, none_differ, finds_done, finds_rest, finds_no_rest, finds_end}
 use Rattle.cs_children.proofs.Found.{finds_answers, finds_cases, finds_nowhere, extends_on}
 use Rattle.cs_children.proofs.children.Children.find_with.Goals as goal

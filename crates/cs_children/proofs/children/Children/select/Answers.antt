@@ -6,8 +6,8 @@ use Rattle.cs_cfg.specs.GraphView as view
 use Rattle.cs_cfg.specs.Spots.{point_of}
 use Rattle.cs_eval.specs.Cases.{AreCases}
 use Rattle.cs_state.specs.declared.state.State.{State}
-use Rattle.cs_children.specs.Adding.{AreOfSwitch}
-use Rattle.cs_children.specs.Finding.{code_of}
+use Rattle.cs_pieces.specs.Pieces.{AreOfSwitch}
+use Rattle.cs_successors.specs.Explorations.{code_of}
 use Rattle.cs_children.proofs.AddedPieces.{over_added, pieces_added, full_of, room_of}
 use Rattle.cs_children.proofs.children.Children.select.Goals as goal
 

@@ -39,8 +39,8 @@ use Rattle.cs_progress.proofs.Carrying.{no_wait}
 use Rattle.cs_progress.proofs.Composing.{leads_on}
 use Rattle.cs_progress.proofs.KeptLocals.{dropped_locals}
 use Rattle.cs_progress.proofs.Looks.{leads_same}
-use Rattle.cs_steps.proofs.Going.{jumps_stay}
-use Rattle.cs_steps.proofs.KeptStates.{knows_on, knows_cut, knows_moved, locals_moved, locals_returned}
+use Rattle.cs_spots.proofs.Going.{jumps_stay}
+use Rattle.cs_spots.proofs.KeptStates.{knows_on, knows_cut, knows_moved, locals_moved, locals_returned}
 
 module _ (code : Code) (names : Naming) (program : TypedProgram) (known : ℕ → Bool) (before after : State) (earlier later : Progress)
     {T : Type 0} (answer : Result T Pause) (act : CodeState → Act CodeState) where

@@ -28,8 +28,8 @@ use Rattle.cs_explored.specs.Found.{IsPlaced}
 use Rattle.cs_explored.specs.Placing.{RowGraph, child_row, first_row, end_of_row, PlacesFirst, PlacesUntilFull, PlacesChildren, KeepsEnds, AddsEnds}
 use Rattle.cs_explored.specs.Placing.{AddsCuts}
 use Rattle.cs_successors.specs.Coming.{StateEnd, ComesOfState}
-use Rattle.cs_children.specs.declared.exploration.Exploration.{Exploration}
-use Rattle.cs_children.specs.Finding.{code_of, limits_of}
+use Rattle.cs_successors.specs.declared.exploration.Exploration.{Exploration}
+use Rattle.cs_successors.specs.Explorations.{code_of, limits_of}
 use Rattle.cs_coverage.specs.Closing.{Waits, IsOpen, AreNames}
 use Rattle.cs_coverage.proofs.ClosedGraphs.{earlier_names}
 use Rattle.cs_coverage.proofs.Positions.{themselves}
@@ -45,8 +45,8 @@ use Rattle.cs_guesses.specs.Graphs.{IsGuessedGraph}
 use Rattle.cs_guesses.proofs.Asked.{are_asked}
 use Rattle.cs_guesses.proofs.Cornered.{are_cornered}
 use Rattle.cs_guesses.proofs.Real.{are_real}
-use Rattle.cs_engine.specs.Exploring.{program_of, ExploresIntegers, HasSources, HasRefused, IsDone}
-use Rattle.cs_engine.proofs.Exploring.{ComesOf}
+use Rattle.cs_invariants.specs.Exploring.{program_of, ExploresIntegers, HasSources, HasRefused, IsDone}
+use Rattle.cs_invariants.proofs.Exploring.{ComesOf}
 
 module _ (exploration : Exploration) (entry : ℕ) (explores : ExploresIntegers exploration entry) where
   abbrev code : Code

@@ -14,7 +14,7 @@ use Rattle.cs_store.proofs.Keys.{get_here}
 use Rattle.cs_eval.specs.declared.piece.Guessed.{Guessed}
 use Rattle.cs_state.specs.declared.asked.Asked.{Asked}
 use Rattle.cs_state.specs.Valuations.{Guessed as Guesses}
-use Rattle.cs_children.specs.Adding.{asked_for, AreNotedAfter}
+use Rattle.cs_pieces.specs.Pieces.{asked_for, AreNotedAfter}
 use Rattle.cs_successors.specs.Coming.{AreGuessesAfter}
 
 -- what is noted where this was guessed

@@ -35,8 +35,8 @@ use Rattle.cs_successors.specs.EntryRuns.{LeavesAfter, now}
 use Rattle.cs_successors.specs.Coming.{is_declared, IsIntegerState, GoesBy, IsAt, PassesTo}
 use Rattle.cs_successors.proofs.Agreeing.{values_agree, means_alike}
 use Rattle.cs_successors.proofs.Passing.{one_alone}
-use Rattle.cs_children.proofs.OneMoreAnswer.{left_of_one}
-use Rattle.cs_children.proofs.StandingFirst.{StandsFirst, stands_first}
+use Rattle.cs_pieces.proofs.OneMoreAnswer.{left_of_one}
+use Rattle.cs_pieces.proofs.StandingFirst.{StandsFirst, stands_first}
 
 -- the event that an operation is where a guess is used or none
 abbrev pub event_with : DataModel → Place → Operation → Option ℤ → Event

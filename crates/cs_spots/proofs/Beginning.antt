@@ -25,7 +25,7 @@ use Rattle.cs_progress.specs.declared.pause.Pause.TheVariants as pause
 use Rattle.cs_progress.specs.declared.progress.Progress.{Progress}
 use Rattle.cs_progress.specs.Locals.{HasLocalsAlone}
 use Rattle.cs_progress.specs.Stepping.{EndsAs, BeginsIn, UsesAnswers, IsDone, Waits, Steps, StepsInLocals}
-use Rattle.cs_steps.specs.AtSpots.{TakesStep, StepsAtSpot}
+use Rattle.cs_spots.specs.AtSpots.{TakesStep, StepsAtSpot}
 
 module _ (code : Code) (bases : List Base) (state : State) (v : Valuation) where
   ends_short : (outcome : Outcome) (act : Act CodeState) → IsCutShort outcome → act ≡ Stops outcome → EndsAs bases state v outcome act

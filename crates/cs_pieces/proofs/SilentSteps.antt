@@ -36,9 +36,9 @@ use Rattle.cs_progress.specs.Locals.{HasLocalsAlone}
 use Rattle.cs_progress.specs.Stepping.{IsDone, Waits, KeepsKnown, BeginsIn, next_act, next_left, UsesAnswers}
 use Rattle.cs_successors.specs.EntryRuns.{Proceeds, silently, stays}
 use Rattle.cs_successors.specs.Coming.{is_declared, IsIntegerState, MentionsNoOthers, GoesBy, IsAt, ComesSilently, IsEndOf, IsReachedFrom}
-use Rattle.cs_children.proofs.OneMoreAnswer.{uses_none}
+use Rattle.cs_pieces.proofs.OneMoreAnswer.{uses_none}
 use Rattle.cs_successors.proofs.Proceeding.{leads_silently}
-use Rattle.cs_children.proofs.StandingFirst.{stands_first}
+use Rattle.cs_pieces.proofs.StandingFirst.{stands_first}
 
 -- jumps stay in their function
 one_function : (code : Code) {spot last : Spot} → JumpsTo code spot last → spot.function ≡ last.function

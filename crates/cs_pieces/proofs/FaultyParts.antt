@@ -33,12 +33,13 @@ use Rattle.cs_cfg.specs.IntegerCode.{HasIntegerCode}
 use Rattle.cs_progress.specs.Locals.{HasLocalsAlone}
 use Rattle.cs_progress.specs.Stepping.{next_left, UsesAnswers}
 use Rattle.cs_explored.specs.declared.watch.Rule.{Rule}
-use Rattle.cs_children.specs.Adding.{IsFaultyEnd, AreFaultyEnds, GoesOn}
+use Rattle.cs_pieces.specs.Pieces.{AreFaultyEnds}
+use Rattle.cs_pieces.specs.Pieces.{IsFaultyEnd, GoesOn}
 use Rattle.cs_successors.specs.EntryRuns.{stays}
 use Rattle.cs_successors.specs.Coming.{is_declared, IsIntegerState, MentionsNoOthers, StateEnd, IsAt, EndsIn, IsEndOf, ComesToEnd, IsReachedFrom}
-use Rattle.cs_children.proofs.DeclaredSymbols.{stays_declared, locals_more, answers_more}
-use Rattle.cs_children.proofs.Reaching.{Comes, ends_come}
-use Rattle.cs_children.proofs.StandingFirst.{stands_first}
+use Rattle.cs_pieces.proofs.DeclaredSymbols.{stays_declared, locals_more, answers_more}
+use Rattle.cs_pieces.proofs.Reaching.{Comes, ends_come}
+use Rattle.cs_pieces.proofs.StandingFirst.{stands_first}
 
 -- some test holds, or none
 decided : (b : Bool) → (b ≡ true) ⊎ (b ≡ false)

@@ -11,7 +11,7 @@ use Rattle.cs_cfg.specs.Spots as spots
 use Rattle.cs_cfg.specs.Spots.{rest_from, point_in, point_of, begins}
 use Rattle.cs_cfg.specs.Instructions.{jump_from, JumpsTo, here, jumps, leads_first, IsNext}
 use Rattle.cs_cfg.specs.IntegerCode.{IsIntegerWork, IsIntegerOperation, IsIntegerPoint, HasIntegerCode, count_of_locals}
-use Rattle.cs_steps.specs.AtSpots.{StandsAt}
+use Rattle.cs_spots.specs.AtSpots.{StandsAt}
 
 module _ (code : Code) where
   landed : (spot next : Spot) (found : Option ℕ) → option_map (begins spot.function) found ≡ Some next → next.function ≡ spot.function

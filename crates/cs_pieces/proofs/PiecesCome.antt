@@ -53,21 +53,21 @@ use Rattle.cs_explored.specs.declared.child.Child.{Child}
 use Rattle.cs_explored.specs.declared.watch.Rule.{Rule}
 use Rattle.cs_explored.specs.Answering.{leads_on}
 use Rattle.cs_explored.specs.Watching.{IsPhaseAfter, IsPhaseAfterLabel}
-use Rattle.cs_children.specs.Adding.{asked_for, AreNotedAfter, IsOfPiece, AreOfPieces}
-use Rattle.cs_children.specs.Settled.{DependsOn}
+use Rattle.cs_pieces.specs.Pieces.{asked_for, AreNotedAfter, IsOfPiece, AreOfPieces}
+use Rattle.cs_pieces.specs.Settled.{DependsOn}
 use Rattle.cs_successors.specs.EntryRuns.{LeavesAfter, stays}
 use Rattle.cs_successors.specs.Coming.{is_declared, IsIntegerState, AreGuessesAfter, IsTruth, GoesBy, IsAt, PassesTo, GuessesAs, EndsIn, IsChildOf, IsEndOf}
 use Rattle.cs_successors.specs.Coming.{IsAskedByIntegers, IsNotedAt, ListsNoneOrTruth, GivesOwn, MentionsGuess, ComesToChild}
 use Rattle.cs_successors.proofs.Passing.{one_alone}
-use Rattle.cs_children.proofs.DeclaredSymbols.{stays_declared, over_declared, locals_more, answers_more}
-use Rattle.cs_children.proofs.GuessedAsked.{guesses_after, noted_there, asked_before}
-use Rattle.cs_children.proofs.IntegerActs.{IsOfIntegers}
-use Rattle.cs_children.proofs.NotedGuesses.{IsNotedOf, NotesAsked}
-use Rattle.cs_children.proofs.OneMoreAnswer.{uses_one}
-use Rattle.cs_children.proofs.OwnLabels.{TellsFollowed}
-use Rattle.cs_children.proofs.PassedPieces.{event_with, step_with, asks_over, comes_to_step, only_step, passes_piece}
-use Rattle.cs_children.proofs.Reaching.{Comes, one_end_comes}
-use Rattle.cs_children.proofs.UsedGuesses.{used_none, own_leads_on}
+use Rattle.cs_pieces.proofs.DeclaredSymbols.{stays_declared, over_declared, locals_more, answers_more}
+use Rattle.cs_pieces.proofs.GuessedAsked.{guesses_after, noted_there, asked_before}
+use Rattle.cs_pieces.proofs.IntegerActs.{IsOfIntegers}
+use Rattle.cs_pieces.proofs.NotedGuesses.{IsNotedOf, NotesAsked}
+use Rattle.cs_pieces.proofs.OneMoreAnswer.{uses_one}
+use Rattle.cs_pieces.proofs.OwnLabels.{TellsFollowed}
+use Rattle.cs_pieces.proofs.PassedPieces.{event_with, step_with, asks_over, comes_to_step, only_step, passes_piece}
+use Rattle.cs_pieces.proofs.Reaching.{Comes, one_end_comes}
+use Rattle.cs_pieces.proofs.UsedGuesses.{used_none, own_leads_on}
 
 abbrev no_cells : Path → InputKind → Cell
 no_cells path kind = UnsetCell

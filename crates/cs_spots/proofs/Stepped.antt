@@ -30,11 +30,11 @@ use Rattle.cs_progress.specs.Answering.{answers_left}
 use Rattle.cs_progress.specs.Locals.{HasLocalsAlone}
 use Rattle.cs_progress.specs.Stepping.{IsCutTo, IsCutForEnd, WorksOn, Leaves, BeginsIn}
 use Rattle.cs_progress.specs.Stepping.{next_act, IsDone, Waits}
-use Rattle.cs_steps.specs.AtSpots.{StandsAt, EndsAt, TakesStep}
-use Rattle.cs_steps.proofs.Beginning.{begins_in}
-use Rattle.cs_steps.proofs.CutMeanings.{cut_once, cut_means, cut_shared, end_cut}
-use Rattle.cs_steps.proofs.Going.{jumps_stay, next_jumps}
-use Rattle.cs_steps.proofs.KeptStates.{knows_on, knows_cut, knows_moved, knows_returned, knows_answered, locals_moved, locals_answered}
+use Rattle.cs_spots.specs.AtSpots.{StandsAt, EndsAt, TakesStep}
+use Rattle.cs_spots.proofs.Beginning.{begins_in}
+use Rattle.cs_spots.proofs.CutMeanings.{cut_once, cut_means, cut_shared, end_cut}
+use Rattle.cs_spots.proofs.Going.{jumps_stay, next_jumps}
+use Rattle.cs_spots.proofs.KeptStates.{knows_on, knows_cut, knows_moved, knows_returned, knows_answered, locals_moved, locals_answered}
 
 -- an act is what another is, after the same answers
 module _ (cells : Path → InputKind → Cell) (one two : List ℤ) (first second : Act CodeState) (answers : one ≡ two) (same : first ≡ second) where

@@ -30,8 +30,8 @@ use Rattle.cs_explored.specs.declared.watch.Rule.{Rule}
 use Rattle.cs_explored.specs.Found.{IsPlaced, IsSound}
 use Rattle.cs_explored.specs.Placing.{RowGraph, first_row, PlacesChildren, KeepsEnds, AddsEnds, AddsCuts, IsPlain}
 use Rattle.cs_successors.specs.Coming.{StateEnd}
-use Rattle.cs_children.specs.declared.exploration.Exploration.{Exploration}
-use Rattle.cs_children.specs.Finding.{code_of, limits_of}
+use Rattle.cs_successors.specs.declared.exploration.Exploration.{Exploration}
+use Rattle.cs_successors.specs.Explorations.{code_of, limits_of}
 use Rattle.cs_coverage.specs.Closing.{Waits, IsOpen}
 use Rattle.cs_coverage.proofs.Positions.{themselves}
 use Rattle.cs_exactness.proofs.ExactGraphs.{exact_graph, finds_faults}
@@ -39,9 +39,9 @@ use Rattle.cs_guesses.proofs.Asked.{are_asked}
 use Rattle.cs_guesses.proofs.Cornered.{are_cornered}
 use Rattle.cs_guesses.proofs.Real.{are_real}
 use Rattle.cs_guesses.specs.Cuts.{IsCutForNodes}
-use Rattle.cs_engine.specs.Exploring.{program_of, ExploresIntegers, HasSources, HasReasons, IsUncut, IsKept, IsDone, LeadsOn}
-use Rattle.cs_engine.proofs.Exploring.{ComesOf, full_for_nodes, begun_graph, given_graph, expanded_graph, done_graph}
-use Rattle.cs_engine.proofs.Sourcing.{begun_sources, begun_refused, given_sources, no_cuts, expanded_sources, is_refused, done_sources}
+use Rattle.cs_invariants.specs.Exploring.{program_of, ExploresIntegers, HasSources, HasReasons, IsUncut, IsKept, IsDone, LeadsOn}
+use Rattle.cs_invariants.proofs.Exploring.{ComesOf, full_for_nodes, begun_graph, given_graph, expanded_graph, done_graph}
+use Rattle.cs_invariants.proofs.Sourcing.{begun_sources, begun_refused, given_sources, no_cuts, expanded_sources, is_refused, done_sources}
 
 module _ (exploration : Exploration) (entry : ℕ) (explores : ExploresIntegers exploration entry) where
   abbrev code : Code

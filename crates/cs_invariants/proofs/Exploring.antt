@@ -30,8 +30,8 @@ use Rattle.cs_explored.specs.declared.watch.Rule.{Rule}
 use Rattle.cs_explored.specs.Found.{IsPlaced}
 use Rattle.cs_explored.specs.Placing.{IsPlain, RowGraph, first_row, end_of_row, PlacesAll, PlacesChildren, KeepsEnds, AddsEnds, AddsCuts}
 use Rattle.cs_successors.specs.Coming.{StateEnd, IsIntegerState, ComesOfState}
-use Rattle.cs_children.specs.declared.exploration.Exploration.{Exploration}
-use Rattle.cs_children.specs.Finding.{code_of, limits_of, Explores}
+use Rattle.cs_successors.specs.declared.exploration.Exploration.{Exploration}
+use Rattle.cs_successors.specs.Explorations.{code_of, limits_of, Explores}
 use Rattle.cs_coverage.specs.Closing.{Waits, IsOpen, IsRowState, IsClosed, IsClosedGraph}
 use Rattle.cs_coverage.specs.Covering.{HasAllNodes, Covers}
 use Rattle.cs_coverage.specs.Positions.{CoversPositions, CoversOwn}
@@ -41,7 +41,7 @@ use Rattle.cs_coverage.proofs.Coverage.{element}
 use Rattle.cs_coverage.proofs.ExpandedRows.{IsFound, graph_given, graph_later, graph_expanded, graph_done, graph_begun}
 use Rattle.cs_coverage.proofs.Positions.{covers_positions, covers_own, covers_live}
 use Rattle.cs_coverage.proofs.StartBlocks.{no_blocks}
-use Rattle.cs_engine.specs.Exploring.{program_of, ExploresIntegers, IsOpenGraph, IsClosedAtLast}
+use Rattle.cs_invariants.specs.Exploring.{program_of, ExploresIntegers, IsOpenGraph, IsClosedAtLast}
 
 -- these children and ends are all that comes of a state, and nothing is cut there, if it is one of integer code
 abbrev pub ComesOf : Exploration → Naming → State → List Child → List StateEnd → List Cut → Type 0

@@ -21,8 +21,8 @@ use Rattle.cs_state.specs.Naming.{Naming}
 use Rattle.cs_progress.specs.Acting.{UsesAll, Leads}
 use Rattle.cs_progress.specs.Operands.{IsNumberAt}
 use Rattle.cs_progress.specs.Stepping.{ShowsCase}
-use Rattle.cs_steps.specs.AtSpots.{EndsAt}
-use Rattle.cs_steps.proofs.CutMeanings.{uncut_means}
+use Rattle.cs_spots.specs.AtSpots.{EndsAt}
+use Rattle.cs_spots.proofs.CutMeanings.{uncut_means}
 
 module _ (code : Code) (names : Naming) (program : TypedProgram) (state : State) (at : Place) (temporary : ℕ) (cases : List SwitchCase) (otherwise : ℕ)
     (few : length state.frame.temporaries ≤ temporary + 1) (term : Lin) (is : IsNumberAt state 0 term) where

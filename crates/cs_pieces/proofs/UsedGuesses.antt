@@ -20,7 +20,7 @@ use Rattle.cs_eval.specs.declared.question.Question.TheVariants as question
 use Rattle.cs_eval.specs.Followed.{IsBinaryGuess, IsGuess}
 use Rattle.cs_eval.specs.Questions.{operation_of}
 use Rattle.cs_explored.specs.Answering.{leads_on}
-use Rattle.cs_children.proofs.IntegerActs.{IsNoAllocation}
+use Rattle.cs_pieces.proofs.IntegerActs.{IsNoAllocation}
 
 -- no guess is none that is used
 pub used_none : (range : Option (ℤ × ℤ)) → used range None ≡ None

@@ -8,8 +8,8 @@ use Rattle.cs_explored.specs.declared.explored.End.{End}
 use Rattle.cs_explored.specs.declared.explored.Explored.{Explored}
 use Rattle.cs_explored.specs.declared.explored.Row.{Row}
 use Rattle.cs_explored.specs.declared.findings.Findings.{Findings}
-use Rattle.cs_children.specs.declared.exploration.Exploration.{Exploration}
-use Rattle.cs_children.specs.Finding.{code_of, limits_of}
+use Rattle.cs_successors.specs.declared.exploration.Exploration.{Exploration}
+use Rattle.cs_successors.specs.Explorations.{code_of, limits_of}
 use Rattle.cs_coverage.specs.IntegerEntries.{IsIntegerEntry}
 use Rattle.cs_coverage.specs.Closing.{Waits, IsClosed, IsClosedGraph}
 use Rattle.cs_coverage.specs.Covering.{HasAllNodes, Covers}

@@ -1,0 +1,3 @@
+pub mod Exploring
+pub mod Sourcing
+pub mod Keeping

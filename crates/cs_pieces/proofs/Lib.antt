@@ -1,0 +1,13 @@
+pub mod StandingFirst
+pub mod IntegerActs
+pub mod OneMoreAnswer
+pub mod Reaching
+pub mod SilentSteps
+pub mod DeclaredSymbols
+pub mod FaultyParts
+pub mod UsedGuesses
+pub mod OwnLabels
+pub mod PassedPieces
+pub mod GuessedAsked
+pub mod NotedGuesses
+pub mod PiecesCome

@@ -1,0 +1,10 @@
+pub mod CutMeanings
+pub mod Going
+pub mod KeptStates
+pub mod Beginning
+pub mod Stepped
+pub mod Leaving
+pub mod Switching
+pub mod Ways
+pub mod Counting
+pub mod PushedPlaces
