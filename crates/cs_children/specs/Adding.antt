@@ -1,5 +1,5 @@
 -- What is added to what comes of a state: the children of the pieces of what shows first, and the ends of faulty parts.
-use Rattle.std.specs.Prelude.{◌≡◌, ◌≢◌, ℕ, ◌+◌, List, [], ◌++◌, All}
+use Rattle.std.specs.Prelude.{◌≡◌, ◌≢◌, ℕ, List, [], ◌++◌, All}
 use Rattle.std.specs.Global.{Box}
 use Rattle.cs_ast.specs.declared.place.Place.{Place}
 use Rattle.cs_terms.specs.declared.symbol.Sym.{Sym}
