@@ -1,4 +1,4 @@
--- The height of an expression of a list is at most that of the highest: for the end of the cycle of typing.
+-- The height of an expression of a list is at most that of the highest one: for the termination of the cycle of typing.
 use Rattle.std.proofs.Common.{◌≡◌, ℕ, ◌<◌, ◌≤◌, zero, suc, List, [], ◌∷◌, length, get_or, arith, sym, subst}
 use Rattle.std.proofs.Math.Nat.{le_trans, le-max_left, le-max_right}
 use Rattle.cs_ast.specs.declared.raw.expression.RawExpr.{RawExpr}

@@ -1,4 +1,4 @@
--- Arguments and bounds within written trees as lists: for the calls and sizes that the cycle of typing judges.
+-- Arguments and bounds within written trees as lists: for the calls and sizes in the cycle of typing.
 use Rattle.std.proofs.Common.{◌≡◌, suc, List, [], ◌∷◌, Option, Some, None, length, refl, sym, ap, ◌∙◌, Vec, Global}
 use mathlib.Core.Former.{Count}
 use Rattle.cs_types.specs.Shape.{Shape}

@@ -1,4 +1,4 @@
--- What the rule of each production comes to where its parts are known, or where one of them is refused: for the cycle of typing.
+-- The result of each production's rule whose parts are known, or one of whose parts is refused: for the cycle of typing.
 use Rattle.std.proofs.Common.{◌≡◌, ℕ, List, true, false, cond, eqb, Option, Some, None, length, refl, sym, ap, arith}
 use Rattle.std.proofs.lemmas.Bool.Decides.{nat_tests}
 use Rattle.std.proofs.Common.{◌∙◌, Result, subst, map}

@@ -1,4 +1,4 @@
--- What the loops over arguments and bounds have made so far, before what is left: for the cycle of typing.
+-- What the loops over arguments and bounds have typed so far, before the remaining ones: for the cycle of typing.
 use Rattle.std.proofs.Common.{◌≡◌, ℕ, ◌+◌, ◌<◌, suc, length, get_or, drop, drop-cons, add-one, ℤ, List, [], ◌∷◌, ◌++◌, append_assoc}
 use Rattle.std.proofs.Common.{refl, sym, ap, ◌∙◌, Option, Some, None, map, inl, inr, arith}
 use Rattle.std.specs.Prelude.{◌⊎◌, Bool, true, false, nat_le, ◌≤◌, min}

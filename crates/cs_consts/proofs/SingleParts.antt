@@ -1,4 +1,4 @@
--- What the rules of productions with one part come to: steps, operators before an operand, members, sizes and sequences.
+-- The results of the rules of productions with one part: steps, prefix operators, members, sizes and sequences.
 use Rattle.std.proofs.Common.{◌≡◌, ℤ, List, ap, subst, ◌∙◌, Result, Ok, Err}
 use Rattle.std.specs.Prelude.{OnOk}
 use Rattle.cs_types.specs.Shape.{Shape}

@@ -1,4 +1,4 @@
--- Whether a word refuses a test, by the type of that alone.
+-- Whether a keyword refuses a test depends only on the test's type.
 use Rattle.std.proofs.Common.{◌≡◌, refl, sym, ap, ◌∙◌, Bool, true, false, if◌then◌else◌, List, [], Some, None}
 use Rattle.cs_types.specs.Kinds.{is_scalar}
 use Rattle.cs_ast.specs.declared.place.Place.{Place}

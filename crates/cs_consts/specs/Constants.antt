@@ -1,4 +1,4 @@
--- Integer constant expressions as the numbers that they are (C11 6.6).
+-- Integer constant expressions, replaced by their numbers (C11 6.6).
 use Rattle.std.specs.Prelude.{ℤ, true, false, Option, Some, None}
 use Rattle.cs_types.specs.declared.data_model.DataModel.{DataModel}
 use Rattle.cs_types.specs.declared.int_type.IntType.{IntType}
@@ -11,17 +11,17 @@ use Rattle.cs_scopes.specs.declared.refusal.TypeCode.TheVariants as code
 use Rattle.cs_scopes.specs.Verdicts.{Verdict, Fine, Fault}
 use Rattle.cs_folding.specs.Folding.{number_in}
 
--- the integer type that a type is, if it is one
+-- the type as an integer type, if it is one
 abbrev pub integer_in : Shape → Option IntType
 integer_in (integer ty) = Some ty
 integer_in other = None
 
--- an integer as the constant that it is
+-- an integer constant expression, replaced by its number
 abbrev pub constant_at : Place → Shape → Option ℤ → Verdict Typed
 constant_at at ty (Some n) = Fine (Of at ty (Number n))
 constant_at at ty None = Fault code.NotConstant at
 
--- an expression of an integer constant expression is its number
+-- an expression for its purpose: in a constant it is replaced by its number
 unfoldable pub finished : DataModel → Purpose → Typed → Verdict Typed
 finished model Run e = Fine e
 finished model Constant (Of at ty form) = constant_at at ty (number_in model true (Of at ty form))

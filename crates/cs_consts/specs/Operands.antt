@@ -1,4 +1,4 @@
--- What an operator between two operands asks of the type of its left operand alone (C11 6.5.5 to 6.5.14).
+-- What an operator with two operands requires of the type of its left operand, whatever the right one is (C11 6.5.5 to 6.5.14).
 use Rattle.std.specs.Prelude.{if◌then◌else◌, List, Option, Some, None}
 use Rattle.cs_types.specs.declared.structs.StructType.{StructType}
 use Rattle.cs_types.specs.Kinds.{is_scalar, is_complete}
@@ -8,17 +8,17 @@ use Rattle.cs_ast.specs.declared.raw.operator.InfixOp.TheVariants as infix_op
 use Rattle.cs_scopes.specs.declared.refusal.TypeCode.{TypeCode}
 use Rattle.cs_scopes.specs.declared.refusal.TypeCode.TheVariants as code
 
--- one that tests or compares takes integers and pointers
+-- an operator that tests or compares requires integers or pointers
 abbrev pub scalar_fault : Shape → Option TypeCode
 scalar_fault ty = if is_scalar ty then None else Some code.OperandTypes
 
--- `+` and `-` take integers and pointers to complete types
+-- `+` and `-` require integers or pointers to complete types
 abbrev pub moved_fault : List StructType → Shape → Option TypeCode
 moved_fault table (integer ty) = None
 moved_fault table (pointer target) = if is_complete table target then None else Some code.IncompleteType
 moved_fault table ty = Some code.OperandTypes
 
--- the others take integers
+-- the others require integers
 abbrev pub integer_fault : Shape → Option TypeCode
 integer_fault (integer ty) = None
 integer_fault ty = Some code.OperandTypes

@@ -1,4 +1,4 @@
--- What the typing of declarations and statements asks of expressions.
+-- What the typing of declarations and statements requires of expressions.
 use Rattle.std.specs.Prelude.{ℤ, Option, Some, None, []}
 use Rattle.cs_types.specs.declared.int_type.IntType.{IntType}
 use Rattle.cs_types.specs.Shape.{Shape, integer}
@@ -18,7 +18,7 @@ use Rattle.cs_expressions.specs.Operators.{tested}
 use Rattle.cs_expressions.specs.Primary.{Literals}
 use Rattle.cs_consts.specs.Typing.{formed, judged, operand_in, value_in}
 
--- the number of a constant, with its type
+-- the number of a constant, and its type
 abbrev pub number_of_constant : Typed → Verdict (IntType × ℤ)
 number_of_constant (Of at (integer ty) (Number n)) = Fine (ty, n)
 number_of_constant (Of at ty form) = Fault code.NotConstant at
@@ -27,11 +27,11 @@ number_of_constant (Of at ty form) = Fault code.NotConstant at
 unfoldable pub value_of : Context → RawExpr → Verdict (IntType × ℤ)
 value_of c e = lift number_of_constant (judged c Constant [] None e)
 
--- an expression that has to have a value, which goes to a type where one is asked for
+-- an expression that must have a value, which may be assigned or converted to a type
 unfoldable pub operand_of : Context → Literals → Option Shape → RawExpr → Verdict Typed
 operand_of c literals target e = operand_in c Run (formed c Run literals target e.place e.kind.value)
 
--- an expression whose value goes to a type as if by assignment (C11 6.7.9, paragraph 11; 6.8.6.4, paragraph 3)
+-- an expression whose value is converted to a type as if by assignment (C11 6.7.9, paragraph 11; 6.8.6.4, paragraph 3)
 unfoldable pub assigned_value : Context → Literals → Place → Shape → RawExpr → Verdict Typed
 assigned_value c literals at target e =
     lift (λ v. converted c.model at v target (type_of v)) (operand_in c Run (formed c Run literals (Some target) e.place e.kind.value))
@@ -40,19 +40,19 @@ assigned_value c literals at target e =
 unfoldable pub test_of : Context → Literals → Place → RawExpr → Verdict Typed
 test_of c literals at e = lift (tested at) (operand_in c Run (formed c Run literals None e.place e.kind.value))
 
--- the code with which a word refuses what it tests, if that has a type
+-- the code with which a keyword refuses its test, if that has a type
 abbrev pub testing_fault : Place → Verdict Typed → Option TypeCode
 testing_fault at (Fine v) = code_in (tested at v)
 testing_fault at (Fault code place) = None
 
--- the same of a test that comes after something else: it is asked before that, and no string literals count, which its type doesn't need
+-- the same for a test that comes after another part: it is decided before that part, without string literals, as its type doesn't need them
 unfoldable pub test_fault : Context → Place → RawExpr → Option TypeCode
 test_fault c at e = testing_fault at (operand_of c [] None e)
 
--- the integer that a `switch` goes by (C11 6.8.4.2, paragraphs 1 and 5)
+-- the integer that controls a `switch` (C11 6.8.4.2, paragraphs 1 and 5)
 unfoldable pub selector_of : Context → Literals → Place → RawExpr → Verdict Typed
 selector_of c literals at e = lift (λ v. raised c.model at v (type_of v)) (operand_in c Run (formed c Run literals None e.place e.kind.value))
 
--- an expression whose value is dropped (C11 6.8.3, paragraph 2)
+-- an expression whose value, if it has one, is discarded (C11 6.8.3, paragraph 2)
 unfoldable pub discarded_value : Context → Literals → RawExpr → Verdict Typed
 discarded_value c literals e = value_in c Run (formed c Run literals None e.place e.kind.value)

@@ -1,4 +1,4 @@
--- The typing of expressions (C11 6.5): one rule for each production, reported at the first failing place.
+-- The typing of expressions (C11 6.5): a rule for each production, which reports the first type error.
 use Rattle.std.specs.Prelude.{ℕ, zero, suc, ℤ, pos, length, Bool, true, false, if◌then◌else◌, List}
 use Rattle.std.specs.Prelude.{[], ◌∷◌, ◌++◌, Option, Some, None}
 use Rattle.std.specs.Ordering.{int_eq}
@@ -69,17 +69,17 @@ abbrev mutual
   literals_after literals (kind.Assign' operator place p object place' q value) = literals_after (literals_after literals object) value
   literals_after literals (kind.Comma' place p first place' q second) = literals_after (literals_after literals first) second
 
-  -- the same of expressions in a row
+  -- the same for a list of expressions
   pub literals_after_row : Literals → {n : _} → Row_of-RawExpr n → Literals
   literals_after_row literals end_of-RawExpr = literals
   literals_after_row literals (more_of-RawExpr place p k rest) = literals_after_row (literals_after literals k) rest
 
--- the literals after a part that is judged: where it is refused no literal counts any longer, since the file is refused
+-- the literals after a part that is typed: none if it is refused, since the file is refused
 abbrev pub literals_past : {A : Type 0} → Verdict A → Literals → Literals
 literals_past (Fine value) literals = literals
 literals_past (Fault code place) literals = []
 
--- how many expressions stand in a row
+-- the number of expressions in a list
 abbrev pub row_length : {n : _} → Row_of-RawExpr n → ℕ
 row_length end_of-RawExpr = 0
 row_length (more_of-RawExpr place p k rest) = suc (row_length rest)
@@ -88,11 +88,11 @@ row_length (more_of-RawExpr place p k rest) = suc (row_length rest)
 unfoldable pub done : Context → Purpose → Verdict Typed → Verdict Typed
 done c purpose v = lift (finished c.model purpose) v
 
--- its value
+-- its value, or the expression itself if it has none
 unfoldable pub value_in : Context → Purpose → Verdict Typed → Verdict Typed
 value_in c purpose v = lift (valued c.table.list) (done c purpose v)
 
--- its value, which it has to have
+-- its value, which it must have
 unfoldable pub operand_in : Context → Purpose → Verdict Typed → Verdict Typed
 operand_in c purpose v = lift (operand c.table.list) (done c purpose v)
 
@@ -101,7 +101,7 @@ abbrev pub is_zero_number : Form → Bool
 is_zero_number (Number n) = int_eq n (pos 0)
 is_zero_number other = false
 
--- a constant's operand that is evaluated only where a test is true, or only where it is false
+-- the purpose of a constant's operand that is only evaluated if a test is true, or only if it is false
 abbrev pub purpose_if : Bool → Purpose → Verdict Typed → Purpose
 purpose_if way Run v = Run
 purpose_if way Unneeded v = Unneeded
@@ -109,7 +109,7 @@ purpose_if true Constant (Fine e) = if is_zero_number (form_of e) then Unneeded 
 purpose_if false Constant (Fine e) = if is_zero_number (form_of e) then Constant else Unneeded
 purpose_if way Constant (Fault code place) = Constant
 
--- what the operand after an operator is typed for (C11 6.5.13, paragraph 4; 6.5.14, paragraph 4)
+-- the purpose of the right operand of an operator (C11 6.5.13, paragraph 4; 6.5.14, paragraph 4)
 abbrev pub purpose_after : InfixOp → Purpose → Verdict Typed → Purpose
 purpose_after infix_op.And purpose v = purpose_if true purpose v
 purpose_after infix_op.Or purpose v = purpose_if false purpose v
@@ -120,7 +120,7 @@ abbrev pub is_address : PrefixOp → Bool
 is_address prefix_op.Address = true
 is_address other = false
 
--- an operator before a value
+-- a prefix operator, on the value of its operand
 unfoldable pub prefixed_value : Context → PrefixOp → Place → Typed → Verdict Typed
 prefixed_value c prefix_op.Address at v = address_of at v
 prefixed_value c prefix_op.Through at v = through at v (type_of v)
@@ -129,12 +129,12 @@ prefixed_value c prefix_op.Minus at v = turned c.model un.Negate at v (type_of v
 prefixed_value c prefix_op.Complement at v = turned c.model un.Complement at v (type_of v)
 prefixed_value c prefix_op.Not at v = denied at v
 
--- an operator before one operand (C11 6.5.3)
+-- a prefix operator, on its typed operand (C11 6.5.3)
 unfoldable pub prefixed : Context → PrefixOp → Place → Typed → Verdict Typed
 prefixed c op at e = if is_address op then address_of at e else lift (prefixed_value c op at) (operand c.table.list e)
 
--- an operator between two operands: what it asks of the left one alone counts where the right one is refused, since the operator comes
--- before that
+-- an operator between two operands: a fault of the left one, whatever the right one is, is reported before one in the right operand,
+-- since the operator comes first
 unfoldable pub between : Place → (Shape → Option TypeCode) → (Typed → Typed → Verdict Typed) → Verdict Typed → Verdict Typed → Verdict Typed
 between at asks rule (Fine left) right = lift (rule left) (led at (asks (type_of left)) right)
 between at asks rule (Fault code place) right = Fault code place
@@ -165,40 +165,40 @@ operator_of assign_op.BitAnd = bin.And
 operator_of assign_op.BitXor = bin.Xor
 operator_of assign_op.BitOr = bin.Or
 
--- `=`, which stores a value as it is
+-- the operator is `=`
 abbrev pub is_plain : AssignOp → Bool
 is_plain assign_op.Plain = true
 is_plain other = false
 
--- the left side of an operator that stores: what the operator asks of it alone
+-- the left operand of an assignment operator, as far as the operator refuses it whatever the right one is
 unfoldable pub left_side : AssignOp → Place → Typed → Verdict Typed
 left_side op at e = if is_plain op then assignable at e else updatable (operator_of op) at e
 
--- what the operator asks of the type of its left side besides: this counts beside what it asks of both sides
+-- what else the operator refuses in the type of its left operand: weighed with what it refuses in both operands
 unfoldable pub left_fault : Context → AssignOp → Shape → Option TypeCode
 left_fault c op ty = if is_plain op then assigned_fault c.table.list ty else updated_fault c.table.list ty
 
--- an operator that stores, between an object and a value, as far as both types go
+-- an assignment operator on an object and a value, by the types of both
 unfoldable pub stored_by : Context → AssignOp → Place → Typed → Typed → Verdict Typed
 stored_by c op at object value =
     if is_plain op
     then lift (assigned at object) (converted c.model at value (type_of object) (type_of value))
     else updated c.model (operator_of op) at object value (type_of object) (type_of value)
 
--- an operator that stores, between an object and a value
+-- an assignment operator on an object and a value
 unfoldable pub stored : Context → AssignOp → Place → Typed → Typed → Verdict Typed
 stored c op at object value = weighed at (left_fault c op (type_of object)) (stored_by c op at object value)
 
--- an operator that stores to an object, whose right side may be refused: the operator comes before it
+-- an assignment operator on an object, whose right operand may be refused: the operator comes before it
 abbrev pub stored_to : Context → AssignOp → Place → Verdict Typed → Typed → Verdict Typed
 stored_to c op at right object = lift (stored c op at object) (led at (left_fault c op (type_of object)) right)
 
--- the type of what an expression gives
+-- the type of an expression, if it has one
 abbrev pub type_in : Verdict Typed → Option Shape
 type_in (Fine e) = Some (type_of e)
 type_in (Fault code place) = None
 
--- the type to which the right side of an operator that stores goes
+-- the type that the right operand of an assignment operator is assigned to; only `=` has one
 abbrev pub right_target : AssignOp → Verdict Typed → Option Shape
 right_target op v = if is_plain op then type_in v else None
 
@@ -208,17 +208,17 @@ castable at (array element count) = Fault code.OperandTypes at
 castable at (struct number) = Fault code.OperandTypes at
 castable at ty = Fine ty
 
--- the type of a cast with so many bounds
+-- the type of a cast with this number of bounds
 unfoldable pub cast_type : Place → ℕ → Verdict Shape → Verdict Shape
 cast_type at zero v = lift (castable at) v
 cast_type at (suc n) v = Fault code.OperandTypes at
 
--- the type that a verdict gives
+-- the type of a verdict, if it is one
 abbrev pub given_shape : Verdict Shape → Option Shape
 given_shape (Fine ty) = Some ty
 given_shape (Fault code place) = None
 
--- the operand of a cast: one to `void` takes what has no value
+-- the operand of a cast: that of a cast to `void` needs no value
 unfoldable pub cast_operand : Context → Shape → Typed → Verdict Typed
 cast_operand c target e = if is_void target then valued c.table.list e else operand c.table.list e
 
@@ -230,7 +230,7 @@ cast_to c at target e = lift (λ v. recast c.model at v target (type_of v)) (cas
 abbrev pub chosen_values : Context → Place → Typed → Typed → Typed → Verdict Typed
 chosen_values c at test one other = chosen c.model at test one other (type_of one) (type_of other)
 
--- `sizeof` of an expression, which keeps its arrays
+-- `sizeof` of an expression, whose arrays don't decay
 abbrev pub measured_type : Context → Place → Typed → Verdict Typed
 measured_type c at e = measured c.model c.table.list at (type_of e)
 
@@ -238,21 +238,21 @@ measured_type c at e = measured c.model c.table.list at (type_of e)
 abbrev pub further : Typed → TypedList → Verdict TypedList
 further e others = Fine (Further e others)
 
--- a call of what is no function's name
+-- a call of something that isn't the name of a function
 abbrev pub no_function : Place → Typed → Verdict Typed
 no_function at e = Fault code.OperandTypes at
 
--- a call of a function with the values of its arguments, each converted to the type of its parameter (C11 6.5.2.2, paragraph 7)
+-- a call of a function, with the values of its arguments, each converted to the type of its parameter (C11 6.5.2.2, paragraph 7)
 unfoldable pub call_with : Context → Place → Option Shape → Signature → TypedList → Verdict Typed
 call_with c at target f values = lift (call_of at target f) (converted_list c.model at (parameters_of (Some f)) values)
 
--- what a call's place says of an argument, if the argument has a type
+-- the code at a call for an argument that has a type
 abbrev pub passing_fault : Context → Place → Shape → Verdict Typed → Option TypeCode
 passing_fault c at ty (Fine e) = conversion_fault c.model at ty e
 passing_fault c at ty (Fault code place) = None
 
--- a call of a function with its arguments, or of something else: of what the call's place says of their number, of the result's
--- target and of each argument that has a type, the least code counts, and it counts before an argument that is refused itself
+-- a call of a function with its arguments, or of anything else: of the codes at the call for the number of arguments, the target of the
+-- result and each argument that has a type, the least is reported, before an argument that is refused
 unfoldable pub call_or_not : Context → Place → Option Shape → Option Signature → ℕ → Verdict Typed → Option TypeCode → Verdict TypedList
     → Verdict Typed
 call_or_not c at target None count v fault values = lift (no_function at) v
@@ -264,7 +264,7 @@ abbrev pub number_at : Form → ℤ
 number_at (Number n) = n
 number_at other = pos 0
 
--- the number with which a bound counts: one that is refused counts with 1, so that its array is as small as can be
+-- the number of a bound; that of a refused one counts as 1, so that its array is as small as possible
 abbrev pub bound_number : Verdict Typed → ℤ
 bound_number (Fine e) = number_at (form_of e)
 bound_number (Fault code place) = pos 1
@@ -281,7 +281,7 @@ measured_arrays c at ns base = lift (measured c.model c.table.list at) (arrayed 
 abbrev pub size_alone : Typed → Unit {0} → Verdict Typed
 size_alone size bounds = Fine size
 
--- the same, whose bounds may be refused: what the `sizeof` says of the type and of the numbers of its bounds counts before that
+-- the same with bounds that may be refused: a fault of the type or of the bounds' numbers, at the `sizeof`, is reported before that
 abbrev pub measured_type_name : Context → Place → Verdict Shape → List ℤ → Verdict (Unit {0}) → Verdict Typed
 measured_type_name c at base ns bounds = lift2 size_alone (lift (measured_arrays c at ns) (lift (complete_at c.table.list at) base)) bounds
 
@@ -290,7 +290,7 @@ abbrev pub base_in : Context → Place → WrittenType → Verdict Shape
 base_in c at ty = type_named c.scope.declarations c.scope.tags at ty
 
 abbrev mutual
-  -- an expression at a place, after some literals, whose value goes to a type where what stands around it asks for that
+  -- an expression at a position, after some literals; its context may assign or convert its value to a type
   pub formed : Context → Purpose → Literals → Option Shape → Place → RawExprKind → Verdict Typed
   -- C11 6.5.1
   formed c purpose literals target at (kind.Name name) = named at (newest name c.scope.declarations)
@@ -358,7 +358,7 @@ abbrev mutual
       (value_in c purpose (formed c purpose literals None place first))
       (value_in c purpose (formed c purpose (literals_after literals first) None place' second))
 
-  -- the values of the arguments of a call, each for a parameter
+  -- the values of the arguments of a call, one for each parameter
   pub arguments_formed : Context → Purpose → Literals → List Shape → {n : _} → Row_of-RawExpr n → Verdict TypedList
   arguments_formed c purpose literals types end_of-RawExpr = Fine NoMore
   arguments_formed c purpose literals [] (more_of-RawExpr place p k rest) = Fine NoMore
@@ -367,7 +367,7 @@ abbrev mutual
       (operand_in c purpose (formed c purpose literals (Some ty) place k))
       (arguments_formed c purpose (literals_after literals k) types rest)
 
-  -- the least code that the place of a call says of the arguments that have types
+  -- the least code at a call for the arguments that have types
   pub arguments_fault : Context → Purpose → Literals → Place → List Shape → {n : _} → Row_of-RawExpr n → Option TypeCode
   arguments_fault c purpose literals at types end_of-RawExpr = None
   arguments_fault c purpose literals at [] (more_of-RawExpr place p k rest) = None
@@ -375,14 +375,14 @@ abbrev mutual
       let value = operand_in c purpose (formed c purpose literals (Some ty) place k) in
       least_code (passing_fault c at ty value) (arguments_fault c purpose (literals_past value (literals_after literals k)) at types rest)
 
-  -- the numbers with which bounds count, which are constant
+  -- the numbers of bounds, which have to be constant
   pub numbers_formed : Context → Literals → {n : _} → Row_of-RawExpr n → List ℤ
   numbers_formed c literals end_of-RawExpr = []
   numbers_formed c literals (more_of-RawExpr place p k rest) =
       let bound = done c Constant (formed c Constant literals None place k) in
       bound_number bound ∷ numbers_formed c (literals_past bound (literals_after literals k)) rest
 
-  -- the bounds themselves, of which one may be refused
+  -- the bounds themselves, one of which may be refused
   pub bounds_formed : Context → Literals → {n : _} → Row_of-RawExpr n → Verdict (Unit {0})
   bounds_formed c literals end_of-RawExpr = Fine tt
   bounds_formed c literals (more_of-RawExpr place p k rest) =
@@ -390,7 +390,7 @@ abbrev mutual
       (done c Constant (formed c Constant literals None place k))
       (bounds_formed c (literals_after literals k) rest)
 
--- the rules of the productions with more than one part, each on the parts themselves: what the functions for them promise
+-- the rules of the productions with more than one part, each as a rule on these parts: what the functions for them ensure
 abbrev pub infix_formed : Context → Purpose → Literals → Place → InfixOp → RawExpr → RawExpr → Verdict Typed
 infix_formed c purpose literals at operator left right =
     let one = operand_in c purpose (formed c purpose literals None left.place left.kind.value) in
@@ -425,7 +425,7 @@ cast_formed c purpose literals at ty bounds e =
     lift2 (cast_to c at) (cast_type at bounds (base_in c at ty))
     (done c purpose (formed c purpose literals (given_shape (cast_type at bounds (base_in c at ty))) e.place e.kind.value))
 
--- the same along lists: the arguments of a call, and the numbers of bounds
+-- the same for lists: the arguments of a call, and the numbers of bounds
 abbrev pub literals_after_list : Literals → List RawExpr → Literals
 literals_after_list literals [] = literals
 literals_after_list literals (e ∷ rest) = literals_after_list (literals_after literals e.kind.value) rest

@@ -1,4 +1,4 @@
-//! Integer constant expressions as the numbers that they are (C11 6.6).
+//! Integer constant expressions, replaced by their numbers (C11 6.6).
 ghost use Rattle.std.specs.Prelude.{◌≡◌};
 ghost use Rattle.cs_types.specs.Shape.{shape_of};
 ghost use Rattle.cs_ast.specs.TypedView.{typed};
@@ -14,7 +14,7 @@ use cs_scopes::{TypeCode, TypeRefusal};
 use cs_types::{CType, DataModel, IntType};
 use std::alloc::Global;
 
-/// An expression for its purpose: one of a constant is its number.
+/// Returns an expression for its purpose: in a constant it is replaced by its number.
 #[tactic(auto, unfolding(crate::specs::Constants::finished))]
 pub fn finished(
     alloc: Global,
@@ -31,7 +31,7 @@ pub fn finished(
     }
 }
 
-// The constant that an expression is.
+// An integer constant expression, replaced by its number.
 fn constant(alloc: Global, model: DataModel, needed: bool, value: Expr) -> Result<Expr, TypeRefusal>
     ensures { Yields (constant_at value.place (shape_of value.ty)
         (number_in model needed (typed value))) result }
@@ -49,7 +49,7 @@ fn constant(alloc: Global, model: DataModel, needed: bool, value: Expr) -> Resul
     }
 }
 
-// The integer type that a type is, if it is one.
+// The type as an integer type, if it is one.
 fn integer_type(ty: &CType) -> Option<IntType>
     ensures { result ≡ integer_in (shape_of ty.now) }
 {

@@ -1,4 +1,4 @@
-//! The typing of expressions and the values of constant expressions, exact to the first failing place.
+//! The typing of expressions and the values of constant expressions: exact, with the first type error.
 #![tactic(auto)]
 
 mod constants;

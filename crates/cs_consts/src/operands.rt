@@ -1,4 +1,4 @@
-//! What an operator between two operands asks of the type of its left operand alone (C11 6.5.5 to 6.5.14).
+//! What an operator with two operands requires of the type of its left operand, whatever the right one is (C11 6.5.5 to 6.5.14).
 ghost use Rattle.std.specs.Prelude.{◌≡◌};
 ghost use Rattle.cs_types.specs.Shape.{shape_of};
 ghost use Rattle.cs_consts.specs.Operands.{scalar_fault, moved_fault, integer_fault, left_operand_fault};
@@ -7,7 +7,7 @@ use cs_ast::raw::operator::InfixOp;
 use cs_scopes::TypeCode;
 use cs_types::{CType, StructTable, is_complete, is_scalar};
 
-/// The code with which an operator refuses its left operand whatever the right one is, if it does.
+/// Returns the code with which an operator refuses its left operand whatever the right one is, if it does.
 #[tactic(auto, unfolding(crate::specs::Operands::left_operand_fault))]
 pub fn left_operand_fault(table: &StructTable, operator: InfixOp, ty: &CType) -> Option<TypeCode>
     ensures { result ≡ left_operand_fault table.now.list operator (shape_of ty.now) }
@@ -33,7 +33,7 @@ pub fn left_operand_fault(table: &StructTable, operator: InfixOp, ty: &CType) ->
     }
 }
 
-/// What an operator or a word that tests, or one that compares, asks.
+/// Returns the code for an operand that is tested or compared, if it isn't a scalar.
 pub fn scalar_fault(ty: &CType) -> Option<TypeCode>
     ensures { result ≡ scalar_fault (shape_of ty.now) }
 {
@@ -44,7 +44,7 @@ pub fn scalar_fault(ty: &CType) -> Option<TypeCode>
     }
 }
 
-// What `+` and `-` ask: the elements by which a pointer moves are complete.
+// The code for an operand of `+` or `-`: a pointer has to point to a complete type.
 fn moved_fault(table: &StructTable, ty: &CType) -> Option<TypeCode>
     ensures { result ≡ moved_fault table.now.list (shape_of ty.now) }
 {
@@ -56,7 +56,7 @@ fn moved_fault(table: &StructTable, ty: &CType) -> Option<TypeCode>
     }
 }
 
-// What an operator that takes integers alone asks.
+// The code for an operand that has to be an integer.
 fn integer_fault(ty: &CType) -> Option<TypeCode>
     ensures { result ≡ integer_fault (shape_of ty.now) }
 {

@@ -1,12 +1,12 @@
-//! What an expression is typed for.
+//! The purposes for which expressions are typed.
 
-/// What an expression is typed for.
+/// The purpose for which an expression is typed.
 #[derive(Clone, Copy, PartialEq, Eq)]
 pub enum Purpose {
-    /// What it does when the program runs.
+    /// It is evaluated when the program runs.
     Run,
-    /// Its number: it has to be an integer constant expression (C11 6.6).
+    /// Its number is needed: it has to be an integer constant expression (C11 6.6).
     Constant,
-    /// An operand of an integer constant expression that isn't evaluated: it has to be constant, but its operators need no result.
+    /// It is an unevaluated operand of an integer constant expression: it has to be constant, but its operators need no result.
     Unneeded,
 }

@@ -1,4 +1,4 @@
-//! What the typing of declarations and statements asks of expressions.
+//! What the typing of declarations and statements requires of expressions.
 ghost use Rattle.std.specs.Prelude.{◌≡◌, OnOk, IfOk, None, Some};
 ghost use Rattle.cs_types.specs.Shape.{shape_of};
 ghost use Rattle.cs_ast.specs.TypedView.{typed};
@@ -20,7 +20,7 @@ use cs_scopes::{Context, TypeCode, TypeRefusal};
 use cs_types::{CType, IntType};
 use std::alloc::{AllocError, Global};
 
-/// The type and the number of a constant expression (C11 6.6).
+/// Returns the type and the number of a constant expression (C11 6.6).
 #[tactic(auto, unfolding(crate::specs::Roles::value_of), using(cs_scopes::proofs::Lifting::lifts))]
 pub fn value(
     alloc: Global,
@@ -34,7 +34,7 @@ pub fn value(
     number_of_constant(&constant)
 }
 
-// The number of a constant, with its type.
+// The number of a constant, and its type.
 fn number_of_constant(constant: &Expr) -> Result<(IntType, i128), TypeRefusal>
     ensures { Answers (λ number. number) (number_of_constant (typed constant.now)) result }
 {
@@ -44,7 +44,7 @@ fn number_of_constant(constant: &Expr) -> Result<(IntType, i128), TypeRefusal>
     }
 }
 
-/// An expression that has to have a value, which goes to a type where one is asked for. It isn't converted yet.
+/// Returns an expression that must have a value, which may be assigned or converted to a type. It isn't converted yet.
 #[tactic(auto, unfolding(crate::specs::Roles::operand_of))]
 pub fn operand(
     alloc: Global,
@@ -61,8 +61,8 @@ pub fn operand(
     operand_in(alloc, context, Purpose::Run, literals, target, tree)
 }
 
-/// An expression whose value goes to a type as if by assignment: an initializer, or what `return` gives (C11 6.7.9, 6.8.6.4).
-/// `place` is that of the `=` or the `return`, which asks for it.
+/// Returns an expression whose value is converted to a type as if by assignment: an initializer, or the value of a `return`
+/// (C11 6.7.9, 6.8.6.4). `place` is the position of the `=` or the `return`.
 #[tactic(auto, unfolding(crate::specs::Roles::assigned_value), using(cs_scopes::proofs::Lifting::lifts))]
 pub fn assigned_value(
     alloc: Global,
@@ -82,7 +82,7 @@ pub fn assigned_value(
     converted(alloc, context.model, place, value, target)
 }
 
-/// An expression that a statement tests against 0 (C11 6.8.4.1, 6.8.5). `place` is that of the statement's word.
+/// Returns an expression that a statement tests against 0 (C11 6.8.4.1, 6.8.5). `place` is the position of the statement's keyword.
 #[tactic(auto, unfolding(crate::specs::Roles::test_of), using(cs_scopes::proofs::Lifting::lifts))]
 pub fn test(
     alloc: Global,
@@ -99,7 +99,8 @@ pub fn test(
     tested(place, value)
 }
 
-/// The code with which a statement's word refuses what it tests, if that has a type: for a word whose test comes after something else.
+/// Returns the code with which a statement's keyword refuses its test, if that has a type: for a statement whose test comes
+/// after another part.
 #[tactic(auto, unfolding(crate::specs::Roles::test_fault))]
 pub fn test_fault(
     alloc: Global,
@@ -117,7 +118,7 @@ pub fn test_fault(
     }
 }
 
-/// The integer that a `switch` goes by, in its promoted type (C11 6.8.4.2). `place` is that of the word.
+/// Returns the integer that controls a `switch`, in its promoted type (C11 6.8.4.2). `place` is the position of the keyword.
 #[tactic(auto, unfolding(crate::specs::Roles::selector_of), using(cs_scopes::proofs::Lifting::lifts))]
 pub fn selector(
     alloc: Global,
@@ -134,7 +135,7 @@ pub fn selector(
     raised(alloc, context.model, place, value)
 }
 
-/// An expression whose value is dropped, if it has one (C11 6.8.3).
+/// Returns an expression whose value, if it has one, is discarded (C11 6.8.3).
 #[tactic(auto, unfolding(crate::specs::Roles::discarded_value))]
 pub fn discarded(
     alloc: Global,

@@ -33,8 +33,8 @@ use cs_scopes::{
 use cs_types::{CType, IntType, is_void};
 use std::alloc::{AllocError, Global};
 
-/// The typing of an expression for its purpose. String literals are put after those that are there; the value goes to a type
-/// where what stands around the expression asks for one.
+/// Returns the typed expression for a purpose. Appends its string literals to `literals`. `target` is the type that the
+/// context of the expression assigns or converts its value to, if there is one.
 #[cycle(typing)]
 pub fn judged(
     alloc: Global,
@@ -53,7 +53,7 @@ pub fn judged(
     finished(alloc, context.model, purpose, value)
 }
 
-/// The value of an expression, if it has one.
+/// Returns the value of an expression, or the expression itself if it has none.
 #[cycle(typing)]
 pub fn value_in(
     alloc: Global,
@@ -73,7 +73,7 @@ pub fn value_in(
     valued(alloc, &context.table, value)
 }
 
-/// The value of an expression that has to have one.
+/// Returns the value of an expression that must have one.
 #[cycle(typing)]
 pub fn operand_in(
     alloc: Global,
@@ -94,7 +94,7 @@ pub fn operand_in(
     operand(alloc, &context.table, value)
 }
 
-// An expression by its rule.
+// An expression by the rule of its production.
 #[cycle(typing)]
 fn formed(
     alloc: Global,
@@ -207,7 +207,7 @@ fn step(
     stepped(alloc, context.model, operator, gives, place, object)
 }
 
-// An operator before one operand.
+// A prefix operator, on its typed operand.
 #[tactic(auto, unfolding(crate::specs::Typing::prefixed), using(cs_scopes::proofs::Lifting::lifts))]
 fn prefixed(
     alloc: Global,
@@ -235,7 +235,7 @@ fn is_address(operator: PrefixOp) -> bool
     }
 }
 
-// An operator before a value.
+// A prefix operator, on the value of its operand.
 #[tactic(auto, unfolding(crate::specs::Typing::prefixed_value))]
 fn prefixed_value(
     alloc: Global,
@@ -257,7 +257,7 @@ fn prefixed_value(
     }
 }
 
-// An operator between two operands, of which `&&` and `||` may leave the second one out.
+// An operator between two operands, of which `&&` and `||` may not evaluate the second one.
 #[cycle(typing)]
 fn infix(
     alloc: Global,
@@ -292,7 +292,7 @@ fn infix(
     )
 }
 
-// A subscript, which asks of its left operand what `+` does (C11 6.5.2.1, paragraph 2).
+// A subscript, which requires the same of its left operand as `+` (C11 6.5.2.1, paragraph 2).
 #[cycle(typing)]
 fn subscript(
     alloc: Global,
@@ -316,7 +316,7 @@ fn subscript(
     indexed(alloc, &context.table, place, left, right)
 }
 
-// What the operand after an operator is typed for.
+// The purpose of the right operand of an operator.
 fn purpose_after(operator: InfixOp, purpose: Purpose, left: &Expr) -> Purpose
     ensures { result ≡ purpose_after operator purpose (Fine (typed left.now)) }
 {
@@ -327,7 +327,7 @@ fn purpose_after(operator: InfixOp, purpose: Purpose, left: &Expr) -> Purpose
     }
 }
 
-// What an operand is typed for that is evaluated only where a test is true, or only where it is false.
+// The purpose of an operand that is only evaluated if a test is true, or only if it is false.
 fn purpose_if(way: bool, purpose: Purpose, test: &Expr) -> Purpose
     ensures { result ≡ purpose_if way purpose (Fine (typed test.now)) }
 {
@@ -337,7 +337,7 @@ fn purpose_if(way: bool, purpose: Purpose, test: &Expr) -> Purpose
     }
 }
 
-// Whether it is the number 0.
+// Whether the expression is the number 0.
 fn is_zero_number(kind: &ExprKind) -> bool
     ensures { result ≡ is_zero_number (form kind.now) }
 {
@@ -375,7 +375,7 @@ fn select(
     chosen(alloc, context.model, place, test, one, other)
 }
 
-// An operator that stores.
+// An assignment operator.
 #[cycle(typing)]
 fn store(
     alloc: Global,
@@ -403,14 +403,14 @@ fn store(
     stored(alloc, context, operator, place, object, value)
 }
 
-// The type to which the right side of an operator that stores goes.
+// The type that the right operand of an assignment operator is assigned to; only `=` has one.
 fn right_target(operator: AssignOp, ty: &CType) -> Option<&CType>
     ensures { shape_in result ≡ (if is_plain operator then Some (shape_of ty.now) else None) }
 {
     if is_plain(operator) { Some(ty) } else { None }
 }
 
-// Whether the operator stores a value as it is.
+// Whether the operator is `=`.
 fn is_plain(operator: AssignOp) -> bool
     ensures { result ≡ is_plain operator }
 {
@@ -438,7 +438,7 @@ fn operator_of(operator: AssignOp) -> BinOp
     }
 }
 
-// The left side of an operator that stores: what the operator asks of it alone.
+// The left operand of an assignment operator, as far as the operator refuses it whatever the right one is.
 #[tactic(auto, unfolding(crate::specs::Typing::left_side))]
 fn left_side(operator: AssignOp, place: Place, object: Expr) -> Result<Expr, TypeRefusal>
     ensures { Yields (left_side operator place (typed object)) result }
@@ -450,7 +450,7 @@ fn left_side(operator: AssignOp, place: Place, object: Expr) -> Result<Expr, Typ
     }
 }
 
-// What the operator asks of the type of its left side besides.
+// What else the operator refuses in the type of its left operand.
 #[tactic(auto, unfolding(crate::specs::Typing::left_fault))]
 fn left_fault(context: &Context, operator: AssignOp, ty: &CType) -> Option<TypeCode>
     ensures { result ≡ left_fault context.now operator (shape_of ty.now) }
@@ -462,7 +462,7 @@ fn left_fault(context: &Context, operator: AssignOp, ty: &CType) -> Option<TypeC
     }
 }
 
-// An operator that stores, between an object and a value: of what it asks of the object's type and of both, the least code is reported.
+// An assignment operator on an object and a value: of what it refuses in the object's type and in both, the least code is reported.
 #[tactic(auto, unfolding(crate::specs::Typing::stored))]
 fn stored(
     alloc: Global,
@@ -479,7 +479,7 @@ fn stored(
     weighed(place, fault, made)
 }
 
-// An operator that stores, between an object and a value, as far as both types go.
+// An assignment operator on an object and a value, by the types of both.
 #[tactic(auto, unfolding(crate::specs::Typing::stored_by), using(cs_scopes::proofs::Lifting::lifts))]
 fn stored_by(
     alloc: Global,
@@ -500,7 +500,7 @@ fn stored_by(
     Ok(made)
 }
 
-// A call of a function, or of something else, which is refused.
+// A call of a function; a call of anything else is refused.
 #[cycle(typing)]
 fn call(
     alloc: Global,
@@ -529,7 +529,7 @@ fn call(
     call_with(alloc, context, place, target, called, values)
 }
 
-// A call of a function with the values of its arguments.
+// A call of a function, with the values of its arguments.
 #[tactic(auto, unfolding(crate::specs::Typing::call_with), using(cs_scopes::proofs::Lifting::lifts))]
 fn call_with(
     alloc: Global,
@@ -547,8 +547,8 @@ fn call_with(
     call_of(alloc, place, target, function, list)
 }
 
-// The values of the arguments of a call, each for a parameter. What the call's place says, of each that has a type too, counts
-// before one that is refused.
+// The values of the arguments of a call, one for each parameter. A fault at the call, also of an argument that has a type, is
+// reported before an argument that is refused.
 #[cycle(typing)]
 fn arguments_of(
     alloc: Global,
@@ -592,7 +592,7 @@ fn arguments_of(
     unless_refused(place, least, refused, list)
 }
 
-// What is found, unless a code holds at a place before it, or something after the place is refused.
+// The list, unless there is a code at a position before it, or something after the position is refused.
 fn unless_refused(
     place: Place,
     fault: Option<TypeCode>,
@@ -654,7 +654,7 @@ fn measured_arrays(
     measured(alloc, context.model, &context.table, place, &ty)
 }
 
-// The numbers with which bounds count, which are constant, and what is wrong with the first one that is refused, which counts with 1.
+// The numbers of bounds, which have to be constant, and the code and position of the first one that is refused, which counts as 1.
 #[derive(Drop)]
 struct Bounds {
     numbers: Vec<i128>,
@@ -702,7 +702,7 @@ fn number_at(kind: &ExprKind) -> i128
     }
 }
 
-// A cast to a type with so many bounds.
+// A cast to a type with this number of bounds.
 #[cycle(typing)]
 fn cast(
     alloc: Global,
@@ -725,7 +725,7 @@ fn cast(
     cast_to(alloc, context, place, &target, value)
 }
 
-// The type of a cast with so many bounds.
+// The type of a cast with this number of bounds.
 #[tactic(auto, unfolding(crate::specs::Typing::cast_type), using(cs_scopes::proofs::Lifting::lifts))]
 fn cast_type(
     alloc: Global,
@@ -743,7 +743,7 @@ fn cast_type(
     castable(place, target)
 }
 
-// A type to which a value can be cast.
+// The type, if a value can be cast to it.
 fn castable(place: Place, ty: CType) -> Result<CType, TypeRefusal>
     ensures { Answers shape_of (castable place (shape_of ty)) result }
 {
@@ -755,7 +755,7 @@ fn castable(place: Place, ty: CType) -> Result<CType, TypeRefusal>
     }
 }
 
-// The operand of a cast: one to `void` takes what has no value.
+// The operand of a cast: that of a cast to `void` needs no value.
 #[tactic(auto, unfolding(crate::specs::Typing::cast_operand))]
 fn cast_operand(
     alloc: Global,

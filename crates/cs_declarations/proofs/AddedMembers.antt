@@ -1,4 +1,4 @@
--- Members side by side with one more after them: for the laying of a struct's members.
+-- Members of a layout, and one more after them: for the layout of a struct's members.
 use Rattle.std.proofs.Common.{◌≡◌, ℕ, ◌+◌, max, List, [], ◌∷◌, ◌++◌, sym, ◌∙◌, ap, refl, arith}
 use Rattle.std.specs.Prelude.{Option, Some}
 use Rattle.std.specs.Option.{option_map, option_and_then}

@@ -1,4 +1,4 @@
--- The alignments of layouts are at most 8, so that what pads a struct is less: for the sizes of structs that bodies complete.
+-- The alignments of layouts are at most 8, so that the padding of a struct is smaller: for the sizes of structs that bodies complete.
 use Rattle.std.proofs.Common.{◌≡◌, ℕ, zero, suc, ◌+◌, ◌≤◌, List, [], ◌∷◌, sym, ap, subst, arith, lit≤}
 use Rattle.std.specs.Prelude.{Option, Some}
 use Rattle.std.specs.Option.{option_map}

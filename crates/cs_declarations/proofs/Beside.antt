@@ -1,4 +1,4 @@
--- What a function gives beside what is known: for types and members where what is known stays.
+-- The result of a function that changes nothing of what is known: for types and members.
 use Rattle.std.proofs.Common.{◌≡◌, Result, Ok, Err, ap, ◌∙◌}
 use Rattle.cs_scopes.specs.declared.refusal.TypeRefusal.{TypeRefusal}
 use Rattle.cs_scopes.specs.Verdicts.{Verdict, Fine, lift, Answers}

@@ -1,4 +1,4 @@
--- The words and the members of a body over rows and over lists: for the types that words with bodies name.
+-- The words and the members of a body over rows and over lists: for the types that specifiers with bodies name.
 use Rattle.std.proofs.Common.{◌≡◌, ℕ, ◌+◌, ◌<◌, Bool, List, ◌∷◌, Option, Some, None, length, drop, get_or, refl, sym, ap, ◌∙◌, Vec}
 use Rattle.std.proofs.Common.{Global}
 use Rattle.std.specs.Option.{unwrap_or}

@@ -1,4 +1,4 @@
--- A struct's body from its opening to its members: for the types that bodies make complete.
+-- A struct's body from its opening to its members: for the types that bodies complete.
 use Rattle.std.proofs.Common.{◌≡◌, ℕ, ◌-◌, List, [], ◌∷◌, ◌++◌, Option, length, take, sym, ap, ◌∙◌, arith, length-append}
 use Rattle.std.proofs.Math.Seq.{take-append_seam}
 use Rattle.cs_types.specs.Shape.{struct}

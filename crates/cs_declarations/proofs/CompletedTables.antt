@@ -1,4 +1,4 @@
--- A table of structs with one more, and with one of them completed, is laid out: for struct tags and bodies.
+-- A table of structs with one more, and with one of them completed, has layouts: for struct tags and bodies.
 use Rattle.std.proofs.Common.{◌≡◌, ℕ, zero, suc, ◌<◌, ◌≤◌, ◌^◌, ◌≢◌, inl, inr, cond, List, [], ◌∷◌, ◌++◌, length, map}
 use Rattle.std.proofs.Common.{get_or, slice_get, slice_set, is_some, sym, ◌∙◌, ap, refl, subst, arith}
 use Rattle.std.specs.Prelude.{Option, Some, None, IfSome}

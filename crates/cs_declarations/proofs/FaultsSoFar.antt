@@ -1,4 +1,4 @@
--- The codes that an `=` says of the items so far, before those of the items that are left: for the loop over items.
+-- The codes at an `=` for the items so far, before those of the remaining items: for the loop over items.
 use Rattle.std.proofs.Common.{◌≡◌, ℕ, suc, ◌≤◌, List, [], ◌∷◌, drop, length, Option, Some, None, Bool, refl, sym, ap, subst, ◌∙◌, Vec}
 use Rattle.std.proofs.Common.{Global, Result, Ok, Err}
 use Rattle.std.proofs.Math.ListN.{drop_of_length-le}

@@ -1,4 +1,4 @@
--- What verdicts give, if they are fine: for properties that go from rule to rule.
+-- Properties of the value of a verdict, if it has one: for properties that rules hand on to rules.
 use Rattle.std.proofs.Common.{◌≡◌, Bool, true, false, cond, Result, Ok, Err, OnOk, refl, subst}
 use Rattle.cs_scopes.specs.declared.refusal.TypeRefusal.{TypeRefusal}
 use Rattle.cs_scopes.specs.Verdicts.{Verdict, Fine, Fault, lift}

@@ -1,4 +1,4 @@
--- Rules that go over a list, of which a part is read: for the loops over constants, members, typedefs and parameters.
+-- Rules on a list, of which a part is read: for the loops over constants, members, typedefs and parameters.
 use Rattle.std.proofs.Common.{◌≡◌, ℕ, ◌+◌, ◌<◌, ◌≤◌, List, [], ◌∷◌, length, drop, get_or, sym, ap, ◌∙◌}
 use Rattle.std.proofs.lemmas.List.{at_drop_more, drop_all}
 use Rattle.cs_scopes.specs.declared.refusal.TypeRefusal.{TypeRefusal}

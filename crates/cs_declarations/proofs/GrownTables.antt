@@ -1,4 +1,4 @@
--- What is laid out in a table of structs is so in one that grew out of it: for what is typed after a part of a file.
+-- What has a layout in a table of structs has it in each table that grew out of it: for what is typed after a part of a file.
 use Rattle.std.proofs.Common.{◌≡◌, ℕ, zero, suc, ◌≤◌, ◌^◌, List, [], ◌∷◌, sym, ◌∙◌, ap, subst}
 use Rattle.std.specs.Prelude.{Option, Some, IfSome}
 use Rattle.std.specs.Option.{option_map, option_and_then}

@@ -1,4 +1,4 @@
--- What an initializer is typed to, one step after the other: for `initial_typed`.
+-- The typing of an initializer, step by step: for `initial_typed`.
 use Rattle.std.proofs.Common.{◌≡◌, Bool, true, false, ap, ◌∙◌, Result, Ok, Err}
 use Rattle.std.specs.Prelude.{if◌then◌else◌}
 use Rattle.cs_types.specs.Shape.{Shape}

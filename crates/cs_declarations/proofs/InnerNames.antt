@@ -1,4 +1,4 @@
--- A name that is declared in the innermost scope stands for its last declaration there: for `meaning_here`.
+-- The meaning of a name that is declared in the innermost scope is that of its last declaration there: for `meaning_here`.
 use Rattle.std.proofs.Common.{◌≡◌, ℕ, zero, suc, true, List, [], ◌∷◌, Option, Some, None, refl, ap, ◌∙◌, drop}
 use Rattle.std.specs.Prelude.{is_some, nat_eq, if◌then◌else◌}
 use Rattle.std.specs.Option.{option_or}

@@ -1,4 +1,4 @@
--- What an `=` says of the items so far, before those that are left: for the loop that judges items.
+-- The items so far, converted and checked at an `=`, before the remaining ones: for the loop over items.
 use Rattle.std.proofs.Common.{◌≡◌, ℕ, suc, List, [], ◌∷◌, ◌++◌, drop, Bool, true, false, Option, Some, None, refl, sym, ap, ◌∙◌, Vec}
 use Rattle.std.proofs.Common.{Global}
 use Rattle.std.specs.Prelude.{slice_get, if◌then◌else◌}

@@ -1,4 +1,4 @@
--- A conversion keeps constants constant: a converted value may initialize an object just where the value itself may.
+-- A conversion keeps constants constant: a converted value may initialize an object exactly if the value itself may.
 use Rattle.std.proofs.Common.{◌≡◌, ℕ, ℤ, Bool, true, false, cond, ◌||◌, Option, Some, None, refl, sym, ap, ◌∙◌, is_some}
 use Rattle.std.specs.Prelude.{◌==◌}
 use Rattle.std.specs.Option.{option_map}

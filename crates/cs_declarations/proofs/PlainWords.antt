@@ -1,4 +1,4 @@
--- Words without a body counted among all words: for the integer type that words name.
+-- Words without a body, counted among all words: for the integer type that words name.
 use Rattle.std.proofs.Common.{◌≡◌, ℕ, ◌+◌, cond, List, [], ◌∷◌, refl, ap, ◌∙◌, count_by, arith}
 use Rattle.std.specs.List.{fold}
 use Rattle.cs_ast.specs.declared.raw.declaration.SpecWord as words

@@ -1,4 +1,4 @@
--- What functions tell that stop at a refusal: for every one that goes on with what another one gave.
+-- The results of functions that stop at a refusal: for every function that continues with the result of another one.
 use Rattle.std.proofs.Common.{◌≡◌, Result, Ok, Err, sym, subst}
 use Rattle.cs_scopes.specs.declared.refusal.TypeRefusal.{TypeRefusal}
 use Rattle.cs_scopes.specs.declared.refusal.TypeRefusal.TheVariants.{Code, Memory}

@@ -1,4 +1,4 @@
--- Lists of what is said one by one, of which a part is read: for the sizes that bounds say.
+-- Lists of results, of which a part is read: for the sizes in bounds.
 use Rattle.std.proofs.Common.{◌≡◌, ℕ, ℤ, ◌+◌, ◌<◌, List, [], ◌∷◌, ◌++◌, Option, Some, None, length, drop, get_or, refl, sym, ap}
 use Rattle.std.proofs.Common.{◌∙◌, append_assoc, rules}
 use Rattle.std.specs.Option.{option_or}

@@ -1,4 +1,4 @@
--- Declarations that are taken back one by one, and declared again: for the scope of parameters that becomes that of a body.
+-- Declarations that are removed one by one, and declared again: for the scope of parameters that becomes that of a body.
 use Rattle.std.proofs.Common.{◌≡◌, ℕ, ◌<◌, ◌≤◌, List, [], ◌∷◌, ◌++◌, map, length, take, drop, reverse, sym, ap, ◌∙◌, arith}
 use Rattle.std.proofs.Common.{append_assoc, length-append}
 use Rattle.std.proofs.lemmas.List.{reverse-append, append_cancel_left, take-append-drop, take-append-le, take_all}

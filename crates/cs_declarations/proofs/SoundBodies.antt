@@ -1,4 +1,4 @@
--- The types that words name, with the bodies of structs and enums, leave the structs laid out: for the contract of `specs_type`.
+-- After the types that specifiers name, with the bodies of structs and enums, the structs have layouts: for the contract of `specs_type`.
 use Rattle.std.proofs.Common.{ℕ, ℤ, pos, ◌+ℤ◌, List, [], ◌∷◌, Result, OnOk}
 use Rattle.std.specs.Prelude.{Option, Some, None}
 use mathlib.Core.Former.{Count}

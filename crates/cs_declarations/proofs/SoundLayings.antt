@@ -1,4 +1,4 @@
--- Members that rules put one after another lie as layouts do: for the bodies of structs.
+-- Members that rules put one after another have the offsets of layouts: for the bodies of structs.
 use Rattle.std.proofs.Common.{◌≡◌, ℕ, ◌+◌, ◌≤◌, ◌^◌, max, nat_le, List, [], ◌∷◌, ◌++◌, map, sym, ◌∙◌, ap₂, refl}
 use Rattle.std.proofs.Common.{leb-true, lit≤}
 use Rattle.std.specs.Prelude.{Option, Some, None}

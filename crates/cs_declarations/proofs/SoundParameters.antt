@@ -1,4 +1,4 @@
--- Typedefs and parameters leave the structs laid out: for the contracts of `declare_typedefs` and `parameters_typed`.
+-- After typedefs and parameters the structs have layouts: for the contracts of `declare_typedefs` and `parameters_typed`.
 use Rattle.std.proofs.Common.{◌≡◌, ℕ, List, [], ◌∷◌, length}
 use Rattle.std.specs.Prelude.{Option, Some, None}
 use Rattle.cs_types.specs.Shape.{Shape}

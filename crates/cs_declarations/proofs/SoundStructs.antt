@@ -1,4 +1,4 @@
--- Tags, opened structs and completed ones leave the structs laid out: for the types that words name.
+-- After tags, opened structs and completed ones the structs have layouts: for the types that specifiers name.
 use Rattle.std.proofs.Common.{◌≡◌, ℕ, ◌+◌, ◌-◌, ◌<◌, ◌≤◌, ◌^◌, ◌≢◌, ◌||◌, Bool, true, false, cond, nat_eq, List, []}
 use Rattle.std.proofs.Common.{◌∷◌, ◌++◌, length, is_some, sym, ◌∙◌, ap, ap₂, refl, subst, arith, length-append, length-set, eq-eqb}
 use Rattle.std.specs.Prelude.{Option, Some, None, IfSome, slice_set, slice_index_or}

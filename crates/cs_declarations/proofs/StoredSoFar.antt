@@ -1,4 +1,4 @@
--- How many scalars items store, before those of the items that are left: for the count of what an initializer stores.
+-- How many scalars items store, before those of the remaining items: for how many an initializer stores.
 use Rattle.std.proofs.Common.{◌≡◌, ℕ, suc, ◌+◌, ◌<◌, ◌≤◌, arith, ◌⊎◌, inl, inr, List, [], ◌∷◌, drop, length, Bool, true}
 use Rattle.std.proofs.Common.{false, Option, Some, None, refl, sym, ap, ◌∙◌, Vec, Global}
 use Rattle.std.proofs.Math.ListN.{drop_of_length-le}

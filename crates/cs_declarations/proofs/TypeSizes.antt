@@ -1,4 +1,4 @@
--- A type that has bytes has a layout of so many, where the structs are laid out: for the members of structs.
+-- A type with a size has a layout of this size, if the structs have layouts: for the members of structs.
 use Rattle.std.proofs.Common.{◌≡◌, ℕ, ◌*◌, ◌≤◌, ◌^◌, nat_le, sym, ◌∙◌, ap, refl, subst, arith, List, leb-true}
 use Rattle.std.specs.Prelude.{Option, Some, IfSome}
 use Rattle.std.specs.Option.{option_map}

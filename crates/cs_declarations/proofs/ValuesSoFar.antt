@@ -1,4 +1,4 @@
--- The values of the items so far before those of the items that are left: for the loops over items.
+-- The values of the items so far, before those of the remaining items: for the loops over items.
 use Rattle.std.proofs.Common.{◌≡◌, ℕ, suc, ◌≤◌, List, [], ◌∷◌, ◌++◌, drop, length, Some, None, refl, sym, ap, ◌∙◌, Vec, Global}
 use Rattle.std.proofs.Common.{Bool, Option}
 use Rattle.std.specs.Option.{option_or}

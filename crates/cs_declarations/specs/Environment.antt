@@ -1,4 +1,4 @@
--- What is known at a point of a file: the structs, the tags, the declarations in force and the string literals before it.
+-- What is known at a point of a file: the structs, the tags, the declarations in scope and the string literals before it.
 use Rattle.std.specs.Prelude.{ℕ, ◌∷◌, [], ◌++◌, List, drop, take, length, Bool, Option, is_some}
 use Rattle.cs_types.specs.declared.data_model.DataModel.{DataModel}
 use Rattle.cs_types.specs.declared.structs.StructType.{StructType}
@@ -15,7 +15,7 @@ pub record Environment : Type 0 where
   pub outer : ℕ
   pub literals : Literals
 
--- the data model, the structs, and the declarations in force
+-- the data model, the structs, and the declarations in scope
 abbrev pub model_of : Environment → DataModel
 model_of k = k.context.model
 
@@ -55,7 +55,7 @@ with_tag name meaning k = record {
   literals = k.literals;
 }
 
--- with other declarations in force, the innermost scope's being those after the first `outer`
+-- with other declarations in scope, of which those after the first `outer` are of the innermost scope
 abbrev pub with_declarations : List Declaration → ℕ → Environment → Environment
 with_declarations declarations outer k = record {
   context = record { model = k.context.model; table = k.context.table; scope = record { declarations = declarations; tags = k.context.scope.tags } };
@@ -68,7 +68,7 @@ with_declarations declarations outer k = record {
 abbrev pub declaring : List ℕ → Meaning → Environment → Environment
 declaring name meaning k = with_declarations (declarations_of k ++ record { name = name; meaning = meaning } ∷ []) k.outer k
 
--- what a name was declared as in the innermost scope
+-- the meaning that a name was declared with in the innermost scope
 abbrev pub meaning_here : List ℕ → Environment → Option Meaning
 meaning_here name k = newest name (drop k.outer (declarations_of k))
 
@@ -80,7 +80,7 @@ is_declared_here name k = is_some (meaning_here name k)
 abbrev pub entered : Environment → Environment
 entered k = with_declarations (declarations_of k) (length (declarations_of k)) k
 
--- where a scope begins: how many declarations stand around it, and around the scope around it
+-- where a scope begins: how many declarations precede it, and how many the enclosing one
 pub record ScopeSnapshot : Type 0 where
   pub declarations : ℕ
   pub outer : ℕ
@@ -88,7 +88,7 @@ pub record ScopeSnapshot : Type 0 where
 abbrev pub snapshot_of : Environment → ScopeSnapshot
 snapshot_of k = record { declarations = length (declarations_of k); outer = k.outer }
 
--- after a scope: the declarations of the scope around it are in force again; structs, tags and literals stay
+-- after a scope: the declarations of the enclosing scope remain; structs, tags and literals stay
 abbrev pub left_to : ScopeSnapshot → Environment → Environment
 left_to m k = with_declarations (take m.declarations (declarations_of k)) m.outer k
 

@@ -1,4 +1,4 @@
--- What objects hold at first (C11 6.7.9): the items of a list go to the elements or members in order, each as its own braces say.
+-- The initial values of objects (C11 6.7.9): the items of a list initialize the elements or members in order, each by its own braces.
 use Rattle.std.specs.Prelude.{ℕ, suc, ◌+◌, nat_le, nat_lt, Bool, true, false, ◌&&◌, ◌||◌, if◌then◌else◌, List, []}
 use Rattle.std.specs.Prelude.{◌∷◌, length, Option, Some, None, is_some}
 use Rattle.cs_types.specs.declared.int_type.IntType.TheVariants.{Char, SChar, UChar}
@@ -27,29 +27,29 @@ use Rattle.cs_expressions.specs.Primary.{Literals}
 use Rattle.cs_consts.specs.Typing.{literals_after}
 use Rattle.cs_consts.specs.Roles.{operand_of}
 
--- where the object stands: a file-scope object holds constants
+-- the storage of an object: a file-scope object is initialized with constants
 pub data Storage : Type 0 where
   InFile : Storage
   InFunction : Storage
 
--- a type of characters, whose arrays take texts
+-- a character type, whose arrays string literals can initialize
 abbrev pub is_character : Shape → Bool
 is_character (integer Char) = true
 is_character (integer SChar) = true
 is_character (integer UChar) = true
 is_character other = false
 
--- the bytes of an expression that is a text
+-- the bytes of an expression that is a string literal
 abbrev pub text_of : RawExprKind → List ℕ
 text_of (kind.Text bytes) = bytes
 text_of other = []
 
--- the value may be the initializer of an object that stands there (paragraph 4)
+-- the value may be the initializer of an object of this storage (paragraph 4)
 abbrev pub is_admitted : DataModel → Storage → Typed → Bool
 is_admitted model InFunction e = true
 is_admitted model InFile e = is_number model e || is_address model e
 
--- the expression has the form that the type asks for: a text for characters, and for a struct only where no constant is asked for
+-- the expression has the form that the type requires: a string literal for characters; for a struct only if no constant is required
 abbrev pub takes_expression : Storage → Shape → RawExprKind → Bool
 takes_expression storage (array element count) (kind.Text bytes) = is_character element && nat_le (length bytes) count
 takes_expression storage (array element count) other = false
@@ -57,7 +57,7 @@ takes_expression InFile (struct number) e = false
 takes_expression storage ty e = true
 
 abbrev mutual
-  -- the written initializer has the form that a type asks for, as far as its braces and the number of its items tell
+  -- the written initializer has the form that a type requires, as far as its braces and the number of its items show
   pub has_form : List StructType → Storage → Shape → RawInitial → Bool
   has_form table storage ty (first_value.TheVariants.Value e) = takes_expression storage ty e.kind.value
   has_form table storage ty (first_value.TheVariants.List' shape row comma) = have_forms table storage (part_types table ty) row
@@ -74,23 +74,23 @@ list_has_forms table storage types [] = true
 list_has_forms table storage [] (first ∷ others) = false
 list_has_forms table storage (ty ∷ types) (first ∷ others) = has_form table storage ty first && list_has_forms table storage types others
 
--- an initializer whose values aren't converted yet, with the string literals after it
+-- an initializer whose values aren't converted yet, and the string literals after it
 abbrev pub Reading : Type 0
 Reading = Initial × Literals
 
--- the same of the items of a list
+-- the same for the items of a list
 abbrev pub Readings : Type 0
 Readings = Initials × Literals
 
 abbrev pub value_read : Literals → RawExprKind → Typed → Verdict Reading
 value_read literals e v = Fine (Value v, literals_after literals e)
 
--- an expression for something of a type: the text of an array is no literal of the program
+-- an expression that initializes something of a type: a string literal that initializes an array isn't one of the program's literals
 abbrev pub expression_read : Context → Literals → Shape → RawExpr → Verdict Reading
 expression_read c literals (array element count) e = Fine (Bytes (text_of e.kind.value), literals)
 expression_read c literals ty e = lift (value_read literals e.kind.value) (operand_of c literals (Some ty) e)
 
--- the types of parts, none where there are none
+-- the types of parts, an empty list if there are none
 abbrev pub types_or_none : Option (List Shape) → List Shape
 types_or_none (Some types) = types
 types_or_none None = []
@@ -121,13 +121,13 @@ list_read c literals [] (first ∷ others) = Fine (NoPart, literals)
 list_read c literals (ty ∷ types) (first ∷ others) =
     lift (λ (r : Reading). lift (one_more r.0) (list_read c r.1 types others)) (initial_read c literals ty first)
 
--- a value for an item of a list stands for the first member of a struct whose own braces are omitted: it is no struct itself
+-- a value for an item of a list, not a struct itself, initializes the first member of a struct whose braces are omitted
 abbrev pub is_braceless : Shape → Shape → Bool
 is_braceless (struct n) (struct m) = false
 is_braceless (struct n) other = true
 is_braceless ty other = false
 
--- a converted value, if an object that stands there may hold it
+-- a converted value, if an object of this storage may hold it
 abbrev pub value_held : DataModel → Storage → Place → Typed → Verdict Initial
 value_held model storage at v = if is_admitted model storage v then Fine (Value v) else Fault Initializer at
 
@@ -145,7 +145,7 @@ before_others at (Fault code place) (Fine others) = Fault code at
 before_others at (Fault code place) (Fault other there) = Fault (lesser code other) at
 
 abbrev mutual
-  -- what the `=` says of an item of a list: its values go to their types as if by assignment (paragraph 11)
+  -- an item of a list, checked at the `=`: its values are converted to their types as if by assignment (paragraph 11)
   pub part_judged : Context → Storage → Place → Shape → Initial → Verdict Initial
   part_judged c storage at ty (Value v) = item_judged c.model storage at ty v
   part_judged c storage at ty (Bytes bytes) = Fine (Bytes bytes)
@@ -158,23 +158,23 @@ abbrev mutual
   parts_judged c storage at (ty ∷ types) (Part first others) =
       before_others at (part_judged c storage at ty first) (parts_judged c storage at types others)
 
--- what it says of the whole
+-- a whole initializer, converted and checked at the `=`
 abbrev pub initial_judged : Context → Storage → Place → Shape → Initial → Verdict Initial
 initial_judged c storage at ty (Value v) = value_judged c.model storage at ty v
 initial_judged c storage at ty other = part_judged c storage at ty other
 
--- the literals after an item that is read: after one that is refused none counts, since the file is refused
+-- the literals after an item that is read; after one that is refused none, since the file is refused
 abbrev pub literals_read : Verdict Reading → Literals
 literals_read (Fine r) = r.1
 literals_read (Fault code place) = []
 
--- what the `=` says of a value or an item, if that has a type
+-- the code at the `=` for a value or an item that has a type
 abbrev pub reading_fault : (Initial → Verdict Initial) → Verdict Reading → Option TypeCode
 reading_fault rule (Fine r) = code_in (rule r.0)
 reading_fault rule (Fault code place) = None
 
 abbrev mutual
-  -- the least code that the `=` says of the items of a list whose values have types
+  -- the least code at the `=` for the items of a list whose values have types
   pub item_fault : Context → Literals → Storage → Place → Shape → RawInitial → Option TypeCode
   item_fault c literals storage at ty (first_value.TheVariants.Value e) =
       reading_fault (part_judged c storage at ty) (expression_read c literals ty e)
@@ -194,35 +194,35 @@ list_fault c literals storage at [] (first ∷ others) = None
 list_fault c literals storage at (ty ∷ types) (first ∷ others) =
     least_code (item_fault c literals storage at ty first) (list_fault c (literals_read (initial_read c literals ty first)) storage at types others)
 
--- what it says of the items of an initializer of the wrong form, where nothing more is said of a single value
+-- the codes at the `=` for the items of an initializer of the wrong form; there is none for a single value
 abbrev pub initial_fault : Context → Literals → Storage → Place → Shape → RawInitial → Option TypeCode
 initial_fault c literals storage at ty (first_value.TheVariants.Value e) = None
 initial_fault c literals storage at ty (first_value.TheVariants.List' shape row comma) =
     items_fault c literals storage at (types_or_none (part_types c.table.list ty)) row
 
--- what it says of the values of one of the right form
+-- the codes at the `=` for the values of an initializer of the right form
 abbrev pub whole_fault : Context → Literals → Storage → Place → Shape → RawInitial → Option TypeCode
 whole_fault c literals storage at ty (first_value.TheVariants.Value e) =
     reading_fault (initial_judged c storage at ty) (expression_read c literals ty e)
 whole_fault c literals storage at ty (first_value.TheVariants.List' shape row comma) =
     items_fault c literals storage at (types_or_none (part_types c.table.list ty)) row
 
--- so many scalars and some more, if they are few
+-- the sum of two numbers of scalars, if they are few
 abbrev pub together : Option ℕ → Option ℕ → Option ℕ
 together (Some n) (Some m) = few (n + m)
 together one other = None
 
--- the bytes that a text stores in an array of so many: with its zero byte where that fits
+-- the number of bytes that a string literal stores in an array of `count`: with its zero byte if that fits
 abbrev pub bytes_stored : ℕ → ℕ → Option ℕ
 bytes_stored count bytes = few (if nat_lt bytes count then bytes + 1 else bytes)
 
--- the scalars that a value stores
+-- the number of scalars that a value stores
 abbrev pub value_stored : List StructType → Shape → RawExprKind → Option ℕ
 value_stored table (array element count) e = bytes_stored count (length (text_of e))
 value_stored table ty e = scalars_in table ty
 
 abbrev mutual
-  -- how many scalars a written initializer stores, if they are few: its values may be anything, and what it leaves out isn't counted
+  -- how many scalars a written initializer stores, if they are few: its values don't matter, and parts without an item aren't counted
   pub stored : List StructType → Shape → RawInitial → Option ℕ
   stored table ty (first_value.TheVariants.Value e) = value_stored table ty e.kind.value
   stored table ty (first_value.TheVariants.List' shape row comma) = row_stored table (types_or_none (part_types table ty)) row
@@ -237,12 +237,12 @@ list_stored table types [] = Some 0
 list_stored table [] (first ∷ others) = Some 0
 list_stored table (ty ∷ types) (first ∷ others) = together (stored table ty first) (list_stored table types others)
 
--- what the `=` says of an initializer whatever its values are: that of a local stores few scalars
+-- the code at the `=` that doesn't depend on the values: the initializer of a local may only store few scalars
 abbrev pub scalar_limit : List StructType → Storage → Shape → RawInitial → Option TypeCode
 scalar_limit table InFile ty written = None
 scalar_limit table InFunction ty written = if is_some (stored table ty written) then None else Some TooManyScalars
 
--- the values of an initializer, unless the `=` says something: that counts before a value that is refused itself
+-- the values of an initializer, unless there is a code at the `=`: it is reported before a value that is refused
 abbrev pub whole_read : Context → Literals → Storage → Place → Shape → RawInitial → Verdict Reading
 whole_read c literals storage at ty written =
     unless_fault at (least_code (scalar_limit c.table.list storage ty written) (whole_fault c literals storage at ty written))
@@ -251,16 +251,16 @@ whole_read c literals storage at ty written =
 abbrev pub kept_with : Literals → Initial → Verdict Reading
 kept_with literals found = Fine (found, literals)
 
--- the initializer after an `=`: its form, its values in their order, and what the `=` asks of them. Where the form is wrong, that of the
--- items that have types counts as well
+-- the initializer after an `=`: its form, its values in their order, and their conversions, reported at the `=`. If the form is wrong,
+-- the codes for the items that have types are weighed with it
 abbrev pub initial_typed : Context → Literals → Storage → Place → Shape → RawInitial → Verdict Reading
 initial_typed c literals storage at ty written =
     if has_form c.table.list storage ty written
     then lift (λ (r : Reading). lift (kept_with r.1) (initial_judged c storage at ty r.0)) (whole_read c literals storage at ty written)
     else Fault (least Initializer (initial_fault c literals storage at ty written)) at
 
--- how many elements a written initializer gives an array whose size isn't said: those of its list, or its text with the zero byte;
--- one where it is another expression, which has the wrong form for every array, so that its size doesn't matter
+-- how many elements a written initializer gives an array without a size: those of its list, or of its string literal with the zero
+-- byte; 1 for another expression, which has the wrong form for every array, so that its size doesn't matter
 abbrev pub row_count : {n : _} → first_value.Row_of-RawInitial n → ℕ
 row_count first_value.end_of-RawInitial = 0
 row_count (first_value.more_of-RawInitial first others) = suc (row_count others)

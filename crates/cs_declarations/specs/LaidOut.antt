@@ -1,4 +1,4 @@
--- The structs that are known at a point of a file are laid out: for what runs over the typed program by their sizes and offsets.
+-- The structs that are known at a point of a file have layouts: for what uses their sizes and offsets in the typed program.
 use Rattle.std.specs.Prelude.{◌≡◌, ℕ, ◌<◌, List, length, None}
 use Rattle.std.specs.List.{All}
 use Rattle.cs_types.specs.declared.data_model.DataModel.{DataModel}
@@ -14,12 +14,12 @@ pub record IsOpen (table : List StructType) (number : ℕ) : Type 0 where
   pub within : number < length table
   pub empty : members_of table number ≡ None
 
--- a tag stands for an enum or a struct of the table
+-- a tag denotes an enum or a struct of the table
 abbrev pub IsOfTable : List StructType → TagMeaning → Type 0
 IsOfTable table (tag.Struct number) = number < length table
 IsOfTable table tag.Enum = Unit {0}
 
--- the structs of a table are laid out, tags name structs of it, and those whose bodies are being read have no members yet
+-- the structs of a table have layouts, tags denote structs of it, and those whose bodies are being read have no members yet
 pub record AreSound (model : DataModel) (table : List StructType) (tags : List Tag) (reading : List ℕ) : Type 0 where
   pub laid_out : IsLaidOut model table
   pub tagged : All (λ (t : Tag). IsOfTable table t.meaning) tags

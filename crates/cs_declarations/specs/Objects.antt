@@ -10,10 +10,10 @@ use Rattle.cs_scopes.specs.TypeNames.{complete_at}
 use Rattle.cs_declarations.specs.Bodies.{declarator_type}
 use Rattle.cs_declarations.specs.Initializers.{elements_given}
 
--- how many elements stand after an `=`
+-- how many elements the initializer after an `=` gives
 abbrev pub count_given : Option RawFirstValue → Option ℕ
 count_given first = option_map (λ (value : RawFirstValue). elements_given value.initial) first
 
--- the type of an object, which is complete (C11 6.7, paragraph 7)
+-- the type of an object, which has to be complete (C11 6.7, paragraph 7)
 abbrev pub object_type : Context → Shape → RawInit → Verdict Shape
 object_type c base d = lift (complete_at c.table.list d.declarator.place) (declarator_type c base (count_given d.initial) d.declarator)

@@ -20,7 +20,7 @@ use Rattle.cs_declarations.specs.Sizes.{sizes_said, refused_bound, unless_refuse
 use Rattle.cs_declarations.specs.Bodies.{Typing, specs_type}
 use Rattle.cs_scopes.specs.Constness.{points_to_const}
 
--- the place of a parameter: its name, or its first token where it has none
+-- the position of a parameter: its name, or its first token if it has none
 abbrev pub place_of : Place → Option RawName → Place
 place_of at (Some name) = name.place
 place_of at None = at
@@ -30,7 +30,7 @@ abbrev pub name_in : Option RawName → List ℕ
 name_in (Some name) = name.name
 name_in None = []
 
--- the type of a parameter, with how many elements the block after it has, where it was written with a bound
+-- the type of a parameter, and, if it was written with a bound, how many elements the block has that it points to
 pub record Passed : Type 0 where
   pub ty : Shape
   pub block : Option ℕ
@@ -39,14 +39,14 @@ pub record Passed : Type 0 where
 abbrev pub elements_passed : Shape → Option ℕ → Passed
 elements_passed element block = record { ty = pointer element; block = block }
 
--- a parameter without bounds: arrays by a typedef are pointers too, and structs aren't taken
+-- a parameter without bounds: an array by a typedef becomes a pointer too, and structs aren't supported
 abbrev pub plainly_passed : Place → Shape → Verdict Passed
 plainly_passed at void = Fault IncompleteType at
 plainly_passed at (struct number) = Fault IncompleteType at
 plainly_passed at (array element count) = Fine (elements_passed element (Some count))
 plainly_passed at ty = Fine (record { ty = ty; block = None })
 
--- a parameter whose first bound says a size or none
+-- a parameter whose first bound may have a size
 abbrev pub array_passed : Context → Place → Option ℤ → Shape → Verdict Passed
 array_passed c at (Some n) element = lift (λ whole. Fine (elements_passed element (Some (unsigned_abs n)))) (array_of c.model c.table.list at n element)
 array_passed c at None element = Fine (elements_passed element None)
@@ -63,8 +63,8 @@ is_pointer other = false
 abbrev pub may_write : RawParameter → Shape → Bool
 may_write p ty = is_pointer ty && not (points_to_const p.specs p.pointers.items p.bounds.items)
 
--- parameters so far: each with its name, and whether it may be written through; the first name that is declared a second time among
--- them (C11 6.7, paragraph 3), which doesn't keep the parameter from having a type; what is known after them
+-- parameters so far: each with its name, and whether it may be written through; the first name that is declared twice among them
+-- (C11 6.7, paragraph 3), whose parameter has a type nevertheless; what is known after them
 pub record Head : Type 0 where
   pub variables : List Variable
   pub written : List Bool
@@ -80,18 +80,18 @@ abbrev pub is_free_name : Option RawName → Environment → Bool
 is_free_name None k = true
 is_free_name (Some name) k = not (is_declared_here name.name k)
 
--- after a parameter whose type is fine, or before one
+-- after a parameter with a type: the first name that is declared twice
 abbrev pub twice_after : RawParameter → Option Place → Environment → Option Place
 twice_after p (Some at) k = Some at
 twice_after p None k = if is_free_name p.name k then None else Some (place_of p.place p.name)
 
--- a verdict on what comes after such a name, if there is one: of two that fail the name counts
+-- a verdict on what follows such a name, if there is one: if both fail, the name is reported
 abbrev pub after_twice : {A : Type 0} → Option Place → Verdict A → Verdict A
 after_twice twice (Fine value) = Fine value
 after_twice None (Fault code place) = Fault code place
 after_twice (Some at) (Fault code place) = Fault DeclaredTwice at
 
--- the same of a refusal
+-- the same for a refusal
 abbrev pub refused_after : Option Place → TypeRefusal → TypeRefusal
 refused_after None refusal = refusal
 refused_after (Some at) (refusals.Code code place) = refusals.Code DeclaredTwice at
@@ -105,14 +105,14 @@ with_parameter p before k found = Fine (record {
   known = naming p.name (length before.variables) found.ty k;
 })
 
--- how a parameter is passed whose pointers make this type
+-- how a parameter is passed; `base` is its type with the pointers
 abbrev pub parameter_passed : Context → RawParameter → Shape → Verdict Passed
 parameter_passed c p base =
     lift (λ whole.
     lift (unless_refused (refused_bound c p.bounds.items)) (passed c (place_of p.place p.name) whole (sizes_said c p.bounds.items)))
     (bounded c (place_of p.place p.name) base p.bounds.items)
 
--- a parameter after others
+-- the parameters after one more
 abbrev pub parameter_typed : RawParameter → Head → Verdict Head
 parameter_typed p before =
     lift (λ (found : Typing).
@@ -127,7 +127,7 @@ parameters_after (p ∷ ps) before = lift (parameters_after ps) (parameter_typed
 abbrev pub no_parameter : Environment → Head
 no_parameter k = record { variables = []; written = []; twice = None; known = k }
 
--- what stands between the parentheses of a function's head
+-- the parameters between the parentheses of a function's head
 abbrev pub parameters_typed : Environment → RawParameters → Verdict Head
 parameters_typed k parameter_lists.Empty = Fine (no_parameter k)
 parameters_typed k parameter_lists.Void = Fine (no_parameter k)

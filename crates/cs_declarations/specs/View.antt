@@ -1,4 +1,4 @@
--- What is known, and parts of declarations, of the program seen as plain data.
+-- What is known, and parts of declarations, as contracts see the types in the code.
 use Rattle.std.specs.Prelude.{ℕ, ℤ, List, map}
 use Rattle.cs_types.specs.declared.ctype.CType.{CType}
 use Rattle.cs_types.specs.Shape.{Shape, shape_of}
@@ -40,7 +40,7 @@ passed_of p = record { ty = shape_of p.ty; block = p.block }
 abbrev pub variable : Local → Variable
 variable l = record { name = l.name; ty = shape_of l.ty; block = l.block }
 
--- what a function gives, with what is known after it
+-- the result of a function, and what is known after it
 abbrev pub typing : CType → Held → Shape × Environment
 typing ty k = (shape_of ty, environment_of k)
 
@@ -60,7 +60,7 @@ abbrev pub storage : HeldStorage → Storage
 storage stands.File = InFile
 storage stands.Function = InFunction
 
--- what is read, with the string literals after it
+-- what is read, and the string literals after it
 abbrev pub reading : HeldInitial → List (List ℕ) → Reading
 reading i literals = (initial i, literals)
 

@@ -1,4 +1,4 @@
-//! The types that words before declarators name, with the bodies of structs (C11 6.7.2).
+//! The types that specifiers name, with the bodies of structs (C11 6.7.2).
 ghost use Rattle.std.specs.Prelude.{◌≡◌, ◌++◌, [], ◌∷◌, Some, OnOk, IfOk};
 ghost use Rattle.cs_types.specs.Shape.{shape_of};
 ghost use Rattle.cs_declarations.specs.Answered.{AnswersWith, Leaves};
@@ -19,7 +19,7 @@ use cs_scopes::{TagMeaning, TypeCode, TypeRefusal, enum_type, typedef_type};
 use cs_types::{CType, Members};
 use std::alloc::Global;
 
-/// The type of what stands before declarators, of which the one at the place asks for it (C11 6.7.2).
+/// Returns the type of the specifiers before declarators, of which the one at `place` requires it (C11 6.7.2).
 #[cycle(specs)]
 pub fn specs_type(
     alloc: Global,
@@ -48,7 +48,7 @@ pub fn specs_type(
     word_type(alloc, known, tag_place, place, &specs.words)
 }
 
-// The type of words without a body.
+// The type of specifiers without a body.
 fn word_type(
     alloc: Global,
     known: &mut Environment,
@@ -70,7 +70,7 @@ fn word_type(
     }
 }
 
-// The struct that a tag names where no body stands after it: the tag may be new (C11 6.7.2.3, paragraph 8).
+// The struct with a tag that no body follows: the tag may be new (C11 6.7.2.3, paragraph 8).
 fn struct_named(known: &mut Environment, place: Place, name: &Name) -> Result<CType, TypeRefusal>
     ensures reported { AnswersWith typing
         (struct_named place name.now (environment_of known.old)
@@ -111,7 +111,7 @@ fn begin_struct(
     Ok(number)
 }
 
-// The struct that a body makes complete.
+// The struct that its body completes.
 #[cycle(specs)]
 fn struct_body(
     alloc: Global,
@@ -152,7 +152,7 @@ fn members_read(
     Ok(so_far)
 }
 
-// Members of one type, after others.
+// Members of one type, appended to others.
 #[cycle(specs)]
 fn group_read(
     alloc: Global,
@@ -169,7 +169,7 @@ fn group_read(
     add_members(alloc, &known.context, &base, &group.declarators, before)
 }
 
-// The place of the first of some declarators, which asks for their type.
+// The position of the first of some declarators, which requires their type.
 fn first_name(declarators: &[RawDeclarator]) -> Place
     ensures { result ≡ first_name declarators.now }
 {

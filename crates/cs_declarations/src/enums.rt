@@ -15,7 +15,7 @@ use cs_scopes::{Context, Meaning, TagMeaning, TypeCode, TypeRefusal};
 use cs_types::{CType, IntType, in_range};
 use std::alloc::Global;
 
-// The number that a constant says, or the one that comes next.
+// The number that is written for a constant, or else the next one.
 #[tactic(auto, using(cs_scopes::proofs::Lifting::lifts))]
 fn number_said(
     alloc: Global,
@@ -34,7 +34,7 @@ fn number_said(
     }
 }
 
-// Declares a constant, and gives the number that comes next.
+// Declares a constant, and returns the next number.
 #[tactic(auto, using(cs_scopes::proofs::Lifting::lifts))]
 fn declare_constant(
     alloc: Global,
@@ -58,7 +58,7 @@ fn declare_constant(
     Ok(number + 1)
 }
 
-// Declares constants, each with the number that it says, or with one more than the one before it. Gives the number that comes next.
+// Declares constants, each with its written number, or with one more than the constant before it. Returns the next number.
 fn declare_constants(
     alloc: Global,
     known: &mut Environment,
@@ -76,7 +76,7 @@ fn declare_constants(
     Ok(next)
 }
 
-/// The type that the body of an enum names, at the place of its tag: the tag is new, and known after the body.
+/// Returns the type of the body of an enum at the position of its tag, which is new, and known after the body.
 #[tactic(auto, using(cs_scopes::proofs::Lifting::lifts))]
 pub fn enum_body(
     alloc: Global,

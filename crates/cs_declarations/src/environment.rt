@@ -18,18 +18,18 @@ use cs_scopes::{Context, Declaration, Meaning, Tag, TagMeaning, TypeCode, TypeRe
 use cs_types::{CType, StructType, members_of};
 use std::alloc::{AllocError, Global};
 
-/// The structs, the tags, the declarations in force and the string literals before a point of a file.
+/// The structs, the tags, the declarations in scope and the string literals before a point of a file.
 #[derive(Drop)]
 pub struct Environment {
     pub context: Context,
     /// The structs whose bodies are being read, the innermost last.
     pub reading: Vec<u32>,
-    /// How many declarations stand around the innermost scope.
+    /// How many declarations precede the innermost scope.
     pub outer: usize,
     pub literals: Vec<Bytes>,
 }
 
-/// Where a scope began, and where the one around it did.
+/// Where a scope began, and where the enclosing one did.
 #[derive(Clone, Copy)]
 pub struct ScopeSnapshot {
     pub declarations: usize,
@@ -59,7 +59,7 @@ impl Environment {
             .is_declared_since(name, self.outer)
     }
 
-    /// What a name was declared as in the innermost scope.
+    /// Returns the meaning that a name was declared with in the innermost scope.
     pub fn meaning_here(&self, name: &Name) -> Option<&Meaning>
         ensures { option_map meaning_of (option_copied result)
             ≡ meaning_here name.now (environment_of self.now) }
@@ -84,7 +84,7 @@ impl Environment {
         around
     }
 
-    /// Ends the scope that began there: what it declared is not in force any longer.
+    /// Ends the scope that began there: its declarations are no longer in scope.
     pub fn leave(&mut self, around: ScopeSnapshot)
         ensures { environment_of self.new ≡ left_to (snapshot around) (environment_of self.old) }
     {
@@ -92,14 +92,14 @@ impl Environment {
         self.outer = around.outer;
     }
 
-    // A number of structs.
+    // The number of structs.
     fn number_of_structs(&self) -> Result<u32, AllocError>
         ensures { IfOk result (λ number. number ≡ length (table_of (environment_of self.now))) }
     {
         u32::try_from(self.context.table.list.as_slice().len()).map_err(|_| AllocError)
     }
 
-    /// Adds a struct of this name without members, and gives its number.
+    /// Adds a struct of this name without members, and returns its number.
     pub fn add_struct(&mut self, name: Name) -> Result<u32, AllocError>
         ensures number { IfOk result (λ number.
             number ≡ length (table_of (environment_of self.old))) }
@@ -116,7 +116,7 @@ impl Environment {
         Ok(number)
     }
 
-    /// Adds a struct of this tag, which is new, and gives its number.
+    /// Adds a struct with this tag, which is new, and returns its number.
     pub fn add_tagged_struct(&mut self, tag: &Name) -> Result<u32, AllocError>
         requires { tag_in (environment_of self.old) tag.now ≡ None }
         ensures number { IfOk result (λ number.
@@ -139,7 +139,7 @@ impl Environment {
         self.context.scope.tags.add(Tag { name, meaning })
     }
 
-    /// Whether a struct has a body, or one of it is being read.
+    /// Whether a struct has a body, or a body of it is being read.
     pub fn has_body(&self, number: u32) -> bool
         ensures { result ≡ (is_among number (environment_of self.now).reading
             || is_some (members_of (table_of (environment_of self.now)) number)) }
@@ -154,7 +154,7 @@ impl Environment {
         self.reading.iter().any(|other| *other == number)
     }
 
-    /// Gives a struct the members of its body, which is no longer being read.
+    /// Gives a struct the members of its body, which has been read.
     pub fn complete_struct(
         &mut self,
         alloc: Global,
@@ -177,7 +177,7 @@ impl Environment {
         Ok(())
     }
 
-    // Declares a name of a typedef (C11 6.7.8).
+    // Declares a typedef name (C11 6.7.8).
     #[tactic(auto, using(cs_scopes::proofs::Lifting::lifts))]
     fn declare_typedef(
         &mut self,
@@ -196,7 +196,7 @@ impl Environment {
         Ok(())
     }
 
-    /// Declares the names of a typedef, after whose words stands a type.
+    /// Declares the typedef names of these declarators; `base` is the type of the specifiers.
     pub fn declare_typedefs(
         &mut self,
         alloc: Global,
@@ -216,7 +216,7 @@ impl Environment {
     }
 }
 
-// The name in the table of a struct with or without a tag.
+// The name that a struct has in the table: its tag, or the empty name.
 fn name_or_none(alloc: Global, tag: &Option<Name>) -> Result<Name, AllocError>
     ensures { IfOk result (λ name. name ≡ name_or_none tag.now) }
 {

@@ -11,7 +11,7 @@ use cs_ast::raw::expression::RawExprKind;
 use cs_scopes::{Parts, parts_of};
 use cs_types::{CType, IntType, StructTable};
 
-// Whether the type is one of characters, whose arrays take texts.
+// Whether the type is a character type, whose arrays string literals can initialize.
 fn is_character(ty: &CType) -> bool
     ensures { result ≡ is_character (shape_of ty.now) }
 {
@@ -21,7 +21,7 @@ fn is_character(ty: &CType) -> bool
     }
 }
 
-// Whether an expression has the form that the type asks for.
+// Whether an expression has the form that the type requires.
 fn takes_expression(storage: Storage, ty: &CType, tree: &RawExprKind) -> bool
     ensures { result ≡ takes_expression (view.storage storage) (shape_of ty.now) tree.now }
 {
@@ -35,7 +35,7 @@ fn takes_expression(storage: Storage, ty: &CType, tree: &RawExprKind) -> bool
     }
 }
 
-/// Whether a written initializer has the form that a type asks for, as far as its braces and the number of its items tell.
+/// Whether a written initializer has the form that a type requires, as far as its braces and the number of its items show.
 #[cycle(forms)]
 pub fn has_form(table: &StructTable, storage: Storage, ty: &CType, written: &RawInitial) -> bool
     ensures { result ≡ has_form table.now.list (view.storage storage) (shape_of ty.now)
@@ -50,7 +50,7 @@ pub fn has_form(table: &StructTable, storage: Storage, ty: &CType, written: &Raw
     }
 }
 
-// The same of each item of a list, of which there may be as many as parts.
+// The same for each item of a list, which may have as many items as there are parts.
 #[cycle(forms)]
 fn have_forms(table: &StructTable, storage: Storage, parts: Parts, items: &[RawInitial]) -> bool
     ensures { result ≡ list_has_forms table.now.list (view.storage storage) (types_of parts.entry)
@@ -66,9 +66,10 @@ fn have_forms(table: &StructTable, storage: Storage, parts: Parts, items: &[RawI
     true
 }
 
-/// How many elements a written initializer gives an array whose size isn't said: those of its list, or its text with the zero byte.
+/// Returns how many elements a written initializer gives an array without a size: those of its list, or of its string
+/// literal with the zero byte.
 ///
-/// Another expression has the wrong form for every array, so its answer is any size that is taken: 1.
+/// Another expression has the wrong form for every array, so that any supported size is right: 1.
 pub fn elements_given(written: &RawInitial) -> usize
     ensures { result ≡ elements_given written.now }
 {

@@ -1,4 +1,4 @@
-//! What objects hold at first (C11 6.7.9).
+//! The initial values of objects (C11 6.7.9).
 ghost use Rattle.std.specs.Prelude.{◌≡◌, IfOk, Err};
 ghost use Rattle.cs_types.specs.Shape.{shape_of};
 ghost use Rattle.cs_ast.specs.declared.place.Place.{Place as AnyPlace};
@@ -27,7 +27,8 @@ use cs_scopes::{Context, Parts, TypeCode, TypeRefusal, least, least_code, parts_
 use cs_types::{CType, StructTable};
 use std::alloc::{AllocError, Global};
 
-// An expression for something of a type: the text of an array is no literal of the program.
+// An expression that initializes something of a type: a string literal that initializes an array isn't one of the
+// program's literals.
 fn expression_read(
     alloc: Global,
     context: &Context,
@@ -47,7 +48,7 @@ fn expression_read(
     Ok(Initial::Value(value))
 }
 
-// The bytes of an expression that is a text.
+// The bytes of an expression that is a string literal.
 fn text_of(alloc: Global, tree: &RawExprKind) -> Result<Bytes, AllocError>
     ensures { IfOk result (λ text. text ≡ text_of tree.now) }
 {
@@ -57,7 +58,7 @@ fn text_of(alloc: Global, tree: &RawExprKind) -> Result<Bytes, AllocError>
     }
 }
 
-// The same for an item of a list, of which the `=` may say a code: that is joined to those of the items before.
+// The same for an item of a list. A code at the `=` for its value is joined to those of the items before.
 fn value_read(
     alloc: Global,
     context: &Context,
@@ -81,8 +82,8 @@ fn value_read(
     Ok(read)
 }
 
-// The values of an item of a form that the type asks for, in their order, not converted yet. The codes that the `=` says of them
-// are joined to those of the items before.
+// The values of an item of the form that the type requires, in their order, not converted yet. The codes at the `=` for
+// them are joined to those of the items before.
 #[cycle(initials)]
 fn item_read(
     alloc: Global,
@@ -114,7 +115,7 @@ fn item_read(
     }
 }
 
-// The same of each item of a list. After an item that is refused the others are read for what the `=` says of them.
+// The same for each item of a list. After an item that is refused, the others are only read for their codes at the `=`.
 #[cycle(initials)]
 fn items_read(
     alloc: Global,
@@ -165,7 +166,7 @@ fn unless_stopped(
     }
 }
 
-// A single value, of which the `=` may say a code: that is joined to one that it says whatever the value is.
+// A single value. A code at the `=` for it is joined to the one that is reported there whatever the value is.
 fn single_read(
     alloc: Global,
     context: &Context,
@@ -189,8 +190,8 @@ fn single_read(
     Ok(read)
 }
 
-// The values of an initializer of the right form, a single one or those of a list. The codes that the `=` says of them are joined to
-// one that it says whatever they are.
+// The values of an initializer of the right form: a single one, or those of a list. The codes at the `=` for them are
+// joined to the one that is reported there whatever they are.
 fn values_read(
     alloc: Global,
     context: &Context,
@@ -213,7 +214,7 @@ fn values_read(
     }
 }
 
-// The values of a whole initializer, unless the `=` says something of it: that counts before a value that is refused itself.
+// The values of a whole initializer, unless there is a code at the `=`: it is reported before a value that is refused.
 fn whole_read(
     alloc: Global,
     context: &Context,
@@ -232,7 +233,7 @@ fn whole_read(
     unless_fault(place, fault, read)
 }
 
-// What the `=` says of an initializer whatever its values are: that of a local stores few scalars.
+// The code at the `=` that doesn't depend on the values: the initializer of a local may only store few scalars.
 fn scalar_limit(
     table: &StructTable,
     storage: Storage,
@@ -254,7 +255,7 @@ fn scalar_limit(
     }
 }
 
-// The refusal of a wrong form: of its code and of what the `=` says of the items of a list that have types the least counts.
+// The refusal of a wrong form: the least of its code and the codes at the `=` for the items of a list that have types.
 fn form_refused(
     alloc: Global,
     context: &Context,
@@ -277,7 +278,7 @@ fn form_refused(
     Err(TypeRefusal::Code(TypeCode::Initializer, place))
 }
 
-// What is read after a place, unless a code holds at the place.
+// What is read after a position, unless there is a code at the position.
 fn unless_fault(
     place: Place,
     fault: Option<TypeCode>,
@@ -295,7 +296,7 @@ fn unless_fault(
     }
 }
 
-/// The initializer after an `=`: its form, its values in their order, and what the `=` asks of them.
+/// Types the initializer after an `=`: its form, its values in their order, and their conversions, reported at the `=`.
 pub fn initial_typed(
     alloc: Global,
     context: &Context,

@@ -1,4 +1,4 @@
-//! What the `=` of a declaration asks of the values after it (C11 6.7.9, paragraph 11).
+//! What the `=` of a declaration requires of the values after it (C11 6.7.9, paragraph 11).
 ghost use Rattle.std.specs.Prelude.{◌≡◌};
 ghost use Rattle.cs_types.specs.Shape.{shape_of};
 ghost use Rattle.cs_ast.specs.declared.place.Place.{Place as AnyPlace};
@@ -18,7 +18,7 @@ use cs_scopes::{Context, Parts, TypeCode, TypeRefusal, least, parts_of};
 use cs_types::CType;
 use std::alloc::Global;
 
-// A value converted to the type of what holds it, if an object that stands there may hold it.
+// A value converted to the type of its object, if an object of this storage may hold it.
 fn value_judged(
     alloc: Global,
     context: &Context,
@@ -39,8 +39,8 @@ fn value_judged(
     }
 }
 
-// Whether a value for an item of a list stands for the first member of a struct whose own braces are omitted: it is no struct
-// itself.
+// Whether a value for an item of a list, not a struct itself, initializes the first member of a struct whose braces are
+// omitted.
 fn is_braceless(ty: &CType, value: &CType) -> bool
     ensures { result ≡ is_braceless (shape_of ty.now) (shape_of value.now) }
 {
@@ -51,7 +51,7 @@ fn is_braceless(ty: &CType, value: &CType) -> bool
     }
 }
 
-/// The code that the `=` says of a value, if it says one. A conversion keeps a constant constant.
+/// Returns the code at the `=` for a value, if it is wrong. A conversion keeps a constant constant.
 pub fn value_fault(
     context: &Context,
     storage: Storage,
@@ -68,7 +68,7 @@ pub fn value_fault(
     }
 }
 
-/// The same of the value of an item of a list.
+/// Returns the same for the value of an item of a list.
 pub fn item_fault(context: &Context, storage: Storage, ty: &CType, value: &Expr) -> Option<TypeCode>
     ensures { (at : AnyPlace) → result ≡ code_in (item_judged context.now.model
         (view.storage storage) at (shape_of ty.now) (typed value.now)) }
@@ -79,7 +79,7 @@ pub fn item_fault(context: &Context, storage: Storage, ty: &CType, value: &Expr)
     value_fault(context, storage, ty, value)
 }
 
-// What the `=` says of an item of a list.
+// An item of a list, converted and checked at the `=`.
 #[cycle(judging)]
 fn part_judged(
     alloc: Global,
@@ -111,7 +111,7 @@ fn part_judged(
     }
 }
 
-// The same of each item: where several are wrong, the least code is reported.
+// The same for each item: if several are wrong, the least code is reported.
 #[cycle(judging)]
 fn parts_judged(
     alloc: Global,
@@ -145,7 +145,7 @@ fn parts_judged(
     }
 }
 
-/// What the `=` says of a whole initializer.
+/// Returns a whole initializer, converted and checked at the `=`, or the code there.
 pub fn judged(
     alloc: Global,
     context: &Context,

@@ -1,4 +1,4 @@
-//! Members of structs, one after another (C11 6.7.2.1).
+//! The layout of members of structs, one after another (C11 6.7.2.1).
 ghost use Rattle.std.specs.Prelude.{◌≡◌};
 ghost use Rattle.cs_types.specs.Shape.{shape_of};
 ghost use Rattle.cs_scopes.specs.Verdicts.{Answers};
@@ -16,7 +16,7 @@ use cs_types::{
 };
 use std::alloc::Global;
 
-/// The members of a struct so far, with the bytes and the alignment that they need.
+/// The members of a struct so far, with their size and alignment in bytes.
 #[derive(Drop)]
 pub struct Laying {
     pub members: Members,
@@ -51,7 +51,7 @@ fn has_member(members: &Members, name: &Name) -> bool
 }
 
 impl Laying {
-    // One more member, whose type is complete.
+    // Appends a member, whose type has to be complete.
     #[tactic(auto, using(cs_scopes::proofs::Lifting::lifts))]
     fn add(
         &mut self,
@@ -73,7 +73,7 @@ impl Laying {
         }
     }
 
-    // A member of so many bytes with this alignment, after the others.
+    // Appends a member of this size and alignment in bytes.
     fn put(
         &mut self,
         place: Place,
@@ -97,7 +97,7 @@ impl Laying {
     }
 }
 
-// What a member's declarator adds, after whose words stands a type: its name is new in the struct.
+// Appends the member of a declarator, whose name is new in the struct; `base` is the type of the specifiers.
 #[tactic(auto, using(cs_scopes::proofs::Lifting::lifts))]
 fn add_member(
     alloc: Global,
@@ -116,7 +116,7 @@ fn add_member(
     so_far.add(context, declarator.place, &declarator.name, ty)
 }
 
-/// What the declarators of members add, after whose words stands a type.
+/// Appends the members of declarators; `base` is the type of the specifiers.
 pub fn add_members(
     alloc: Global,
     context: &Context,

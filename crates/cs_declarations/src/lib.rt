@@ -1,4 +1,4 @@
-//! The typing of declarations (C11 6.7): types with their bodies, declarators, parameters, and what objects hold at first.
+//! The typing of declarations (C11 6.7): types with their bodies, declarators, parameters, and initializers.
 #![tactic(auto)]
 
 mod bodies;

@@ -11,7 +11,7 @@ use cs_scopes::{Context, TypeRefusal, complete_at};
 use cs_types::CType;
 use std::alloc::Global;
 
-// How many elements stand after an `=`.
+// How many elements the initializer after an `=` gives.
 fn count_given(first: &Option<RawFirstValue>) -> Option<usize>
     ensures { result ≡ count_given first.now }
 {
@@ -21,7 +21,7 @@ fn count_given(first: &Option<RawFirstValue>) -> Option<usize>
     }
 }
 
-/// The type of a declared object, which is complete (C11 6.7, paragraph 7).
+/// Returns the type of a declared object, which has to be complete (C11 6.7, paragraph 7).
 #[tactic(auto, using(cs_scopes::proofs::Lifting::lifts))]
 pub fn object_type(
     alloc: Global,

@@ -19,15 +19,15 @@ use cs_scopes::{Context, Meaning, TypeCode, TypeRefusal, array_of, points_to_con
 use cs_types::CType;
 use std::alloc::{AllocError, Global};
 
-/// The type of a parameter, with how many elements the block after it has, where it was written with a bound.
+/// The type of a parameter, and, if it was written with a bound, how many elements the block has that it points to.
 #[derive(Drop)]
 pub struct Passed {
     pub ty: CType,
     pub block: Option<u64>,
 }
 
-/// Parameters so far, and for each whether a function without a body may write through it. The place of the first name that is
-/// declared a second time among them is kept, since the parameter has a type all the same.
+/// Parameters so far, and for each whether a function without a body may write through it. The position of the first
+/// name that is declared twice among them is kept, since that parameter has a type nevertheless.
 #[derive(Drop)]
 pub struct Head {
     pub parameters: Vec<Local>,
@@ -35,7 +35,7 @@ pub struct Head {
     pub twice: Option<Place>,
 }
 
-// The place of a parameter: its name, or its first token where it has none.
+// The position of a parameter: its name, or its first token if it has none.
 fn place_of(parameter: &RawParameter) -> Place
     ensures { result ≡ place_of parameter.now.place parameter.now.name }
 {
@@ -45,7 +45,7 @@ fn place_of(parameter: &RawParameter) -> Place
     }
 }
 
-// A parameter without bounds: arrays by a typedef are pointers too, and structs aren't taken.
+// A parameter without bounds: an array by a typedef becomes a pointer too, and structs aren't supported.
 fn plainly_passed(place: Place, ty: CType) -> Result<Passed, TypeRefusal>
     ensures { Answers passed_of (plainly_passed place (shape_of ty)) result }
 {
@@ -59,7 +59,7 @@ fn plainly_passed(place: Place, ty: CType) -> Result<Passed, TypeRefusal>
     }
 }
 
-// A pointer to elements in place of an array of them, whose size is said or isn't.
+// A pointer to elements in place of an array of them, which may have a size.
 #[tactic(auto, using(cs_scopes::proofs::Lifting::lifts))]
 fn array_passed(
     alloc: Global,
@@ -82,7 +82,7 @@ fn array_passed(
     }
 }
 
-// How a parameter with these bounds is passed, whose pointers make this type.
+// How a parameter with these bounds is passed; `base` is its type with the pointers.
 fn passed_as(
     alloc: Global,
     context: &Context,
@@ -101,7 +101,7 @@ fn passed_as(
     }
 }
 
-// How a parameter is passed whose pointers make this type.
+// How a parameter is passed; `base` is its type with the pointers.
 #[tactic(auto, using(cs_scopes::proofs::Lifting::lifts))]
 fn parameter_passed(
     alloc: Global,
@@ -131,7 +131,7 @@ fn may_write(parameter: &RawParameter, ty: &CType) -> bool
     is_pointer && !points_to_const(&parameter.specs, &parameter.pointers, &parameter.bounds)
 }
 
-// What is reported of a refusal after such a name: the name counts.
+// The refusal that is reported after a name that is declared twice: the name comes first.
 fn refused_after(twice: Option<Place>, refusal: TypeRefusal) -> TypeRefusal
     ensures { result ≡ refused_after twice refusal }
 {
@@ -144,7 +144,7 @@ fn refused_after(twice: Option<Place>, refusal: TypeRefusal) -> TypeRefusal
     }
 }
 
-// How a parameter is passed after such a name.
+// How a parameter is passed after a name that may be declared twice.
 fn passed_after(
     alloc: Global,
     context: &Context,
@@ -161,7 +161,7 @@ fn passed_after(
     }
 }
 
-// The type of the words of a parameter after such a name.
+// The type of the specifiers of a parameter after a name that may be declared twice.
 fn words_after(
     alloc: Global,
     known: &mut Environment,
@@ -178,7 +178,7 @@ fn words_after(
     }
 }
 
-// The place of the first name that is declared a second time, once one more parameter has a name.
+// The position of the first name that is declared twice, after one more parameter.
 fn twice_after(known: &Environment, parameter: &RawParameter, twice: Option<Place>) -> Option<Place>
     ensures { result ≡ twice_after parameter.now twice (environment_of known.now) }
 {
@@ -189,7 +189,7 @@ fn twice_after(known: &Environment, parameter: &RawParameter, twice: Option<Plac
     }
 }
 
-// Whether the parameter has a name that is declared in its scope already.
+// Whether the parameter has a name that its scope already has.
 fn is_declared(known: &Environment, parameter: &RawParameter) -> bool
     ensures { result ≡ not (is_free_name parameter.now.name (environment_of known.now)) }
 {
@@ -200,7 +200,7 @@ fn is_declared(known: &Environment, parameter: &RawParameter) -> bool
 }
 
 impl Head {
-    // A parameter after the others.
+    // Appends a parameter.
     #[tactic(auto, using(cs_scopes::proofs::Lifting::lifts))]
     fn add(
         &mut self,
@@ -219,7 +219,7 @@ impl Head {
         Ok(())
     }
 
-    // The same, with its type.
+    // Appends a parameter with its type.
     fn put(
         &mut self,
         alloc: Global,
@@ -251,7 +251,7 @@ impl Head {
     }
 }
 
-/// The parameters that stand between a function's parentheses, each known after its declarator.
+/// Returns the parameters between a function's parentheses, each of which is known after its declarator.
 pub fn parameters_typed(
     alloc: Global,
     known: &mut Environment,

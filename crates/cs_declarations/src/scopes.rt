@@ -1,4 +1,4 @@
-//! The declarations of a scope, apart from the scope: those of a function's parameters become those of its body.
+//! The declarations of a scope, taken out of it: those of a function's parameters become those of its body.
 ghost use Rattle.std.specs.Prelude.{◌≡◌, ◌++◌, map, drop, take, reverse, IfOk, OnOk};
 ghost use Rattle.cs_scopes.specs.Meanings.{declaration_of};
 ghost use Rattle.cs_declarations.specs.Environment.{declarations_of, with_declarations, left_to};
@@ -14,7 +14,7 @@ pub struct Inner {
     pub list: Vec<Declaration>,
 }
 
-// Takes the declarations after the first ones, of which there are `outer`, the innermost first.
+// Removes the declarations after the first `outer` ones, and returns them, the innermost first.
 #[tactic(auto, using(crate::proofs::ScopesApart::one_taken, crate::proofs::ScopesApart::kept, crate::proofs::ScopesApart::all_left, crate::proofs::ScopesApart::all_taken))]
 fn taken_after(
     alloc: Global,
@@ -48,7 +48,7 @@ fn declare_each(declarations: &mut Declarations, list: Vec<Declaration>) -> Resu
 }
 
 impl Environment {
-    /// Ends the scope that began there, and gives what it declared.
+    /// Ends the scope that began there, and returns its declarations.
     pub fn leave_with(&mut self, alloc: Global, around: ScopeSnapshot) -> Result<Inner, AllocError>
         ensures left { OnOk result (environment_of self.new
             ≡ left_to (snapshot around) (environment_of self.old)) }
@@ -62,7 +62,7 @@ impl Environment {
         Ok(Inner { list })
     }
 
-    /// Declares in the innermost scope what another one declared.
+    /// Declares in the innermost scope what another scope declared.
     pub fn declare_all(&mut self, inner: Inner) -> Result<(), AllocError>
         ensures { OnOk result (environment_of self.new
             ≡ with_declarations (declarations_of (environment_of self.old)

@@ -1,4 +1,4 @@
-//! The bounds of declarators, and the arrays that they make (C11 6.7.6.2).
+//! The bounds of declarators, and the arrays that they declare (C11 6.7.6.2).
 ghost use Rattle.std.specs.Prelude.{◌≡◌, List, Some, IfOk};
 ghost use Rattle.std.specs.Option.{option_map, option_or};
 ghost use Rattle.cs_types.specs.Shape.{shape_of};
@@ -15,14 +15,14 @@ use cs_scopes::{Context, TypeCode, TypeRefusal, array_of, arrayed, complete_at, 
 use cs_types::CType;
 use std::alloc::{AllocError, Global};
 
-/// What is declared: something of a type, or an array of these elements whose size isn't said.
+/// What is declared: something of a type, or an array of these elements without a size.
 #[derive(Drop)]
 pub enum Extent {
     Whole(CType),
     Unsized(CType),
 }
 
-// The size that a bound says, if it says one.
+// The size in a bound, if it has one.
 #[tactic(auto, using(cs_scopes::proofs::Lifting::lifts))]
 fn size_said(
     alloc: Global,
@@ -40,14 +40,14 @@ fn size_said(
     }
 }
 
-/// The sizes with which bounds count, the outermost first, and what is wrong with the first bound that is refused, which counts with 1.
+/// The sizes of bounds, the outermost first, and the code and position of the first bound that is refused, whose size counts as 1.
 #[derive(Drop)]
 pub struct Sizes {
     pub list: Vec<Option<i128>>,
     pub refused: Option<(TypeCode, Place)>,
 }
 
-/// The sizes with which bounds count.
+/// Returns the sizes of bounds.
 pub fn sizes_said(
     alloc: Global,
     context: &Context,
@@ -72,7 +72,7 @@ pub fn sizes_said(
     Ok(Sizes { list, refused })
 }
 
-// The first of what is wrong.
+// The first of two faults.
 fn first_of(before: Option<(TypeCode, Place)>, next: (TypeCode, Place)) -> Option<(TypeCode, Place)>
     ensures { result ≡ option_or before (Some next) }
 {
@@ -82,7 +82,7 @@ fn first_of(before: Option<(TypeCode, Place)>, next: (TypeCode, Place)) -> Optio
     }
 }
 
-/// Refuses what is declared at a name, if a bound after it is refused.
+/// Refuses what a name declares, if a bound after it is refused.
 pub fn bounds_taken(refused: Option<(TypeCode, Place)>) -> Result<(), TypeRefusal>
     ensures { Answers (λ _. tt) (bounds_taken refused) result }
 {
@@ -92,7 +92,7 @@ pub fn bounds_taken(refused: Option<(TypeCode, Place)>) -> Result<(), TypeRefusa
     }
 }
 
-// Sizes of which each has to be said.
+// The sizes in these bounds, of which each needs one.
 fn all_said(alloc: Global, place: Place, sizes: &[Option<i128>]) -> Result<Vec<i128>, TypeRefusal>
     ensures { Answers (λ numbers. numbers.items) (all_said place sizes.now) result }
 {
@@ -106,7 +106,7 @@ fn all_said(alloc: Global, place: Place, sizes: &[Option<i128>]) -> Result<Vec<i
     Ok(numbers)
 }
 
-/// What stands before bounds, if there are any, is complete.
+/// Returns the type before bounds, which has to be complete if there are any.
 pub fn bounded(
     context: &Context,
     place: Place,
@@ -121,7 +121,7 @@ pub fn bounded(
     }
 }
 
-/// What the elements of the outermost array are, after whose bound these stand.
+/// Returns the element type of the outermost array, whose bound is followed by these.
 #[tactic(auto, using(cs_scopes::proofs::Lifting::lifts))]
 pub fn element_of(
     alloc: Global,
@@ -136,7 +136,7 @@ pub fn element_of(
     arrayed(alloc, context.model, &context.table, place, base, &numbers)
 }
 
-// An array of a size that is said or isn't.
+// An array with or without a size.
 #[tactic(auto, using(cs_scopes::proofs::Lifting::lifts))]
 fn outermost(
     alloc: Global,
@@ -156,7 +156,7 @@ fn outermost(
     }
 }
 
-/// What a declarator at its name declares, whose pointers make this type.
+/// Returns what a declarator declares, at its name; `base` is its type with the pointers.
 pub fn extent_of(
     alloc: Global,
     context: &Context,
@@ -175,7 +175,7 @@ pub fn extent_of(
     }
 }
 
-/// A type whose size is said, or else that of so many elements.
+/// Returns the type of what is declared; an array without a size has `count` elements.
 pub fn filled(
     alloc: Global,
     context: &Context,
@@ -199,7 +199,8 @@ pub fn filled(
     }
 }
 
-/// The type that a declarator gives its name, after whose words stands a type; so many elements are given where its size isn't said.
+/// Returns the type that a declarator gives its name; `base` is the type of the specifiers. An array without a size has
+/// `count` elements.
 #[tactic(auto, using(cs_scopes::proofs::Lifting::lifts))]
 pub fn declarator_type(
     alloc: Global,

@@ -9,7 +9,7 @@ use cs_ast::raw::expression::RawExprKind;
 use cs_scopes::{Parts, few, parts_of, scalars_in};
 use cs_types::{CType, StructTable};
 
-// How many bytes an expression has that is a text.
+// The number of bytes of an expression that is a string literal.
 fn text_length(tree: &RawExprKind) -> u64
     ensures { result ≡ length (text_of tree.now) }
 {
@@ -19,7 +19,7 @@ fn text_length(tree: &RawExprKind) -> u64
     }
 }
 
-// The bytes that a text stores in an array of so many: with its zero byte where that fits.
+// The number of bytes that a string literal stores in an array of `count`: with its zero byte if that fits.
 fn bytes_stored(count: u64, bytes: u64) -> Option<u64>
     ensures { result ≡ bytes_stored count bytes }
 {
@@ -30,7 +30,7 @@ fn bytes_stored(count: u64, bytes: u64) -> Option<u64>
     }
 }
 
-// The scalars that a value stores.
+// The number of scalars that a value stores.
 fn value_stored(table: &StructTable, ty: &CType, tree: &RawExprKind) -> Option<u64>
     ensures { result ≡ value_stored table.now.list (shape_of ty.now) tree.now }
 {
@@ -40,7 +40,7 @@ fn value_stored(table: &StructTable, ty: &CType, tree: &RawExprKind) -> Option<u
     }
 }
 
-// How many scalars an initializer stores, if they are few; what it leaves out isn't counted.
+// How many scalars an initializer stores, if they are few; parts without an item aren't counted.
 #[cycle(stored)]
 fn stored(table: &StructTable, ty: &CType, written: &RawInitial) -> Option<u64>
     ensures { result ≡ stored table.now.list (shape_of ty.now) written.now }
@@ -54,7 +54,7 @@ fn stored(table: &StructTable, ty: &CType, written: &RawInitial) -> Option<u64>
     }
 }
 
-// The same of the items of a list.
+// The same for the items of a list.
 #[cycle(stored)]
 fn stored_parts(table: &StructTable, parts: Parts, items: &[RawInitial]) -> Option<u64>
     ensures { result ≡ list_stored table.now.list (types_of parts.entry) items.now }
@@ -71,7 +71,7 @@ fn stored_parts(table: &StructTable, parts: Parts, items: &[RawInitial]) -> Opti
     Some(all)
 }
 
-/// Whether an initializer stores so few scalars that one declaration may.
+/// Whether an initializer stores so few scalars that one declaration may store them.
 pub fn stores_few(table: &StructTable, ty: &CType, written: &RawInitial) -> bool
     ensures { result ≡ is_some (stored table.now.list (shape_of ty.now) written.now) }
 {

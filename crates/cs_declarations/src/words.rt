@@ -1,4 +1,4 @@
-//! The words of types among those before declarators (C11 6.7.2).
+//! The words of types among specifiers (C11 6.7.2).
 ghost use Rattle.std.specs.Prelude.{◌≡◌, option_copied};
 ghost use Rattle.cs_scopes.specs.TypeNames.{times, integer_type, whole_word};
 ghost use Rattle.cs_declarations.specs.Bodies.{plain_words, is_kind};
@@ -8,7 +8,7 @@ use cs_ast::raw::written_type::{IntegerWord, TypeWord};
 use cs_scopes::{IntegerWords, is_word};
 use cs_types::IntType;
 
-// How often a word of an integer type stands among these.
+// How often a word of an integer type occurs among these.
 #[tactic(auto, using(crate::proofs::PlainWords::times_plain))]
 fn times(kind: IntegerWord, words: &[SpecWord]) -> usize
     ensures { result ≡ times kind (plain_words words.now) }
@@ -16,7 +16,7 @@ fn times(kind: IntegerWord, words: &[SpecWord]) -> usize
     words.iter().filter(|word| is_kind(kind, word)).count()
 }
 
-// Whether the word is this one of an integer type.
+// Whether the word is this word of an integer type.
 fn is_kind(kind: IntegerWord, word: &SpecWord) -> bool
     ensures { result ≡ is_kind kind word.now }
 {
@@ -26,7 +26,7 @@ fn is_kind(kind: IntegerWord, word: &SpecWord) -> bool
     }
 }
 
-/// The integer type that words name.
+/// Returns the integer type that words name.
 #[tactic(auto, unfolding(cs_scopes::specs::TypeNames::integer_type))]
 pub fn integer_type(words: &[SpecWord]) -> IntType
     ensures { result ≡ integer_type (plain_words words.now) }
@@ -41,7 +41,7 @@ pub fn integer_type(words: &[SpecWord]) -> IntType
     counts.named()
 }
 
-/// The word that names a whole type, if one does.
+/// Returns the word that names a type that isn't an integer type, if there is one.
 pub fn whole_word(words: &[SpecWord]) -> Option<&TypeWord>
     ensures { option_copied result ≡ whole_word (plain_words words.now) }
 {

@@ -1,4 +1,4 @@
--- How arguments come to their parameters, from the last to the first: for the loop that converts them.
+-- The conversions of arguments to the types of their parameters, from the last to the first: for the loop that converts them.
 use Rattle.std.proofs.Common.{◌≡◌, ◌≢◌, ℕ, suc, ◌+◌, ◌<◌, List, [], ◌∷◌, ◌++◌, length, map, drop, get_or, reverse, drop-cons}
 use Rattle.std.proofs.Common.{add-one, append_assoc, Option, Some, None, refl, sym, ap, ◌∙◌}
 use Rattle.std.specs.Prelude.{◌==◌, Bool, true, false}

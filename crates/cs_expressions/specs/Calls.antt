@@ -22,17 +22,17 @@ use Rattle.cs_folding.specs.TypedParts.{type_of}
 use Rattle.cs_expressions.specs.Conversions.{converted}
 use Rattle.cs_scopes.specs.Scopes.{newest}
 
--- the type to which a value goes, if one is asked for
+-- the type that a value is assigned or converted to, if there is one
 abbrev pub shape_in : Option (Bor CType) → Option Shape
 shape_in (Some ty) = Some (shape_of ty.now)
 shape_in None = None
 
--- the function that a name stands for
+-- the function that a name declares, if it declares one
 abbrev pub function_in : Option Meaning → Option Signature
 function_in (Some (Function f)) = Some f
 function_in other = None
 
--- the function that is called: its name alone, in parentheses or not
+-- the function that a call names, whether its name is in parentheses or not
 abbrev pub called : List Declaration → RawExprKind → Option Signature
 called declarations (kind.Name name) = function_in (newest name declarations)
 called declarations (kind.Parenthesis' place p inner) = called declarations inner
@@ -43,19 +43,19 @@ abbrev pub parameters_of : Option Signature → List Shape
 parameters_of (Some f) = f.parameters
 parameters_of None = []
 
--- the function gives a block of memory
+-- the function allocates memory
 abbrev pub allocates : Callee → Bool
 allocates callee.Malloc = true
 allocates callee.Calloc = true
 allocates other = false
 
--- what a call's result goes to is a pointer
+-- the call's result is assigned or converted to a pointer
 abbrev pub is_pointer_target : Option Shape → Bool
 is_pointer_target (Some (pointer target)) = true
 is_pointer_target other = false
 
--- what a call's place says of the number of arguments and of what the result goes to (C11 6.5.2.2, paragraph 2): a block of memory
--- goes to a pointer
+-- what is wrong with the number of arguments, or with the target of an allocation, which has to be a pointer; both are reported at
+-- the call (C11 6.5.2.2, paragraph 2)
 unfoldable pub call_fault : Option Shape → ℕ → Signature → Option TypeCode
 call_fault target count f =
     if length f.parameters == count
@@ -76,12 +76,12 @@ converted_list model at (ty ∷ types) NoMore = Fine NoMore
 converted_list model at (ty ∷ types) (Further e others) =
     before_others at (converted model at e ty (type_of e)) (converted_list model at types others)
 
--- the elements of a block after a pointer to a type: after `void *` they are bytes
+-- the element type of a block that is allocated for a pointer to a type: bytes for `void *`
 abbrev pub block_of : Shape → Shape
 block_of void = integer UChar
 block_of ty = ty
 
--- a block of memory for a pointer
+-- an allocated block, typed by the pointer that it is assigned to
 abbrev pub allocated : Place → Allocator → TypedList → Option Shape → Verdict Typed
 allocated at allocator arguments (Some (pointer target)) = Fine (Of at (pointer target) (Allocate allocator arguments (block_of target)))
 allocated at allocator arguments other = Fault code.NoTarget at
@@ -91,7 +91,7 @@ abbrev pub freed : Place → TypedList → Verdict Typed
 freed at (Further e NoMore) = Fine (Of at void (Free e))
 freed at arguments = Fault code.ArgumentCount at
 
--- a call of a function with its arguments
+-- a call of a function with its arguments, by what is called and the type of its result
 abbrev pub call_by : Place → Option Shape → Callee → Shape → TypedList → Verdict Typed
 call_by at target (callee.Numbered number) ty arguments = Fine (Of at ty (Call number arguments))
 call_by at target callee.Malloc ty arguments = allocated at Malloc arguments target

@@ -17,11 +17,11 @@ abbrev pub is_integer : IntType → Shape → Bool
 is_integer ty (integer other) = place_of ty == place_of other
 is_integer ty other = false
 
--- an integer converted to a type by what stands at a place; one of that type stays as it is
+-- an integer converted to a type at a position; an integer of that type isn't changed
 abbrev pub in_type : Place → IntType → Typed → Typed
 in_type at ty e = if is_integer ty (type_of e) then e else Of at (integer ty) (Convert e)
 
--- two integers in their common type, with an operator between them (C11 6.3.1.8)
+-- an operator between two integers, which are converted to their common type (C11 6.3.1.8)
 unfoldable pub joined : DataModel → BinOp → Place → Typed → Typed → Shape → Shape → Verdict Typed
 joined model op at left right (integer s) (integer t) =
     let ty = common_type model s t in

@@ -12,7 +12,7 @@ use Rattle.cs_scopes.specs.Verdicts.{Verdict, Fine, Fault}
 use Rattle.cs_folding.specs.TypedParts.{type_of, place_in}
 use Rattle.cs_scopes.specs.Sizes.{bytes_in}
 
--- the expression is an lvalue: it names an object
+-- the expression is an lvalue: it designates an object
 abbrev pub is_object : Form → Bool
 is_object (Text literal) = true
 is_object (Local declaration) = true
@@ -23,11 +23,11 @@ is_object (MemberForm object offset) = true
 is_object (Arrow e offset) = true
 is_object other = false
 
--- a verdict on an expression that has to name an object, or else to have a value: one of type `void` does neither (C11 6.3.2.2)
+-- a verdict on an expression that must be an lvalue or have a value: one of type `void` does neither (C11 6.3.2.2)
 abbrev pub unless_void : Typed → Verdict Typed → Verdict Typed
 unless_void e v = if is_void (type_of e) then Fault code.VoidValue (place_in e) else v
 
--- a number of bytes, as `sizeof` gives it
+-- a number of bytes as a result of `sizeof`
 abbrev pub measure_of : DataModel → Place → Option ℕ → Verdict Typed
 measure_of model at (Some bytes) = Fine (Of at (integer (size_type_of model)) (Number (pos bytes)))
 measure_of model at None = Fault code.Size at
@@ -36,7 +36,7 @@ measure_of model at None = Fault code.Size at
 unfoldable pub measured : DataModel → List StructType → Place → Shape → Verdict Typed
 measured model table at ty = if is_complete table ty then measure_of model at (bytes_in model table ty) else Fault code.IncompleteType at
 
--- the value of an object of a type: a pointer to the first element of an array, and else what the object holds
+-- the value of an object of a type: for an array the pointer to its first element, else what the object holds
 unfoldable pub held : List StructType → Place → Typed → Shape → Verdict Typed
 held table at e (array element count) = Fine (Of at (pointer element) (Decay e))
 held table at e ty = if is_complete table ty then Fine (Of at ty (Load e)) else Fault code.IncompleteType at
@@ -45,6 +45,6 @@ held table at e ty = if is_complete table ty then Fine (Of at ty (Load e)) else 
 unfoldable pub valued : List StructType → Typed → Verdict Typed
 valued table (Of at ty form) = if is_object form then held table at (Of at ty form) ty else Fine (Of at ty form)
 
--- the value of an expression that has to have one (C11 6.3.2.2)
+-- the value of an expression that must have one (C11 6.3.2.2)
 unfoldable pub operand : List StructType → Typed → Verdict Typed
 operand table (Of at ty form) = if is_void ty then Fault code.VoidValue at else valued table (Of at ty form)

@@ -25,11 +25,11 @@ use Rattle.cs_types.specs.Kinds.{is_scalar, is_complete}
 use Rattle.cs_expressions.specs.Conversions.{Pair, null_at, pointers_met}
 use Rattle.cs_folding.specs.Folding.{is_null}
 
--- an `int` that is a truth value
+-- a node of type `int`, as truth values have
 abbrev pub int_at : Place → Form → Typed
 int_at at form = Of at (integer Int) form
 
--- two values in one type: integers in their common one, pointers as a comparison brings them together
+-- two values, converted to one type: integers to their common type, pointers as for a comparison
 unfoldable pub met : DataModel → Place → Typed → Typed → Shape → Shape → Verdict Pair
 met model at left right (integer s) (integer t) =
     let ty = common_type model s t in
@@ -58,7 +58,7 @@ ordered model op at left right (pointer t) (pointer s) =
     if same_shape t s then Fine (int_at at (Compare op left right)) else Fault code.OperandTypes at
 ordered model op at left right t s = Fault code.OperandTypes at
 
--- a pointer to elements of a type moved by a number of them (C11 6.5.6, paragraph 8)
+-- a pointer to elements of a type, moved by a number of them (C11 6.5.6, paragraph 8)
 unfoldable pub moved : List StructType → Place → Typed → Typed → Shape → Direction → Order → Verdict Typed
 moved table at e amount target direction order =
     if is_complete table target then Fine (Of at (pointer target) (Sum e amount direction order)) else Fault code.IncompleteType at
@@ -70,7 +70,7 @@ added model table at left right (pointer t) (integer s) = moved table at left ri
 added model table at left right (integer s) (pointer t) = moved table at right left t Forward AmountFirst
 added model table at left right t s = Fault code.OperandTypes at
 
--- how many elements lie between two pointers (C11 6.5.6, paragraph 9)
+-- the number of elements between two pointers (C11 6.5.6, paragraph 9)
 unfoldable pub apart : DataModel → List StructType → Place → Typed → Typed → Shape → Shape → Verdict Typed
 apart model table at left right t s =
     if same_shape t s then
@@ -121,7 +121,7 @@ combined model table infix_op.Remainder at left right = joined model bin.Rem at 
 abbrev pub chosen_pair : Place → Typed → Pair → Verdict Typed
 chosen_pair at test pair = Fine (Of at (type_of pair.left) (Choice test pair.left pair.right))
 
--- two types whose values a choice takes as they are: both `void`, or the same struct
+-- `?:` takes values of these types without conversion: both are `void`, or the same struct
 abbrev pub alike : Shape → Shape → Bool
 alike void void = true
 alike (struct n) (struct m) = n == m

@@ -1,4 +1,4 @@
--- Two expressions of the program that were brought to one type, seen as plain data.
+-- Two expressions that were converted to one type, without boxes.
 use Rattle.cs_ast.specs.TypedView.{typed}
 use Rattle.cs_expressions.specs.declared.operators.Pair.{Pair as Expressions}
 use Rattle.cs_expressions.specs.Conversions.{Pair}

@@ -1,4 +1,4 @@
--- Operators that name objects (C11 6.5.2.1, 6.5.2.3, 6.5.3.2).
+-- Operators that designate objects, and `&` (C11 6.5.2.1, 6.5.2.3, 6.5.3.2).
 use Rattle.std.specs.Prelude.{ℕ, if◌then◌else◌, List, Option, Some, None}
 use Rattle.cs_types.specs.declared.structs.StructType.{StructType}
 use Rattle.cs_types.specs.Layout.{members_of}
@@ -25,7 +25,7 @@ unfoldable pub through : Place → Typed → Shape → Verdict Typed
 through at e (pointer target) = if is_void target then Fault code.IncompleteType at else Fine (Of at target (Through e))
 through at e ty = Fault code.OperandTypes at
 
--- an element after a pointer
+-- an element, from a pointer and an index
 unfoldable pub element : List StructType → Place → Typed → Typed → Shape → Order → Verdict Typed
 element table at e number target order =
     if is_complete table target then Fine (Of at target (Index e number order)) else Fault code.IncompleteType at
@@ -36,7 +36,7 @@ indexed table at left right (pointer t) (integer s) = element table at left righ
 indexed table at left right (integer s) (pointer t) = element table at right left t AmountFirst
 indexed table at left right t s = Fault code.OperandTypes at
 
--- a member of an object, and of the object that a pointer points to
+-- a member of an object, or of the object that a pointer points to
 abbrev pub member_in : Place → Typed → Member → Verdict Typed
 member_in at e m = Fine (Of at m.ty (MemberForm e m.offset))
 
@@ -53,13 +53,12 @@ abbrev pub struct_after : Shape → Option ℕ
 struct_after (pointer target) = struct_number target
 struct_after other = None
 
--- a member of what has one, by the struct's number: a refusal is at the operator where there is none, and at the name for a member
--- that isn't there
+-- a member of the struct with a number: without a struct the refusal is at the operator, without such a member at the member's name
 abbrev pub member_by : List StructType → Place → Place → List ℕ → (Member → Verdict Typed) → Option ℕ → Verdict Typed
 member_by table at name_at name rule (Some number) = lift rule (member_found name_at name (members_of table number))
 member_by table at name_at name rule None = Fault code.OperandTypes at
 
--- a member of an expression, by the number of the struct that it is: it has to be an lvalue
+-- a member of an expression that has to be an lvalue, by the number of its struct
 abbrev pub object_member : List StructType → Place → Place → List ℕ → Typed → Option ℕ → Verdict Typed
 object_member table at name_at name e (Some number) =
     if is_object (form_of e) then member_by table at name_at name (member_in at e) (Some number) else Fault code.NotLvalue at

@@ -15,21 +15,21 @@ use Rattle.cs_scopes.specs.Meanings.{Meaning}
 use Rattle.cs_scopes.specs.Meanings as meaning
 use Rattle.cs_scopes.specs.Verdicts.{Verdict, Fine, Fault}
 
--- string literals by their numbers: the bytes of each
+-- string literals by number: the bytes of each
 abbrev pub Literals : Type 0
 Literals = List (List ℕ)
 
--- the greatest number of a type is at least this
+-- a type can represent a number: it is at most the type's greatest
 abbrev pub can_represent : DataModel → IntType → ℕ → Bool
 can_represent model ty n = int_le (pos n) (greatest_of model ty)
 
--- the first of some types that holds a number
+-- the first of some types that can represent a number
 abbrev pub first_representing : DataModel → ℕ → IntType → List IntType → IntType
 first_representing model n last [] = last
 first_representing model n last (ty ∷ types) = if can_represent model ty n then ty else first_representing model n last types
 
 -- the types of an integer constant in their order: with `u`, decimal, or neither, by the `l`s of its suffix (C11 6.4.4.1, paragraph 5);
--- the last one is taken where none before it holds the number
+-- the last one is taken if no type before it can represent the number
 abbrev pub unsigned_types : Length → List IntType
 unsigned_types size.Plain = int_type.UInt ∷ int_type.ULong ∷ []
 unsigned_types size.Long = int_type.ULong ∷ []
@@ -52,7 +52,7 @@ constant_type model k =
     else (if k.decimal then first_representing model k.value int_type.LLong (decimal_types k.length)
     else first_representing model k.value int_type.ULLong (other_types k.length))
 
--- a name (C11 6.5.1): a function's may only be called
+-- a name (C11 6.5.1): a function's name may only be called
 unfoldable pub named : Place → Option Meaning → Verdict Typed
 named at (Some (meaning.Constant n)) = Fine (Of at (integer int_type.Int) (Number n))
 named at (Some (meaning.Global number ty)) = Fine (Of at ty (Global number))
@@ -61,7 +61,7 @@ named at (Some (meaning.Function f)) = Fault code.FunctionName at
 named at (Some (meaning.Typedef ty)) = Fault code.UnknownName at
 named at None = Fault code.UnknownName at
 
--- a string literal, after those before it (C11 6.4.5, paragraph 6)
+-- a string literal, after the earlier ones (C11 6.4.5, paragraph 6)
 unfoldable pub text_at : Literals → Place → List ℕ → Verdict Typed
 text_at literals at bytes =
     if nat_le (length bytes) 65535 then Fine (Of at (array (integer int_type.Char) (length bytes + 1)) (Text (length literals))) else Fault code.Size at

@@ -33,7 +33,7 @@ is_stored_to e = is_object (form_of e) && not (is_array (type_of e))
 unfoldable pub assignable : Place → Typed → Verdict Typed
 assignable at e = unless_void e (if is_stored_to e then Fine e else Fault code.NotLvalue at)
 
--- what `=` asks of its left side besides: a complete type, of so few scalars that one store writes them
+-- what else `=` refuses in the type of its left side: it has to be complete, with so few scalars that one store writes them
 unfoldable pub assigned_fault : List StructType → Shape → Option TypeCode
 assigned_fault table ty =
     if not (is_complete table ty) then Some code.IncompleteType else (if has_few_scalars table ty then None else Some code.TooManyScalars)
@@ -54,34 +54,34 @@ is_shift Shl = true
 is_shift Shr = true
 is_shift other = false
 
--- an object of this type can be updated by an operator (C11 6.5.16.2)
+-- an object of a type that an operator can update (C11 6.5.16.2)
 unfoldable pub updatable_as : BinOp → Place → Typed → Shape → Verdict Typed
 updatable_as op at e (integer ty) = Fine e
 updatable_as op at e (pointer target) = if is_additive op then Fine e else Fault code.OperandTypes at
 updatable_as op at e ty = Fault code.OperandTypes at
 
--- the object of a compound assignment, and that of a step as far as both go
+-- the object of a compound assignment, or of a step, as far as both have the same rules
 unfoldable pub updatable : BinOp → Place → Typed → Verdict Typed
 updatable op at e = unless_void e (if is_stored_to e then updatable_as op at e (type_of e) else Fault code.NotLvalue at)
 
--- what a compound assignment or a step asks of its object besides: a pointer is moved by complete elements
+-- what else a compound assignment or a step refuses in the type of its object: a pointer can only be moved by complete elements
 unfoldable pub updated_fault : List StructType → Shape → Option TypeCode
 updated_fault table (pointer target) = if is_complete table target then None else Some code.IncompleteType
 updated_fault table ty = None
 
--- a verdict of a place at which a code may hold besides: the least code of the place counts
+-- a verdict at a position that may have another fault: the least code at the position is reported
 abbrev pub weighed : Place → Option TypeCode → Verdict Typed → Verdict Typed
 weighed at None v = v
 weighed at (Some code) (Fine e) = Fault code at
 weighed at (Some code) (Fault other place) = Fault (lesser code other) at
 
--- a verdict on what comes after a place at which a code may hold: the earlier place counts where both fail
+-- a verdict on what follows a position that may have a fault: if both fail, the earlier position is reported
 abbrev pub led : Place → Option TypeCode → Verdict Typed → Verdict Typed
 led at None v = v
 led at (Some first) (Fine e) = Fine e
 led at (Some first) (Fault code place) = Fault first at
 
--- an object that a step can move, where the step itself finds nothing else to refuse
+-- an object that a step can move, if the step has no other fault
 abbrev pub moved_by_step : List StructType → Place → Typed → Verdict Typed
 moved_by_step table at e = weighed at (updated_fault table (type_of e)) (Fine e)
 
@@ -89,7 +89,7 @@ moved_by_step table at e = weighed at (updated_fault table (type_of e)) (Fine e)
 unfoldable pub steppable : List StructType → BinOp → Place → Typed → Verdict Typed
 steppable table op at e = lift (moved_by_step table at) (updatable op at e)
 
--- the type in which a compound assignment works
+-- the type in which a compound assignment computes
 abbrev pub works_in : DataModel → BinOp → IntType → IntType → IntType
 works_in model op s t = if is_shift op then promoted model s else common_type model s t
 

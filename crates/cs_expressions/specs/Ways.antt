@@ -1,4 +1,4 @@
--- How a value comes to a type, and two values to one: what the parts of conversions answer to one another.
+-- How a value is converted to a type, and two values to one type, as the functions for conversions pass it to one another.
 use Rattle.cs_types.specs.Shape.{shape_of}
 use Rattle.cs_ast.specs.declared.place.Place.{Place}
 use Rattle.cs_ast.specs.TypedTree.{Typed, Of, Null, Convert}
@@ -12,7 +12,7 @@ use Rattle.cs_folding.specs.TypedParts.{type_of}
 use Rattle.cs_expressions.specs.Integers.{in_type}
 use Rattle.cs_expressions.specs.Conversions.{Pair}
 
--- a value that goes a way
+-- a value, converted in a way
 abbrev pub by_way : Place → Typed → Way → Verdict Typed
 by_way at e way.Kept = Fine e
 by_way at e (way.Integer ty) = Fine (in_type at ty e)
@@ -20,7 +20,7 @@ by_way at e (way.Null ty) = Fine (Of at (shape_of ty.now) Null)
 by_way at e (way.Convert ty) = Fine (Of at (shape_of ty.now) (Convert e))
 by_way at e (way.Refused why) = Fault why at
 
--- two values that meet
+-- two values, converted to one type in a way
 abbrev pub by_meeting : Place → Typed → Typed → Meeting → Verdict Pair
 by_meeting at left right (meeting.Integers ty) = Fine (record { left = in_type at ty left; right = in_type at ty right })
 by_meeting at left right meeting.Kept = Fine (record { left = left; right = right })

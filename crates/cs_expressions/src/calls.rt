@@ -17,7 +17,7 @@ use cs_scopes::{Callee, DeclaredFunction, Meaning, Scope, TypeCode, TypeRefusal,
 use cs_types::{CType, DataModel, IntType};
 use std::alloc::{AllocError, Global};
 
-/// The function that is called: its name alone, in parentheses or not.
+/// Returns the function that a call names, whether its name is in parentheses or not.
 pub fn called<'a>(scope: &'a Scope, function: &RawExpr) -> Option<&'a DeclaredFunction>
     ensures { option_map signature_of (option_copied result)
         ≡ called scope.now.declarations function.now.kind.value }
@@ -29,7 +29,7 @@ pub fn called<'a>(scope: &'a Scope, function: &RawExpr) -> Option<&'a DeclaredFu
     }
 }
 
-// The function that a name stands for.
+// The function that a name declares, if it declares one.
 fn function_in(meaning: Option<&Meaning>) -> Option<&DeclaredFunction>
     ensures { option_map signature_of (option_copied result)
         ≡ function_in (option_map meaning_of (option_copied meaning.entry)) }
@@ -40,7 +40,7 @@ fn function_in(meaning: Option<&Meaning>) -> Option<&DeclaredFunction>
     }
 }
 
-// Whether the function gives a block of memory.
+// Whether the function allocates memory.
 fn allocates(callee: Callee) -> bool
     ensures { result ≡ allocates callee }
 {
@@ -50,7 +50,7 @@ fn allocates(callee: Callee) -> bool
     }
 }
 
-// Whether what a call's result goes to is a pointer.
+// Whether the call's result is assigned or converted to a pointer.
 fn is_pointer_target(target: Option<&CType>) -> bool
     ensures { result ≡ is_pointer_target (shape_in target.entry) }
 {
@@ -60,7 +60,8 @@ fn is_pointer_target(target: Option<&CType>) -> bool
     }
 }
 
-/// What a call's place says of the number of arguments, and of what the result goes to: an allocation goes to a pointer.
+/// Returns what is wrong with the number of arguments, or with the target of an allocation, which has to be a
+/// pointer. Both are reported at the call.
 #[tactic(auto, unfolding(crate::specs::Calls::call_fault))]
 pub fn call_fault(
     target: Option<&CType>,
@@ -78,7 +79,8 @@ pub fn call_fault(
     None
 }
 
-/// The values of arguments, each converted to the type of its parameter. Of those that can't be, the least code is reported.
+/// Converts arguments to the types of their parameters. Of the codes of those that can't be converted, the least
+/// is reported.
 pub fn converted_list(
     alloc: Global,
     model: DataModel,
@@ -108,7 +110,7 @@ pub fn converted_list(
     }
 }
 
-// The elements of a block after a pointer to a type: after `void *` they are bytes.
+// The element type of a block that is allocated for a pointer to a type: bytes for `void *`.
 fn block_of(alloc: Global, target: &CType) -> Result<CType, AllocError>
     ensures { IfOk result (λ made. shape_of made ≡ block_of (shape_of target.now)) }
 {
@@ -118,7 +120,7 @@ fn block_of(alloc: Global, target: &CType) -> Result<CType, AllocError>
     }
 }
 
-// A block of memory for a pointer.
+// An allocated block, typed by the pointer that it is assigned to.
 fn allocated(
     alloc: Global,
     place: Place,
@@ -155,7 +157,7 @@ fn freed(alloc: Global, place: Place, mut arguments: Vec<Expr>) -> Result<Expr, 
     Ok(made)
 }
 
-/// A call of a function with its arguments.
+/// Returns a call of a function with its arguments.
 #[tactic(auto, unfolding(crate::specs::Calls::call_of))]
 pub fn call_of(
     alloc: Global,

@@ -1,4 +1,4 @@
-//! Conversions that an operator, a call or a cast asks for (C11 6.3, 6.5.4, 6.5.16.1).
+//! Conversions that an operator, a call or a cast requires (C11 6.3, 6.5.4, 6.5.16.1).
 ghost use Rattle.std.specs.Prelude.{◌≡◌, IfOk};
 ghost use Rattle.cs_types.specs.Shape.{Shape, shape_of, pointer};
 ghost use Rattle.cs_ast.specs.declared.place.Place.{Place as AnyPlace};
@@ -17,7 +17,7 @@ use cs_scopes::{TypeCode, TypeRefusal};
 use cs_types::{CType, DataModel, is_void};
 use std::alloc::Global;
 
-/// A value converted to a type as if by assignment, at the place of what asks for it (C11 6.5.16.1).
+/// Converts a value to a type as if by assignment, at the position of what requires it (C11 6.5.16.1).
 pub fn converted(
     alloc: Global,
     model: DataModel,
@@ -32,7 +32,7 @@ pub fn converted(
     go(alloc, place, value, way)
 }
 
-/// The code with which a value doesn't come to a type as if by assignment, if it doesn't.
+/// Returns the code of a value that can't be converted to a type as if by assignment.
 pub fn conversion_fault(model: DataModel, value: &Expr, target: &CType) -> Option<TypeCode>
     ensures { (at : AnyPlace)
         → result ≡ conversion_fault model at (shape_of target.now) (typed value.now) }
@@ -43,7 +43,7 @@ pub fn conversion_fault(model: DataModel, value: &Expr, target: &CType) -> Optio
     }
 }
 
-/// A value cast to a type (C11 6.5.4).
+/// Casts a value to a type (C11 6.5.4).
 pub fn recast(
     alloc: Global,
     model: DataModel,
@@ -58,7 +58,7 @@ pub fn recast(
     go(alloc, place, value, way)
 }
 
-// A value that comes to a type in a way.
+// A value converted in a way.
 fn go(alloc: Global, place: Place, value: Expr, way: Way) -> Result<Expr, TypeRefusal>
     ensures { Yields (by_way place (typed value) way.entry) result }
 {
@@ -81,7 +81,7 @@ fn go(alloc: Global, place: Place, value: Expr, way: Way) -> Result<Expr, TypeRe
     }
 }
 
-// How a value comes to a type as if by assignment.
+// How a value is converted to a type as if by assignment.
 #[tactic(auto, unfolding(crate::specs::Conversions::converted))]
 fn way<'a>(model: DataModel, value: &Expr, target: &'a CType) -> Way<'a>
     ensures { (at : AnyPlace)
@@ -98,7 +98,7 @@ fn way<'a>(model: DataModel, value: &Expr, target: &'a CType) -> Way<'a>
     }
 }
 
-// How an integer comes to a pointer type: only a null constant does.
+// How an integer is converted to a pointer type: only a null pointer constant can be.
 fn null_way<'a>(model: DataModel, value: &Expr, target: &'a CType) -> Way<'a>
     ensures { (at : AnyPlace) (to : Shape) → shape_of target.now ≡ pointer to
         → pointed_from_integer model at (typed value.now) to
@@ -111,7 +111,7 @@ fn null_way<'a>(model: DataModel, value: &Expr, target: &'a CType) -> Way<'a>
     }
 }
 
-// How a pointer comes to a pointer type, by what both point to.
+// How a pointer is converted to a pointer type, by the types that both point to.
 #[tactic(auto, unfolding(crate::specs::Conversions::pointed))]
 fn pointer_way<'a>(
     model: DataModel,
@@ -155,7 +155,7 @@ fn cast_way<'a>(model: DataModel, value: &Expr, target: &'a CType) -> Way<'a>
     }
 }
 
-// How a pointer is cast to a pointer type, by what both point to.
+// How a pointer is cast to a pointer type, by the types that both point to.
 #[tactic(auto, unfolding(crate::specs::Conversions::pointer_cast, cs_folding::specs::Folding::is_null_cast))]
 fn pointer_cast_way<'a>(
     model: DataModel,

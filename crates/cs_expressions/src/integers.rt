@@ -23,7 +23,7 @@ pub fn is_integer(ty: IntType, other: &CType) -> bool
     }
 }
 
-/// An integer converted to a type; one of that type stays as it is.
+/// Converts an integer to a type; an integer of that type isn't changed.
 pub fn in_type(alloc: Global, place: Place, ty: IntType, value: Expr) -> Result<Expr, AllocError>
     ensures { IfOk result (λ made. typed made ≡ in_type place ty (typed value)) }
 {
@@ -34,7 +34,7 @@ pub fn in_type(alloc: Global, place: Place, ty: IntType, value: Expr) -> Result<
     Ok(made)
 }
 
-/// Two integers in their common type, with an operator between them.
+/// Returns an operator between two integers, which are converted to their common type.
 #[tactic(auto, unfolding(crate::specs::Integers::joined))]
 pub fn joined(
     alloc: Global,
@@ -57,7 +57,7 @@ pub fn joined(
     Ok(made)
 }
 
-/// An integer shifted by another, each in its own promoted type.
+/// Returns a shift of an integer by another, each in its own promoted type.
 #[tactic(auto, unfolding(crate::specs::Integers::shifted))]
 pub fn shifted(
     alloc: Global,
@@ -81,7 +81,7 @@ pub fn shifted(
     Ok(made)
 }
 
-/// An integer in its promoted type.
+/// Returns an integer in its promoted type.
 #[tactic(auto, unfolding(crate::specs::Integers::raised))]
 pub fn raised(
     alloc: Global,
@@ -99,7 +99,7 @@ pub fn raised(
     Ok(made)
 }
 
-/// An operator on one integer in its promoted type.
+/// Returns an operator on one integer in its promoted type.
 #[tactic(auto, unfolding(crate::specs::Integers::turned))]
 pub fn turned(
     alloc: Global,

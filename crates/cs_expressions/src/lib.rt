@@ -1,4 +1,4 @@
-//! The types and the forms of expressions, made of the types of their operands (C11 6.5).
+//! The types and forms of expressions, made from those of their operands (C11 6.5).
 #![tactic(auto)]
 
 mod calls;

@@ -1,4 +1,4 @@
-//! The nodes of typed trees, each made of its parts.
+//! The nodes of typed trees, each made from its parts.
 ghost use Rattle.std.specs.Prelude.{◌≡◌, IfOk};
 ghost use Rattle.cs_types.specs.Shape.{shape_of, integer, pointer, void};
 ghost use Rattle.cs_types.specs.declared.int_type.IntType.TheVariants.{Int as PlainInt};
@@ -11,7 +11,7 @@ use cs_ast::typed::operator::{Allocator, BinOp, CmpOp, Direction, Gives, Order, 
 use cs_types::{CType, IntType};
 use std::alloc::{AllocError, Global};
 
-/// A number of an integer type.
+/// Returns a number of an integer type.
 pub fn number(alloc: Global, place: Place, ty: IntType, value: i128) -> Result<Expr, AllocError>
     ensures { IfOk result (λ made. typed made ≡ Of place (integer ty) (NumberForm value)) }
 {
@@ -22,7 +22,7 @@ pub fn number(alloc: Global, place: Place, ty: IntType, value: i128) -> Result<E
     })
 }
 
-/// The null pointer of a pointer type.
+/// Returns the null pointer of a pointer type.
 pub fn null(alloc: Global, place: Place, ty: &CType) -> Result<Expr, AllocError>
     ensures { IfOk result (λ made. typed made ≡ Of place (shape_of ty.now) NullForm) }
 {
@@ -34,7 +34,7 @@ pub fn null(alloc: Global, place: Place, ty: &CType) -> Result<Expr, AllocError>
     })
 }
 
-/// The type of pointers to a type.
+/// Returns the type of pointers to a type.
 pub fn pointer_to(alloc: Global, target: &CType) -> Result<CType, AllocError>
     ensures { IfOk result (λ made. shape_of made ≡ pointer (shape_of target.now)) }
 {
@@ -42,7 +42,7 @@ pub fn pointer_to(alloc: Global, target: &CType) -> Result<CType, AllocError>
     Ok(CType::Pointer(target))
 }
 
-/// A conversion to a type.
+/// Returns a conversion to a type.
 pub fn convert(alloc: Global, place: Place, ty: CType, value: Expr) -> Result<Expr, AllocError>
     ensures { IfOk result (λ made.
         typed made ≡ Of place (shape_of ty) (ConvertForm (typed value))) }
@@ -54,7 +54,7 @@ pub fn convert(alloc: Global, place: Place, ty: CType, value: Expr) -> Result<Ex
     })
 }
 
-/// The value that an object holds.
+/// Returns a load: the value of an object.
 pub fn load(alloc: Global, place: Place, ty: CType, object: Expr) -> Result<Expr, AllocError>
     ensures { IfOk result (λ made.
         typed made ≡ Of place (shape_of ty) (LoadForm (typed object))) }
@@ -66,7 +66,7 @@ pub fn load(alloc: Global, place: Place, ty: CType, object: Expr) -> Result<Expr
     })
 }
 
-/// The pointer to the first element of an array, of the type that is given.
+/// Returns the pointer to the first element of an array; `ty` is the pointer's type.
 pub fn decay(alloc: Global, place: Place, ty: CType, array: Expr) -> Result<Expr, AllocError>
     ensures { IfOk result (λ made.
         typed made ≡ Of place (shape_of ty) (DecayForm (typed array))) }
@@ -78,7 +78,7 @@ pub fn decay(alloc: Global, place: Place, ty: CType, array: Expr) -> Result<Expr
     })
 }
 
-/// The pointer to an object, of the type that is given.
+/// Returns the address of an object; `ty` is the pointer's type.
 pub fn address(alloc: Global, place: Place, ty: CType, object: Expr) -> Result<Expr, AllocError>
     ensures { IfOk result (λ made.
         typed made ≡ Of place (shape_of ty) (AddressForm (typed object))) }
@@ -90,7 +90,7 @@ pub fn address(alloc: Global, place: Place, ty: CType, object: Expr) -> Result<E
     })
 }
 
-/// The object that a pointer points to.
+/// Returns the object that a pointer points to.
 pub fn through(alloc: Global, place: Place, ty: CType, target: Expr) -> Result<Expr, AllocError>
     ensures { IfOk result (λ made.
         typed made ≡ Of place (shape_of ty) (ThroughForm (typed target))) }
@@ -102,7 +102,7 @@ pub fn through(alloc: Global, place: Place, ty: CType, target: Expr) -> Result<E
     })
 }
 
-/// An element, from a pointer and a number.
+/// Returns an element, from a pointer and an index.
 pub fn index(
     alloc: Global,
     place: Place,
@@ -121,7 +121,7 @@ pub fn index(
     })
 }
 
-/// The member of an object at an offset.
+/// Returns the member of an object at an offset.
 pub fn member(
     alloc: Global,
     place: Place,
@@ -139,7 +139,7 @@ pub fn member(
     })
 }
 
-/// The member of the object that a pointer points to at an offset.
+/// Returns the member at an offset of the object that a pointer points to.
 pub fn arrow(
     alloc: Global,
     place: Place,
@@ -157,7 +157,7 @@ pub fn arrow(
     })
 }
 
-/// An operator on one integer.
+/// Returns an operator on one integer.
 pub fn unary(
     alloc: Global,
     place: Place,
@@ -175,7 +175,7 @@ pub fn unary(
     })
 }
 
-/// Whether a value is 0 or null.
+/// Returns `!`: whether a value is 0 or null.
 pub fn not(alloc: Global, place: Place, operand: Expr) -> Result<Expr, AllocError>
     ensures { IfOk result (λ made.
         typed made ≡ Of place (integer PlainInt) (NotForm (typed operand))) }
@@ -187,7 +187,7 @@ pub fn not(alloc: Global, place: Place, operand: Expr) -> Result<Expr, AllocErro
     })
 }
 
-/// An operator between two integers of one type.
+/// Returns an operator between two integers of one type.
 pub fn binary(
     alloc: Global,
     place: Place,
@@ -206,7 +206,7 @@ pub fn binary(
     })
 }
 
-/// A comparison of two values of one type.
+/// Returns a comparison of two values of one type.
 pub fn compare(
     alloc: Global,
     place: Place,
@@ -225,7 +225,7 @@ pub fn compare(
     })
 }
 
-/// A pointer moved by a number of elements.
+/// Returns a pointer moved by a number of elements.
 pub fn sum(
     alloc: Global,
     place: Place,
@@ -246,7 +246,7 @@ pub fn sum(
     })
 }
 
-/// How many elements lie between two pointers.
+/// Returns the number of elements between two pointers.
 pub fn difference(
     alloc: Global,
     place: Place,
@@ -264,7 +264,7 @@ pub fn difference(
     })
 }
 
-/// `&&`.
+/// Returns `&&`.
 pub fn and(alloc: Global, place: Place, left: Expr, right: Expr) -> Result<Expr, AllocError>
     ensures { IfOk result (λ made.
         typed made ≡ Of place (integer PlainInt) (AndForm (typed left) (typed right))) }
@@ -276,7 +276,7 @@ pub fn and(alloc: Global, place: Place, left: Expr, right: Expr) -> Result<Expr,
     })
 }
 
-/// `||`.
+/// Returns `||`.
 pub fn or(alloc: Global, place: Place, left: Expr, right: Expr) -> Result<Expr, AllocError>
     ensures { IfOk result (λ made.
         typed made ≡ Of place (integer PlainInt) (OrForm (typed left) (typed right))) }
@@ -288,7 +288,7 @@ pub fn or(alloc: Global, place: Place, left: Expr, right: Expr) -> Result<Expr, 
     })
 }
 
-/// `?:`.
+/// Returns `?:`.
 pub fn choice(
     alloc: Global,
     place: Place,
@@ -307,7 +307,7 @@ pub fn choice(
     })
 }
 
-/// Two expressions one after the other.
+/// Returns `,`: two expressions, evaluated in order.
 pub fn comma(
     alloc: Global,
     place: Place,
@@ -325,7 +325,7 @@ pub fn comma(
     })
 }
 
-/// A value stored to an object.
+/// Returns an assignment of a value to an object.
 pub fn assign(
     alloc: Global,
     place: Place,
@@ -343,7 +343,7 @@ pub fn assign(
     })
 }
 
-/// An object updated by an operator that works in a type.
+/// Returns an update of an object by an operator that is computed in the type `works_in`.
 pub fn update(
     alloc: Global,
     place: Place,
@@ -368,7 +368,7 @@ pub fn update(
     })
 }
 
-/// A pointer object moved by a number of elements.
+/// Returns an update that moves a pointer object by a number of elements.
 pub fn shift(
     alloc: Global,
     place: Place,
@@ -389,7 +389,7 @@ pub fn shift(
     })
 }
 
-/// A call of `free`.
+/// Returns a call of `free`.
 pub fn free(alloc: Global, place: Place, block: Expr) -> Result<Expr, AllocError>
     ensures { IfOk result (λ made. typed made ≡ Of place void (FreeForm (typed block))) }
 {
@@ -400,7 +400,7 @@ pub fn free(alloc: Global, place: Place, block: Expr) -> Result<Expr, AllocError
     })
 }
 
-/// A call of a function of the program.
+/// Returns a call of a function of the program.
 pub fn call(
     alloc: Global,
     place: Place,
@@ -418,7 +418,7 @@ pub fn call(
     })
 }
 
-/// A block of memory for elements of a type, as a pointer.
+/// Returns an allocation of a block for elements of a type, as a pointer to it.
 pub fn allocate(
     alloc: Global,
     place: Place,

@@ -12,7 +12,7 @@ use cs_scopes::{TypeCode, TypeRefusal, bytes_in};
 use cs_types::{CType, DataModel, StructTable, is_complete, is_void, size_type};
 use std::alloc::Global;
 
-/// Whether the expression is an lvalue: whether it names an object.
+/// Whether the expression is an lvalue: it designates an object.
 pub fn is_object(kind: &ExprKind) -> bool
     ensures { result ≡ is_object (form kind.now) }
 {
@@ -24,7 +24,7 @@ pub fn is_object(kind: &ExprKind) -> bool
     }
 }
 
-/// `sizeof` of a type.
+/// Returns `sizeof` of a type.
 #[tactic(auto, unfolding(crate::specs::Objects::measured))]
 pub fn measured(
     alloc: Global,
@@ -47,7 +47,7 @@ pub fn measured(
     }
 }
 
-// The value of an object: a pointer to the first element of an array, and else what the object holds.
+// The value of an object: for an array the pointer to its first element, else what the object holds.
 #[tactic(auto, unfolding(crate::specs::Objects::held))]
 fn held(alloc: Global, table: &StructTable, object: Expr) -> Result<Expr, TypeRefusal>
     ensures { Yields (held table.now.list object.place (typed object) (shape_of object.ty)) result }
@@ -70,7 +70,7 @@ fn held(alloc: Global, table: &StructTable, object: Expr) -> Result<Expr, TypeRe
     }
 }
 
-/// The value of an expression.
+/// Returns the value of an expression.
 #[tactic(auto, unfolding(crate::specs::Objects::valued))]
 pub fn valued(alloc: Global, table: &StructTable, value: Expr) -> Result<Expr, TypeRefusal>
     ensures { Yields (valued table.now.list (typed value)) result }
@@ -82,7 +82,7 @@ pub fn valued(alloc: Global, table: &StructTable, value: Expr) -> Result<Expr, T
     }
 }
 
-/// The value of an expression that has to have one.
+/// Returns the value of an expression that must have one: its type isn't `void`.
 #[tactic(auto, unfolding(crate::specs::Objects::operand))]
 pub fn operand(alloc: Global, table: &StructTable, value: Expr) -> Result<Expr, TypeRefusal>
     ensures { Yields (operand table.now.list (typed value)) result }

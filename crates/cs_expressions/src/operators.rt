@@ -25,14 +25,14 @@ use cs_types::{
 };
 use std::alloc::{AllocError, Global};
 
-/// Two values in one type.
+/// Two values of one type.
 #[derive(Drop)]
 pub struct Pair {
     pub left: Expr,
     pub right: Expr,
 }
 
-// How two values come to one type.
+// How two values are converted to one type.
 #[tactic(auto, unfolding(crate::specs::Operators::met))]
 fn meeting(model: DataModel, left: &Expr, right: &Expr) -> Meeting
     ensures { (at : AnyPlace)
@@ -50,7 +50,7 @@ fn meeting(model: DataModel, left: &Expr, right: &Expr) -> Meeting
     }
 }
 
-// How two pointers come to one type, by what they point to.
+// How two pointers are converted to one type, by the types that they point to.
 #[tactic(auto, unfolding(crate::specs::Conversions::pointers_met))]
 fn pointer_meeting(
     model: DataModel,
@@ -80,7 +80,7 @@ fn pointer_meeting(
     }
 }
 
-// Two values in one type, by how they come to it.
+// Two values, converted to one type in a given way.
 fn meet(
     alloc: Global,
     place: Place,
@@ -119,7 +119,7 @@ fn meet(
     }
 }
 
-// Two values in one type.
+// Two values, converted to one type.
 fn met(
     alloc: Global,
     model: DataModel,
@@ -178,7 +178,7 @@ fn ordered(
     }
 }
 
-// A comparison of two integers in a type.
+// A comparison of two integers that are converted to a type.
 fn compare_in(
     alloc: Global,
     place: Place,
@@ -197,7 +197,7 @@ fn compare_in(
     Ok(made)
 }
 
-// A pointer moved by a number of elements, which have to be complete.
+// A pointer moved by a number of elements, whose type has to be complete.
 #[tactic(auto, unfolding(crate::specs::Operators::moved))]
 fn moved(
     alloc: Global,
@@ -250,7 +250,7 @@ fn added(
     }
 }
 
-// How many elements lie between two pointers.
+// The number of elements between two pointers.
 #[tactic(auto, unfolding(crate::specs::Operators::apart))]
 fn apart(
     alloc: Global,
@@ -302,7 +302,7 @@ fn subtracted(
     }
 }
 
-/// A value that is tested: an integer or a pointer.
+/// Returns a value that is tested, if it is an integer or a pointer.
 #[tactic(auto, unfolding(crate::specs::Operators::tested))]
 pub fn tested(place: Place, value: Expr) -> Result<Expr, TypeRefusal>
     ensures { Yields (tested place (typed value)) result }
@@ -314,7 +314,7 @@ pub fn tested(place: Place, value: Expr) -> Result<Expr, TypeRefusal>
     }
 }
 
-/// `!`.
+/// Returns `!`.
 #[tactic(auto, unfolding(crate::specs::Operators::denied))]
 pub fn denied(alloc: Global, place: Place, value: Expr) -> Result<Expr, TypeRefusal>
     ensures { Yields (denied place (typed value)) result }
@@ -352,7 +352,7 @@ fn either(alloc: Global, place: Place, left: Expr, right: Expr) -> Result<Expr, 
     Ok(made)
 }
 
-/// An operator between two values.
+/// Returns an operator between two values.
 #[tactic(auto, unfolding(crate::specs::Operators::combined))]
 pub fn combined(
     alloc: Global,
@@ -388,7 +388,7 @@ pub fn combined(
     }
 }
 
-/// `?:` of values.
+/// Returns `?:` of values.
 #[tactic(auto, unfolding(crate::specs::Operators::chosen))]
 pub fn chosen(
     alloc: Global,
@@ -409,7 +409,7 @@ pub fn chosen(
     }
 }
 
-// Whether a choice takes values of these types as they are: both `void`, or the same struct.
+// Whether `?:` takes values of these types without conversion: both are `void`, or the same struct.
 fn alike(one: &CType, other: &CType) -> bool
     ensures { result ≡ alike (shape_of one.now) (shape_of other.now) }
 {
@@ -420,7 +420,7 @@ fn alike(one: &CType, other: &CType) -> bool
     }
 }
 
-// A choice between two values that are brought to one type.
+// A choice between two values that are converted to one type.
 #[tactic(auto, using(cs_scopes::proofs::Lifting::lifts))]
 fn chosen_met(
     alloc: Global,
@@ -438,7 +438,7 @@ fn chosen_met(
     Ok(made)
 }
 
-// A choice between two values of the same type.
+// A choice between two values that need no conversion.
 fn chosen_alike(
     alloc: Global,
     place: Place,
@@ -455,7 +455,7 @@ fn chosen_alike(
     Ok(made)
 }
 
-// A choice between two values of one type.
+// A choice between the two values of a pair.
 fn chosen_pair(alloc: Global, place: Place, test: Expr, pair: Pair) -> Result<Expr, AllocError>
     ensures { IfOk result (λ made.
         chosen_pair place (typed test) (pair_of pair) ≡ Fine (typed made)) }
@@ -465,7 +465,7 @@ fn chosen_pair(alloc: Global, place: Place, test: Expr, pair: Pair) -> Result<Ex
     Ok(made)
 }
 
-/// Two values one after the other.
+/// Returns `,` of two values.
 pub fn followed(alloc: Global, place: Place, first: Expr, second: Expr) -> Result<Expr, TypeRefusal>
     ensures { Yields (followed place (typed first) (typed second)) result }
 {

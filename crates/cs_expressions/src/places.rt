@@ -1,4 +1,4 @@
-//! Operators that name objects (C11 6.5.2.1, 6.5.2.3, 6.5.3.2).
+//! Operators that designate objects, and `&` (C11 6.5.2.1, 6.5.2.3, 6.5.3.2).
 ghost use Rattle.std.specs.Prelude.{◌≡◌};
 ghost use Rattle.cs_types.specs.Shape.{Shape, shape_of, pointer};
 ghost use Rattle.cs_ast.specs.TypedView.{typed};
@@ -15,7 +15,7 @@ use cs_scopes::{TypeCode, TypeRefusal, member_of};
 use cs_types::{CType, StructTable, is_complete, is_void};
 use std::alloc::Global;
 
-/// `&`.
+/// Returns `&`.
 #[tactic(auto, unfolding(crate::specs::Places::address_of))]
 pub fn address_of(alloc: Global, place: Place, object: Expr) -> Result<Expr, TypeRefusal>
     ensures { Yields (address_of place (typed object)) result }
@@ -31,7 +31,7 @@ pub fn address_of(alloc: Global, place: Place, object: Expr) -> Result<Expr, Typ
     Ok(made)
 }
 
-/// Unary `*`.
+/// Returns unary `*`.
 #[tactic(auto, unfolding(crate::specs::Places::through))]
 pub fn through(alloc: Global, place: Place, value: Expr) -> Result<Expr, TypeRefusal>
     ensures { Yields (through place (typed value) (shape_of value.ty)) result }
@@ -47,7 +47,7 @@ pub fn through(alloc: Global, place: Place, value: Expr) -> Result<Expr, TypeRef
     Ok(made)
 }
 
-// An element after a pointer.
+// An element, from a pointer and an index.
 #[tactic(auto, unfolding(crate::specs::Places::element))]
 fn element(
     alloc: Global,
@@ -71,7 +71,7 @@ fn element(
     Ok(made)
 }
 
-/// A subscript.
+/// Returns a subscript.
 #[tactic(auto, unfolding(crate::specs::Places::indexed))]
 pub fn indexed(
     alloc: Global,
@@ -94,7 +94,7 @@ pub fn indexed(
     }
 }
 
-/// `.`.
+/// Returns `.`.
 #[tactic(auto, unfolding(crate::specs::Places::selected), using(cs_scopes::proofs::Lifting::lifts))]
 pub fn selected(
     alloc: Global,
@@ -121,7 +121,7 @@ pub fn selected(
     Ok(made)
 }
 
-/// `->`.
+/// Returns `->`.
 #[tactic(auto, unfolding(crate::specs::Places::selected_through), using(cs_scopes::proofs::Lifting::lifts))]
 pub fn selected_through(
     alloc: Global,
@@ -142,7 +142,7 @@ pub fn selected_through(
     Ok(made)
 }
 
-// The struct that a pointer points to.
+// The number of the struct that a pointer points to.
 fn struct_after(ty: &CType) -> Option<u32>
     ensures { result ≡ struct_after (shape_of ty.now) }
 {

@@ -16,17 +16,17 @@ use cs_scopes::{Meaning, TypeCode, TypeRefusal};
 use cs_types::{CType, DataModel, IntType, in_range};
 use std::alloc::{AllocError, Global};
 
-/// The most bytes of a string literal, without its zero byte.
+/// The greatest number of bytes of a string literal, without its zero byte.
 const LONGEST_TEXT: usize = 65535;
 
-// Whether a type holds a number.
+// Whether a type can represent a number.
 fn can_represent(model: DataModel, ty: IntType, number: u64) -> bool
     ensures { result ≡ can_represent model ty number }
 {
     in_range(model, ty, i128::from(number))
 }
 
-/// The type of an integer constant: the first of its list that holds it.
+/// Returns the type of an integer constant: the first type of its list that can represent it.
 #[tactic(auto, unfolding(crate::specs::Primary::constant_type))]
 pub fn constant_type(model: DataModel, constant: IntegerConstant) -> IntType
     ensures { result ≡ constant_type model constant }
@@ -81,7 +81,8 @@ fn other_type(model: DataModel, number: u64, length: Length) -> IntType
     }
 }
 
-/// What a name stands for, as an expression: a function's name may only be called.
+/// Returns the expression that a name declares: an object or an enumeration constant. A function's name may
+/// only be called.
 #[tactic(auto, unfolding(crate::specs::Primary::named))]
 pub fn named(alloc: Global, place: Place, meaning: Option<&Meaning>) -> Result<Expr, TypeRefusal>
     ensures { Yields (named place (option_map meaning_of (option_copied meaning.entry))) result }
@@ -106,7 +107,7 @@ pub fn named(alloc: Global, place: Place, meaning: Option<&Meaning>) -> Result<E
     }
 }
 
-/// A string literal, which takes the next number.
+/// Returns a string literal, which gets the next number.
 #[tactic(auto, unfolding(crate::specs::Primary::text_at))]
 pub fn text(
     alloc: Global,
@@ -130,7 +131,7 @@ pub fn text(
     })
 }
 
-// Puts a literal after the others and returns its number. More literals than there are numbers find no memory.
+// Appends a literal and returns its number. More literals than there are numbers count as running out of memory.
 fn add_literal(literals: &mut Vec<Bytes>, bytes: &Bytes) -> Result<u32, AllocError>
     ensures number { IfOk result (λ number. number ≡ length literals.old.items) }
     ensures added { OnOk result (literals.new.items ≡ literals.old.items ++ bytes.now ∷ []) }

@@ -29,7 +29,7 @@ fn is_stored_to(object: &Expr) -> bool
     is_object(&*object.kind) && !is_array(&object.ty)
 }
 
-/// The left side of `=`: an lvalue that isn't an array.
+/// Returns the left side of `=`, if it is an lvalue and not an array.
 #[tactic(auto, unfolding(crate::specs::Stores::assignable))]
 pub fn assignable(place: Place, object: Expr) -> Result<Expr, TypeRefusal>
     ensures { Yields (assignable place (typed object)) result }
@@ -43,7 +43,8 @@ pub fn assignable(place: Place, object: Expr) -> Result<Expr, TypeRefusal>
     Ok(object)
 }
 
-/// What `=` asks of the type of its left side besides: that it is complete, and has so few scalars that one store writes them.
+/// Returns what else `=` refuses in the type of its left side: it has to be complete, with so few scalars that
+/// one store writes them.
 #[tactic(auto, unfolding(crate::specs::Stores::assigned_fault))]
 pub fn assigned_fault(table: &StructTable, ty: &CType) -> Option<TypeCode>
     ensures { result ≡ assigned_fault table.now.list (shape_of ty.now) }
@@ -58,7 +59,7 @@ pub fn assigned_fault(table: &StructTable, ty: &CType) -> Option<TypeCode>
     }
 }
 
-/// `=`.
+/// Returns `=`.
 pub fn assigned(alloc: Global, place: Place, object: Expr, value: Expr) -> Result<Expr, AllocError>
     ensures { IfOk result (λ made.
         assigned place (typed object) (typed value) ≡ Fine (typed made)) }
@@ -88,7 +89,7 @@ fn is_shift(operator: BinOp) -> bool
     }
 }
 
-/// The object of a compound assignment, and that of a step as far as both go.
+/// Returns the object of a compound assignment, or of a step, as far as both have the same rules.
 #[tactic(auto, unfolding(crate::specs::Stores::updatable, crate::specs::Stores::updatable_as))]
 pub fn updatable(operator: BinOp, place: Place, object: Expr) -> Result<Expr, TypeRefusal>
     ensures { Yields (updatable operator place (typed object)) result }
@@ -106,7 +107,8 @@ pub fn updatable(operator: BinOp, place: Place, object: Expr) -> Result<Expr, Ty
     }
 }
 
-/// What a compound assignment or a step asks of the type of its object besides: a pointer is moved by complete elements.
+/// Returns what else a compound assignment or a step refuses in the type of its object: a pointer can only be
+/// moved by complete elements.
 #[tactic(auto, unfolding(crate::specs::Stores::updated_fault))]
 pub fn updated_fault(table: &StructTable, ty: &CType) -> Option<TypeCode>
     ensures { result ≡ updated_fault table.now.list (shape_of ty.now) }
@@ -117,7 +119,7 @@ pub fn updated_fault(table: &StructTable, ty: &CType) -> Option<TypeCode>
     }
 }
 
-/// The verdict of a place at which a code may hold besides: the least code of the place counts.
+/// Returns a verdict at a position that may have another fault: the least code at the position is reported.
 pub fn weighed(
     place: Place,
     fault: Option<TypeCode>,
@@ -139,7 +141,8 @@ pub fn weighed(
     }
 }
 
-/// The verdict on what comes after a place at which a code may hold: the earlier place counts where both fail.
+/// Returns the verdict on what follows a position that may have a fault: if both fail, the earlier position is
+/// reported.
 pub fn led(
     place: Place,
     fault: Option<TypeCode>,
@@ -160,7 +163,7 @@ pub fn led(
     }
 }
 
-/// The object of a step.
+/// Returns the object of a step.
 #[tactic(auto, unfolding(crate::specs::Stores::steppable), using(cs_scopes::proofs::Lifting::lifts))]
 pub fn steppable(
     table: &StructTable,
@@ -177,7 +180,7 @@ pub fn steppable(
     }
 }
 
-// The type in which a compound assignment works.
+// The type in which a compound assignment computes.
 fn works_in(model: DataModel, operator: BinOp, object: IntType, value: IntType) -> IntType
     ensures { result ≡ works_in model operator object value }
 {
@@ -199,7 +202,7 @@ fn taken_in(model: DataModel, operator: BinOp, object: IntType, value: IntType) 
     }
 }
 
-/// A compound assignment.
+/// Returns a compound assignment.
 #[tactic(auto, unfolding(crate::specs::Stores::updated))]
 pub fn updated(
     alloc: Global,
@@ -228,7 +231,7 @@ pub fn updated(
     }
 }
 
-// A compound assignment to an integer of a type, of one of another type.
+// A compound assignment of an integer of the type `other` to an integer object of the type `one`.
 fn update_by(
     alloc: Global,
     model: DataModel,
@@ -251,7 +254,7 @@ fn update_by(
     Ok(made)
 }
 
-/// The operator of a step.
+/// Returns the operator of a step.
 pub fn step_operator(step: Step) -> BinOp
     ensures { result ≡ step_operator step }
 {
@@ -261,7 +264,7 @@ pub fn step_operator(step: Step) -> BinOp
     }
 }
 
-/// A step of an object: the 1 has the promoted type of the object.
+/// Returns a step of an object: the 1 has the promoted type of the object.
 #[tactic(auto, unfolding(crate::specs::Stores::stepped))]
 pub fn stepped(
     alloc: Global,

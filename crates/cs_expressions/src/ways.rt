@@ -1,29 +1,29 @@
-//! How a value comes to a type: what a conversion does with it.
+//! How a value is converted to a type, and two values to one type.
 
 use cs_scopes::TypeCode;
 use cs_types::{CType, IntType};
 
-/// What a conversion does with a value.
+/// How a value is converted.
 #[derive(Drop)]
 pub enum Way<'a> {
-    /// It leaves it as it is.
+    /// It isn't changed.
     Kept,
-    /// It converts an integer to an integer type.
+    /// It is an integer, and is converted to this integer type.
     Integer(IntType),
-    /// It takes the null pointer of a type in its place.
+    /// It is replaced by the null pointer of this type.
     Null(&'a CType),
-    /// It converts it to a type.
+    /// It is converted to this type.
     Convert(&'a CType),
-    /// It refuses it.
+    /// It can't be converted: the code.
     Refused(TypeCode),
 }
 
-/// How two values come to one type.
+/// How two values are converted to one type.
 #[derive(Clone, Copy, PartialEq, Eq)]
 pub enum Meeting {
     /// Both are integers, which are converted to this type.
     Integers(IntType),
-    /// Both have it.
+    /// Both already have it.
     Kept,
     /// The right one is a null pointer constant.
     RightNull,
@@ -33,6 +33,6 @@ pub enum Meeting {
     RightConverts,
     /// The left one is converted to the right one's type.
     LeftConverts,
-    /// They don't.
+    /// They can't be.
     Refused,
 }

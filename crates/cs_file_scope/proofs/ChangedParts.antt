@@ -1,4 +1,4 @@
--- One part of a list is changed, if the list has it: for objects that are marked or get values, and functions that get bodies.
+-- One element of a list is changed, if the list has it: for objects that become const or get initializers, and functions that get bodies.
 use Rattle.std.proofs.Common.{◌≡◌, ℕ, zero, suc, ◌<◌, ◌≤◌, List, [], ◌∷◌, length, get_or, set, map, refl, ap, ◌∙◌, arith}
 use Rattle.cs_file_scope.specs.Objects.{changed}
 

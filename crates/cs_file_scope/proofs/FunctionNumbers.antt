@@ -1,4 +1,4 @@
--- The number of a function is its place in the order of functions: for the functions of files.
+-- The number of a function is its index in the order of functions: for the functions of files.
 use Rattle.std.proofs.Common.{◌≡◌, ℕ, ◌≤◌, Bool, true, false, cond, List, length, Some, None, refl, arith}
 use Rattle.std.specs.Prelude.{nat_lt}
 use Rattle.std.specs.Option.{unwrap_or}

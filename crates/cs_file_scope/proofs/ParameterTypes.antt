@@ -1,4 +1,4 @@
--- The types of parameters: for what the type of a function says of it, and for its further declarations.
+-- The types of parameters: for the declaration of a function, by which calls are typed, and for its further declarations.
 use Rattle.std.proofs.Common.{◌≡◌, ◌≤◌, false, List, [], ◌∷◌, length, map, refl, ap, arith}
 use Rattle.cs_types.specs.declared.ctype.CType.{CType}
 use Rattle.cs_types.specs.Shape.{shape_of}

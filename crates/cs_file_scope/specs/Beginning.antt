@@ -1,4 +1,4 @@
--- What is declared before a file is read (C11 7.22.3), and its functions in their order.
+-- What is declared before a file is read (C11 7.22.3), and the file's functions in their order.
 use Rattle.std.specs.Prelude.{ℕ, List, [], ◌∷◌, codes, map, None}
 use Rattle.cs_types.specs.declared.data_model.DataModel.{DataModel}
 use Rattle.cs_types.specs.DataModel.{size_type_of}
@@ -13,12 +13,12 @@ use Rattle.cs_file_scope.specs.Objects.{Filed, with_known}
 use Rattle.cs_file_scope.specs.Order.{order_of}
 use Rattle.cs_file_scope.specs.Tags.{tags_declared}
 
--- a function of the library, which is declared before a file begins
+-- a function of the library, which is declared before a file
 abbrev pub library_function : List ℕ → Callee → Shape → List Shape → Declaration
 library_function name callee result parameters =
     record { name = name; meaning = Function (record { callee = callee; result = result; parameters = parameters }) }
 
--- the functions that are declared before a file begins (C11 7.22.3)
+-- the functions that are declared before a file (C11 7.22.3)
 abbrev pub allocators : DataModel → List Declaration
 allocators model =
     library_function (codes "malloc") Malloc (pointer void) (integer (size_type_of model) ∷ [])
@@ -39,7 +39,7 @@ blank name = record {
   written = [];
 }
 
--- a file whose functions stand in this order, and of which nothing was read yet
+-- a file of which no part was read yet, with its functions in this order
 abbrev pub beginning : DataModel → List (List ℕ) → Filed
 beginning model order = record {
   known = record {

@@ -30,19 +30,19 @@ same_types types others = false
 abbrev pub types_of : List Variable → List Shape
 types_of variables = map (λ (v : Variable). v.ty) variables
 
--- the function has a body already, or none may stand for it in a file
+-- the function has a body already, or may not have one in a file, as it is the library's
 abbrev pub has_body : Filed → Callee → Bool
 has_body f (Numbered number) = is_some (option_and_then (λ (r : Routine). r.body) (slice_get f.routines number))
 has_body f other = true
 
--- a name that isn't declared yet may become a function's; one that stands for a function may do so again with the same result, and
--- gets one body at most
+-- a name that isn't declared yet may become a function's; a function may be declared again with the same result, and gets at most one
+-- body
 abbrev pub may_be_function : Filed → Bool → Shape → Option Meaning → Bool
 may_be_function f with_body result None = true
 may_be_function f with_body result (Some (Function before)) = same_shape before.result result && not (with_body && has_body f before.callee)
 may_be_function f with_body result (Some other) = false
 
--- a function that is declared first here, without a body so far
+-- a function at its first declaration, without a body so far
 abbrev pub bodiless : RawFunction → Shape → List Variable → List Bool → Routine
 bodiless d result parameters written = record {
   name = d.name;
@@ -58,11 +58,11 @@ bodiless d result parameters written = record {
 abbrev pub numbered : ℕ → Shape → List Variable → Signature
 numbered number result parameters = record { callee = Numbered number; result = result; parameters = types_of parameters }
 
--- the number of a function: its place in the order of the file's functions
+-- the number of a function: its index in the order of the file's functions
 abbrev pub number_in : List (List ℕ) → List ℕ → ℕ
 number_in order name = position_or_len (pointwise nat_eq name) order
 
--- a declared function, with the file that has it
+-- a declared function, and the file that has it
 abbrev pub Routed : Type 0
 Routed = Callee × Filed
 
@@ -77,14 +77,14 @@ new_function f d result parameters written = (
   },
 )
 
--- a function outside of the scope of its parameters: a new one, or the same once more, whose parameters have the same types
+-- a function, after the scope of its parameters: a new one, or an earlier one again, whose parameters have the same types
 abbrev pub function_of : Filed → RawFunction → Shape → List Variable → List Bool → Option Meaning → Verdict Routed
 function_of f d result parameters written (Some (Function before)) =
     if same_types before.parameters (types_of parameters) then Fine (before.callee, f) else Fault DeclaredTwice d.place
 function_of f d result parameters written other = Fine (new_function f d result parameters written)
 
--- a function of whose parameters none has a name that is declared a second time (C11 6.7, paragraph 3): that name comes after the
--- function's own
+-- a function none of whose parameters has a name that is declared twice (C11 6.7, paragraph 3): that name comes after the function's
+-- own
 abbrev pub declared_once : Option Place → Routed → Verdict Routed
 declared_once None r = Fine r
 declared_once (Some at) r = Fault DeclaredTwice at

@@ -1,4 +1,4 @@
--- Objects of files (C11 6.7, 6.9.2).
+-- File-scope objects (C11 6.7, 6.9.2).
 use Rattle.std.specs.Prelude.{ℕ, Bool, true, false, not, ◌&&◌, ◌||◌, if◌then◌else◌, List, [], ◌∷◌, ◌++◌, length, slice_get, Option}
 use Rattle.std.specs.Prelude.{Some, None, is_some}
 use Rattle.std.specs.Option.{option_and_then}
@@ -19,23 +19,23 @@ use Rattle.cs_declarations.specs.Initializers.{InFile, Reading, initial_typed}
 use Rattle.cs_declarations.specs.Objects.{object_type}
 use Rattle.cs_scopes.specs.Constness.{is_constant_object}
 
--- a file so far; its functions stand in the order of the whole file, and those that aren't declared yet are blank
+-- a file up to some part; its functions are in the order of the whole file, and those that aren't declared yet are blank
 pub record Filed : Type 0 where
   pub known : Environment
   pub globals : List FileObject
   pub order : List (List ℕ)
   pub routines : List Routine
 
--- the object has what it holds at first
+-- the object has an initializer
 abbrev pub is_initialized : ℕ → List FileObject → Bool
 is_initialized number globals = is_some (option_and_then (λ (g : FileObject). g.initial) (slice_get globals number))
 
--- what stands before a declarator's name is a complete type, so that the object may have one (C11 6.7, paragraph 7)
+-- the type before a declarator's name is complete, so that the object's type may be (C11 6.7, paragraph 7)
 abbrev pub is_completed : Filed → Shape → RawDeclarator → Bool
 is_completed f base d = is_complete f.known.context.table.list (starred d.pointers.items base)
 
--- a name that isn't declared yet may become an object's; one that stands for an object may do so again, and is initialized once: not
--- with an incomplete type, which is another than the object has
+-- a name that isn't declared yet may become an object's; an object may be declared again, and is initialized once: not with an
+-- incomplete type, which isn't the object's
 abbrev pub may_be_object : List FileObject → Bool → Bool → Option Meaning → Bool
 may_be_object globals completed initializes None = true
 may_be_object globals completed initializes (Some (Global number ty)) = completed && not (initializes && is_initialized number globals)
@@ -67,13 +67,13 @@ abbrev pub object_of : Filed → RawDeclarator → Option Meaning → Shape → 
 object_of f d (Some (Global number before)) ty = if same_shape before ty then Fine (record { number = number; filed = f }) else Fault DeclaredTwice d.place
 object_of f d other ty = Fine (new_object f d ty)
 
--- a list of which the part with this number is changed, if it has one
+-- a list in which the element with this number, if there is one, is changed
 abbrev pub changed : {A : Type 0} → ℕ → (A → A) → List A → List A
 changed number change [] = []
 changed ℕ.zero change (first ∷ others) = change first ∷ others
 changed (ℕ.suc number) change (first ∷ others) = first ∷ changed number change others
 
--- an object as further declarations leave it
+-- an object after further declarations
 abbrev pub made_constant : Bool → FileObject → FileObject
 made_constant constant g = record { name = g.name; at = g.at; ty = g.ty; constant = g.constant || constant; initial = g.initial }
 
@@ -84,7 +84,7 @@ abbrev pub with_initial : ℕ → Filed → Reading → Verdict Filed
 with_initial number f r =
     Fine (record { known = with_literals r.1 f.known; globals = changed number (holding r.0) f.globals; order = f.order; routines = f.routines })
 
--- what stands after its declarator
+-- after the initializer of an object, if there is one
 abbrev pub object_initialized : Shape → Option RawFirstValue → Object → Verdict Filed
 object_initialized ty None o = Fine o.filed
 object_initialized ty (Some value) o =
@@ -94,7 +94,7 @@ abbrev pub marked : RawSpecs → RawDeclarator → Object → Verdict Object
 marked s d o =
     Fine (record { number = o.number; filed = with_globals (changed o.number (made_constant (is_constant_object s d.pointers.items)) o.filed.globals) o.filed })
 
--- a declared object of a file
+-- after a declared object of a file
 abbrev pub object_added : RawSpecs → Shape → RawInit → Filed → Verdict Filed
 object_added s base d f =
     if may_be_object f.globals (is_completed f base d.declarator) (is_some d.initial) (meaning_here d.declarator.name f.known)

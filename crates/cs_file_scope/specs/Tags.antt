@@ -1,6 +1,6 @@
--- The tags of a file's structs: what a tag stands for is decided where it is named first, in a declaration or in an expression
--- (C11 6.7.2.3, paragraphs 4 and 8). All tags have the scope of the file, and nothing names one before it is named first: so the tags of
--- structs are declared before the file is read, each for a struct that has no members yet.
+-- The tags of a file's structs: what a tag denotes is decided where it is first named, in a declaration or in an expression
+-- (C11 6.7.2.3, paragraphs 4 and 8). All tags have file scope, and nothing names one before it is first named: so the tags of structs
+-- are declared before the file is read, each for a struct that has no members yet.
 use Rattle.std.specs.Prelude.{ℕ, nat_eq, Bool, ◌||◌, is_some, if◌then◌else◌, List, [], ◌∷◌, ◌++◌, Option, Some, None}
 use Rattle.std.specs.List.{list_any}
 use Rattle.std.specs.Cmp.Lexicographic.{pointwise}
@@ -13,7 +13,7 @@ use Rattle.cs_declarations.specs.Bodies.{with_tagged_struct, tag_in}
 use Rattle.cs_file_scope.specs.declared.tags.TagWord.{TagWord}
 use Rattle.cs_file_scope.specs.declared.tags.TagWord.TheVariants.{Struct, Enum}
 
--- the tags that were named so far: those of structs are known, and the others were named first as those of enums
+-- the tags that were named so far: those of structs are known, the others were first named as those of enums
 pub record Tagging : Type 0 where
   pub known : Environment
   pub enums : List (List ℕ)
@@ -26,17 +26,17 @@ abbrev pub with_new_tag : TagWord → List ℕ → Tagging → Tagging
 with_new_tag Struct name t = record { known = with_tagged_struct name t.known; enums = t.enums }
 with_new_tag Enum name t = record { known = t.known; enums = t.enums ++ name ∷ [] }
 
--- after a tag with the word before it
+-- after a tag with the keyword before it
 abbrev pub tag_named : TagWord → List ℕ → Tagging → Tagging
 tag_named word name t = if is_named name t then t else with_new_tag word name t
 
--- the word before a tag that a token is
+-- the keyword that a token is, if a tag may follow it
 abbrev pub tag_word : TokenKind → Option TagWord
 tag_word (token.Keyword keyword.Struct) = Some Struct
 tag_word (token.Keyword keyword.Enum) = Some Enum
 tag_word other = None
 
--- after a token, which stands after such a word or after another token
+-- after a token that follows such a keyword or another token
 abbrev pub token_read : Option TagWord → TokenKind → Tagging → Tagging
 token_read (Some word) (token.Name name) t = tag_named word name t
 token_read before other t = t

@@ -1,4 +1,4 @@
--- What a file declares, of the program seen as plain data.
+-- What a file declares, as contracts see the types in the code.
 use Rattle.std.specs.Prelude.{ℕ, List, map}
 use Rattle.indexmap.specs.IndexSet.{IndexSet}
 use Rattle.cs_ast.specs.TypedProgram.{file_object, routine}
@@ -18,11 +18,11 @@ filed_of f = record {
   routines = map routine f.functions.items;
 }
 
--- a function with the file that has it
+-- a function, and the file that has it
 abbrev pub routed_of : Callee → HeldFiled → Routed
 routed_of callee f = (callee, filed_of f)
 
--- an object with the file that has it
+-- an object, and the file that has it
 abbrev pub object_of : ℕ → HeldFiled → Object
 object_of number f = record { number = number; filed = filed_of f }
 

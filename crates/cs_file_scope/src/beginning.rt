@@ -1,4 +1,4 @@
-//! Files before their parts are read: the functions of the library (C11 7.22.3), the order of the file's own, and its tags.
+//! Files before their parts are read: the functions of the library (C11 7.22.3), the order of the file's functions, and its tags.
 ghost use Rattle.std.specs.Prelude.{◌≡◌, ◌++◌, [], ◌∷◌, map, IfOk, OnOk};
 ghost use Rattle.cs_types.specs.Shape.{shape_of, void, integer, pointer};
 ghost use Rattle.cs_types.specs.DataModel.{size_type_of};
@@ -20,7 +20,7 @@ use cs_types::{CType, DataModel, StructTable, Structs, size_type};
 use indexmap::IndexSet;
 use std::alloc::{AllocError, Global};
 
-// Declares a function of the library, which takes so many objects of one type.
+// Declares a function of the library with these parameters.
 fn declare_library_function(
     alloc: Global,
     declarations: &mut Declarations,
@@ -60,7 +60,7 @@ fn one_size(alloc: Global, model: DataModel) -> Result<Vec<CType>, AllocError>
     Ok(types)
 }
 
-// The functions that are declared before a file begins (C11 7.22.3).
+// The functions that are declared before a file (C11 7.22.3).
 fn allocators(alloc: Global, model: DataModel) -> Result<Declarations, AllocError>
     ensures { IfOk result (λ declared. declared ≡ allocators model) }
 {
@@ -78,7 +78,7 @@ fn allocators(alloc: Global, model: DataModel) -> Result<Declarations, AllocErro
     Ok(all)
 }
 
-// A file whose functions stand in this order, and of which nothing was read yet.
+// A file of which no part was read yet, with its functions in this order.
 fn beginning(alloc: Global, model: DataModel, order: IndexSet<Name>) -> Result<Filed, AllocError>
     ensures { IfOk result (λ filed. filed_of filed ≡ beginning model order.keys) }
 {
@@ -106,7 +106,7 @@ fn beginning(alloc: Global, model: DataModel, order: IndexSet<Name>) -> Result<F
     })
 }
 
-/// A file with these tokens before its parts are read: its functions are numbered, and the tags of its structs are known.
+/// Returns a file with these tokens before its parts are read: its functions are numbered, and the tags of its structs are known.
 pub fn begun(
     alloc: Global,
     model: DataModel,

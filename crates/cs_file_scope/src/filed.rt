@@ -1,4 +1,4 @@
-//! A file so far.
+//! A file up to some part.
 
 use cs_ast::typed::program::{Function, Global};
 use cs_declarations::Environment;
@@ -10,8 +10,8 @@ use indexmap::IndexSet;
 pub struct Filed {
     pub known: Environment,
     pub globals: Vec<Global>,
-    /// The names of the whole file's functions, each at the number of its function.
+    /// The names of the functions of the whole file, in the order of their numbers.
     pub order: IndexSet<Name>,
-    /// Each is blank before it is declared.
+    /// A function is blank before it is declared.
     pub functions: Vec<Function>,
 }

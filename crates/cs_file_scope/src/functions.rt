@@ -46,7 +46,7 @@ fn same_types(types: &[CType], parameters: &[Local]) -> bool
     }
 }
 
-// What the type of a function says of it to later calls.
+// The declaration of a function, by which later calls are typed.
 fn signature(
     alloc: Global,
     number: u32,
@@ -68,7 +68,7 @@ fn signature(
     })
 }
 
-// Parameters once more.
+// A copy of parameters.
 fn copied(alloc: Global, parameters: &[Local]) -> Result<Vec<Local>, AllocError>
     ensures { IfOk result (λ made. map variable made.items ≡ map variable parameters.now) }
 {
@@ -107,7 +107,7 @@ fn bodiless(
     })
 }
 
-// Puts a function where the blank one with its number stands.
+// Replaces the blank function with this number.
 fn put(functions: &mut Vec<Function>, number: u32, function: Function)
     ensures { map routine functions.new.items
         ≡ changed number (λ blank. routine function) (map routine functions.old.items) }
@@ -118,7 +118,7 @@ fn put(functions: &mut Vec<Function>, number: u32, function: Function)
 }
 
 impl Filed {
-    // Whether a function has a body already, or none may stand for it in a file.
+    // Whether a function has a body already, or may not have one in a file, as it is the library's.
     fn has_body(&self, callee: Callee) -> bool
         ensures { result ≡ has_body (filed_of self.now) callee }
     {
@@ -131,8 +131,8 @@ impl Filed {
         }
     }
 
-    /// Whether a name may be declared as that of a function with this result, and with a body, if it gets one: it isn't declared
-    /// in the file yet, or for a function with this result, which gets one body at most.
+    /// Whether a name may be declared as a function with this result, and with a body, if it gets one: the file hasn't
+    /// declared it yet, or as a function with this result, which gets at most one body.
     pub fn may_be_function(&self, name: &Name, with_body: bool, returns: &CType) -> bool
         ensures { result ≡ may_be_function (filed_of self.now) with_body (shape_of returns.now)
             (meaning_here name.now (environment_of self.now.known)) }
@@ -155,7 +155,7 @@ impl Filed {
         u32::try_from(place.unwrap_or(self.order.len())).map_err(|_| AllocError)
     }
 
-    // Puts a function without a body in its place, and its name stands for it.
+    // Declares a function without a body under its number.
     fn add_function(
         &mut self,
         alloc: Global,
@@ -176,7 +176,7 @@ impl Filed {
         Ok(Callee::Numbered(number))
     }
 
-    // What a call of a declared function is: a new one, or the one that was declared before, whose parameters have the same types.
+    // The function that a declaration declares: a new one, or the one that was declared before, whose parameters have the same types.
     fn function_of(
         &mut self,
         alloc: Global,
@@ -204,7 +204,7 @@ impl Filed {
         }
     }
 
-    /// What a call of a declared function is, of whose parameters none has a name that is declared a second time.
+    /// Returns the function that a declaration declares, if no name is declared twice among its parameters.
     #[tactic(auto, using(cs_scopes::proofs::Lifting::lifts))]
     pub fn function_once(
         &mut self,

@@ -1,4 +1,4 @@
-//! The objects of files (C11 6.9.2).
+//! File-scope objects (C11 6.9.2).
 ghost use Rattle.std.specs.Prelude.{◌≡◌, Some, IfOk};
 ghost use Rattle.cs_types.specs.Shape.{shape_of};
 ghost use Rattle.cs_ast.specs.TypedView.{initial};
@@ -20,7 +20,7 @@ use cs_types::{CType, is_complete};
 use std::alloc::{AllocError, Global as Allocation};
 
 impl Filed {
-    // Whether what stands before a declarator's name is a complete type (C11 6.7, paragraph 7).
+    // Whether the type before a declarator's name is complete (C11 6.7, paragraph 7).
     fn is_completed(
         &self,
         alloc: Allocation,
@@ -34,8 +34,8 @@ impl Filed {
         Ok(is_complete(&self.known.context.table, &ty))
     }
 
-    // Whether a name may be declared as an object's, which is initialized there or isn't: it isn't declared in the file yet, or for
-    // an object, which is initialized once and has a complete type.
+    // Whether a name may be declared as an object, with or without an initializer: the file hasn't declared it yet, or as an
+    // object, which is initialized once and has a complete type.
     fn may_be_object(&self, name: &Name, completed: bool, initializes: bool) -> bool
         ensures { result ≡ may_be_object (filed_of self.now).globals completed initializes
             (meaning_here name.now (environment_of self.now.known)) }
@@ -49,7 +49,7 @@ impl Filed {
         }
     }
 
-    // Adds an object, which its name stands for.
+    // Adds an object, and declares its name.
     fn add_object(
         &mut self,
         alloc: Allocation,
@@ -74,7 +74,7 @@ impl Filed {
         Ok(number)
     }
 
-    // Notes that an object may not be stored to, where this declaration says so.
+    // Makes an object const if this declaration says so.
     fn note_constant(&mut self, number: u32, constant: bool)
         ensures { filed_of self.new
             ≡ with_globals (changed number (made_constant constant) (filed_of self.old).globals)
@@ -85,7 +85,7 @@ impl Filed {
         }
     }
 
-    // Whether an object has what it holds at first.
+    // Whether an object has an initializer.
     fn is_initialized(&self, number: u32) -> bool
         ensures { result ≡ is_initialized number (filed_of self.now).globals }
     {
@@ -95,7 +95,7 @@ impl Filed {
         }
     }
 
-    // Gives an object what it holds at first.
+    // Sets the initializer of an object.
     fn hold(&mut self, number: u32, found: Initial)
         ensures { filed_of self.new
             ≡ with_globals (changed number (holding (initial found)) (filed_of self.old).globals)
@@ -106,7 +106,7 @@ impl Filed {
         }
     }
 
-    // What an object holds at first.
+    // Types the initializer of an object and sets it.
     #[tactic(auto, using(cs_scopes::proofs::Lifting::lifts))]
     fn initialize(
         &mut self,
@@ -158,7 +158,7 @@ impl Filed {
         }
     }
 
-    // A declared object of a file.
+    // Declares a file-scope object.
     #[tactic(auto, using(cs_scopes::proofs::Lifting::lifts))]
     fn declare_object(
         &mut self,
@@ -184,7 +184,7 @@ impl Filed {
         }
     }
 
-    /// Declared objects of a file.
+    /// Declares file-scope objects.
     pub fn declare_objects(
         &mut self,
         alloc: Allocation,

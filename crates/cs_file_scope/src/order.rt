@@ -1,4 +1,4 @@
-//! The order of a file's functions, which stand blank in it before they are declared.
+//! The order of a file's functions, which are blank before they are declared.
 ghost use Rattle.std.specs.Prelude.{◌≡◌, ◌||◌, ℕ, List, map, nat_eq, option_copied, OnOk, IfOk};
 ghost use Rattle.std.specs.Cmp.Lexicographic.{pointwise};
 ghost use Rattle.std.specs.HashSet.{contains};
@@ -25,7 +25,7 @@ fn is_of_library(name: &Name) -> bool
     bytes == b"malloc".as_slice() || bytes == b"calloc".as_slice() || bytes == b"free".as_slice()
 }
 
-// Notes the function that a part of a file defines, if it does.
+// Notes the function that a part of a file defines, if it defines one.
 fn note_definition(defined: &mut HashSet<Name>, kind: &RawExternalKind) -> Result<(), AllocError>
     ensures { OnOk result ((name : List ℕ)
         → contains (pointwise nat_eq) defined.new name
@@ -50,7 +50,7 @@ fn defined_in(alloc: Global, file: &[RawExternal]) -> Result<HashSet<Name>, Allo
     Ok(defined)
 }
 
-// The function that may have its place in a part of a file.
+// The function whose place in the order may be that of a part of a file.
 fn placed<'a>(defined: &HashSet<Name>, kind: &'a RawExternalKind) -> Option<&'a Name>
     ensures { option_copied result ≡ placed (contains (pointwise nat_eq) defined.now) kind.now }
 {
@@ -67,7 +67,7 @@ fn placed<'a>(defined: &HashSet<Name>, kind: &'a RawExternalKind) -> Option<&'a 
     }
 }
 
-/// The names of a file's functions in their order.
+/// Returns the names of a file's functions in their order.
 pub fn order_of(alloc: Global, file: &[RawExternal]) -> Result<IndexSet<Name>, AllocError>
     ensures { IfOk result (λ names. names.keys ≡ order.order_of file.now) }
 {
@@ -78,7 +78,7 @@ pub fn order_of(alloc: Global, file: &[RawExternal]) -> Result<IndexSet<Name>, A
             names.insert(name.copy()?).map_err(|_| AllocError)?;
         }
     }
-    // Each name would leave a place in memory that is too small for most of what comes later.
+    // Freeing each name would leave a gap in memory that is too small for most later allocations.
     forget(defined);
     Ok(names)
 }
@@ -104,7 +104,7 @@ fn blank(alloc: Global, name: &Name) -> Result<Function, AllocError>
     })
 }
 
-/// Functions with these names that aren't declared yet.
+/// Returns functions with these names that aren't declared yet.
 pub fn blanks(alloc: Global, names: &[Name]) -> Result<Vec<Function>, AllocError>
     ensures { IfOk result (λ functions. map routine functions.items ≡ map blank names.now) }
 {

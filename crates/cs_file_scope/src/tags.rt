@@ -1,5 +1,5 @@
-//! The tags of a file's structs (C11 6.7.2.3): one is declared where `struct` and the tag stand first, in a declaration or in an
-//! expression. All tags have the scope of the file, so that they are declared before the file is read.
+//! The tags of a file's structs (C11 6.7.2.3): one is declared where it is first named after `struct`, in a declaration or in an
+//! expression. All tags have file scope, so they are declared before the file is read.
 ghost use Rattle.std.specs.Prelude.{◌≡◌, OnOk};
 ghost use Rattle.cs_declarations.specs.View.{environment_of};
 ghost use Rattle.cs_file_scope.specs.Tags.{tag_word, tag_named, token_read, tags_declared};
@@ -11,14 +11,14 @@ use cs_names::Name;
 use indexmap::IndexSet;
 use std::alloc::{AllocError, Global};
 
-/// The word before a tag.
+/// The keyword before a tag.
 #[derive(Clone, Copy)]
 pub enum TagWord {
     Struct,
     Enum,
 }
 
-// The word before a tag that a token is.
+// The keyword that a token is, if a tag may follow it.
 fn tag_word(kind: &TokenKind) -> Option<TagWord>
     ensures { result ≡ tag_word kind.now }
 {
@@ -29,7 +29,7 @@ fn tag_word(kind: &TokenKind) -> Option<TagWord>
     }
 }
 
-// A tag after a word: what it stands for is decided where it is named first.
+// A tag after a keyword: what it denotes is decided where it is first named.
 fn name_tag(
     known: &mut Environment,
     enums: &mut IndexSet<Name>,
@@ -53,7 +53,7 @@ fn name_tag(
     Ok(())
 }
 
-// A token after such a word, or after another token.
+// A token after such a keyword, or after another token.
 fn read_token(
     known: &mut Environment,
     enums: &mut IndexSet<Name>,

@@ -1,4 +1,4 @@
--- An operator between two values refuses no later than by what it asks of the left one alone.
+-- An operator between two values refuses no later than by what it requires of the left one, whatever the right one is.
 use Rattle.std.proofs.Common.{◌≡◌, refl, Bool, true, false, if◌then◌else◌, ◌&&◌, List, Some, None}
 use Rattle.cs_types.specs.declared.data_model.DataModel.{DataModel}
 use Rattle.cs_types.specs.declared.structs.StructType.{StructType}

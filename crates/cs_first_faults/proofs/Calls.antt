@@ -1,4 +1,4 @@
--- The first failing place of calls and of `sizeof` with bounds: the least code of one place, before what stands after it.
+-- The first failing position of calls and of `sizeof` with bounds: the least code at one position, before what follows it.
 use Rattle.std.proofs.Common.{◌≡◌, refl, sym, ap, subst, ◌∙◌, ℕ, ℤ, Bool, true, false, if◌then◌else◌, List, [], ◌∷◌, ◌++◌}
 use Rattle.std.proofs.Common.{Option, Some, None}
 use Rattle.std.specs.Prelude.{option_to_list, is_some, ◌&&◌, unsigned_abs}

@@ -1,4 +1,4 @@
--- Expressions are typed by their first failing place, by recursion over the tree.
+-- Expressions are refused at their first failing position, by recursion over the tree.
 use Rattle.std.proofs.Common.{refl, true, false, if◌then◌else◌, List, [], ◌∷◌, ◌++◌, Option, Some, None}
 use mathlib.Core.Former.{Count}
 use Rattle.cs_types.specs.Shape.{Shape}

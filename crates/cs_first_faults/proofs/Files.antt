@@ -1,4 +1,4 @@
--- Functions and files are typed by their first failing place.
+-- Functions and files are refused at their first failing position.
 use Rattle.std.proofs.Common.{refl, ap, Bool, true, false, if◌then◌else◌, ◌&&◌, List, [], ◌∷◌, ◌++◌, Option, Some, None}
 use Rattle.std.specs.Prelude.{is_some}
 use Rattle.cs_types.specs.Shape.{Shape}

@@ -1,4 +1,4 @@
--- The first failing place of parts that stand in a row, with a rule before, between or after them.
+-- The first failing position of parts in their order, with a rule before, between or after them.
 use Rattle.std.proofs.Common.{◌≡◌, refl, sym, ap, subst, Bool, true, false, if◌then◌else◌, List, [], ◌∷◌, ◌++◌, Option, Some, None}
 use Rattle.std.specs.Prelude.{option_to_list}
 use Rattle.cs_ast.specs.declared.place.Place.{Place}

@@ -1,4 +1,4 @@
--- Initializers are typed by their first failing place.
+-- Initializers are refused at their first failing position.
 use Rattle.std.proofs.Common.{◌≡◌, refl, sym, ap, subst, ◌∙◌, Bool, true, false, if◌then◌else◌, List, [], ◌∷◌, ◌++◌, Option, Some}
 use Rattle.std.proofs.Common.{None}
 use Rattle.std.specs.Prelude.{option_to_list}

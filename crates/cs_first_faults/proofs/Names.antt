@@ -1,4 +1,4 @@
--- What is wrong with a declared type stands at the name, and comes after a second declaration of the name there.
+-- Faults of a declared type are at the name, and come after a second declaration of the name there.
 use Rattle.std.proofs.Common.{◌≡◌, refl, sym, ap, ◌∙◌, ℕ, ℤ, pos, Bool, true, false, if◌then◌else◌, ◌&&◌, not, List, [], ◌∷◌}
 use Rattle.std.proofs.Common.{◌++◌, Option, Some, None, append-nil}
 use Rattle.std.specs.Prelude.{is_some, unsigned_abs, nat_le}

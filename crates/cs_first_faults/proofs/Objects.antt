@@ -1,4 +1,4 @@
--- Declared objects and parameters are typed by their first failing place.
+-- Declared objects and parameters are refused at their first failing position.
 use Rattle.std.proofs.Common.{◌≡◌, refl, sym, ap, ◌∙◌, Bool, true, false, if◌then◌else◌, not, List, [], ◌∷◌, ◌++◌, Option, Some}
 use Rattle.std.proofs.Common.{None, append-nil}
 use Rattle.std.specs.Prelude.{is_some, length}

@@ -1,4 +1,4 @@
--- What the rules of operators say at one place is the least code of the place: for each production of expressions.
+-- The code with which the rules of operators refuse at a position is the least one there: for each production of expressions.
 use Rattle.std.proofs.Common.{◌≡◌, refl, sym, ap, ℕ, zero, suc, Bool, true, false, if◌then◌else◌, ◌&&◌, ◌||◌, ◌==◌, not, List, []}
 use Rattle.std.proofs.Common.{◌∷◌, ◌++◌}
 use Rattle.std.proofs.Common.{Option, Some, None}

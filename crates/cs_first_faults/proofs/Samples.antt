@@ -1,4 +1,4 @@
--- The failing places of small trees, computed: each at its column of a line.
+-- The failing positions of small trees, computed: each is a column of a line.
 use Rattle.std.proofs.Common.{◌≡◌, refl, ℕ, List, [], ◌∷◌, Some, None, Box, Global}
 use Rattle.std.specs.Prelude.{codes}
 use Rattle.cs_types.specs.declared.data_model.DataModel.TheVariants.{Lp64}

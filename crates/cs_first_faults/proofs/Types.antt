@@ -1,4 +1,4 @@
--- What stands before declarators is typed by its first failing place.
+-- Specifiers are refused at their first failing position.
 use Rattle.std.proofs.Common.{refl, ℕ, ℤ, pos, Bool, true, false, if◌then◌else◌, List, [], ◌∷◌, ◌++◌, Option, Some, None}
 use Rattle.std.specs.Prelude.{nat_le, ◌+◌, ◌^◌}
 use mathlib.Core.Former.{Count}

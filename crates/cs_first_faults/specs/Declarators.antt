@@ -1,4 +1,4 @@
--- The failing places of declarators (C11 6.7.6): what is wrong with a declared type stands at the name, before its bounds.
+-- The failing positions of declarators (C11 6.7.6): faults of a declared type are at the name, before its bounds.
 use Rattle.std.specs.Prelude.{ℕ, [], ◌∷◌, ◌++◌, List, Option, Some, None}
 use Rattle.cs_types.specs.Shape.{Shape}
 use Rattle.cs_ast.specs.declared.raw.declaration.RawDeclarator.{RawDeclarator}
@@ -22,8 +22,8 @@ bounds_failures c [] = []
 bounds_failures c (None ∷ bounds) = bounds_failures c bounds
 bounds_failures c (Some e ∷ bounds) = constant_failures c e ++ bounds_failures c bounds
 
--- a declarator, whose bounds count as far as they have numbers: the elements of arrays are complete (6), an array has 1 to 65,536
--- elements and a size that objects may have, and `[]` stands first and before an initializer (7)
+-- the type of a declarator, with the bounds that have numbers: elements of arrays are complete (6), an array has 1 to 65,536 elements
+-- and a size that objects may have, and `[]` comes first and before an initializer (7)
 abbrev pub named_type : Context → Shape → Option ℕ → RawDeclarator → Verdict Shape
 named_type c base count d =
     lift (λ whole. lift (filled c d.place count) (extent_of c d.place whole (sizes_said c d.bounds.items)))
@@ -35,13 +35,13 @@ declarator_codes c base count d = codes_of (named_type c base count d)
 abbrev pub named_failures : Context → Shape → Option ℕ → RawDeclarator → List FailingPlace
 named_failures c base count d = failing_at d.place (declarator_codes c base count d) ++ bounds_failures c d.bounds.items
 
--- an object, which has a complete type (6)
+-- an object, whose type is complete (6)
 abbrev pub object_codes : Context → Shape → RawInit → List TypeCode
 object_codes c base d =
     declarator_codes c base (count_given d.initial) d.declarator
     ++ if_typed (λ ty. codes_of (complete_at c.table.list d.declarator.place ty)) (declarator_type c base (count_given d.initial) d.declarator)
 
--- a parameter: elements of arrays are complete, and no parameter is a struct or `void` (6); sizes of arrays (7)
+-- a parameter: elements of arrays are complete, and it is neither a struct nor `void` (6); sizes of arrays (7)
 abbrev pub passed_type : Context → RawParameter → Shape → Verdict Passed
 passed_type c p base =
     lift (λ whole. passed c (place_of p.place p.name) whole (sizes_said c p.bounds.items))

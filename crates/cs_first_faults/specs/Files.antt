@@ -1,4 +1,4 @@
--- The failing places of functions and of files (C11 6.9).
+-- The failing positions of functions and of files (C11 6.9).
 use Rattle.std.specs.Prelude.{Bool, ◌&&◌, is_some, if◌then◌else◌, [], ◌∷◌, ◌++◌, List, Option, Some, None}
 use Rattle.cs_types.specs.Shape.{Shape}
 use Rattle.cs_ast.specs.declared.place.Place.{Place}
@@ -25,17 +25,17 @@ use Rattle.cs_first_faults.specs.Objects.{parameter_list_failures, objects_failu
 use Rattle.cs_first_faults.specs.Statements.{items_in_body_failures}
 use Rattle.cs_first_faults.specs.Types.{specs_failures, typedefs_failures}
 
--- a function with these parameters, as what its name may be declared
+-- the function that a declaration with these parameters declares
 abbrev pub declared_function : RawFunction → Filed → Shape → Head → Verdict Routed
 declared_function d f result head =
     function_of (outside_of f head) d result head.variables head.written (meaning_here d.name (outside_of f head).known)
 
--- the parameters have the types that an earlier declaration says (2)
+-- the parameters have the types of an earlier declaration (2)
 abbrev pub head_codes : Bool → RawFunction → Filed → Shape → Verdict Head → List TypeCode
 head_codes admitted d f result head = if admitted then if_typed (λ (h : Head). codes_of (declared_function d f result h)) head else []
 
--- at a function's name: one that isn't declared yet, or for a function of this result and these parameters that has one body at most
--- (2); the result is no array and no struct (6)
+-- at a function's name: a name that isn't declared yet, or as a function with this result and these parameters, which has at most one body
+-- (2); the result is neither an array nor a struct (6)
 abbrev pub function_codes : RawFunction → Option RawBody → Filed → Shape → List TypeCode
 function_codes d body f result =
     let may_be = may_be_function f (is_some body) result (meaning_here d.name f.known) in
@@ -50,7 +50,7 @@ routed_failures d (Some body) result f head (callee.Numbered number, filed) =
     (no_statements (at_beginning filed head.variables (declared_inside f.known head.known)))
 routed_failures d (Some body) result f head (other, filed) = []
 
--- the body, where the function is declared
+-- the body, if the function is declared
 abbrev pub headed_failures : RawFunction → Option RawBody → Filed → Shape → Head → List FailingPlace
 headed_failures d body f result head =
     if_typed (λ (r : Routed). routed_failures d body result f head r) (lift (declared_once head.twice) (declared_function d f result head))
@@ -62,7 +62,7 @@ function_failures d body f result =
     ++ parameter_list_failures (entered f.known) d.parameters
     ++ if_typed (λ (head : Head). headed_failures d body f result head) (parameters_typed (entered f.known) d.parameters)
 
--- what a part of a file declares, before whose declarators stands a type
+-- what a part of a file declares; `base` is the type of its specifiers
 abbrev pub declared_failures : RawExternalKind → Filed → Shape → List FailingPlace
 declared_failures (external.Type s) f base = []
 declared_failures (external.Typedef s names) f base = typedefs_failures base names.items f.known
@@ -70,7 +70,7 @@ declared_failures (external.Objects s objects) f base = objects_failures s base 
 declared_failures (external.Function s d) f base = function_failures d None f (starred d.pointers.items base)
 declared_failures (external.Definition s d body) f base = function_failures d (Some body) f (starred d.pointers.items base)
 
--- a part of a file at a place, after others
+-- a part of a file at a position, after others
 abbrev pub external_failures : Place → RawExternalKind → Filed → List FailingPlace
 external_failures at kind f =
     specs_failures f.known at (specs_of kind)

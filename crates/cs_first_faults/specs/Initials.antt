@@ -1,4 +1,4 @@
--- The failing places of initializers (C11 6.7.9): what the `=` asks of their form and of each value, and then those of the values.
+-- The failing positions of initializers (C11 6.7.9): what the `=` requires of their form and of each value, and then those of the values.
 use Rattle.std.specs.Prelude.{if◌then◌else◌, [], ◌∷◌, ◌++◌, List, Some, option_to_list}
 use Rattle.cs_types.specs.Shape.{Shape, array}
 use Rattle.cs_ast.specs.declared.place.Place.{Place}
@@ -16,8 +16,8 @@ use Rattle.cs_first_faults.specs.Failures.{FailingPlace, failing_at, codes_of, i
 use Rattle.cs_first_faults.specs.Roles.{value_asked_failures}
 
 abbrev mutual
-  -- an item of a list that has a type goes to its element or member as if by assignment (4, 9); a struct's own braces stand around the
-  -- values of its members, and a file-scope object holds constants (13)
+  -- an item of a list that has a type is converted to that of its element or member as if by assignment (4, 9); the values of a struct's
+  -- members are in braces of their own, and a file-scope object is initialized with constants (13)
   pub item_codes : Context → Literals → Storage → Place → Shape → RawInitial → List TypeCode
   item_codes c literals storage at ty (first_value.TheVariants.Value e) =
       if_typed (λ (r : Reading). codes_of (part_judged c storage at ty r.0)) (expression_read c literals ty e)
@@ -36,15 +36,15 @@ list_codes c literals storage at ty (first_value.TheVariants.Value e) = []
 list_codes c literals storage at ty (first_value.TheVariants.List' shape row comma) =
     items_codes c literals storage at (types_or_none (part_types c.table.list ty)) row
 
--- the same of an initializer of the right form: a single value that has a type goes to the object as if by assignment (4, 9), and a
--- file-scope object holds constants (13)
+-- the same for an initializer of the right form: a single value that has a type is converted to the object's as if by assignment (4, 9),
+-- and a file-scope object is initialized with constants (13)
 abbrev pub whole_codes : Context → Literals → Storage → Place → Shape → RawInitial → List TypeCode
 whole_codes c literals storage at ty (first_value.TheVariants.Value e) =
     if_typed (λ (r : Reading). codes_of (initial_judged c storage at ty r.0)) (expression_read c literals ty e)
 whole_codes c literals storage at ty (first_value.TheVariants.List' shape row comma) =
     items_codes c literals storage at (types_or_none (part_types c.table.list ty)) row
 
--- a value by itself; a text for an array is none
+-- a value by itself; a string literal for an array isn't one
 abbrev pub expression_failures : Context → Literals → Shape → RawExpr → List FailingPlace
 expression_failures c literals (array element count) e = []
 expression_failures c literals ty e = value_asked_failures c literals (Some ty) e
@@ -62,8 +62,8 @@ abbrev mutual
   items_failures c literals (ty ∷ types) (first_value.more_of-RawInitial first others) =
       read_failures c literals ty first ++ items_failures c (literals_read (initial_read c literals ty first)) types others
 
--- the initializer after an `=`: it has the form that the type asks for (13), or else only items of a list are judged besides; one of a local
--- stores at most 4,096 scalars, whatever its values are (18)
+-- the initializer after an `=`: it has the form that the type requires (13); otherwise only items of a list are checked, too. That of a
+-- local stores at most 4,096 scalars, whatever its values are (18)
 abbrev pub initial_failures : Context → Literals → Storage → Place → Shape → RawInitial → List FailingPlace
 initial_failures c literals storage at ty written =
     if has_form c.table.list storage ty written

@@ -1,4 +1,4 @@
--- Typing refuses each part of a file at its first failing place in the order of tokens, with the least code there, and nothing else.
+-- Typing refuses each part of a file at its first failing position in the order of tokens, with the least code there, and nothing else.
 use Rattle.std.specs.Prelude.{ℕ, List, Option}
 use Rattle.cs_types.specs.declared.data_model.DataModel.{DataModel}
 use Rattle.cs_types.specs.Shape.{Shape}
@@ -39,7 +39,7 @@ use Rattle.cs_first_faults.specs.Roles.{constant_failures}
 use Rattle.cs_first_faults.specs.Statements.{declaration_failures, statement_failures}
 use Rattle.cs_first_faults.specs.Types.{specs_failures, typedefs_failures}
 
--- expressions (C11 6.5), for whatever purpose, and wherever their value goes
+-- expressions (C11 6.5), for any purpose and any target
 abbrev pub ExpressionsAreRefusedWhereTheyFailFirst : Type 0
 ExpressionsAreRefusedWhereTheyFailFirst =
     (c : Context) (purpose : Purpose) (literals : Literals) (target : Option Shape) (at : Place) (e : RawExprKind)
@@ -55,7 +55,7 @@ InitializersAreRefusedWhereTheyFailFirst =
     (c : Context) (literals : Literals) (storage : Storage) (at : Place) (ty : Shape) (written : RawInitial)
     → IsFirst (initial_typed c literals storage at ty written) (initial_failures c literals storage at ty written)
 
--- declarations (C11 6.7): the words before declarators, declarators, and what is declared with them
+-- declarations (C11 6.7): specifiers, declarators, and what is declared with them
 pub record DeclarationsAreRefusedWhereTheyFailFirst : Type 0 where
   pub words : (k : Environment) (at : Place) (s : RawSpecs) → IsFirst (specs_type k at s) (specs_failures k at s)
   pub declarators : (c : Context) (base : Shape) (count : Option ℕ) (d : RawDeclarator)

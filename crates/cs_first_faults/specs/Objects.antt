@@ -1,4 +1,4 @@
--- The failing places of declared objects and parameters (C11 6.7, 6.7.6.3, 6.9.2).
+-- The failing positions of declared objects and parameters (C11 6.7, 6.7.6.3, 6.9.2).
 use Rattle.std.specs.Prelude.{not, is_some, [], ◌∷◌, ◌++◌, List, Option, Some, None}
 use Rattle.cs_types.specs.Shape.{Shape}
 use Rattle.cs_ast.specs.declared.raw.declaration.RawFirstValue.{RawFirstValue}
@@ -22,7 +22,7 @@ use Rattle.cs_first_faults.specs.Declarators.{bounds_failures, object_codes, par
 use Rattle.cs_first_faults.specs.Initials.{initial_failures}
 use Rattle.cs_first_faults.specs.Types.{specs_failures}
 
--- a parameter: at its name, or its first token where it has none, a name that is new among the parameters (2)
+-- a parameter: at its name, or its first token if it has none, a name that is new among the parameters (2)
 abbrev pub parameter_failures : RawParameter → Environment → List FailingPlace
 parameter_failures p k =
     specs_failures k p.place p.specs
@@ -42,20 +42,20 @@ parameter_list_failures k parameter_lists.Empty = []
 parameter_list_failures k parameter_lists.Void = []
 parameter_list_failures k (parameter_lists.List list) = parameters_failures list.items (no_parameter k)
 
--- what stands after the declarator of a file-scope object
+-- the initializer of a file-scope object, if there is one
 abbrev pub file_initial_failures : Shape → Option RawFirstValue → Object → List FailingPlace
 file_initial_failures ty None o = []
 file_initial_failures ty (Some value) o =
     initial_failures o.filed.known.context o.filed.known.literals InFile value.place ty value.initial
 
--- a file-scope object with its type
+-- a file-scope object and its type
 abbrev pub typed_object : RawSpecs → Shape → RawInit → Filed → Verdict (Shape × Object)
 typed_object s base d f =
     lift (λ ty.
     lift (λ o. Fine (ty, o)) (lift (marked s d.declarator) (object_of f d.declarator (meaning_here d.declarator.name f.known) ty)))
     (object_type f.known.context base d)
 
--- a declared object of a file: at its name, one that isn't declared yet, or for an object of this type that isn't initialized twice (2)
+-- a declared object of a file: at its name, a name that isn't declared yet, or as an object of this type that isn't initialized twice (2)
 abbrev pub object_failures : RawSpecs → Shape → RawInit → Filed → List FailingPlace
 object_failures s base d f =
     let before = meaning_here d.declarator.name f.known in
@@ -70,12 +70,12 @@ abbrev pub objects_failures : RawSpecs → Shape → List RawInit → Filed → 
 objects_failures s base [] f = []
 objects_failures s base (d ∷ ds) f = object_failures s base d f ++ if_typed (λ (next : Filed). objects_failures s base ds next) (object_added s base d f)
 
--- what stands after the declarator of a local
+-- the initializer of a local, if there is one
 abbrev pub local_initial_failures : Shape → Option RawFirstValue → Inside → List FailingPlace
 local_initial_failures ty None i = []
 local_initial_failures ty (Some value) i = initial_failures i.known.context i.known.literals InFunction value.place ty value.initial
 
--- a declared object of a block: at its name, one that is new in its scope (2)
+-- a declared object of a block: at its name, a name that is new in its scope (2)
 abbrev pub local_failures : Shape → RawInit → Inside → List FailingPlace
 local_failures base d i =
     failing_at d.declarator.place

@@ -1,6 +1,6 @@
--- The failing places of statements (C11 6.8). What follows a statement is judged where the statement is right: it may declare names and
--- tags. What the word of a `do` or a `for` asks of a test that comes after a body or a first part is judged in what is known after that
--- where it is right, and else in what is known before it.
+-- The failing positions of statements (C11 6.8). What follows a statement is checked if the statement is right: it may declare names and
+-- tags. The test of a `do` or a `for` comes after a body or a first part: its rule at the keyword is checked with what is known after that
+-- part if the part is right, and otherwise with what is known before it.
 use Rattle.std.specs.Prelude.{if◌then◌else◌, [], ◌∷◌, ◌++◌, List, Option, Some, None}
 use Rattle.cs_types.specs.Shape.{Shape}
 use Rattle.cs_ast.specs.declared.place.Place.{Place}
@@ -32,12 +32,12 @@ use Rattle.cs_first_faults.specs.Objects.{locals_failures}
 use Rattle.cs_first_faults.specs.Roles.{constant_failures, value_asked_failures, assigned_failures, test_failures, selector_failures, dropped_failures}
 use Rattle.cs_first_faults.specs.Types.{specs_failures}
 
--- an expression whose value is dropped, if there is one
+-- an expression whose value is discarded, if there is one
 abbrev pub dropped_if_failures : Inside → Option RawExpr → List FailingPlace
 dropped_if_failures i None = []
 dropped_if_failures i (Some e) = dropped_failures i.known.context i.known.literals e
 
--- a test, if there is one: what the word at a place asks of it (4), and its own failing places
+-- a test, if there is one: what the keyword at a position requires of it (4), and its own failing positions
 abbrev pub word_failures : Place → Inside → Option RawExpr → List FailingPlace
 word_failures at i None = []
 word_failures at i (Some e) = fails (tested at) (operand_of i.known.context i.known.literals None e)
@@ -46,13 +46,13 @@ abbrev pub tested_failures : Inside → Option RawExpr → List FailingPlace
 tested_failures i None = []
 tested_failures i (Some e) = value_asked_failures i.known.context i.known.literals None e
 
--- what is known where a test stands for the word before it: what the part between them leaves if that is right, and else what is known
--- before the part, where no string literals count, since the file is refused
+-- what is known at a test for the keyword before it: what is known after the part between them if that is right, and otherwise what is
+-- known before that part, without string literals, since the file is refused
 abbrev pub known_at_test : {A : Type 0} → (A → Inside) → Inside → Verdict A → Inside
 known_at_test after before (Fine value) = after value
 known_at_test after before (Fault code place) = knowing (with_literals [] before.known) before
 
--- a `return`: with a value just where the function has a result (17), to whose type the value converts (4, 9)
+-- a `return`, which has a value exactly if the function has a result (17), to whose type the value converts (4, 9)
 abbrev pub return_failures : Where → Place → Inside → Option RawExpr → List FailingPlace
 return_failures w at i None = if is_void w.returns then [] else failing_at at (Return ∷ [])
 return_failures w at i (Some e) =
@@ -72,7 +72,7 @@ first_failures i (first_part.Run e) = dropped_failures i.known.context i.known.l
 first_failures i (first_part.Declare s objects) = declaration_failures s objects.items (no_statements i)
 
 abbrev mutual
-  -- a statement at a place
+  -- a statement at a position
   pub statement_failures : Where → Inside → Place → RawStmtKind → List FailingPlace
   -- C11 6.8.2
   statement_failures w i at (kind.Block' shape row) = block_failures w row (no_statements (in_block i))
@@ -115,7 +115,7 @@ abbrev mutual
       ++ if_typed (λ (v : Part Typed).
       switch_failures (in_switch w) (type_of v.found) row (record { cases = []; reported = no_statements (in_block v.inside) }))
       (selected at i value)
-  -- C11 6.8.6: a label that is there, and a statement around that is left or continued (11)
+  -- C11 6.8.6: a label that exists, and an enclosing statement to leave or continue (11)
   statement_failures w i at (kind.Goto label) = failing (goto_typed at i (label_number label w.labels))
   statement_failures w i at kind.Continue = failing_at at (unless w.continues Jump)
   statement_failures w i at kind.Break = failing_at at (unless w.breaks Jump)
@@ -124,7 +124,7 @@ abbrev mutual
   statement_failures w i at (kind.Label' name place p body) =
       failing_at at (unless (is_first i (label_number name w.labels)) Jump) ++ statement_failures w (meeting i) place body
 
-  -- what stands in a block, after some statements
+  -- an item of a block, after some statements
   pub item_failures : Where → RawItem → TypedStatements → List FailingPlace
   item_failures w (items.TheVariants.Declare s objects) so_far = declaration_failures s objects.items so_far
   item_failures w (items.TheVariants.Run' place p body) so_far = statement_failures w so_far.inside place body
@@ -134,7 +134,7 @@ abbrev mutual
   block_failures w (kinds.more_of-RawItem first others) so_far =
       item_failures w first so_far ++ if_typed (λ (next : TypedStatements). block_failures w others next) (item_typed w first so_far)
 
-  -- what stands in a `switch` by a value of a type: at each label, one that doesn't stand there already (10)
+  -- an item of a `switch` on a value of this type: at each label, one that it doesn't have yet (10)
   pub switch_item_failures : Where → Shape → switches.RawSwitchItem → Switching → List FailingPlace
   switch_item_failures w ty (switches.TheVariants.Case at value) so_far =
       fails (λ n. constant_case at so_far ty n.1) (value_of so_far.reported.inside.known.context value)

@@ -1,5 +1,5 @@
--- The failing places of what stands before declarators (C11 6.7.2), with the bodies of structs and enums, and of typedefs. What follows a
--- declaration can be judged where the declaration is right: what it declares isn't known otherwise.
+-- The failing positions of specifiers (C11 6.7.2), with the bodies of structs and enums, and of typedefs. What follows a declaration can
+-- only be checked if the declaration is right: what it declares isn't known otherwise.
 use Rattle.std.specs.Prelude.{ℕ, pos, not, [], ◌∷◌, ◌++◌, List, Option, Some, None}
 use Rattle.cs_types.specs.Shape.{Shape}
 use Rattle.cs_ast.specs.declared.place.Place.{Place}
@@ -41,7 +41,7 @@ abbrev pub number_failures : Context → Option RawExpr → List FailingPlace
 number_failures c None = []
 number_failures c (Some e) = constant_failures c e
 
--- an enumeration constant: at its name, a new name (2) for a number that `int` holds (15)
+-- an enumeration constant: at its name, a new name (2) for a number that `int` can represent (15)
 abbrev pub enumerator_failures : RawEnumerator → Counting → List FailingPlace
 enumerator_failures e so_far =
     failing_at e.place
@@ -60,8 +60,7 @@ enum_failures k at name constants =
     failing_at at (unless (is_new_enum k name) DeclaredTwice) ++ enumerators_failures constants (record { next = pos 0; known = k })
 
 abbrev mutual
-  -- words before declarators: a tag that is known as what the word before it says (1, 2), of a struct that has no members before it
-  -- gets a body (2)
+  -- specifiers: a tag that is known for the keyword before it (1, 2); a struct that gets a body has no members before it (2)
   pub row_failures : {n : _} → Environment → Option Place → Place → List TypeWord → words.Row_of-SpecWord n → List FailingPlace
   row_failures k at_tag at all words.end_of-SpecWord = failing (word_type k at_tag at all (whole_word all))
   row_failures k at_tag at all (words.more_of-SpecWord words.TheVariants.Static others) = row_failures k at_tag at all others
@@ -81,7 +80,7 @@ abbrev mutual
       ++ if_typed (λ (t : Typing). members_failures t.1.context t.0 declarators.items before) ty
       ++ if_typed (λ (read : Body). body_failures read.known others read.laying) (lift (group_declared declarators.items before) ty)
 
--- the same of the words in a list
+-- the same for the words in a list
 abbrev pub words_failures : Environment → Option Place → Place → List TypeWord → List SpecWord → List FailingPlace
 words_failures k at_tag at all [] = failing (word_type k at_tag at all (whole_word all))
 words_failures k at_tag at all (words.TheVariants.Static ∷ others) = words_failures k at_tag at all others
@@ -94,7 +93,7 @@ words_failures k at_tag at all (words.TheVariants.Enum name constants comma ∷ 
 abbrev pub specs_failures : Environment → Place → RawSpecs → List FailingPlace
 specs_failures k at s = words_failures k s.tag at (plain_words s.words.items) s.words.items
 
--- a typedef's name: a new one (2)
+-- the name of a typedef: a new one (2)
 abbrev pub typedef_failures : Shape → RawDeclarator → Environment → List FailingPlace
 typedef_failures base d k =
     failing_at d.place (unless (not (is_declared_here d.name k)) DeclaredTwice ++ declarator_codes k.context base None d)

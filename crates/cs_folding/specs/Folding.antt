@@ -1,4 +1,4 @@
--- Constant expressions (C11 6.6): their numbers, which are exact.
+-- Constant expressions (C11 6.6) and their exact numbers.
 use Rattle.std.specs.Prelude.{ℕ, suc, ◌*◌, ◌-◌, ◌^◌, ℤ, pos, negsuc, ◌+ℤ◌, ◌-ℤ◌, ◌*ℤ◌, int_lt, int_le, int_div}
 use Rattle.std.specs.Prelude.{int_rem, unsigned_abs, bit_and, bit_or, bit_xor, Bool, true, false, not, ◌&&◌, ◌||◌, if◌then◌else◌, Option, Some}
 use Rattle.std.specs.Prelude.{None}
@@ -19,12 +19,12 @@ use Rattle.cs_ast.specs.declared.typed.operator.CmpOp.TheVariants.{Less, AtMost,
 use Rattle.cs_ast.specs.TypedTree.{Typed, Of, Form, Number, Null, Convert, Unary, Not, Binary, Compare, And, Or, Choice}
 use Rattle.cs_folding.specs.TypedParts.{type_of, form_of}
 
--- the truth of a test as an `int`
+-- the truth value of a test, as an `int`
 abbrev pub truth : Bool → ℤ
 truth true = pos 1
 truth false = pos 0
 
--- whether a number tests as true
+-- whether a number is true as a test
 abbrev pub holds : ℤ → Bool
 holds n = not (int_eq n (pos 0))
 
@@ -33,7 +33,7 @@ abbrev pub without : Bool → Option ℤ
 without true = None
 without false = Some (pos 0)
 
--- the number of an exact result: a signed type has to hold it, and an unsigned one takes it modulo (C11 6.2.5, paragraph 9; 6.5, paragraph 5)
+-- the number of an exact result: a signed type has to represent it, an unsigned one takes it modulo (C11 6.2.5, paragraph 9; 6.5, paragraph 5)
 unfoldable pub given : DataModel → Bool → IntType → ℤ → Option ℤ
 given model needed ty exact =
     if has_sign ty && not (int_eq (wrap_quotient model ty exact) (pos 0)) then without needed else Some (wrapped model ty exact)
@@ -43,12 +43,12 @@ abbrev pub is_zero : Option ℤ → Bool
 is_zero (Some n) = int_eq n (pos 0)
 is_zero None = false
 
--- the bits of a number of a type, as a number without sign (C11 6.2.6.2)
+-- the bits of a number of a type, as an unsigned number (C11 6.2.6.2)
 abbrev pub bits_of : DataModel → IntType → ℤ → ℕ
 bits_of model ty (pos n) = n
 bits_of model ty (negsuc n) = modulus_of model ty - suc n
 
--- the number of a type with the bits that an operator makes of those of two others
+-- the number of a type whose bits an operator makes from those of two others
 abbrev pub bitwise : (ℕ → ℕ → ℕ) → DataModel → IntType → ℤ → ℤ → ℤ
 bitwise op model ty a b = wrapped model ty (pos (op (bits_of model ty a) (bits_of model ty b)))
 
@@ -56,7 +56,7 @@ bitwise op model ty a b = wrapped model ty (pos (op (bits_of model ty a) (bits_o
 abbrev pub is_count : DataModel → IntType → ℤ → Bool
 is_count model ty n = int_le (pos 0) n && int_lt n (pos (8 * bytes_of model ty))
 
--- an operator on two numbers of a type, or for a shift of a number of a type by another number
+-- the number of an operator on two numbers of a type; of a shift, the right one may have another type
 unfoldable pub applied : DataModel → Bool → BinOp → IntType → ℤ → ℤ → Option ℤ
 applied model needed Add ty a b = given model needed ty (a +ℤ b)
 applied model needed Sub ty a b = given model needed ty (a -ℤ b)
@@ -83,32 +83,32 @@ compared AtLeast a b = int_le b a
 compared Equal a b = int_eq a b
 compared Differs a b = not (int_eq a b)
 
--- a number that its type holds
+-- a number, if its type can represent it
 unfoldable pub kept : DataModel → IntType → ℤ → Option ℤ
 kept model ty n = if int_le (least_of model ty) n && int_le n (greatest_of model ty) then Some n else None
 
--- both numbers, if there are two
+-- a function of both numbers, if there are both
 abbrev pub with_both : (ℤ → ℤ → Option ℤ) → Option ℤ → Option ℤ → Option ℤ
 with_both f (Some a) (Some b) = f a b
 with_both f (Some a) None = None
 with_both f None b = None
 
--- the number of one of two, by a test
+-- the number of one of two, chosen by a test; there has to be a number for each
 abbrev pub chosen_number : Option ℤ → Option ℤ → Option ℤ → Option ℤ
 chosen_number (Some t) (Some a) (Some b) = Some (if holds t then a else b)
 chosen_number (Some t) (Some a) None = None
 chosen_number (Some t) None b = None
 chosen_number None a b = None
 
--- whether an operand is evaluated that is so where the test holds, or where it doesn't
+-- whether an operand is evaluated that is only evaluated if the test holds, or only if it doesn't
 abbrev pub needed_if : Bool → Bool → Option ℤ → Bool
 needed_if needed way None = needed
 needed_if needed true (Some t) = needed && holds t
 needed_if needed false (Some t) = needed && not (holds t)
 
 abbrev mutual
-  -- the number of an integer constant expression (C11 6.6, paragraph 6), if it is one and its operators have results; in one that
-  -- isn't evaluated they need none
+  -- the number of an integer constant expression (C11 6.6, paragraph 6), if it is one and its operators have results; they needn't
+  -- have any in one that isn't evaluated
   pub number_in : DataModel → Bool → Typed → Option ℤ
   number_in model needed (Of at (integer ty) form) = form_number model needed ty form
   number_in model needed (Of at void form) = None
@@ -147,7 +147,7 @@ is_void_pointer other = false
 unfoldable pub is_null : DataModel → Typed → Bool
 is_null model e = (is_void_pointer (type_of e) && is_null_form (form_of e)) || is_zero (number_in model true e)
 
--- a pointer is the null pointer once it is cast to a pointer type: a null pointer constant that is cast neither to its own type nor to
--- `void *`
+-- a pointer becomes the null pointer when it is cast to a pointer type: it is a null pointer constant and is cast neither to its own
+-- type nor to `void *`
 unfoldable pub is_null_cast : DataModel → Typed → Shape → Shape → Bool
 is_null_cast model e target source = not (same_shape target source || is_void target) && is_null model e

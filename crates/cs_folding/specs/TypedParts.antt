@@ -7,10 +7,10 @@ use Rattle.cs_ast.specs.TypedTree.{Typed, Of, Form}
 abbrev pub type_of : Typed → Shape
 type_of (Of at ty form) = ty
 
--- what an expression is
+-- the form of an expression
 abbrev pub form_of : Typed → Form
 form_of (Of at ty form) = form
 
--- the place of an expression
+-- the position of an expression
 abbrev pub place_in : Typed → Place
 place_in (Of at ty form) = at

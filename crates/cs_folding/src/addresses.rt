@@ -1,4 +1,4 @@
-//! Constants that file-scope objects may hold: numbers and addresses (C11 6.6).
+//! Constants that may initialize file-scope objects: numbers and addresses (C11 6.6).
 ghost use Rattle.std.specs.Prelude.{◌≡◌};
 ghost use Rattle.cs_ast.specs.TypedView.{typed};
 ghost use Rattle.cs_folding.specs.Addresses.{is_number, is_null_address, is_static_address, is_static_part, is_address};
@@ -14,8 +14,8 @@ pub fn is_number(model: DataModel, value: &Expr) -> bool
     number_in(model, true, value).is_some()
 }
 
-// Whether the value points to a file-scope object or a string literal, or to a part of one at constant subscripts, plus or minus
-// constants.
+// Whether the value points to a file-scope object or a string literal, or to a part of one, with constant subscripts, plus or
+// minus constants.
 #[cycle(addresses)]
 fn is_static_address(model: DataModel, value: &Expr) -> bool
     ensures { result ≡ is_static_address model (typed value.now) }
@@ -30,7 +30,7 @@ fn is_static_address(model: DataModel, value: &Expr) -> bool
     }
 }
 
-// Whether the object is a file-scope object, a string literal, or a part of one at constant subscripts.
+// Whether the object is a file-scope object, a string literal, or a part of one, with constant subscripts.
 #[cycle(addresses)]
 fn is_static_part(model: DataModel, object: &Expr) -> bool
     ensures { result ≡ is_static_part model (typed object.now) }
@@ -56,7 +56,7 @@ fn is_null_address(value: &Expr) -> bool
     }
 }
 
-/// Whether the value is an address constant (C11 6.6, paragraph 9). The null pointer has no elements, so nothing is added to it.
+/// Whether the value is an address constant (C11 6.6, paragraph 9). The null pointer has no elements, so it has no sums.
 pub fn is_address(model: DataModel, value: &Expr) -> bool
     ensures { result ≡ is_address model (typed value.now) }
 {

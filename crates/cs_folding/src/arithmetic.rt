@@ -1,4 +1,4 @@
-//! The numbers of operators in constant expressions, which are exact (C11 6.6).
+//! Exact arithmetic on the numbers of constant expressions (C11 6.6).
 ghost use Rattle.std.specs.Prelude.{◌≡◌, ◌≤◌, ◌^◌, ◌*ℤ◌, ◌≤ℤ◌, ◌<ℤ◌, unsigned_abs, IfSome, pos};
 ghost use Rattle.cs_types.specs.IntType.{IsIntegerOfC};
 ghost use Rattle.cs_types.specs.Wrap.{wrapped};
@@ -8,7 +8,7 @@ ghost use Rattle.cs_folding.specs.Folding.{without, given, is_count, bits_of, ap
 use cs_ast::typed::operator::{BinOp, CmpOp, UnOp};
 use cs_types::{DataModel, IntType, bytes, in_range, is_signed, multiply, quotient, wrap};
 
-/// The truth of a test as a number of `int`.
+/// Returns the truth value of a test, as a number of `int`.
 pub fn truth(test: bool) -> i128
     ensures value { result ≡ truth test }
     ensures small { IsIntegerOfC result }
@@ -16,7 +16,7 @@ pub fn truth(test: bool) -> i128
     if test { 1 } else { 0 }
 }
 
-/// The number of an operator without a result: none, or 0 in an operand that isn't evaluated.
+/// Returns the number of an operator without a result: none, or 0 in an operand that isn't evaluated.
 pub fn without(needed: bool) -> Option<i128>
     ensures value { result ≡ without needed }
     ensures small { IfSome result IsIntegerOfC }
@@ -24,7 +24,7 @@ pub fn without(needed: bool) -> Option<i128>
     if needed { None } else { Some(0) }
 }
 
-/// The number of an exact result of an operator that works in a type.
+/// Returns the number of an operator in a type from its exact result.
 #[tactic(auto, unfolding(crate::specs::Folding::given), using(crate::proofs::Numbers::in_c))]
 pub fn given(model: DataModel, needed: bool, ty: IntType, exact: i128) -> Option<i128>
     requires { unsigned_abs exact ≤ 2 ^ 126 }
@@ -48,7 +48,7 @@ pub fn is_zero(number: Option<i128>) -> bool
     }
 }
 
-// The number of a product, which may need more than 128 bits.
+// The number of a product, whose exact value may need more than 128 bits.
 #[tactic(auto, unfolding(crate::specs::Folding::given), using(crate::proofs::Numbers::products))]
 fn product(model: DataModel, needed: bool, ty: IntType, left: i128, right: i128) -> Option<i128>
     requires left { IsIntegerOfC left }
@@ -64,7 +64,7 @@ fn product(model: DataModel, needed: bool, ty: IntType, left: i128, right: i128)
     }
 }
 
-// Whether a number of the type can be shifted by so many bits.
+// Whether a number of the type can be shifted by this number of bits.
 fn is_count(model: DataModel, ty: IntType, count: i128) -> bool
     ensures { result ≡ is_count model ty count }
 {
@@ -82,7 +82,7 @@ fn power(count: i128) -> i128
     1 << bits
 }
 
-// The bits of a number of a type, as a number without sign.
+// The bits of a number of a type, as an unsigned number.
 fn bits(model: DataModel, ty: IntType, number: i128) -> u64
     requires { IsIntegerOfC number }
     ensures { result ≡ bits_of model ty number }
@@ -95,7 +95,7 @@ fn bits(model: DataModel, ty: IntType, number: i128) -> u64
     }
 }
 
-// The number of a quotient, toward zero.
+// The number of a quotient, which truncates toward zero.
 #[tactic(auto, unfolding(crate::specs::Folding::applied))]
 fn divided(model: DataModel, needed: bool, ty: IntType, left: i128, right: i128) -> Option<i128>
     requires left { IsIntegerOfC left }
@@ -165,7 +165,7 @@ fn shifted_right(
     }
 }
 
-/// An operator on two numbers of a type, or for a shift on a number of a type and another number.
+/// Returns the number of an operator on two numbers of a type; of a shift, the right one may have another type.
 #[tactic(auto, unfolding(crate::specs::Folding::applied))]
 pub fn applied(
     model: DataModel,
@@ -203,7 +203,7 @@ fn from_bits(model: DataModel, ty: IntType, bits: u64) -> i128
     wrap(model, ty, i128::from(bits))
 }
 
-/// An operator on one number.
+/// Returns the number of an operator on one number.
 pub fn turned(
     model: DataModel,
     needed: bool,
@@ -221,7 +221,7 @@ pub fn turned(
     }
 }
 
-/// A comparison of two numbers.
+/// Returns the result of a comparison of two numbers.
 pub fn compared(operator: CmpOp, left: i128, right: i128) -> bool
     ensures { result ≡ compared operator left right }
 {
@@ -235,7 +235,7 @@ pub fn compared(operator: CmpOp, left: i128, right: i128) -> bool
     }
 }
 
-/// A number that its type holds.
+/// Returns a number, if its type can represent it.
 #[tactic(auto, unfolding(crate::specs::Folding::kept))]
 pub fn kept(model: DataModel, ty: IntType, number: i128) -> Option<i128>
     ensures value { result ≡ kept model ty number }

@@ -9,8 +9,8 @@ use crate::arithmetic::{applied, compared, is_zero, kept, truth, turned};
 use cs_ast::typed::expression::{Expr, ExprKind};
 use cs_types::{CType, DataModel, is_void, wrap};
 
-/// The number of an integer constant expression, if the expression is one and its operators have results. In one that isn't
-/// needed they may have none.
+/// Returns the number of an integer constant expression, if the expression is one and its operators have results; they needn't
+/// have any if its value isn't needed.
 pub fn number_in(model: DataModel, needed: bool, value: &Expr) -> Option<i128>
     ensures value { result ≡ number_in model needed (typed value.now) }
     ensures small { IfSome result IsIntegerOfC }
@@ -75,8 +75,8 @@ pub fn is_null(model: DataModel, value: &Expr) -> bool
     is_zero(number_in(model, true, value))
 }
 
-/// Whether a pointer is the null pointer once it is cast to a pointer type, by what both types point to: it is a null pointer
-/// constant that is cast neither to its own type nor to `void *` (C11 6.3.2.3, paragraph 3).
+/// Whether a pointer becomes the null pointer when it is cast to a pointer type, by the types that both point to: if it is a
+/// null pointer constant and is cast neither to its own type nor to `void *` (C11 6.3.2.3, paragraph 3).
 #[tactic(auto, unfolding(crate::specs::Folding::is_null_cast))]
 pub fn is_null_cast(model: DataModel, value: &Expr, to: &CType, from: &CType) -> bool
     ensures { result ≡ is_null_cast model (typed value.now) (shape_of to.now) (shape_of from.now) }
@@ -94,7 +94,7 @@ fn is_void_pointer(ty: &CType) -> bool
     }
 }
 
-// Whether it is the null pointer.
+// Whether the expression is the null pointer.
 fn is_null_kind(kind: &ExprKind) -> bool
     ensures { result ≡ is_null_form (form kind.now) }
 {

@@ -1,4 +1,4 @@
-//! Constant expressions (C11 6.6): their numbers, which are exact, null pointers and addresses.
+//! Constant expressions (C11 6.6): their exact numbers, null pointers, and addresses.
 #![tactic(auto)]
 
 mod addresses;

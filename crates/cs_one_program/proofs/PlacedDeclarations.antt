@@ -1,4 +1,4 @@
--- Declarations with the same parts and with the places of the same tokens are the same, but for where they lie in memory.
+-- Declarations with the same parts and with the positions of the same tokens are the same, except for memory addresses.
 use Rattle.std.proofs.Common.{◌≡◌, List, [], ◌∷◌, Option, Some, None, drop, map, refl, sym, ap, subst, ◌∙◌}
 use Rattle.std.specs.Option.{option_map}
 use mathlib.Core.Former.{Count}

@@ -1,4 +1,4 @@
--- Expressions with the same parts and with the places of the same tokens are the same, but for where they lie in memory.
+-- Expressions with the same parts and with the positions of the same tokens are the same, except for memory addresses.
 use Rattle.std.proofs.Common.{◌≡◌, List, [], ◌∷◌, drop, length, slice_get, refl, sym, ap, subst, ◌∙◌}
 use Rattle.std.specs.Option.{option_map, option_and_then}
 use mathlib.Core.Former.{Count}

@@ -1,4 +1,4 @@
--- Statements and files with the same parts and with the places of the same tokens are the same, but for where they lie in memory: for
+-- Statements and files with the same parts and with the positions of the same tokens are the same, except for memory addresses: for
 -- `files_have_one_tree`.
 use Rattle.std.proofs.Common.{◌≡◌, List, [], ◌∷◌, Option, drop, map, refl, ap, subst}
 use mathlib.Core.Former.{Count}

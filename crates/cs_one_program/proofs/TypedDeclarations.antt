@@ -1,4 +1,4 @@
--- The types that words before declarators name, typedefs and parameters are alike where they have the same parts at the same places.
+-- The types of specifiers, typedefs and parameters that have the same parts at the same positions are typed alike.
 use Rattle.std.proofs.Common.{◌≡◌, ℕ, ℤ, pos, not, ◌&&◌, ◌||◌, if◌then◌else◌, List, [], ◌∷◌, ◌++◌, length, Bool, Option, Some}
 use Rattle.std.proofs.Common.{None}
 use Rattle.std.proofs.Common.{refl, ap, ◌∙◌}

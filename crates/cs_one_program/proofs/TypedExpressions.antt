@@ -1,4 +1,4 @@
--- Expressions with the same parts at the same places are typed alike.
+-- Expressions with the same parts at the same positions are typed alike.
 use Rattle.std.proofs.Common.{◌≡◌, suc, true, false, List, [], ◌∷◌, Option, Some, None, refl, ap, ◌∙◌}
 use mathlib.Core.Former.{Count}
 use Rattle.cs_types.specs.Shape.{Shape, integer}

@@ -1,4 +1,5 @@
--- Files with the same parts at the same places are one typed program, or are refused at one place with one code: for `programs_are_of_what_is_seen`.
+-- Files with the same parts at the same positions are one typed program, or are refused at one position with one code: for
+-- `typing_sees_parts_and_places`.
 use Rattle.std.proofs.Common.{◌≡◌, ℕ, false, ◌||◌, if◌then◌else◌, List, [], ◌++◌, length, Bool, Option, Some, None, option_to_list}
 use Rattle.std.proofs.Common.{refl, ap, ◌∙◌}
 use Rattle.std.specs.Prelude.{nat_eq}

@@ -1,5 +1,4 @@
--- What objects hold at first, and the bounds and types of their declarators, are typed alike where they have the same parts at the same
--- places.
+-- Initializers, and the bounds and types of declarators, that have the same parts at the same positions are typed alike.
 use Rattle.std.proofs.Common.{◌≡◌, ℕ, suc, ◌&&◌, if◌then◌else◌, List, [], ◌∷◌, length, Option, Some, None, is_some, refl, ap, ◌∙◌}
 use Rattle.std.specs.Option.{option_or}
 use mathlib.Core.Former.{Count}

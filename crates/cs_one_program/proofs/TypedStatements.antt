@@ -1,4 +1,4 @@
--- Objects and statements are typed alike where they have the same parts at the same places.
+-- Objects and statements that have the same parts at the same positions are typed alike.
 use Rattle.std.proofs.Common.{◌≡◌, ℕ, false, if◌then◌else◌, List, [], ◌∷◌, ◌++◌, length, Option, Some, None, is_some, refl, ap}
 use Rattle.std.proofs.Common.{◌∙◌}
 use mathlib.Core.Former.{Count}

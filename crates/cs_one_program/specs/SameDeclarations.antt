@@ -1,4 +1,4 @@
--- Written declarations that have the same parts at the same places.
+-- Written declarations that have the same parts at the same positions.
 use Rattle.std.specs.Prelude.{◌≡◌, List, Option, Vec}
 use Rattle.std.specs.declared.alloc.Global.{Global}
 use mathlib.Core.Former.{Count}
@@ -34,7 +34,7 @@ pub record SameConstant (e other : RawEnumerator) : Type 0 where
   pub value : IfBoth SameExpr e.value other.value
 
 mutual
-  -- what objects hold at first
+  -- initializers
   pub data SameInitial : RawInitial → RawInitial → Type 0 where
     Value : {e e' : RawExpr} → SameExpr e e' → SameInitial (first_value.TheVariants.Value e) (first_value.TheVariants.Value e')
     Listed : {shape shape' : _} {row : _} {row' : _} {comma : _} → SameInitials _ _ row row'
@@ -55,7 +55,7 @@ pub record SameInit (d other : RawInit) : Type 0 where
   pub initial : IfBoth SameFirstValue d.initial other.initial
 
 mutual
-  -- words before declarators, some with a body
+  -- specifiers, some of which have a body
   pub data SameSpec : SpecWord → SpecWord → Type 0 where
     Static : SameSpec words.TheVariants.Static words.TheVariants.Static
     Plain : {w : _} → SameSpec (words.TheVariants.Plain w) (words.TheVariants.Plain w)
@@ -77,7 +77,7 @@ mutual
         → SameSpecs _ _ row row' → Pairwise SameDeclarator declarators.items declarators'.items → SameMembers _ _ others others'
         → SameMembers _ _ (words.more_of-RawMember shape row tag declarators others) (words.more_of-RawMember shape' row' tag declarators' others')
 
--- what stands before declarators
+-- the specifiers before declarators
 pub record SameBefore (s other : RawSpecs) : Type 0 where
   pub tag : s.tag ≡ other.tag
   pub words : Pairwise SameSpec s.words.items other.words.items

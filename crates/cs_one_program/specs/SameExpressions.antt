@@ -1,4 +1,4 @@
--- Written expressions that have the same parts at the same places: two of them differ at most in where their parts lie in memory.
+-- Written expressions that have the same parts at the same positions: two of them differ at most in the memory addresses of their parts.
 use Rattle.std.specs.Prelude.{◌≡◌, List, [], ◌∷◌, Option, Some, None}
 use mathlib.Core.Former.{Count}
 use Rattle.cs_ast.specs.declared.place.Place.{Place}
@@ -7,12 +7,12 @@ use Rattle.cs_ast.specs.declared.raw.expression.RawExprKind.{RawExprKind, Row_of
 use Rattle.cs_ast.specs.declared.raw.expression.RawExprKind.TheVariants as kind
 use Rattle.cs_ast.specs.declared.raw.written_type.WrittenType.{WrittenType}
 
--- two lists that go together, one by one
+-- two lists that correspond, element by element
 pub data Pairwise {A : Type 0} (Same : A → A → Type 0) : List A → List A → Type 0 where
   none : Pairwise Same [] []
   more : {a b : A} {all others : List A} → Same a b → Pairwise Same all others → Pairwise Same (a ∷ all) (b ∷ others)
 
--- two of what may be absent
+-- two optional parts
 pub data IfBoth {A : Type 0} (Same : A → A → Type 0) : Option A → Option A → Type 0 where
   absent : IfBoth Same None None
   present : {a b : A} → Same a b → IfBoth Same (Some a) (Some b)
@@ -24,7 +24,7 @@ pub record SameType (ty other : WrittenType) : Type 0 where
   pub pointers : ty.pointers.items ≡ other.pointers.items
 
 mutual
-  -- what two expressions at one place are
+  -- the kinds of two expressions at one position
   pub data SameKind : RawExprKind → RawExprKind → Type 0 where
     Name : {name : _} → SameKind (kind.Name name) (kind.Name name)
     Number : {constant : _} → SameKind (kind.Number constant) (kind.Number constant)
@@ -65,7 +65,7 @@ mutual
     Comma : (place place' : Place) {p p' q q' : _} {first first' second second' : RawExprKind} → SameKind first first' → SameKind second second'
         → SameKind (kind.Comma' place p first place' q second) (kind.Comma' place p' first' place' q' second')
 
-  -- expressions in a row
+  -- lists of expressions
   pub data SameRow : (n m : Count) → Row_of-RawExpr n → Row_of-RawExpr m → Type 0 where
     End : SameRow _ _ end_of-RawExpr end_of-RawExpr
     More : (place : Place) {p p' : _} {first first' : RawExprKind} {n m : Count} {others : Row_of-RawExpr n} {others' : Row_of-RawExpr m}

@@ -1,4 +1,4 @@
--- Written statements, and files, that have the same parts at the same places.
+-- Written statements, and files, that have the same parts at the same positions.
 use Rattle.std.specs.Prelude.{◌≡◌, List, Option, Vec}
 use Rattle.std.specs.declared.alloc.Global.{Global}
 use mathlib.Core.Former.{Count}
@@ -31,7 +31,7 @@ pub data SameFirst : RawFirst → RawFirst → Type 0 where
       → SameFirst (first_part.Declare s objects) (first_part.Declare s' objects')
 
 mutual
-  -- what two statements at one place are
+  -- the kinds of two statements at one position
   pub data SameStatement : RawStmtKind → RawStmtKind → Type 0 where
     Block : {shape shape' : _} {row : _} {row' : _} → SameItems _ _ row row' → SameStatement (kind.Block' shape row) (kind.Block' shape' row')
     Empty : SameStatement kind.Empty kind.Empty
@@ -57,7 +57,7 @@ mutual
     Label : (name : _) (place : Place) {p p' : _} {body body' : RawStmtKind} → SameStatement body body'
         → SameStatement (kind.Label' name place p body) (kind.Label' name place p' body')
 
-  -- what stands in a block
+  -- items of blocks
   pub data SameItem : RawItem → RawItem → Type 0 where
     Declare : {s s' : RawSpecs} {objects objects' : Vec RawInit Global} → SameBefore s s' → Pairwise SameInit objects.items objects'.items
         → SameItem (items.TheVariants.Declare s objects) (items.TheVariants.Declare s' objects')
@@ -70,7 +70,7 @@ mutual
         → SameItem first first' → SameItems _ _ others others'
         → SameItems _ _ (kinds.more_of-RawItem first others) (kinds.more_of-RawItem first' others')
 
-  -- what stands in a `switch`
+  -- items of a `switch`
   pub data SameSwitchItem : switches.RawSwitchItem → switches.RawSwitchItem → Type 0 where
     Case : (at : Place) {value value' : RawExpr} → SameExpr value value'
         → SameSwitchItem (switches.TheVariants.Case at value) (switches.TheVariants.Case at value')
@@ -88,7 +88,7 @@ pub record SameBody (body other : RawBody) : Type 0 where
   pub inside : Pairwise SameItem body.items.items other.items.items
   pub closing : body.closing ≡ other.closing
 
--- what two parts of a file at one place are
+-- the kinds of two parts of a file at one position
 pub data SameExternalKind : RawExternalKind → RawExternalKind → Type 0 where
   TypeAlone : {s s' : RawSpecs} → SameBefore s s' → SameExternalKind (external.Type s) (external.Type s')
   Typedef : {s s' : RawSpecs} {names names' : Vec RawDeclarator Global} → SameBefore s s' → Pairwise SameDeclarator names.items names'.items

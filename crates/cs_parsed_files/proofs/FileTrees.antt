@@ -1,4 +1,4 @@
--- A lexed file's tree has constants, places and a size that are those of its text: for `lexed_files_have_trees`.
+-- A lexed file's tree has constants, positions and a size that its text allows: for `lexed_files_have_trees`.
 use Rattle.std.proofs.Common.{◌≤◌, length, ap, arith}
 use Rattle.std.specs.List.{sum_by}
 use Rattle.cs_grammar.specs.FileText.{file_text}

@@ -1,4 +1,4 @@
--- No constant of a lexed file's tree is too wide: for `lexed_files_have_trees`.
+-- No constant of a lexed file's tree is too large: for `lexed_files_have_trees`.
 use Rattle.std.proofs.Common.{List, sym}
 use Rattle.std.specs.List.{All}
 use Rattle.std.proofs.lemmas.List.Elements.{All-map, All-same}

@@ -1,4 +1,4 @@
--- Where all tokens of a file have places among some, its tree has: for `lexed_files_have_trees`.
+-- If the positions of all tokens of a file are in a set, so are those of its tree: for `lexed_files_have_trees`.
 use Rattle.std.proofs.Common.{ℕ, List, [], ◌∷◌, Option, Some, None, length, drop, sym, subst}
 use Rattle.std.specs.Prelude.{IfSome}
 use Rattle.std.specs.List.{All, AllByRecursion}

@@ -1,4 +1,4 @@
--- What is known of the tree of a file, from its text on.
+-- What is known of the tree of a file from its text.
 use Rattle.std.specs.Prelude.{ℕ, ◌≤◌, List, length}
 use Rattle.cs_limits.specs.declared.TheConstants.{MOST_BYTES}
 use Rattle.cs_ast.specs.declared.raw.external.RawExternal.{RawExternal}
@@ -12,7 +12,7 @@ use Rattle.cs_well_formed.specs.Files.{IsFileTree}
 abbrev pub IsOfFile : Lexed → Type 0
 IsOfFile lexed = (file : List ℕ) × (length file ≤ MOST_BYTES) × Lexes file lexed
 
--- where a text of at most `MOST_BYTES` bytes is lexed, and its tokens are a tree that has their places, that is the tree of a file
+-- if a text of at most `MOST_BYTES` bytes is lexed, and its tokens are a tree with their positions, that tree is as typing requires it
 abbrev pub LexedFilesHaveTrees : Type 0
 LexedFilesHaveTrees =
     (text : List ℕ) (lexed : Lexed) (tree : List RawExternal) → length text ≤ MOST_BYTES → Lexes text lexed

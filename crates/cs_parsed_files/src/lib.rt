@@ -1,9 +1,9 @@
-//! A law about the trees of lexed and parsed files: what typing takes as a premise, so that the program of a tree is well formed.
+//! A law about the trees of lexed and parsed files: the premise of typing for a well-formed program.
 #![tactic(auto)]
 
 ghost use Rattle.cs_parsed_files.specs.Trees.{LexedFilesHaveTrees};
 
-/// A file that is not too long, is lexed and is parsed has a tree whose constants, places and size are those of its text.
+/// The tree of a lexed and parsed file that is not too long has constants, positions and a size that its text allows.
 pub fn lexed_files_have_trees()
     ensures { LexedFilesHaveTrees }
 {}

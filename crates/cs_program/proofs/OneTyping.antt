@@ -1,4 +1,4 @@
--- What the typing of a tree gives, for the same tokens in another form: for the functions that go on with the program of a tree.
+-- The typing of a tree, for the same tokens in another form: for the functions that continue with the program of a tree.
 use Rattle.std.proofs.Common.{◌≡◌, ℕ, List, ap, ◌∙◌, subst}
 use Rattle.cs_types.specs.declared.data_model.DataModel.{DataModel}
 use Rattle.cs_ast.specs.declared.token.Token.{Token}

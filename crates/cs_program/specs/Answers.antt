@@ -1,4 +1,4 @@
--- What is said of a file: the program that it is, or the first check that it doesn't pass.
+-- The result for a file: its program, or the first check that it doesn't pass.
 use Rattle.std.specs.Prelude.{◌≡◌, ◌≤◌, ◌<◌, ℕ, List, length}
 use Rattle.cs_limits.specs.declared.TheConstants.{MOST_BYTES}
 use Rattle.cs_types.specs.declared.data_model.DataModel.{DataModel}
@@ -15,7 +15,7 @@ use Rattle.cs_program.specs.declared.refusal.FileRefusal.{FileRefusal}
 use Rattle.cs_program.specs.declared.refusal.FileRefusal.TheVariants.{TooLong, Tokens, Syntax, Types}
 use Rattle.cs_program.specs.Trees.{Parses, HasProgram, typed_tree}
 
--- the file is this program, whose places are in files of these names
+-- the file is this program, whose positions are in files of these names
 pub record IsProgramOf (model : DataModel) (file : List ℕ) (found : FileProgram) : Type 0 where
   pub lexed : Lexed
   pub tree : List RawExternal

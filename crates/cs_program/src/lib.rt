@@ -1,4 +1,4 @@
-//! The front end as one call: the program of a preprocessed file, or why the file is refused.
+//! The front end as one call: the program of a preprocessed file, or the refusal of the file.
 #![tactic(auto)]
 
 mod program;

@@ -20,14 +20,14 @@ use cs_typing::typed;
 use std::alloc::Global;
 use std::mem::forget;
 
-/// The program of a file, and the names of the files that its places are in.
+/// The program of a file, and the names of the files that its positions are in.
 #[derive(Drop)]
 pub struct FileProgram {
     pub files: Vec<Name>,
     pub program: Program,
 }
 
-/// The program that a preprocessed file is under a data model, or the first check that it doesn't pass.
+/// Returns the program of a preprocessed file under a data model, or the first check that the file doesn't pass.
 pub fn program_of(alloc: Global, model: DataModel, file: &[u8]) -> Result<FileProgram, FileRefusal>
     ensures program { IfOk result (λ found. IsProgramOf model file.now found) }
     ensures well_formed { IfOk result (λ found. IsWellFormed (typed_program found.program)) }
@@ -55,7 +55,7 @@ fn parsed(alloc: Global, model: DataModel, lexed: Lexed) -> Result<FileProgram, 
     match parse(alloc, lexed.list.as_slice(), lexed.end) {
         Ok(tree) => {
             let answer = typed_as(alloc, model, lexed, &tree.externals);
-            // The caller answers for one file and ends: the tree isn't given back node by node.
+            // The process handles one file and exits: the tree isn't freed node by node.
             forget(tree);
             answer
         }

@@ -5,15 +5,15 @@ use cs_lexer::LexRefusal;
 use cs_names::Name;
 use cs_scopes::TypeRefusal;
 
-/// The first check that a file doesn't pass. Each includes want of memory. The places of the last two are in the files of these names.
+/// The first check that a file doesn't pass. Each may also mean that memory ran out. The positions of the last two are in the files of these names.
 #[derive(Drop)]
 pub enum FileRefusal {
     /// It has more than `MOST_BYTES` bytes.
     TooLong,
-    /// It can't be cut into tokens (C11 6.4), or has too many.
+    /// It can't be split into tokens (C11 6.4), or has too many.
     Tokens(LexRefusal),
-    /// Its tokens are no translation unit (C11 6.9) whose tree is low enough.
+    /// Its tokens aren't a translation unit (C11 6.9), or its tree is too high.
     Syntax(SyntaxRefusal, Vec<Name>),
-    /// Its tree is no program (C11 6.3 to 6.9).
+    /// It has a type error (C11 6.3 to 6.9).
     Types(TypeRefusal, Vec<Name>),
 }

@@ -1,4 +1,4 @@
--- The place of a name's last declaration: for the look-up among declarations and tags, for adding one, and for the end of a scope.
+-- The index of a name's last declaration: for the look-up among declarations and tags, for adding one, and for the end of a scope.
 use Rattle.std.proofs.Common.{◌≡◌, ◌⊎◌, inl, inr, ℕ, suc, zero, Bool, true, false, cond, List, [], ◌∷◌, ◌++◌}
 use Rattle.std.proofs.Common.{length, slice_get, get_or, ◌≤◌, Option, Some, None, refl, sym, ap, ◌∙◌, subst, arith, drop, take, is_some}
 use Rattle.std.proofs.Common.{append_assoc}

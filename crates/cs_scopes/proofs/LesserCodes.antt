@@ -1,4 +1,4 @@
--- The lesser of codes is associative and commutative: for loops over the parts that one place judges, which report the least code.
+-- The lesser of codes is associative and commutative: for loops over parts with codes at one position, of which the least is reported.
 use Rattle.std.proofs.Common.{◌≡◌, List, [], ◌∷◌, get_or, Bool, true, false, Option, Some, None, refl, sym, ap, ◌∙◌, arith}
 use Rattle.std.specs.Prelude.{nat_le, if◌then◌else◌}
 use Rattle.std.proofs.lemmas.Bool.{leb-true, leb-false}

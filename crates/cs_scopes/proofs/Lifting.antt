@@ -1,4 +1,4 @@
--- What rules on verdicts come to where the verdicts are known: for every function that goes on with what another one gave.
+-- The results of rules on verdicts that are known: for every function that continues with the result of another one.
 use Rattle.std.proofs.Common.{◌≡◌, refl, sym, ap, subst, ◌∙◌, Result}
 use Rattle.cs_ast.specs.declared.place.Place.{Place}
 use Rattle.cs_ast.specs.declared.typed.expression.Expr.{Expr}

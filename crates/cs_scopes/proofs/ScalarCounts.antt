@@ -1,4 +1,4 @@
--- The scalars of arrays and structs: for the count of the scalars of a type.
+-- The number of scalars of arrays and structs: for that of a type.
 use Rattle.std.proofs.Common.{◌≡◌, ◌≢◌, ℕ, zero, suc, ◌+◌, ◌-◌, ◌*◌, ◌<◌, ◌≤◌, List, [], ◌∷◌, drop, length, get_or}
 use Rattle.std.proofs.Common.{drop-cons, add-one, Option, Some, None, refl, sym, ap, ◌∙◌, arith}
 use Rattle.std.specs.Option.{option_and_then}

@@ -1,4 +1,4 @@
--- Where `const` stands among the words and the pointers of a declaration (C11 6.7.3).
+-- Where a declaration has `const`: among its words, or after its stars (C11 6.7.3).
 use Rattle.std.specs.Prelude.{◌≡◌, Bool, true, false, List, [], ◌∷◌, ◌++◌, Option, Some, None}
 use Rattle.std.specs.List.{list_any}
 use Rattle.cs_ast.specs.declared.raw.expression.RawExpr.{RawExpr}
@@ -10,7 +10,7 @@ use Rattle.cs_ast.specs.declared.raw.written_type.PointerWord.TheVariants.{Star,
 use Rattle.cs_ast.specs.declared.raw.written_type.TypeWord.TheVariants as word
 use Rattle.cs_scopes.specs.declared.constness.Stars.{Stars}
 
--- `const` stands among the words
+-- `const` is among the words
 abbrev pub is_const_word : SpecWord → Bool
 is_const_word (words.TheVariants.Plain word.Const) = true
 is_const_word other = false
@@ -18,18 +18,18 @@ is_const_word other = false
 abbrev pub has_const : RawSpecs → Bool
 has_const s = list_any is_const_word s.words.items
 
--- `const` stands at the head of these words
+-- these words begin with `const`
 abbrev pub begins_const : List PointerWord → Bool
 begins_const (Const ∷ others) = true
 begins_const others = false
 
--- for each star, the last one first, whether `const` stands after it
+-- for each star, the last one first, whether `const` follows it
 abbrev pub consts_after : List PointerWord → List Bool
 consts_after [] = []
 consts_after (Star ∷ others) = consts_after others ++ begins_const others ∷ []
 consts_after (Const ∷ others) = consts_after others
 
--- the first and the second of them, if they are there
+-- the first and the second of them, if they exist
 abbrev pub first_of : List Bool → Option Bool
 first_of [] = None
 first_of (first ∷ others) = Some first
@@ -38,12 +38,12 @@ abbrev pub second_of : List Bool → Option Bool
 second_of [] = None
 second_of (first ∷ others) = first_of others
 
--- what a parameter with a bracket points to is const: after its last star, or without a star among its words
+-- a parameter with a bracket points to something const: by the `const` after its last star, or, without a star, among its words
 abbrev pub elements_const : RawSpecs → List Bool → Bool
 elements_const s [] = has_const s
 elements_const s (last ∷ others) = last
 
--- what a parameter without a bracket points to is const: after its last star but one, or with one star among its words
+-- a parameter without a bracket points to something const: by the `const` after its last star but one, or, with one star, among its words
 abbrev pub target_const : RawSpecs → List Bool → Bool
 target_const s [] = false
 target_const s (last ∷ []) = has_const s
@@ -53,7 +53,7 @@ abbrev pub points_to_const : RawSpecs → List PointerWord → List (Option RawE
 points_to_const s pointers [] = target_const s (consts_after pointers)
 points_to_const s pointers (bound ∷ bounds) = elements_const s (consts_after pointers)
 
--- a file-scope object may not be stored to: `const` after its last star, or without a star among its words
+-- a file-scope object is const: by the `const` after its last star, or, without a star, among its words
 abbrev pub is_constant_by : RawSpecs → List Bool → Bool
 is_constant_by s [] = has_const s
 is_constant_by s (last ∷ others) = last
@@ -61,7 +61,7 @@ is_constant_by s (last ∷ others) = last
 abbrev pub is_constant_object : RawSpecs → List PointerWord → Bool
 is_constant_object s pointers = is_constant_by s (consts_after pointers)
 
--- the last star of some words, and the one before it
+-- the last star of these words, and the one before it
 pub record AreLastStars (pointers : List PointerWord) (stars : Stars) : Type 0 where
   pub last : stars.last ≡ first_of (consts_after pointers)
   pub before : stars.before ≡ second_of (consts_after pointers)

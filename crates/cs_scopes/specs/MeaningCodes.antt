@@ -1,4 +1,4 @@
--- Declarations as numbers in a row, by which a proof distinguishes them.
+-- Codes of declarations, as numbers and as sums of types, with which a proof distinguishes them.
 use Rattle.std.specs.Prelude.{◌≡◌, ◌⊎◌, ℕ, zero, suc, ℤ, List, refl}
 use Rattle.std.proofs.Common.{inl, inr}
 use Rattle.std.specs.Coded.{Coded, code_by, coded×, coded⊎, coded_ℕ, coded_ℤ, coded_list}
@@ -34,7 +34,7 @@ signature_code =
     code_by (Callee × (Shape × List Shape)) (coded× callee_code (coded× shape_code (coded_list shape_code))) (λ s. (s.callee, (s.result, s.parameters)))
     (λ p. record { callee = p.0; result = p.1.0; parameters = p.1.1 }) (λ _. refl)
 
--- a meaning as one of five
+-- a meaning as one of a sum of five
 abbrev pub Parts : Type 0
 Parts = Shape ⊎ (ℤ ⊎ ((ℕ × Shape) ⊎ ((ℕ × Shape) ⊎ Signature)))
 

@@ -1,4 +1,4 @@
--- What names stand for, apart from the boxes of their types: what contracts see of declarations.
+-- The meanings of names, without the boxes of their types: what contracts see of declarations.
 use Rattle.std.specs.Prelude.{ℕ, ℤ, List, map}
 use Rattle.cs_types.specs.declared.ctype.CType.{CType}
 use Rattle.cs_types.specs.Shape.{Shape, shape_of}
@@ -8,13 +8,13 @@ use Rattle.cs_scopes.specs.declared.scope.Meaning.{Meaning as Said}
 use Rattle.cs_scopes.specs.declared.scope.Meaning.TheVariants as said
 use Rattle.cs_scopes.specs.declared.scope.Declaration.{Declaration as Written}
 
--- a function: what a call of it is, and the types of its result and its parameters
+-- a function: what a call of it does, and the types of its result and its parameters
 pub record Signature : Type 0 where
   pub callee : Callee
   pub result : Shape
   pub parameters : List Shape
 
--- what a name stands for: objects have numbers
+-- what a name denotes; objects have numbers
 pub data Meaning : Type 0 where
   Typedef : (ty : Shape) → Meaning
   Constant : (value : ℤ) → Meaning
@@ -22,12 +22,12 @@ pub data Meaning : Type 0 where
   Local : (number : ℕ) (ty : Shape) → Meaning
   Function : (signature : Signature) → Meaning
 
--- a declared name with what it stands for
+-- a declared name and its meaning
 pub record Declaration : Type 0 where
   pub name : List ℕ
   pub meaning : Meaning
 
--- the same of what the program holds
+-- the same, computed from the types in the code
 abbrev pub signature_of : Declared → Signature
 signature_of f = record { callee = f.callee; result = shape_of f.result; parameters = map (λ (ty : CType). shape_of ty) f.parameters.items }
 

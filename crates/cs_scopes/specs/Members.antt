@@ -11,12 +11,12 @@ abbrev pub member_named : List ℕ → List Member → Option Member
 member_named name [] = None
 member_named name (m ∷ ms) = if pointwise nat_eq m.name name then Some m else member_named name ms
 
--- a member that is there
+-- a member, if there is one
 abbrev pub member_at : Place → Option Member → Verdict Member
 member_at at (Some m) = Fine m
 member_at at None = Fault code.NoMember at
 
--- the member of this name of a struct that has its members
+-- the member with this name of a struct with a body
 unfoldable pub member_found : Place → List ℕ → Option (List Member) → Verdict Member
 member_found at name (Some members) = member_at at (member_named name members)
 member_found at name None = Fault code.UnknownName at

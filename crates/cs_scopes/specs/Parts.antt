@@ -1,4 +1,4 @@
--- The parts of arrays and structs, as the items of initializers go to them (C11 6.7.9).
+-- The parts of arrays and structs that the items of initializers are for (C11 6.7.9).
 use Rattle.std.specs.Prelude.{ℕ, zero, suc, List, [], ◌∷◌, map, Option, Some, None}
 use Rattle.cs_types.specs.declared.structs.StructType.{StructType}
 use Rattle.cs_types.specs.Layout.{members_of}
@@ -12,18 +12,18 @@ abbrev pub member_types : Option (List Member) → List Shape
 member_types (Some members) = map (λ (m : Member). m.ty) members
 member_types None = []
 
--- the same type once more
+-- a type, repeated
 abbrev pub copies : ℕ → Shape → List Shape
 copies zero ty = []
 copies (suc n) ty = ty ∷ copies n ty
 
--- the types of the parts that a list of items is for: the elements of an array, the members of a struct
+-- the types of the parts that a list of items initializes: the elements of an array, the members of a struct
 abbrev pub part_types : List StructType → Shape → Option (List Shape)
 part_types table (array element count) = Some (copies count element)
 part_types table (struct number) = Some (member_types (members_of table number))
 part_types table other = None
 
--- the types of the parts that a list is for
+-- the types of the parts that a list is for, of the type in the code
 abbrev pub types_of : Parts → List Shape
 types_of (held.Elements element count) = copies count (shape_of element.now)
 types_of (held.Members members) = map (λ (m : Member). m.ty) members.now

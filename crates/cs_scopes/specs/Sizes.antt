@@ -7,11 +7,11 @@ use Rattle.cs_types.specs.IntType.{bytes_of, word_bytes}
 use Rattle.cs_types.specs.Shape.{Shape, void, integer, pointer, array, struct}
 use Rattle.cs_types.specs.Layout.{complete_of}
 
--- so many bytes, if an object may have them
+-- a number of bytes, if an object may have so many
 abbrev pub limited : ℕ → Option ℕ
 limited bytes = if nat_le bytes (2 ^ 20) then Some bytes else None
 
--- the bytes of a complete type, if an object may have them
+-- the size of a complete type in bytes, if an object may have it
 abbrev pub bytes_in : DataModel → List StructType → Shape → Option ℕ
 bytes_in model table void = None
 bytes_in model table (integer ty) = Some (bytes_of model ty)

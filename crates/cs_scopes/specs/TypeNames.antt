@@ -1,4 +1,4 @@
--- Types that are written between parentheses (C11 6.7.2, 6.7.6, 6.7.7).
+-- Type names: types that are written between parentheses (C11 6.7.2, 6.7.6, 6.7.7).
 use Rattle.std.specs.Prelude.{ℕ, ℤ, pos, int_le, unsigned_abs, Bool, true, false, ◌&&◌, ◌==◌, nat_lt, if◌then◌else◌}
 use Rattle.std.specs.Prelude.{List, [], ◌∷◌, Option, Some, None, is_some, count_by}
 use Rattle.cs_types.specs.declared.data_model.DataModel.{DataModel}
@@ -34,26 +34,26 @@ integer_word_number integer_word.Long = 3
 integer_word_number integer_word.Signed = 4
 integer_word_number integer_word.Unsigned = 5
 
--- the word is this one of an integer type
+-- the word is this word of an integer type
 abbrev pub is_word : IntegerWord → TypeWord → Bool
 is_word kind (word.Integer other) = integer_word_number kind == integer_word_number other
 is_word kind other = false
 
--- how often a word of an integer type stands among these
+-- how often a word of an integer type occurs among these
 abbrev pub times : IntegerWord → List TypeWord → ℕ
 times kind words = count_by (is_word kind) words
 
--- the type of `char` with a sign or none
+-- the character type with a sign, without one, or neither
 abbrev pub char_type : Bool → Bool → IntType
 char_type signed true = int_type.UChar
 char_type true false = int_type.SChar
 char_type false false = int_type.Char
 
--- one of two types, by whether it has a sign
+-- the one of two types with or without a sign
 abbrev pub signed_or : Bool → IntType → IntType → IntType
 signed_or unsigned without with_sign = if unsigned then without else with_sign
 
--- the integer type that so many words name (C11 6.7.2, paragraph 2)
+-- the integer type that this many of each word name (C11 6.7.2, paragraph 2)
 unfoldable pub named_by : IntegerWords → IntType
 named_by n =
     let unsigned = nat_lt 0 n.unsigned in
@@ -73,7 +73,7 @@ integer_type words = named_by (record {
   unsigned = times integer_word.Unsigned words;
 })
 
--- the word that names a whole type, if one does
+-- the word that names a type that isn't an integer type, if there is one
 abbrev pub whole_word : List TypeWord → Option TypeWord
 whole_word [] = None
 whole_word (word.Const ∷ words) = whole_word words
@@ -83,7 +83,7 @@ whole_word (word.Typedef name ∷ words) = Some (word.Typedef name)
 whole_word (word.Struct name ∷ words) = Some (word.Struct name)
 whole_word (word.Enum name ∷ words) = Some (word.Enum name)
 
--- the place of a tag, or, without one, of what asks for the type
+-- the position of a tag, or, without one, that of what requires the type
 abbrev pub tag_place : Place → Option Place → Place
 tag_place at (Some place) = place
 tag_place at None = at
@@ -93,19 +93,19 @@ abbrev pub typedef_at : Place → Option Meaning → Verdict Shape
 typedef_at at (Some (Typedef ty)) = Fine ty
 typedef_at at other = Fault code.UnknownName at
 
--- the struct of a tag: the tag of an enum declares it a second time
+-- the struct with a tag; the tag of an enum is an error, as it would be declared a second time
 abbrev pub struct_at : Place → Option TagMeaning → Verdict Shape
 struct_at at (Some (tag.Struct number)) = Fine (struct number)
 struct_at at (Some tag.Enum) = Fault code.DeclaredTwice at
 struct_at at None = Fault code.UnknownName at
 
--- the enum of a tag, whose type is `int`
+-- the type of an enum with a tag, which is `int`
 abbrev pub enum_at : Place → Option TagMeaning → Verdict Shape
 enum_at at (Some (tag.Struct number)) = Fault code.DeclaredTwice at
 enum_at at (Some tag.Enum) = Fine (integer int_type.Int)
 enum_at at None = Fault code.UnknownName at
 
--- the type of words (C11 6.7.2); what asks for it stands at a place
+-- the type that specifiers name (C11 6.7.2), at the position of what requires it
 unfoldable pub based : List Declaration → List Tag → Place → WrittenType → Option TypeWord → Verdict Shape
 based declarations tags at ty None = Fine (integer (integer_type ty.words.items))
 based declarations tags at ty (Some (word.Typedef name)) = typedef_at at (newest name declarations)
@@ -135,16 +135,16 @@ type_named declarations tags at ty = lift (after_stars ty) (based declarations t
 abbrev pub is_array_size : ℤ → Bool
 is_array_size n = int_le (pos 1) n && int_le n (pos 65536)
 
--- an array of so many elements, if it is small enough (C11 6.7.6.2)
+-- an array of a number of elements, if it isn't too large (C11 6.7.6.2)
 unfoldable pub array_of : DataModel → List StructType → Place → ℤ → Shape → Verdict Shape
 array_of model table at n element =
     if is_array_size n && is_some (bytes_in model table (array element (unsigned_abs n))) then Fine (array element (unsigned_abs n)) else Fault code.Size at
 
--- arrays of these sizes, the outermost first, whose innermost elements are of a type
+-- arrays of these sizes, the outermost first, whose innermost elements have the type `base`
 abbrev pub arrayed : DataModel → List StructType → Place → Shape → List ℤ → Verdict Shape
 arrayed model table at base [] = Fine base
 arrayed model table at base (n ∷ ns) = lift (array_of model table at n) (arrayed model table at base ns)
 
--- a complete type, as the elements of arrays and what `sizeof` measures have to be
+-- a type that has to be complete, as the elements of arrays and the operands of `sizeof` have to be
 unfoldable pub complete_at : List StructType → Place → Shape → Verdict Shape
 complete_at table at ty = if is_complete table ty then Fine ty else Fault code.IncompleteType at

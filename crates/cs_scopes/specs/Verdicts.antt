@@ -1,4 +1,4 @@
--- What the rules of typing say of a part of a program: a value, or what is wrong at which place.
+-- The verdicts of typing rules on a part of a program: a value, or a type error with its position.
 use Rattle.std.specs.Prelude.{◌≡◌, ℕ, Result, Ok, Err}
 use Rattle.cs_ast.specs.declared.place.Place.{Place}
 use Rattle.cs_ast.specs.declared.typed.expression.Expr.{Expr}
@@ -32,40 +32,40 @@ number_of VoidValue = 16
 number_of Return = 17
 number_of TooManyScalars = 18
 
--- what a rule gives, or what is wrong at which place
+-- the result of a rule: a value, or a type error with its position
 pub data Verdict (A : Type 0) : Type 0 where
   Fine : (value : A) → Verdict A
   Fault : (code : TypeCode) (place : Place) → Verdict A
 
--- a rule on what another one gives
+-- a rule applied to the value of another
 unfoldable pub lift : {A B : Type 0} → (A → Verdict B) → Verdict A → Verdict B
 lift rule (Fine value) = rule value
 lift rule (Fault code place) = Fault code place
 
--- a rule on what two others give, of which the first fails first
+-- a rule applied to the values of two others; the first failing one decides
 unfoldable pub lift2 : {A B C : Type 0} → (A → B → Verdict C) → Verdict A → Verdict B → Verdict C
 lift2 rule (Fine first) (Fine second) = rule first second
 lift2 rule (Fine first) (Fault code place) = Fault code place
 lift2 rule (Fault code place) second = Fault code place
 
--- a rule on what three others give
+-- a rule applied to the values of three others
 unfoldable pub lift3 : {A B C D : Type 0} → (A → B → C → Verdict D) → Verdict A → Verdict B → Verdict C → Verdict D
 lift3 rule (Fine first) (Fine second) (Fine third) = rule first second third
 lift3 rule (Fine first) (Fine second) (Fault code place) = Fault code place
 lift3 rule (Fine first) (Fault code place) third = Fault code place
 lift3 rule (Fault code place) second third = Fault code place
 
--- the refusal is that of the verdict; want of memory says nothing
+-- the refusal is the verdict's; nothing is claimed if memory ran out
 abbrev pub IsRefused : {A : Type 0} → Verdict A → TypeRefusal → Type 0
 IsRefused verdict (Code code place) = verdict ≡ Fault code place
 IsRefused verdict Memory = Unit {0}
 
--- the answer of a function, seen in some way, is the verdict
+-- the result of a function, under a view, is the verdict
 abbrev pub Answers : {A B : Type 0} → (A → B) → Verdict B → Result A TypeRefusal → Type 0
 Answers view verdict (Ok answer) = verdict ≡ Fine (view answer)
 Answers view verdict (Err refusal) = IsRefused verdict refusal
 
--- the expression that a function answers is that of the verdict
+-- the expression that a function returns is the verdict's
 abbrev pub Yields : Verdict Typed → Result Expr TypeRefusal → Type 0
 Yields verdict (Ok e) = verdict ≡ Fine (typed e)
 Yields verdict (Err refusal) = IsRefused verdict refusal

@@ -1,4 +1,4 @@
-//! Where `const` stands among the words and the pointers of a declaration.
+//! Where a declaration has `const`: among its words, or after its stars (C11 6.7.3).
 ghost use Rattle.std.specs.Prelude.{◌≡◌, List, ◌++◌, [], ◌∷◌};
 ghost use Rattle.cs_ast.specs.declared.raw.written_type.PointerWord.{PointerWord};
 ghost use Rattle.cs_scopes.specs.Constness.{is_const_word, has_const, points_to_const, is_constant_object, AreLastStars};
@@ -7,7 +7,7 @@ use cs_ast::raw::declaration::{RawSpecs, SpecWord};
 use cs_ast::raw::expression::RawExpr;
 use cs_ast::raw::written_type::{PointerWord, TypeWord};
 
-// Whether `const` stands among the words.
+// Whether `const` is among the words.
 fn has_const(specs: &RawSpecs) -> bool
     ensures { result ≡ has_const specs.now }
 {
@@ -24,14 +24,14 @@ fn is_const_word(word: &SpecWord) -> bool
     }
 }
 
-/// For the last star and for the one before it, if they are there, whether `const` stands after it.
+/// For the last star and for the one before it, if they exist, whether `const` follows it.
 #[derive(Clone, Copy)]
 pub struct Stars {
     pub last: Option<bool>,
     pub before: Option<bool>,
 }
 
-/// The last two stars of a declarator.
+/// Returns the last two stars of a declarator.
 pub fn last_stars(pointers: &[PointerWord]) -> Stars
     ensures { AreLastStars pointers.now result }
 {
@@ -65,10 +65,10 @@ impl Stars {
     }
 }
 
-/// Whether what a parameter points to is const, which was written with these bounds.
+/// Whether a parameter that was written with these bounds points to something const.
 ///
-/// With a bound that is what the last star says, or the words where there is none; without one it is what the last star but one
-/// says, or the words where there is one star.
+/// With a bound that is decided by the last star, or by the words if there is no star; without one, by the
+/// last star but one, or by the words if there is one star.
 pub fn points_to_const(
     specs: &RawSpecs,
     pointers: &[PointerWord],
@@ -85,7 +85,7 @@ pub fn points_to_const(
     }
 }
 
-/// Whether a file-scope object may not be stored to: `const` after its last star, or without a star among its words.
+/// Whether a file-scope object is const: by the `const` after its last star, or, without a star, among its words.
 pub fn is_constant_object(specs: &RawSpecs, pointers: &[PointerWord]) -> bool
     ensures { result ≡ is_constant_object specs.now pointers.now }
 {

@@ -1,9 +1,9 @@
-//! What the typing of an expression goes by.
+//! What the typing of an expression depends on.
 
 use crate::declarations::{Declarations, Tags};
 use cs_types::{DataModel, StructTable};
 
-/// The data model, the structs of the file, and the declarations in force.
+/// The data model, the structs of the file, and the declarations in scope.
 #[derive(Drop)]
 pub struct Context {
     pub model: DataModel,
@@ -11,7 +11,7 @@ pub struct Context {
     pub scope: Scope,
 }
 
-/// The declarations in force, the innermost last, and the tags.
+/// The declarations in scope, the innermost last, and the tags.
 #[derive(Drop)]
 pub struct Scope {
     pub declarations: Declarations,

@@ -1,4 +1,4 @@
-//! The declarations in force, the innermost last (C11 6.2.1), and the tags (C11 6.2.3).
+//! The declarations in scope, the innermost last (C11 6.2.1), and the tags (C11 6.2.3).
 ghost use Rattle.std.specs.Prelude.{◌≡◌, ◌++◌, [], ◌∷◌, None, OnOk, OnErr, option_copied, option_to_list, is_some, length, take, drop};
 ghost use Rattle.std.specs.Option.{option_map};
 ghost use Rattle.cs_scopes.specs.Meanings.{meaning_of, declaration_of};
@@ -12,11 +12,11 @@ use indexmap::IndexMap;
 use std::alloc::{AllocError, Global};
 use std::marker::Model;
 
-/// The declarations in force, the innermost last. A contract sees them as a list without boxes.
+/// The declarations in scope, the innermost last. A contract sees them as a list without boxes.
 #[derive(Drop)]
 pub struct Declarations {
     list: Vec<Entry>,
-    // The place of each name's last declaration, if one is in force, so that a look-up takes no longer where many names are declared.
+    // The index of each name's last declaration, if one is in scope, so that a look-up isn't slower with many names.
     places: IndexMap<Name, Option<usize>>,
 }
 
@@ -36,7 +36,7 @@ impl Model for Declarations {
 }
 
 impl Declarations {
-    /// No declarations.
+    /// Returns an empty list.
     pub fn new(alloc: Global) -> Declarations
         ensures { result ≡ [] }
     {
@@ -46,14 +46,14 @@ impl Declarations {
         }
     }
 
-    /// How many there are.
+    /// Returns the number of declarations.
     pub fn len(&self) -> usize
         ensures { result ≡ length self.now }
     {
         self.list.len()
     }
 
-    /// Adds a declaration, which is the innermost from now on.
+    /// Appends a declaration, which is the innermost now.
     pub fn declare(&mut self, declaration: Declaration) -> Result<(), AllocError>
         ensures ok { OnOk result (self.new ≡ self.old ++ declaration_of declaration ∷ []) }
         ensures err { OnErr result (self.new ≡ self.old) }
@@ -61,7 +61,7 @@ impl Declarations {
         add(&mut self.list, &mut self.places, declaration)
     }
 
-    /// Takes the innermost declaration, if there is one.
+    /// Removes the innermost declaration and returns it, if there is one.
     pub fn pop(&mut self) -> Option<Declaration>
         ensures taken { self.old ≡ self.new ++ option_to_list (option_map declaration_of result) }
         ensures none { result ≡ None → self.old ≡ [] }
@@ -69,21 +69,21 @@ impl Declarations {
         take_last(&mut self.list, &mut self.places)
     }
 
-    /// Ends a scope before which there were so many declarations: those in it are no longer in force (C11 6.2.1, paragraph 4).
+    /// Ends a scope that `outer` declarations precede: those in it are no longer in scope (C11 6.2.1, paragraph 4).
     pub fn leave(&mut self, outer: usize)
         ensures { self.new ≡ take outer self.old }
     {
         drop_after(&mut self.list, &mut self.places, outer);
     }
 
-    /// What a name stands for: what its last declaration says.
+    /// Returns the meaning of a name: that of its last declaration.
     pub fn newest(&self, name: &Name) -> Option<&Meaning>
         ensures { option_map meaning_of (option_copied result) ≡ newest name.now self.now }
     {
         find(&self.list, &self.places, name)
     }
 
-    /// Whether a name is declared in a scope before which there were so many declarations (C11 6.7, paragraph 3).
+    /// Whether a name is declared in the scope that `outer` declarations precede (C11 6.7, paragraph 3).
     pub fn is_declared_since(&self, name: &Name, outer: usize) -> bool
         ensures { result ≡ is_some (newest name.now (drop outer self.now)) }
     {
@@ -108,7 +108,7 @@ impl Model for Tags {
 }
 
 impl Tags {
-    /// No tags.
+    /// Returns an empty table.
     pub fn new(alloc: Global) -> Tags
         ensures { result ≡ [] }
     {
@@ -117,7 +117,7 @@ impl Tags {
         }
     }
 
-    /// Adds a tag that isn't there yet after the others.
+    /// Appends a new tag.
     pub fn add(&mut self, tag: Tag) -> Result<(), AllocError>
         requires { tagged tag.name self.old ≡ None }
         ensures ok { OnOk result (self.new ≡ self.old ++ tag ∷ []) }
@@ -126,7 +126,7 @@ impl Tags {
         enter_tag(&mut self.meanings, tag)
     }
 
-    /// What a tag stands for.
+    /// Returns the meaning of a tag.
     pub fn meaning(&self, name: &Name) -> Option<TagMeaning>
         ensures { result ≡ tagged name.now self.now }
     {
@@ -148,7 +148,7 @@ fn enter_tag(meanings: &mut IndexMap<Name, TagMeaning>, tag: Tag) -> Result<(), 
     }
 }
 
-// What the table says of a tag.
+// The meaning of a tag in the table.
 #[tactic(auto, using(crate::proofs::DeclaredNames::tag_tables))]
 fn tag_meaning(meanings: &IndexMap<Name, TagMeaning>, name: &Name) -> Option<TagMeaning>
     ensures { result ≡ tagged name.now (tags_in meanings.now.entries) }

@@ -1,4 +1,4 @@
-//! The declarations in force as a list, beside a table that has the place of each name's last one.
+//! The declarations in scope as a list, and a table with the index of each name's last one.
 ghost use Rattle.std.specs.Prelude.{◌≡◌, ◌-◌, true, ℕ, List, ◌++◌, [], ◌∷◌, Some, OnOk, OnErr, option_copied, None, is_some, drop, option_to_list, take, vec_len};
 ghost use Rattle.std.specs.Option.{option_map};
 ghost use Rattle.cs_scopes.specs.Meanings.{meaning_of, declaration_of};
@@ -10,14 +10,14 @@ use cs_names::Name;
 use indexmap::IndexMap;
 use std::alloc::{AllocError, Global};
 
-/// A declaration, with the place of the last one of its name before it: it is in force again once this one's scope ends.
+/// A declaration, with the index of the declaration that it hides: the last one of its name before it.
 #[derive(Drop)]
 pub struct Entry {
     pub declaration: Declaration,
     pub before: Option<usize>,
 }
 
-/// What a name's last declaration says.
+/// Returns the meaning of a name's last declaration.
 pub fn find<'a>(
     list: &'a [Entry],
     places: &IndexMap<Name, Option<usize>>,
@@ -32,14 +32,14 @@ pub fn find<'a>(
     Some(&entry.declaration.meaning)
 }
 
-/// The table's place for a name.
+/// Returns the index that the table has for a name.
 pub fn place_of(places: &IndexMap<Name, Option<usize>>, name: &Name) -> Option<usize>
     ensures { result ≡ place_at places.now name.now }
 {
     *places.get(name)?
 }
 
-/// Whether a name is declared after the first declarations, of which there are `outer`.
+/// Whether a name is declared after the first `outer` declarations.
 pub fn is_after(
     list: &[Entry],
     places: &IndexMap<Name, Option<usize>>,
@@ -55,7 +55,7 @@ pub fn is_after(
     }
 }
 
-// Puts a name's place into the table.
+// Sets a name's index in the table.
 fn enter(
     places: &mut IndexMap<Name, Option<usize>>,
     name: Name,
@@ -71,7 +71,7 @@ fn enter(
     }
 }
 
-/// Puts a declaration after the others, and its place into the table.
+/// Appends a declaration, and enters its index into the table.
 pub fn add(
     list: &mut Vec<Entry>,
     places: &mut IndexMap<Name, Option<usize>>,
@@ -97,7 +97,7 @@ pub fn add(
     Ok(())
 }
 
-// Gives a name that is in the table another place, or none.
+// Sets the index of a name that is in the table, or removes it.
 fn put_back(places: &mut IndexMap<Name, Option<usize>>, name: &Name, place: Option<usize>)
     requires { is_some (place_at places.old name.now) ≡ true }
     ensures { HasEntered places.old places.new name.now place }
@@ -107,7 +107,7 @@ fn put_back(places: &mut IndexMap<Name, Option<usize>>, name: &Name, place: Opti
     }
 }
 
-/// Takes the last declaration, if there is one.
+/// Removes the last declaration and returns it, if there is one.
 pub fn take_last(
     list: &mut Vec<Entry>,
     places: &mut IndexMap<Name, Option<usize>>,
@@ -128,7 +128,7 @@ pub fn take_last(
     }
 }
 
-/// Drops the declarations after the first ones, of which there are `outer`.
+/// Drops the declarations after the first `outer` ones.
 #[tactic(auto, using(crate::proofs::DeclaredNames::take_less))]
 pub fn drop_after(list: &mut Vec<Entry>, places: &mut IndexMap<Name, Option<usize>>, outer: usize)
     requires { Indexed places.old list.old.items }

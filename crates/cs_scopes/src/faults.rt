@@ -1,4 +1,4 @@
-//! Which of several failures counts: of one place the least code.
+//! Which of several faults at one position is reported: the least code.
 ghost use Rattle.std.specs.Prelude.{◌≡◌};
 ghost use Rattle.cs_scopes.specs.Faults.{lesser, least, least_code};
 
@@ -15,7 +15,7 @@ fn lesser(code: TypeCode, other: TypeCode) -> TypeCode
     }
 }
 
-/// The lesser of a code and one that may hold besides.
+/// Returns the lesser of a code and another one, if there is another.
 pub fn least(code: TypeCode, other: Option<TypeCode>) -> TypeCode
     ensures { result ≡ least code other }
 {
@@ -25,7 +25,7 @@ pub fn least(code: TypeCode, other: Option<TypeCode>) -> TypeCode
     }
 }
 
-/// The least of the codes that hold at one place.
+/// Returns the least of the codes at one position.
 pub fn least_code(code: Option<TypeCode>, other: Option<TypeCode>) -> Option<TypeCode>
     ensures { result ≡ least_code code other }
 {

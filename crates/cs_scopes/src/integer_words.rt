@@ -16,7 +16,7 @@ pub struct IntegerWords {
 }
 
 impl IntegerWords {
-    /// The integer type that they name.
+    /// Returns the integer type that they name.
     #[tactic(auto, unfolding(crate::specs::TypeNames::named_by))]
     pub fn named(self) -> IntType
         ensures { result ≡ named_by self }
@@ -38,7 +38,7 @@ impl IntegerWords {
     }
 }
 
-/// Whether the word is this one of an integer type.
+/// Whether the word is this word of an integer type.
 pub fn is_word(kind: IntegerWord, word: &TypeWord) -> bool
     ensures { result ≡ is_word kind word.now }
 {
@@ -48,7 +48,7 @@ pub fn is_word(kind: IntegerWord, word: &TypeWord) -> bool
     }
 }
 
-// The type of `char` with a sign or none.
+// The character type with a sign, without one, or neither.
 fn char_type(signed: bool, unsigned: bool) -> IntType
     ensures { result ≡ char_type signed unsigned }
 {

@@ -7,10 +7,10 @@ use cs_names::Name;
 use cs_types::{Members, StructType};
 use std::alloc::AllocError;
 
-/// The most bytes that an object has.
+/// The greatest number of bytes of an object.
 const MOST_BYTES: u64 = 1 << 20;
 
-// The least multiple of an alignment that is at least so many bytes, if a machine's word holds it.
+// The least multiple of an alignment that is at least `bytes`, if a machine's word can represent it.
 fn rounded_up(bytes: u64, align: u64) -> Option<u64>
     ensures some { IfSome result (λ rounded. rounded ≡ round_up bytes align) }
     ensures none { result ≡ None → 2 ^ 63 ≤ round_up bytes align }
@@ -22,7 +22,8 @@ fn rounded_up(bytes: u64, align: u64) -> Option<u64>
     last.checked_mul(align)
 }
 
-/// Where so many bytes with this alignment begin and end after others, if an object may have so many.
+/// Returns the offsets at which a member of this size and alignment begins and ends, after others of `before`
+/// bytes, if an object may have so many bytes.
 pub fn end_of(before: u64, bytes: u64, align: u64) -> Option<(u64, u64)>
     ensures { result ≡ (if nat_le (round_up before align + bytes) (2 ^ 20)
         then Some (round_up before align, round_up before align + bytes) else None) }
@@ -34,7 +35,7 @@ pub fn end_of(before: u64, bytes: u64, align: u64) -> Option<(u64, u64)>
     Some((offset, offset + bytes))
 }
 
-/// The struct with these members, which need so many bytes with this alignment: its size is a multiple of that (paragraph 17).
+/// Returns the struct with these members, whose end is at `bytes`: its size is a multiple of its alignment (paragraph 17).
 pub fn struct_of(
     tag: Name,
     members: Members,

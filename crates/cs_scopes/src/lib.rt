@@ -1,4 +1,4 @@
-//! The declarations in force, the types that words name, and why a file is refused by its types.
+//! The declarations in scope, the types that words name, and the type errors for which a file is refused.
 #![tactic(auto)]
 
 mod constness;

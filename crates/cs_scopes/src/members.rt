@@ -21,7 +21,7 @@ fn member_named<'a>(name: &Name, members: &'a [Member]) -> Option<&'a Member>
     None
 }
 
-/// The member of this name of a struct, by the struct's number: what fails is refused at the name.
+/// Returns the member with this name of the struct with this number. Faults are reported at `place`, that of the name.
 #[tactic(auto, unfolding(crate::specs::Members::member_found))]
 pub fn member_of<'a>(
     table: &'a StructTable,

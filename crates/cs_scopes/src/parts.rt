@@ -1,18 +1,18 @@
-//! The parts of arrays and structs, as the items of initializers go to them (C11 6.7.9).
+//! The parts of arrays and structs that the items of initializers are for (C11 6.7.9).
 ghost use Rattle.std.specs.Prelude.{◌≡◌, option_map, slice_get};
 ghost use Rattle.cs_types.specs.Shape.{shape_of};
 ghost use Rattle.cs_scopes.specs.Parts.{part_types, types_of};
 
 use cs_types::{CType, Member, StructTable, members_of};
 
-/// The parts that the items of a list go to: the elements of an array, or the members of a struct.
+/// The parts that the items of a list initialize: the elements of an array, or the members of a struct.
 #[derive(Clone, Copy)]
 pub enum Parts<'a> {
     Elements(&'a CType, u64),
     Members(&'a [Member]),
 }
 
-/// The parts of a type, if it has any.
+/// Returns the parts of a type, if it has any.
 pub fn parts_of<'a>(table: &'a StructTable, ty: &'a CType) -> Option<Parts<'a>>
     ensures { option_map types_of result ≡ part_types table.now.list (shape_of ty.now) }
 {
@@ -27,7 +27,7 @@ pub fn parts_of<'a>(table: &'a StructTable, ty: &'a CType) -> Option<Parts<'a>>
 }
 
 impl<'a> Parts<'a> {
-    /// The type of the part with this number.
+    /// Returns the type of the part with this number.
     #[tactic(auto, using(crate::proofs::PartsByNumber::parts_by_number))]
     pub fn ty(self, number: usize) -> Option<&'a CType>
         ensures { option_map (λ ty. shape_of ty.now) result

@@ -1,4 +1,4 @@
-//! Why a file is refused by its types.
+//! The type errors for which a file is refused.
 ghost use Rattle.std.specs.Prelude.{◌≡◌};
 ghost use Rattle.cs_scopes.specs.Verdicts.{number_of};
 ghost use Rattle.cs_scopes.specs.declared.refusal.TypeRefusal.TheVariants.{Memory};
@@ -6,30 +6,30 @@ ghost use Rattle.cs_scopes.specs.declared.refusal.TypeRefusal.TheVariants.{Memor
 use cs_ast::Place;
 use std::alloc::{AllocError, AllocFailed};
 
-/// What is wrong at a place.
+/// What is wrong at a position.
 #[derive(Clone, Copy, Debug, PartialEq, Eq)]
 pub enum TypeCode {
-    /// A name that isn't declared, or a tag without a body where its members are needed by name.
+    /// A name that isn't declared, or the tag of a struct without a body whose member is named.
     UnknownName,
-    /// A second declaration in one scope.
+    /// A second declaration of a name in one scope.
     DeclaredTwice,
-    /// An operand that has to be an lvalue and is none, or an array that is assigned.
+    /// An operand that has to be an lvalue and isn't one, or an array that is assigned.
     NotLvalue,
-    /// Operands of types that the operator doesn't take.
+    /// Operands of types that the operator doesn't support.
     OperandTypes,
     /// A call with more or fewer arguments than parameters.
     ArgumentCount,
     /// An incomplete type where a complete one is needed.
     IncompleteType,
-    /// An array or another object of a size that isn't taken.
+    /// An array or another object of an unsupported size.
     Size,
-    /// A call of `malloc` or `calloc` whose result goes to no pointer.
+    /// A call of `malloc` or `calloc` whose result isn't assigned or converted to a pointer.
     NoTarget,
-    /// A conversion of pointers that isn't taken.
+    /// A conversion to or from a pointer type that isn't supported.
     PointerConversion,
-    /// A case or `default` that stands twice in a `switch`.
+    /// A `case` number or a `default` that a `switch` has twice.
     CaseTwice,
-    /// A jump to nowhere, or a label that stands twice.
+    /// A jump without a target, or a label that is defined twice.
     Jump,
     /// A member that the struct doesn't have.
     NoMember,
@@ -39,16 +39,16 @@ pub enum TypeCode {
     FunctionName,
     /// An expression that has to be constant and isn't, or has no value.
     NotConstant,
-    /// A value where there is none.
+    /// An expression of type `void` where a value or an lvalue is needed.
     VoidValue,
-    /// A `return` with a value, or without one, in a function of the other kind.
+    /// A `return` with a value in a function whose result is `void`, or without one in another function.
     Return,
     /// An object of too many scalars for one store.
     TooManyScalars,
 }
 
 impl TypeCode {
-    /// The number of the code, from 1 to 18.
+    /// Returns the number of the code, from 1 to 18.
     pub fn number(self) -> u8
         ensures { result ≡ number_of self }
     {
@@ -75,12 +75,12 @@ impl TypeCode {
     }
 }
 
-/// Why typing gives nothing.
+/// Why there is no typed result.
 #[derive(Debug, Drop, PartialEq, Eq)]
 pub enum TypeRefusal {
-    /// What is wrong at the first failing place.
+    /// What is wrong, at the first position with a type error.
     Code(TypeCode, Place),
-    /// Want of memory.
+    /// Memory ran out.
     Memory,
 }
 

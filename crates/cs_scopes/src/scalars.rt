@@ -1,14 +1,14 @@
-//! How many scalars an object has, if they are so few that one store writes them.
+//! How many scalars an object has, if one store may write so many.
 ghost use Rattle.std.specs.Prelude.{◌≡◌, ◌+◌};
 ghost use Rattle.cs_types.specs.Shape.{shape_of};
 ghost use Rattle.cs_scopes.specs.Scalars.{few, scalars_in, scalars_with, struct_scalars, has_few_scalars, innermost, scalars_alone, scalars_times};
 
 use cs_types::{CType, StructTable, members_of};
 
-/// The most scalars that one store may write.
+/// The greatest number of scalars that one store may write.
 const MOST: u64 = 4096;
 
-/// How many scalars the type has, if they are few.
+/// Returns how many scalars the type has, if one store may write so many.
 pub fn scalars_in(table: &StructTable, ty: &CType) -> Option<u64>
     ensures { result ≡ scalars_in table.now.list (shape_of ty.now) }
 {
@@ -23,7 +23,7 @@ pub fn has_few_scalars(table: &StructTable, ty: &CType) -> bool
     scalars_in(table, ty).is_some()
 }
 
-// How many scalars the type has, if they are few, where structs hold one another at most so deep.
+// How many scalars the type has, if they are few, where structs are nested at most `depth` deep.
 #[cycle(scalars)]
 fn scalars(table: &StructTable, depth: usize, ty: &CType) -> Option<u64>
     ensures { result ≡ scalars_with (struct_scalars table.now.list depth) (shape_of ty.now) }
@@ -32,7 +32,7 @@ fn scalars(table: &StructTable, depth: usize, ty: &CType) -> Option<u64>
     scalars_times(inner, ty)
 }
 
-// How many scalars a type has that is no array.
+// How many scalars a type has that isn't an array.
 #[cycle(scalars)]
 fn scalars_alone(table: &StructTable, depth: usize, ty: &CType) -> Option<u64>
     ensures { result ≡ scalars_alone (struct_scalars table.now.list depth) (shape_of ty.now) }
@@ -63,7 +63,7 @@ fn struct_scalars(table: &StructTable, depth: usize, number: u32) -> Option<u64>
     Some(all)
 }
 
-// The type of the elements of all arrays that are a type.
+// The element type of an array, without all array types in it.
 fn innermost(ty: &CType) -> &CType
     ensures { shape_of result.now ≡ innermost (shape_of ty.now) }
 {
@@ -73,7 +73,7 @@ fn innermost(ty: &CType) -> &CType
     }
 }
 
-// The scalars of arrays, given those of their innermost element.
+// The number of scalars of an array, given that of its innermost element.
 fn scalars_times(inner: Option<u64>, ty: &CType) -> Option<u64>
     ensures { result ≡ scalars_times inner (shape_of ty.now) }
 {
@@ -83,14 +83,14 @@ fn scalars_times(inner: Option<u64>, ty: &CType) -> Option<u64>
     }
 }
 
-// So many more scalars, if they are few.
+// The sum of two numbers of scalars, if they are few.
 fn few_more(before: u64, more: u64) -> Option<u64>
     ensures { result ≡ few (before + more) }
 {
     few(before.saturating_add(more))
 }
 
-/// So many scalars, if they are few.
+/// Returns a number of scalars, if one store may write so many.
 pub fn few(scalars: u64) -> Option<u64>
     ensures { result ≡ few scalars }
 {

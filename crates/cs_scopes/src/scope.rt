@@ -1,16 +1,16 @@
-//! The declarations in force (C11 6.2.1).
+//! What a declaration declares (C11 6.2.1).
 
 use cs_names::Name;
 use cs_types::CType;
 
-/// A declared name with what it stands for.
+/// A declared name and its meaning.
 #[derive(Drop)]
 pub struct Declaration {
     pub name: Name,
     pub meaning: Meaning,
 }
 
-/// What a name stands for.
+/// What a name denotes.
 #[derive(Drop)]
 pub enum Meaning {
     /// A type.
@@ -19,12 +19,12 @@ pub enum Meaning {
     Constant(i128),
     /// A file-scope object, by its number in the program.
     Global(u32, CType),
-    /// An object of the running function, by its declaration's number.
+    /// An object of the function that is typed, by its declaration's number.
     Local(u32, CType),
     Function(DeclaredFunction),
 }
 
-/// A function: what a call of it is, and the types of its result and its parameters.
+/// A function: what a call of it does, and the types of its result and its parameters.
 #[derive(Drop)]
 pub struct DeclaredFunction {
     pub callee: Callee,
@@ -42,18 +42,18 @@ pub enum Callee {
     Free,
 }
 
-/// A tag with what it stands for.
+/// A tag and its meaning.
 #[derive(Drop)]
 pub struct Tag {
     pub name: Name,
     pub meaning: TagMeaning,
 }
 
-/// What a tag stands for.
+/// What a tag denotes.
 #[derive(Clone, Copy, PartialEq, Eq)]
 pub enum TagMeaning {
     /// A struct, by its number in the table.
     Struct(u32),
-    /// An enum whose list of constants stands before.
+    /// An enum whose list of constants precedes.
     Enum,
 }

@@ -5,10 +5,10 @@ ghost use Rattle.cs_scopes.specs.Sizes.{limited, bytes_in};
 
 use cs_types::{CType, DataModel, StructTable, bytes, complete_struct, pointer_bytes};
 
-/// The most bytes that an object may have.
+/// The greatest number of bytes of an object.
 const MOST_BYTES: u64 = 1 << 20;
 
-/// The bytes of a complete type, if an object may have them.
+/// Returns the size of a complete type in bytes, if an object may have it.
 pub fn bytes_in(model: DataModel, table: &StructTable, ty: &CType) -> Option<u64>
     ensures { result ≡ bytes_in model table.now.list (shape_of ty.now) }
 {
@@ -21,7 +21,7 @@ pub fn bytes_in(model: DataModel, table: &StructTable, ty: &CType) -> Option<u64
     }
 }
 
-// The bytes of so many elements, if an object may have them.
+// The size of an array of `count` elements, if an object may have it.
 fn repeated(count: u64, bytes: u64) -> Option<u64>
     ensures { result ≡ limited (count * bytes) }
 {
@@ -31,7 +31,7 @@ fn repeated(count: u64, bytes: u64) -> Option<u64>
     }
 }
 
-// So many bytes, if an object may have them.
+// A number of bytes, if an object may have so many.
 fn limited(bytes: u64) -> Option<u64>
     ensures { result ≡ limited bytes }
 {

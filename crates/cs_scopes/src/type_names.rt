@@ -1,4 +1,4 @@
-//! Types that are written between parentheses (C11 6.7.2, 6.7.6, 6.7.7).
+//! Type names: types that are written between parentheses (C11 6.7.2, 6.7.6, 6.7.7).
 ghost use Rattle.std.specs.Prelude.{◌≡◌, IfOk, option_copied};
 ghost use Rattle.cs_types.specs.Shape.{shape_of};
 ghost use Rattle.cs_scopes.specs.Verdicts.{Answers};
@@ -16,7 +16,7 @@ use cs_names::Name;
 use cs_types::{CType, DataModel, IntType, StructTable, is_complete};
 use std::alloc::{AllocError, Global};
 
-// How often a word of an integer type stands among these.
+// How often a word of an integer type occurs among these.
 fn times(kind: IntegerWord, words: &[TypeWord]) -> usize
     ensures { result ≡ times kind words.now }
 {
@@ -38,7 +38,7 @@ fn integer_type(words: &[TypeWord]) -> IntType
     counts.named()
 }
 
-// The word that names a whole type, if one does.
+// The word that names a type that isn't an integer type, if there is one.
 fn whole_word(words: &[TypeWord]) -> Option<&TypeWord>
     ensures { option_copied result ≡ whole_word words.now }
 {
@@ -51,7 +51,7 @@ fn whole_word(words: &[TypeWord]) -> Option<&TypeWord>
     None
 }
 
-/// The type of a typedef name.
+/// Returns the type of a typedef name.
 pub fn typedef_type(
     alloc: Global,
     scope: &Scope,
@@ -69,7 +69,7 @@ pub fn typedef_type(
     }
 }
 
-// The struct of a tag: the tag of an enum declares it a second time.
+// The struct with a tag; the tag of an enum is an error, as it would be declared a second time.
 fn struct_type(scope: &Scope, place: Place, name: &Name) -> Result<CType, TypeRefusal>
     ensures { Answers shape_of (struct_at place (tagged name.now scope.now.tags)) result }
 {
@@ -80,7 +80,7 @@ fn struct_type(scope: &Scope, place: Place, name: &Name) -> Result<CType, TypeRe
     }
 }
 
-/// The enum of a tag, whose type is `int`.
+/// Returns the type of an enum with a tag, which is `int`.
 pub fn enum_type(scope: &Scope, place: Place, name: &Name) -> Result<CType, TypeRefusal>
     ensures { Answers shape_of (enum_at place (tagged name.now scope.now.tags)) result }
 {
@@ -91,7 +91,7 @@ pub fn enum_type(scope: &Scope, place: Place, name: &Name) -> Result<CType, Type
     }
 }
 
-// The type of words.
+// The type that specifiers name.
 #[tactic(auto, unfolding(crate::specs::TypeNames::based))]
 fn based(alloc: Global, scope: &Scope, place: Place, ty: &WrittenType) -> Result<CType, TypeRefusal>
     ensures { Answers shape_of
@@ -108,7 +108,7 @@ fn based(alloc: Global, scope: &Scope, place: Place, ty: &WrittenType) -> Result
     }
 }
 
-/// A type after as many pointers as there are stars.
+/// Returns a type after as many pointers as there are stars.
 pub fn starred(alloc: Global, words: &[PointerWord], base: CType) -> Result<CType, AllocError>
     ensures { IfOk result (λ made. shape_of made ≡ starred words.now (shape_of base)) }
 {
@@ -131,7 +131,7 @@ fn is_star(word: PointerWord) -> bool
     }
 }
 
-/// A written type without its arrays.
+/// Returns a written type without its arrays.
 #[tactic(auto, unfolding(crate::specs::TypeNames::type_named), using(crate::proofs::Lifting::lifts))]
 pub fn type_named(
     alloc: Global,
@@ -147,14 +147,14 @@ pub fn type_named(
     Ok(made)
 }
 
-// Whether an array may have so many elements.
+// Whether an array may have this number of elements.
 fn is_array_size(number: i128) -> bool
     ensures { result ≡ is_array_size number }
 {
     1 <= number && number <= 65536
 }
 
-/// An array of so many elements, if it is small enough.
+/// Returns an array of a number of elements, if it isn't too large.
 #[tactic(auto, unfolding(crate::specs::TypeNames::array_of))]
 pub fn array_of(
     alloc: Global,
@@ -178,7 +178,7 @@ pub fn array_of(
     }
 }
 
-/// Arrays of these sizes, the outermost first, whose innermost elements are of a type.
+/// Returns arrays of these sizes, the outermost first, whose innermost elements have the type `base`.
 pub fn arrayed(
     alloc: Global,
     model: DataModel,
@@ -199,7 +199,7 @@ pub fn arrayed(
     Ok(ty)
 }
 
-/// A complete type, as the elements of arrays and what `sizeof` measures have to be.
+/// Returns a type that has to be complete, as the elements of arrays and the operands of `sizeof` have to be.
 #[tactic(auto, unfolding(crate::specs::TypeNames::complete_at))]
 pub fn complete_at(table: &StructTable, place: Place, ty: CType) -> Result<CType, TypeRefusal>
     ensures { Answers shape_of (complete_at table.now.list place (shape_of ty)) result }

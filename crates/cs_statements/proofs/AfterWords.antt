@@ -1,4 +1,4 @@
--- What stands between a word and its test is what it is without the word, where it is right.
+-- The part between a keyword and its test is typed as without the keyword, if it is right.
 use Rattle.std.proofs.Common.{Option, Some, None}
 use Rattle.cs_ast.specs.declared.place.Place.{Place}
 use Rattle.cs_scopes.specs.declared.refusal.TypeCode.{TypeCode}

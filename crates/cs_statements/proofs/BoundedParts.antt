@@ -1,4 +1,4 @@
--- What is known of typed expressions, initializers and declarations that the bounds of typed programs rest on: for the contract of `typed`.
+-- The facts on typed expressions, initializers and declarations from which the bounds of typed programs follow: for the contract of `typed`.
 use Rattle.std.proofs.Common.{◌≡◌, ℕ, ◌+◌, ◌*◌, ◌≤◌, List, ap, refl, arith}
 use Rattle.cs_types.specs.Shape.{Shape}
 use Rattle.cs_ast.specs.declared.place.Place.{Place}

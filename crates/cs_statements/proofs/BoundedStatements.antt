@@ -1,4 +1,4 @@
--- Typed statements stand among the places of what is written, and have no more nodes than their text allows: for the contract of `typed`.
+-- Typed statements have positions of the written ones, and no more nodes than their text allows: for the contract of `typed`.
 use Rattle.std.proofs.Common.{◌≡◌, ℕ, ℤ, ◌+◌, ◌*◌, ◌≤◌, List, [], ◌∷◌, ◌++◌, length, map, arith}
 use Rattle.std.specs.Prelude.{Option, Some, None, IfSome}
 use Rattle.std.specs.Option.{option_map}

@@ -1,4 +1,4 @@
--- How long the texts of declarators, parameters and tests are, with what stands after them: for the bounds of typed programs.
+-- The lengths of the texts of declarators, parameters and tests, with what follows them: for the bounds of typed programs.
 use Rattle.std.proofs.Common.{◌≡◌, ◌+◌, ◌≤◌, suc, List, [], ◌∷◌, map, length, arith}
 use Rattle.std.specs.Prelude.{Option}
 use Rattle.cs_ast.specs.declared.raw.declaration.RawParameter.{RawParameter}

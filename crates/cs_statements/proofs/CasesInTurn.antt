@@ -1,4 +1,4 @@
--- What the rules of the labels of a `switch` come to: for the cycle of statements.
+-- The results of the rules for the labels of a `switch`: for the cycle of statements.
 use Rattle.std.proofs.Common.{◌≡◌, ℕ, ℤ, List, Option, Some, length, refl, sym, ap, ◌∙◌}
 use Rattle.cs_types.specs.declared.int_type.IntType.{IntType}
 use Rattle.cs_types.specs.Shape.{Shape}

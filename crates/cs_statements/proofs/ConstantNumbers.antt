@@ -1,4 +1,4 @@
--- The number of a constant expression is one that some integer type of C holds: for the numbers of cases.
+-- The number of a constant expression is one that some integer type of C can represent: for the numbers of cases.
 use Rattle.std.proofs.Common.{◌≡◌, ℕ, ◌≤◌, ◌^◌, Bool, true, false, cond, ◌&&◌, ◌||◌, not, Option, Some, None, refl, ap, subst, arith}
 use Rattle.std.specs.Prelude.{ℤ, pos, negsuc, int_le, int_div, int_rem, ◌≤ℤ◌, ◌+ℤ◌, ◌-ℤ◌, ◌*ℤ◌, unsigned_abs, bit_and, bit_or}
 use Rattle.std.specs.Prelude.{bit_xor, IfSome}

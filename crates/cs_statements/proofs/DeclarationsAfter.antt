@@ -1,4 +1,4 @@
--- Declarations are added after those in force, and each parameter has its mark: for scopes that end, and for the heads of functions.
+-- New declarations come after those in scope, and each parameter has its mark: for scopes that end, and for the heads of functions.
 use Rattle.std.proofs.Common.{◌≡◌, ◌∙◌, ℕ, List, [], ◌∷◌, ◌++◌, append_assoc, length, take, inl, inr, refl, sym, ap, arith}
 use Rattle.std.specs.Prelude.{◌||◌, Option, Some, None, is_some, pos, ℤ}
 use Rattle.std.specs.List.{All}

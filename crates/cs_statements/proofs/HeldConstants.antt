@@ -1,4 +1,4 @@
--- The constants of written statements and files are among the tokens of their text: for what the contract of `typed` says of well-formed programs.
+-- The constants of written statements and files are among the tokens of their text: for `well_formed`, a clause of the contract of `typed`.
 use Rattle.std.proofs.Common.{ℕ, Bool, true, false, List, [], ◌∷◌, map}
 use Rattle.std.specs.Prelude.{Option, Some, None, option_map}
 use Rattle.std.specs.List.{All}

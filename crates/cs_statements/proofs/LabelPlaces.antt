@@ -1,4 +1,4 @@
--- The number of a name's first label as labels are added, and the table that has it: for the labels of a function.
+-- The number of a name's first label when labels are added, and the table that has it: for the labels of a function.
 use Rattle.std.proofs.Common.{◌≡◌, ℕ, ◌+◌, Bool, true, false, cond, List, [], ◌∷◌, ◌++◌, length, Some, None, refl, sym, ap, ◌∙◌}
 use Rattle.std.proofs.Common.{arith, zero-add}
 use Rattle.std.specs.Prelude.{nat_eq}

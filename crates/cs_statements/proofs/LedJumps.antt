@@ -1,4 +1,4 @@
--- A typed statement has the labels of the written one, numbered as they stand, and its jumps lead somewhere: for well-formed functions.
+-- A typed statement has the labels of the written one, numbered in their order, and its jumps have targets: for well-formed functions.
 use Rattle.std.proofs.Common.{◌≡◌, ◌∙◌, ℕ, ℤ, ◌+◌, ◌<◌, suc, Bool, true, false, cond, List, [], ◌∷◌, ◌++◌, length, refl, sym}
 use Rattle.std.proofs.Common.{ap, subst, arith, zero-add}
 use Rattle.std.specs.Prelude.{nat_eq, Option, Some, None, IfSome}

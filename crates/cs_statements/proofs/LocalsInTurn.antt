@@ -1,4 +1,4 @@
--- What the rules of declared locals come to, one part after the other: for the declarations of blocks.
+-- The results of the rules for declared locals, part by part: for the declarations of blocks.
 use Rattle.std.proofs.Common.{◌≡◌, Bool, false, cond, length, refl, ap, ◌∙◌}
 use Rattle.cs_types.specs.Shape.{Shape}
 use Rattle.cs_ast.specs.declared.raw.declaration.RawInit.{RawInit}

@@ -1,4 +1,4 @@
--- Statements leave the structs laid out that are known before them: for the contract of `typed`.
+-- If the structs that are known before statements have layouts, so do those after them: for the contract of `typed`.
 use Rattle.std.proofs.Common.{◌≡◌, ◌∙◌, ℕ, ℤ, List, [], ◌∷◌}
 use Rattle.std.specs.Prelude.{Option, Some, None, length}
 use Rattle.cs_types.specs.declared.data_model.DataModel.{DataModel}

@@ -1,4 +1,4 @@
--- What each kind of statement comes to, as it is held: for the cycle of statements.
+-- The result for each kind of statement, for the type in the code: for the cycle of statements.
 use Rattle.std.proofs.Common.{◌≡◌, List, [], Option, map, sym, ap, subst, ◌∙◌, Result, Vec, Global}
 use Rattle.cs_ast.specs.declared.place.Place.{Place}
 use Rattle.cs_ast.specs.declared.raw.expression.RawExpr.{RawExpr}

@@ -1,4 +1,4 @@
--- A list of statements as statements in a row: for the bodies of functions.
+-- A list of statements as the list type of typed trees: for the bodies of functions.
 use Rattle.std.proofs.Common.{◌≡◌, List, [], ◌∷◌, map, refl, ap, ◌∙◌, Vec, Global}
 use Rattle.cs_ast.specs.declared.place.Place.{Place}
 use Rattle.cs_ast.specs.declared.typed.statement.Stmt.{Stmt}

@@ -1,4 +1,4 @@
--- What the rules of statements come to, one part after the other: for the cycle of statements.
+-- The results of the rules for statements, part by part: for the cycle of statements.
 use Rattle.std.proofs.Common.{◌≡◌, ℕ, true, cond, List, [], ◌∷◌, ◌++◌, Option, Some, None, map, refl, sym, ap, subst, ◌∙◌, Result, Ok}
 use Rattle.std.proofs.Common.{Err, Vec, Global}
 use Rattle.std.specs.Prelude.{OnOk}

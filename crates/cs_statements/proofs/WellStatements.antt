@@ -1,4 +1,4 @@
--- What the typing of statements gives is well formed in the function and the program around it: for the contract of `typed`.
+-- Typed statements are well formed in their function and program: for the contract of `typed`.
 use Rattle.std.proofs.Common.{◌≡◌, ◌∙◌, ℕ, ℤ, ◌≤◌, ◌<◌, true, List, [], ◌∷◌, ◌++◌, length, take, refl, sym, ap, subst}
 use Rattle.std.proofs.Common.{arith, ◌≢◌, false}
 use Rattle.std.specs.Prelude.{nat_eq, Option, Some, None, IfSome, slice_get}

@@ -1,4 +1,4 @@
--- The cases of a `switch` beside a set of their numbers, so that no look-up goes over them.
+-- The cases of a `switch` and a set of their numbers: no look-up searches a list.
 use Rattle.std.specs.Prelude.{◌≡◌, ℤ, Bool, List, Some, None}
 use Rattle.std.specs.HashSet.{HashSet, contains}
 use Rattle.std.specs.Ordering.{int_eq}

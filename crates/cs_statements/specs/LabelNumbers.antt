@@ -1,4 +1,4 @@
--- The labels of a function beside a table of names, so that no look-up goes over them.
+-- The labels of a function and a table of their names: no look-up searches a list.
 use Rattle.std.specs.Prelude.{◌≡◌, ℕ, List, nat_eq}
 use Rattle.std.specs.Cmp.Lexicographic.{pointwise}
 use Rattle.indexmap.specs.IndexMap.{IndexMap, get}

@@ -14,7 +14,7 @@ use Rattle.cs_declarations.specs.Environment.{Environment, with_literals, declar
 use Rattle.cs_declarations.specs.Initializers.{InFunction, Reading, initial_typed}
 use Rattle.cs_declarations.specs.Objects.{object_type}
 
--- the inside of a function so far: what is known, its parameters and locals, and how many of its labels were met
+-- the inside of a function at a point: what is known, its parameters and locals, and how many of its labels were met
 pub record Inside : Type 0 where
   pub known : Environment
   pub variables : List Variable
@@ -39,7 +39,7 @@ with_local name ty i = record {
 abbrev pub local_held : ℕ → Place → Inside → Reading → Verdict LocalDeclared
 local_held number at i r = Fine (record { statement = Declare at number (Some r.0); inside = knowing (with_literals r.1 i.known) i })
 
--- a declaration stands at its `=`, or at its name where it has none; its name is known after its declarator
+-- a local is declared at its `=`, or at its name if it has none; its name is known after its declarator
 abbrev pub local_initialized : ℕ → Shape → Place → Option RawFirstValue → Inside → Verdict LocalDeclared
 local_initialized number ty at None i = Fine (record { statement = Declare at number None; inside = i })
 local_initialized number ty at (Some value) i =
@@ -52,7 +52,7 @@ local_added base d i =
     else lift (λ ty. local_initialized (length i.variables) ty d.declarator.place d.initial (with_local d.declarator.name ty i))
     (object_type i.known.context base d)
 
--- statements with what is known after them
+-- statements, and what is known after them
 pub record TypedStatements : Type 0 where
   pub statements : List Statement
   pub inside : Inside

@@ -1,4 +1,4 @@
--- The typing of statements (C11 6.8): each at its place, in the scope in which it stands.
+-- The typing of statements (C11 6.8), each at its position and in its scope.
 use Rattle.std.specs.Prelude.{ℕ, ◌+◌, nat_eq, ℤ, Bool, true, false, if◌then◌else◌, List, [], ◌∷◌, ◌++◌, length, Option, Some, None}
 use Rattle.std.specs.Prelude.{Result, Ok, Err}
 use Rattle.std.specs.List.{list_any, position}
@@ -34,7 +34,7 @@ use Rattle.cs_declarations.specs.Environment.{model_of, entered, left, with_lite
 use Rattle.cs_declarations.specs.Bodies.{Typing, specs_type}
 use Rattle.cs_statements.specs.Locals.{Inside, knowing, TypedStatements, locals_added}
 
--- where a statement stands: in a function with this result and these labels; whether a `break` and a `continue` lead somewhere
+-- the context of a statement: the function's result and labels, and whether a `break` and a `continue` have a target
 pub record Where : Type 0 where
   pub returns : Shape
   pub labels : List (List ℕ)
@@ -47,12 +47,12 @@ in_loop w = record { returns = w.returns; labels = w.labels; breaks = true; cont
 abbrev pub in_switch : Where → Where
 in_switch w = record { returns = w.returns; labels = w.labels; breaks = true; continues = w.continues }
 
--- statements in a row
+-- statements, one after another
 abbrev pub in_a_row : List Statement → Statements
 in_a_row [] = Empty
 in_a_row (s ∷ ss) = Then s (in_a_row ss)
 
--- a part of a statement, with what is known after it
+-- a part of a statement, and what is known after it
 pub record Part (A : Type 0) : Type 0 where
   pub found : A
   pub inside : Inside
@@ -64,34 +64,34 @@ part i found = Fine (record { found = found; inside = i })
 abbrev pub past : RawExpr → Inside → Inside
 past e i = knowing (with_literals (literals_after i.known.literals e.kind.value) i.known) i
 
--- an expression that is tested by a word at a place
+-- an expression that is tested by the keyword at a position
 abbrev pub tested_in : Place → Inside → RawExpr → Verdict (Part Typed)
 tested_in at i e = lift (part (past e i)) (test_of i.known.context i.known.literals at e)
 
--- an expression whose value is dropped
+-- an expression whose value is discarded
 abbrev pub dropped_in : Inside → RawExpr → Verdict (Part Typed)
 dropped_in i e = lift (part (past e i)) (discarded_value i.known.context i.known.literals e)
 
 abbrev pub some_found : Part Typed → Verdict (Part (Option Typed))
 some_found p = Fine (record { found = Some p.found; inside = p.inside })
 
--- the same where there may be none
+-- the same if there is one
 abbrev pub tested_if : Place → Inside → Option RawExpr → Verdict (Part (Option Typed))
 tested_if at i None = part i None
 tested_if at i (Some e) = lift some_found (tested_in at i e)
 
--- the code with which a word at a place refuses its test, by what is known before something that stands between them
+-- the code with which the keyword at a position refuses its test, by what is known before the part between them
 abbrev pub word_fault : Place → Inside → Option RawExpr → Option TypeCode
 word_fault at i None = None
 word_fault at i (Some e) = test_fault i.known.context at e
 
--- what stands between them: if that is refused, what the word says of the test counts before
+-- the part between them: if it is refused, a fault of the test at the keyword is reported first
 abbrev pub after_word : {A : Type 0} → Place → Option TypeCode → Verdict A → Verdict A
 after_word at None v = v
 after_word at (Some code) (Fine value) = Fine value
 after_word at (Some code) (Fault other place) = Fault code at
 
--- the same of a function's answer
+-- the same for the result of a function
 abbrev pub answer_after : {A : Type 0} → Place → Option TypeCode → Result A TypeRefusal → Result A TypeRefusal
 answer_after at None answer = answer
 answer_after at (Some code) (Ok value) = Ok value
@@ -106,12 +106,12 @@ abbrev pub is_void : Shape → Bool
 is_void void = true
 is_void other = false
 
--- the value of a `return`, where the function has a result (C11 6.8.6.4)
+-- the value of a `return`, if the function has a result (C11 6.8.6.4)
 abbrev pub value_returned : Where → Place → Inside → RawExpr → Verdict (Part Typed)
 value_returned w at i e =
     if is_void w.returns then Fault Return at else lift (part (past e i)) (assigned_value i.known.context i.known.literals at w.returns e)
 
--- a `return`: with a value just where there is a result
+-- a `return`, which has a value exactly if there is a result
 abbrev pub returned : Where → Place → Inside → Option RawExpr → Verdict (Part (Option Typed))
 returned w at i None = if is_void w.returns then part i None else Fault Return at
 returned w at i (Some e) = lift some_found (value_returned w at i e)
@@ -124,7 +124,7 @@ abbrev pub goto_typed : Place → Inside → Option ℕ → Verdict (Part Statem
 goto_typed at i (Some number) = part i (Goto at number)
 goto_typed at i None = Fault Jump at
 
--- a label is new: the first of its name is the one that is met here (C11 6.8.1, paragraph 3)
+-- a label is new: the first label of its name is the one that is met here (C11 6.8.1, paragraph 3)
 abbrev pub is_first : Inside → Option ℕ → Bool
 is_first i (Some number) = nat_eq number i.met
 is_first i None = false
@@ -139,7 +139,7 @@ in_block i = knowing (entered i.known) i
 abbrev pub after_block : Inside → Inside → Inside
 after_block before i = knowing (left before.known i.known) i
 
--- a declaration of locals in front of which statements stand
+-- a declaration of locals, after other statements
 abbrev pub declared_in : RawSpecs → List RawInit → TypedStatements → Typing → Verdict TypedStatements
 declared_in s objects so_far ty = locals_added ty.0 objects (record { statements = so_far.statements; inside = knowing ty.1 so_far.inside })
 
@@ -170,7 +170,7 @@ pub record Switching : Type 0 where
   pub cases : List Case
   pub reported : TypedStatements
 
--- the numbers are the same, or both are `default`
+-- both are the same number, or `default`
 abbrev pub same_value : Option ℤ → Option ℤ → Bool
 same_value (Some n) (Some m) = int_eq n m
 same_value None None = true
@@ -179,11 +179,11 @@ same_value one other = false
 abbrev pub is_case : Option ℤ → List Case → Bool
 is_case value cases = list_any (λ (c : Case). same_value c.value value) cases
 
--- a label of a `switch`, before the statement with a number; none stands twice (C11 6.8.4.2, paragraph 3)
+-- a label of a `switch`, before the statement with a number; a label that the `switch` already has is refused (C11 6.8.4.2, paragraph 3)
 abbrev pub case_put : Place → Option ℤ → ℕ → List Case → Verdict (List Case)
 case_put at value item cases = if is_case value cases then Fault CaseTwice at else Fine (cases ++ record { value = value; item = item } ∷ [])
 
--- the same before the statement that comes next
+-- the same before the next statement
 abbrev pub case_added : Place → Switching → Option ℤ → Verdict Switching
 case_added at so_far value =
     lift (λ cases. Fine (record { cases = cases; reported = so_far.reported })) (case_put at value (length so_far.reported.statements) so_far.cases)
@@ -226,7 +226,7 @@ abbrev mutual
   labels_in_switch kinds.end_of-RawSwitchItem = []
   labels_in_switch (kinds.more_of-RawSwitchItem first others) = labels_of_switch_item first ++ labels_in_switch others
 
--- what is made of the parts of a statement
+-- statements, made from their parts
 abbrev pub block_made : Place → Inside → TypedStatements → Verdict (Part Statement)
 block_made at before reported = part (after_block before reported.inside) (Block at (in_a_row reported.statements))
 
@@ -257,7 +257,7 @@ return_made at p = part p.inside (Returns at p.found)
 abbrev pub label_made : Place → ℕ → Part Statement → Verdict (Part Statement)
 label_made at number body = part body.inside (Label at number body.found)
 
--- a number of an integer type, modulo where it doesn't hold it
+-- a number converted to an integer type, modulo if that can't represent it
 abbrev pub wrapped_in : DataModel → Shape → ℤ → ℤ
 wrapped_in model (integer ty) n = wrapped model ty n
 wrapped_in model other n = n
@@ -269,7 +269,7 @@ abbrev pub selected : Place → Inside → RawExpr → Verdict (Part Typed)
 selected at i e = lift (part (past e i)) (selector_of i.known.context i.known.literals at e)
 
 abbrev mutual
-  -- a statement at a place
+  -- a statement at a position
   pub statement_typed : Where → Inside → Place → RawStmtKind → Verdict (Part Statement)
   -- C11 6.8.2
   statement_typed w i at (kind.Block' shape row) = lift (block_made at i) (items_typed w row (no_statements (in_block i)))
@@ -313,7 +313,7 @@ abbrev mutual
   statement_typed w i at (kind.Label' name place p body) =
       if is_first i (label_number name w.labels) then lift (label_made at i.met) (statement_typed w (meeting i) place body) else Fault Jump at
 
-  -- what stands in a block, after some statements
+  -- an item of a block, after some statements
   pub item_typed : Where → RawItem → TypedStatements → Verdict TypedStatements
   item_typed w (items.TheVariants.Declare s objects) so_far = declaration_typed s objects.items so_far
   item_typed w (items.TheVariants.Run' place p body) so_far = lift (telling so_far.statements) (statement_typed w so_far.inside place body)
@@ -322,7 +322,7 @@ abbrev mutual
   items_typed w kinds.end_of-RawItem so_far = Fine so_far
   items_typed w (kinds.more_of-RawItem first others) so_far = lift (items_typed w others) (item_typed w first so_far)
 
-  -- what stands in a `switch` by a value of a type
+  -- an item of a `switch` on a value of this type
   pub switch_item_typed : Where → Shape → switches.RawSwitchItem → Switching → Verdict Switching
   switch_item_typed w ty (switches.TheVariants.Case at value) so_far =
       lift (λ n. constant_case at so_far ty n.1) (value_of so_far.reported.inside.known.context value)
@@ -333,11 +333,11 @@ abbrev mutual
   switch_typed w ty kinds.end_of-RawSwitchItem so_far = Fine so_far
   switch_typed w ty (kinds.more_of-RawSwitchItem first others) so_far = lift (switch_typed w ty others) (switch_item_typed w ty first so_far)
 
--- a block that was read: its scope ends
+-- after a block that was read: its scope ends
 abbrev pub closed : Inside → TypedStatements → TypedStatements
 closed before reported = record { statements = reported.statements; inside = after_block before reported.inside }
 
--- what stands in a `switch`, as a list
+-- the items of a `switch`, as a list
 abbrev pub switch_list_typed : Where → Shape → List switches.RawSwitchItem → Switching → Verdict Switching
 switch_list_typed w ty [] so_far = Fine so_far
 switch_list_typed w ty (first ∷ others) so_far = lift (switch_list_typed w ty others) (switch_item_typed w ty first so_far)

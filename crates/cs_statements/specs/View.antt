@@ -1,4 +1,4 @@
--- Parts of statements of the program seen as plain data.
+-- Parts of statements, as contracts see the types in the code.
 use Rattle.std.specs.Prelude.{List, map, Option}
 use Rattle.cs_types.specs.Shape.{shape_of}
 use Rattle.cs_ast.specs.declared.place.Place.{Place}
@@ -18,7 +18,7 @@ use Rattle.cs_statements.specs.Statements.{Where, Part, Switching}
 abbrev pub inside_of : HeldInside → Inside
 inside_of i = record { known = environment_of i.known; variables = map variable i.locals.items; met = i.met }
 
--- parts of statements with the inside of the function after them
+-- parts of statements, with the inside of the function after them
 abbrev pub typed_statements_of : List Stmt → HeldInside → TypedStatements
 typed_statements_of statements i = record { statements = map statement statements; inside = inside_of i }
 
@@ -34,7 +34,7 @@ optional_part e i = record { found = some_typed e; inside = inside_of i }
 abbrev pub statement_part : Stmt → HeldInside → Part Statement
 statement_part s i = record { found = statement s; inside = inside_of i }
 
--- the same of what a statement at a place is
+-- the same for the kind of a statement at a position
 abbrev pub kind_at : Place → StmtKind → Inside → Part Statement
 kind_at at kind i = record { found = statement_at at kind; inside = i }
 

@@ -12,7 +12,7 @@ use std::alloc::{AllocError, Global};
 use std::collections::HashSet;
 use std::marker::Model;
 
-/// The cases so far, beside a set of their numbers. A contract sees them as a list.
+/// The cases so far, and a set of their numbers. A contract sees them as a list.
 #[derive(Drop)]
 pub struct Cases {
     list: Vec<Case>,
@@ -33,7 +33,7 @@ impl Model for Cases {
 }
 
 impl Cases {
-    /// No cases.
+    /// Returns an empty list.
     pub fn new(alloc: Global) -> Cases
         ensures { result ≡ [] }
     {
@@ -44,7 +44,7 @@ impl Cases {
         }
     }
 
-    /// Adds a label before a statement; none stands twice.
+    /// Adds a label before the statement with a number; a label that the `switch` already has is refused.
     pub fn add(&mut self, place: Place, value: Option<i128>, item: usize) -> Result<(), TypeRefusal>
         ensures { Leaves (case_put place value item self.old) result self.new }
     {
@@ -60,7 +60,7 @@ impl Cases {
         Ok(())
     }
 
-    // Whether there is such a label.
+    // Whether there is a label with this number, or `default`.
     fn has(&self, value: Option<i128>) -> bool
         ensures { result ≡ is_case value self.now }
     {
@@ -70,7 +70,7 @@ impl Cases {
         }
     }
 
-    /// The cases in their order.
+    /// Returns the cases in their order.
     pub fn into_list(self) -> Vec<Case>
         ensures { result.items ≡ self }
     {
@@ -78,7 +78,7 @@ impl Cases {
     }
 }
 
-// Notes the label with a number, or that there is `default`.
+// Enters the number of a label, or notes that there is a `default`.
 fn note(
     numbers: &mut HashSet<i128>,
     has_default: &mut bool,

@@ -1,4 +1,4 @@
-//! The inside of a function so far.
+//! What is known inside a function at a point.
 ghost use Rattle.std.specs.Prelude.{◌≡◌, length, IfOk, OnOk};
 ghost use Rattle.cs_types.specs.Shape.{shape_of};
 ghost use Rattle.cs_ast.specs.declared.place.Place.{Place as AnyPlace};
@@ -21,7 +21,7 @@ use cs_scopes::{Meaning, TypeCode, TypeRefusal};
 use cs_types::CType;
 use std::alloc::{AllocError, Global};
 
-/// What is known, the parameters and locals, and how many labels were met.
+/// What is known at a point, the parameters and locals, and how many labels were met.
 #[derive(Drop)]
 pub struct Inside {
     pub known: Environment,
@@ -29,7 +29,7 @@ pub struct Inside {
     pub met: u32,
 }
 
-/// Where a statement stands: in a function with this result and these labels; whether a `break` and a `continue` lead somewhere.
+/// The context of a statement: the function's result and labels, and whether a `break` and a `continue` have a target.
 #[derive(Clone, Copy)]
 pub struct Where<'a> {
     pub returns: &'a CType,
@@ -39,7 +39,7 @@ pub struct Where<'a> {
 }
 
 impl<'a> Where<'a> {
-    /// In a loop there.
+    /// Returns the context inside a loop.
     pub fn in_loop(self) -> Where<'a>
         ensures { where_of result ≡ in_loop (where_of self.entry) }
     {
@@ -50,7 +50,7 @@ impl<'a> Where<'a> {
         }
     }
 
-    /// In a `switch` there.
+    /// Returns the context inside a `switch`.
     pub fn in_switch(self) -> Where<'a>
         ensures { where_of result ≡ in_switch (where_of self.entry) }
     {
@@ -62,7 +62,7 @@ impl<'a> Where<'a> {
 }
 
 impl Inside {
-    /// An expression that is tested by a word at a place.
+    /// Types an expression that is tested by the keyword at `place`.
     pub fn tested(
         &mut self,
         alloc: Global,
@@ -81,7 +81,7 @@ impl Inside {
         )
     }
 
-    /// An expression whose value is dropped.
+    /// Types an expression whose value is discarded.
     pub fn dropped(&mut self, alloc: Global, tree: &RawExpr) -> Result<Expr, TypeRefusal>
         ensures { AnswersWith typed_part (dropped_in (inside_of self.old) tree.now) result
             self.new }
@@ -89,7 +89,7 @@ impl Inside {
         discarded(alloc, &self.known.context, &mut self.known.literals, tree)
     }
 
-    /// The integer that a `switch` goes by.
+    /// Types the integer that controls a `switch`.
     pub fn selected(
         &mut self,
         alloc: Global,
@@ -108,7 +108,7 @@ impl Inside {
         )
     }
 
-    /// A test that may be missing.
+    /// Types a test that may be missing.
     pub fn tested_if(
         &mut self,
         alloc: Global,
@@ -124,7 +124,7 @@ impl Inside {
         }
     }
 
-    /// The code with which a word refuses such a test, by what is known here.
+    /// Returns the code with which a keyword refuses such a test, by what is known here.
     pub fn word_fault(
         &self,
         alloc: Global,
@@ -140,7 +140,7 @@ impl Inside {
         }
     }
 
-    /// An expression whose value is dropped, which may be missing.
+    /// Types an expression whose value is discarded, if there is one.
     pub fn dropped_if(
         &mut self,
         alloc: Global,
@@ -155,7 +155,7 @@ impl Inside {
         }
     }
 
-    // The statement that declares a local, whose name is known already, with what it holds at first.
+    // The statement that declares a local, whose name is known already, with its initializer.
     fn initialized(
         &mut self,
         alloc: Global,
@@ -189,7 +189,7 @@ impl Inside {
         })
     }
 
-    // A declared object of a block, and the statement that declares it: its name is known after its declarator.
+    // Declares an object of a block, whose name is known after its declarator, and returns the statement that declares it.
     fn declare_local(
         &mut self,
         alloc: Global,
@@ -208,7 +208,7 @@ impl Inside {
         self.initialized(alloc, number, &ty, declared)
     }
 
-    // Adds a local, which its name stands for, and gives its number.
+    // Adds a local, declares its name, and returns its number.
     fn add_local(&mut self, alloc: Global, name: &Name, ty: &CType) -> Result<u32, AllocError>
         ensures number { IfOk result (λ number. number ≡ length (inside_of self.old).variables) }
         ensures added { OnOk result
@@ -225,7 +225,7 @@ impl Inside {
         Ok(number)
     }
 
-    // The statement of each of some declared objects of a block, after others.
+    // Appends the statements of declared objects of a block.
     fn declare_locals(
         &mut self,
         alloc: Global,
@@ -244,7 +244,7 @@ impl Inside {
         Ok(statements)
     }
 
-    /// A declaration in a block, after statements: a statement for each of its objects.
+    /// Appends the statements of a declaration in a block: one for each of its objects.
     pub fn declare(
         &mut self,
         alloc: Global,
@@ -261,7 +261,7 @@ impl Inside {
     }
 }
 
-// The place of the first of some declared objects, which asks for their type.
+// The position of the first of some declared objects, which requires their type.
 fn first_place(objects: &[RawInit]) -> Place
     ensures { result ≡ first_place objects.now }
 {

@@ -31,7 +31,7 @@ impl Model for Labels {
 }
 
 impl Labels {
-    /// No labels.
+    /// An empty list.
     fn new(alloc: Global) -> Labels
         ensures { result ≡ [] }
     {
@@ -41,7 +41,7 @@ impl Labels {
         }
     }
 
-    // Adds a label after the others.
+    // Appends a label.
     fn add(&mut self, name: &Name) -> Result<(), AllocError>
         ensures { OnOk result (self.new ≡ self.old ++ name.now ∷ []) }
     {
@@ -54,7 +54,7 @@ impl Labels {
         Ok(())
     }
 
-    /// The number of the first label of a name.
+    /// Returns the number of the first label with this name.
     pub fn number_of(&self, name: &Name) -> Option<u32>
         ensures { result ≡ label_number name.now self.now }
     {
@@ -62,7 +62,7 @@ impl Labels {
     }
 }
 
-// Puts the number of a name's first label into the table: a name that has one keeps it.
+// Enters the number of a name's first label; a name that has a number keeps it.
 fn enter(numbers: &mut IndexMap<Name, u32>, name: &Name, number: u32) -> Result<(), AllocError>
     ensures entered { OnOk result ((other : List ℕ)
         → get (pointwise nat_eq) numbers.new other
@@ -80,7 +80,7 @@ fn enter(numbers: &mut IndexMap<Name, u32>, name: &Name, number: u32) -> Result<
     }
 }
 
-/// The labels in a function's body.
+/// Returns the labels in a function's body.
 pub fn labels_of_body(alloc: Global, items: &[RawItem]) -> Result<Labels, AllocError>
     ensures { IfOk result (λ labels. labels ≡ labels_of_items items.now) }
 {
@@ -100,7 +100,7 @@ fn add_from_items(labels: &mut Labels, items: &[RawItem]) -> Result<(), AllocErr
     Ok(())
 }
 
-// Adds those of one of them.
+// Adds the labels of one item.
 #[cycle(labels)]
 fn add_from_item(labels: &mut Labels, item: &RawItem) -> Result<(), AllocError>
     ensures { OnOk result (labels.new ≡ labels.old ++ labels_of_item item.now) }
@@ -122,7 +122,7 @@ fn add_from_switch(labels: &mut Labels, items: &[RawSwitchItem]) -> Result<(), A
     Ok(())
 }
 
-// Adds those of one of them.
+// Adds the labels of one item.
 #[cycle(labels)]
 fn add_from_switch_item(labels: &mut Labels, item: &RawSwitchItem) -> Result<(), AllocError>
     ensures { OnOk result (labels.new ≡ labels.old ++ labels_of_switch_item item.now) }

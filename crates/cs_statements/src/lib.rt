@@ -1,4 +1,4 @@
-//! The typing of statements (C11 6.8), in the scopes of blocks: declared objects, labels, and what jumps lead to.
+//! The typing of statements (C11 6.8), in the scopes of blocks: declared objects, labels, and targets of jumps.
 #![tactic(auto)]
 
 mod cases;

@@ -1,4 +1,4 @@
-//! Statements (C11 6.8): each at its place, in the scope in which it stands.
+//! Statements (C11 6.8), each at its position and in its scope.
 ghost use Rattle.std.specs.Prelude.{◌≡◌, if◌then◌else◌};
 ghost use Rattle.cs_types.specs.Shape.{shape_of};
 ghost use Rattle.cs_declarations.specs.Answered.{AnswersWith};
@@ -21,7 +21,7 @@ use cs_scopes::{TypeCode, TypeRefusal};
 use cs_types::CType;
 use std::alloc::{AllocError, Global};
 
-/// A statement.
+/// Types a statement.
 #[cycle(statements)]
 pub fn statement_typed(
     alloc: Global,
@@ -40,7 +40,7 @@ pub fn statement_typed(
     })
 }
 
-// What a statement at a place is.
+// The kind of a statement at a position.
 #[cycle(statements)]
 fn kind_typed(
     alloc: Global,
@@ -124,7 +124,7 @@ fn do_typed(
     Ok(StmtKind::Do(body, test))
 }
 
-// What stands between a word and its test: if that is refused, what the word says of the test counts before.
+// The part between a keyword and its test: if it is refused, a fault of the test at the keyword is reported first.
 fn after_word<T>(
     place: Place,
     fault: Option<TypeCode>,
@@ -189,7 +189,7 @@ fn first_typed(
     }
 }
 
-// The statements of `{ .. }`, a scope (C11 6.8.2).
+// The statements of `{ .. }`, which is a scope (C11 6.8.2).
 #[cycle(statements)]
 fn block(
     alloc: Global,
@@ -206,7 +206,7 @@ fn block(
     Ok(statements)
 }
 
-/// What stands in a block or in the body of a function.
+/// Types the items of a block or of the body of a function.
 #[cycle(statements)]
 pub fn items_typed(
     alloc: Global,
@@ -225,7 +225,7 @@ pub fn items_typed(
     Ok(statements)
 }
 
-/// A declaration or a statement of a block, after others.
+/// Types a declaration or a statement of a block, and appends it.
 #[cycle(statements)]
 pub fn item_typed(
     alloc: Global,
@@ -248,7 +248,7 @@ pub fn item_typed(
     }
 }
 
-// What a `return` gives: a value just where the function has a result (C11 6.8.6.4).
+// The value of a `return`, which has one exactly if the function has a result (C11 6.8.6.4).
 fn returned(
     alloc: Global,
     inside: &mut Inside,
@@ -271,7 +271,7 @@ fn returned(
     }
 }
 
-// The value of a `return`, where the function has a result.
+// The value of a `return`, if the function has a result.
 fn value_returned(
     alloc: Global,
     inside: &mut Inside,
@@ -297,7 +297,7 @@ fn value_returned(
     )
 }
 
-// Whether a function with a result of this type has none.
+// Whether the type of a function's result is `void`: the function has no result.
 fn is_void(ty: &CType) -> bool
     ensures { result ≡ is_void (shape_of ty.now) }
 {
@@ -319,7 +319,7 @@ fn jump(at: Where, place: Place, name: &Name) -> Result<StmtKind, TypeRefusal>
     }
 }
 
-// A `continue` or a `break`, which stands where one leads somewhere (C11 6.8.6.2, 6.8.6.3).
+// A `continue` or a `break`, which must have a target (C11 6.8.6.2, 6.8.6.3).
 fn leave(leads: bool, place: Place, kind: StmtKind) -> Result<StmtKind, TypeRefusal>
     ensures { Answers (λ kind. kind) (if leads then Fine kind else Fault Jump place) result }
 {
@@ -330,7 +330,7 @@ fn leave(leads: bool, place: Place, kind: StmtKind) -> Result<StmtKind, TypeRefu
     }
 }
 
-// A label, the first one of its name in the function, and the statement after it (C11 6.8.1).
+// A label, which must be the first one of its name in the function, and its statement (C11 6.8.1).
 #[cycle(statements)]
 fn labelled(
     alloc: Global,

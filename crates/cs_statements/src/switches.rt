@@ -24,7 +24,7 @@ pub struct Switched {
     pub statements: Vec<Stmt>,
 }
 
-/// A `switch`, whose items are a scope.
+/// Types a `switch`, whose items are a scope.
 #[cycle(statements)]
 pub fn switch_typed(
     alloc: Global,
@@ -45,7 +45,7 @@ pub fn switch_typed(
     Ok(StmtKind::Switch(selector, found.cases.into_list(), found.statements))
 }
 
-// What stands between the braces of a `switch` by a value of a type.
+// The items between the braces of a `switch` on a value of this type.
 #[cycle(statements)]
 fn switch_items(
     alloc: Global,
@@ -68,7 +68,7 @@ fn switch_items(
     Ok(so_far)
 }
 
-// One of these, after others.
+// Appends one of these.
 #[cycle(statements)]
 fn switch_item(
     alloc: Global,
@@ -103,7 +103,7 @@ fn switch_item(
     }
 }
 
-// A number in the type of a `switch`, modulo where that doesn't hold it (C11 6.8.4.2, paragraph 5).
+// A number converted to the type of a `switch`, modulo if that can't represent it (C11 6.8.4.2, paragraph 5).
 fn wrapped_in(model: DataModel, ty: &CType, number: i128) -> i128
     requires { unsigned_abs number ≤ 2 ^ 126 }
     ensures { result ≡ wrapped_in model (shape_of ty.now) number }

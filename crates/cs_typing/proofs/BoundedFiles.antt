@@ -1,4 +1,4 @@
--- Typed files stand among the places of what is written, and have few nodes: for the contract of `typed`.
+-- Typed files have positions of the written ones, and few nodes: for the contract of `typed`.
 use Rattle.std.proofs.Common.{◌≡◌, ℕ, ◌+◌, ◌*◌, ◌≤◌, ◌<◌, ◌^◌, ℤ, Bool, true, false, cond, List, [], ◌∷◌, ◌++◌}
 use Rattle.std.proofs.Common.{length, map, refl, arith}
 use Rattle.std.specs.Prelude.{Some, None, nat_eq, ◌||◌, option_to_list}

@@ -1,4 +1,4 @@
--- Functions of a file stand among the places of what is written, and have no more nodes than their text allows: for the contract of `typed`.
+-- Functions of a file have positions of the written ones, and no more nodes than their text allows: for the contract of `typed`.
 use Rattle.std.proofs.Common.{◌≡◌, ℕ, suc, ◌+◌, ◌*◌, ◌≤◌, Bool, List, [], ◌∷◌, length, ap, arith}
 use Rattle.std.specs.Prelude.{Option, Some, None, IfSome, is_some}
 use Rattle.std.proofs.lemmas.List.{length_push}

@@ -1,4 +1,4 @@
--- Objects of a file stand among the places of what is written, and have no more nodes than their text allows: for the contract of `typed`.
+-- File-scope objects have positions of the written ones, and no more nodes than their text allows: for the contract of `typed`.
 use Rattle.std.proofs.Common.{◌≡◌, ℕ, zero, suc, ◌+◌, ◌*◌, ◌≤◌, false, List, [], ◌∷◌, ◌++◌, map, arith}
 use Rattle.std.specs.Prelude.{Option, Some, None, IfSome, is_some}
 use Rattle.std.specs.Option.{option_map}

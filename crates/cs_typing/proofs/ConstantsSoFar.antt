@@ -1,4 +1,4 @@
--- The numbers of tokens of which a part is read: for the loop that collects them.
+-- The numbers of tokens, of which a part is read: for the loop that collects them.
 use Rattle.std.proofs.Common.{◌≡◌, ℕ, ◌+◌, ◌<◌, ℤ, List, length, drop, get_or, sym, ap, ◌∙◌}
 use Rattle.std.proofs.lemmas.List.{at_drop_more}
 use Rattle.std.specs.Ordering.{int_eq}

@@ -1,4 +1,4 @@
--- Files so far: what their names stand for is there, and their objects and functions are well formed: for the contract of `typed`.
+-- Files up to some part: what their names denote exists, and their objects and functions are well formed: for the contract of `typed`.
 use Rattle.std.proofs.Common.{◌≡◌, ◌≢◌, ◌∙◌, ℕ, zero, suc, ◌≤◌, Bool, true, false, cond, List, [], ◌∷◌, ◌++◌, length, take}
 use Rattle.std.proofs.Common.{refl, sym, ap, subst, arith}
 use Rattle.std.specs.Prelude.{nat_eq, Option, Some, None, IfSome, is_some, slice_get}

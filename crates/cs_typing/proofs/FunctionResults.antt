@@ -1,4 +1,4 @@
--- A function with a result that it may have: for the functions of files.
+-- A function whose result has a supported type: for the functions of files.
 use Rattle.std.proofs.Common.{◌≡◌, Bool, true, Option, Some, None, refl, sym, ap, ◌∙◌}
 use Rattle.std.specs.Prelude.{is_some, if◌then◌else◌}
 use Rattle.std.specs.Option.{option_map}

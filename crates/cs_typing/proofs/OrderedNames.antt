@@ -1,4 +1,4 @@
--- Each function that a file declares has its place in the order of functions: for the functions of well-formed programs.
+-- Each function that a file declares has an index in the order of functions: for the functions of well-formed programs.
 use Rattle.std.proofs.Common.{◌≡◌, ◌∙◌, ℕ, ◌+◌, ◌<◌, suc, Bool, true, false, cond, List, [], ◌∷◌, ◌++◌, length, get_or, inl}
 use Rattle.std.proofs.Common.{inr, refl, sym, subst, arith}
 use Rattle.std.specs.Prelude.{nat_eq, not, ◌||◌, option_to_list, Some, None, ◌⊎◌}

@@ -1,4 +1,4 @@
--- A typed program is made of a typed file, and its structs are laid out: for the contract of `typed`.
+-- A typed program is made from a typed file, and its structs have layouts: for the contract of `typed`.
 use Rattle.std.proofs.Common.{◌≡◌, ◌∙◌, ℤ, List, sym, ap, subst}
 use Rattle.cs_types.specs.declared.data_model.DataModel.{DataModel}
 use Rattle.cs_types.specs.Layout.{IsLaidOut}

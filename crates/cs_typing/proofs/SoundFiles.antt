@@ -1,4 +1,4 @@
--- The structs of a typed file are laid out: for the contract of `typed`.
+-- The structs of a typed file have layouts: for the contract of `typed`.
 use Rattle.std.proofs.Common.{Bool, List, [], ◌∷◌, refl}
 use Rattle.std.specs.Prelude.{Option, Some, None, is_some}
 use Rattle.cs_types.specs.declared.data_model.DataModel.{DataModel}

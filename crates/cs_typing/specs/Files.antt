@@ -1,4 +1,4 @@
--- The typing of files (C11 6.9): the program that written declarations and functions are, or the first failing place.
+-- The typing of files (C11 6.9): from declarations and functions to the typed file, or to the first type error.
 use Rattle.std.specs.Prelude.{List, [], ◌∷◌, Some, None}
 use Rattle.cs_types.specs.declared.data_model.DataModel.{DataModel}
 use Rattle.cs_types.specs.Shape.{Shape}
@@ -14,7 +14,7 @@ use Rattle.cs_file_scope.specs.Objects.{Filed, with_known, objects_added}
 use Rattle.cs_file_scope.specs.Beginning.{begun}
 use Rattle.cs_typing.specs.Functions.{function_added}
 
--- what stands before the declarators of a part of a file
+-- the specifiers of a part of a file
 abbrev pub specs_of : RawExternalKind → RawSpecs
 specs_of (external.Type s) = s
 specs_of (external.Typedef s names) = s
@@ -22,7 +22,7 @@ specs_of (external.Objects s objects) = s
 specs_of (external.Function s d) = s
 specs_of (external.Definition s d body) = s
 
--- what a part of a file declares, before whose declarators stands a type
+-- the file after what one of its parts declares; `base` is the type of its specifiers
 abbrev pub external_declared : RawExternalKind → Filed → Shape → Verdict Filed
 external_declared (external.Type s) f base = Fine f
 external_declared (external.Typedef s names) f base = lift (λ k. Fine (with_known k f)) (typedefs_added base names.items f.known)
@@ -33,11 +33,11 @@ external_declared (external.Definition s d body) f base = function_added d (Some
 abbrev pub external_read : RawExternalKind → Filed → Typing → Verdict Filed
 external_read kind f ty = external_declared kind (with_known ty.1 f) ty.0
 
--- a part of a file at a place, after others
+-- the file after a part at a position
 abbrev pub external_typed : Place → RawExternalKind → Filed → Verdict Filed
 external_typed at kind f = lift (external_read kind f) (specs_type f.known at (specs_of kind))
 
--- the parts of a file, one after another
+-- the file after parts, one after another
 abbrev pub file_typed : List RawExternal → Filed → Verdict Filed
 file_typed [] f = Fine f
 file_typed (e ∷ es) f = lift (file_typed es) (external_typed e.place e.kind f)

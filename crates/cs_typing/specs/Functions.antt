@@ -19,11 +19,11 @@ use Rattle.cs_statements.specs.Statements.{Where, in_a_row, no_statements, body_
 use Rattle.cs_file_scope.specs.Objects.{Filed, changed, with_known}
 use Rattle.cs_file_scope.specs.Functions.{is_result, may_be_function, Routed, function_of, declared_once}
 
--- what the scope of parameters declares, around which stand these declarations
+-- the declarations of the scope of parameters, after those around it
 abbrev pub declared_inside : Environment → Environment → List Declaration
 declared_inside around inside = drop (length (declarations_of around)) (declarations_of inside)
 
--- the scope of a body: that of its parameters, around which the function itself is known (C11 6.2.1, paragraphs 4 and 7)
+-- the scope of a body: that of its parameters, in a scope in which the function itself is known (C11 6.2.1, paragraphs 4 and 7)
 abbrev pub body_scope : Environment → List Declaration → Environment
 body_scope around inner = with_declarations (declarations_of around ++ inner) (length (declarations_of around)) around
 
@@ -55,38 +55,38 @@ at_beginning f parameters inner = record { known = body_scope f.known inner; var
 abbrev pub where_in : Shape → RawBody → Where
 where_in result body = record { returns = result; labels = labels_of_items body.items.items; breaks = false; continues = false }
 
--- the body of a function with these parameters, in whose scope so much is declared
+-- after the body of a function with these parameters, whose scope has the declarations `inner`
 abbrev pub body_added : RawFunction → RawBody → Shape → List Variable → List Declaration → Callee → Filed → Verdict Filed
 body_added d body result parameters inner (Numbered number) f =
     lift (with_body d body number f) (body_typed (where_in result body) body.items.items (no_statements (at_beginning f parameters inner)))
 body_added d body result parameters inner other f = Fine f
 
--- the body, where there is one
+-- after the body, if there is one
 abbrev pub completed : RawFunction → Option RawBody → Shape → List Variable → List Declaration → Routed → Verdict Filed
 completed d None result parameters inner r = Fine r.1
 completed d (Some body) result parameters inner r = body_added d body result parameters inner r.0 r.1
 
--- the file outside of the scope of parameters
+-- the file after the scope of parameters
 abbrev pub outside_of : Filed → Head → Filed
 outside_of f head = with_known (left f.known head.known) f
 
--- a function with these parameters
+-- after a function with these parameters
 abbrev pub headed : RawFunction → Option RawBody → Filed → Shape → Head → Verdict Filed
 headed d body f result head =
     lift (completed d body result head.variables (declared_inside f.known head.known))
     (lift (declared_once head.twice)
     (function_of (outside_of f head) d result head.variables head.written (meaning_here d.name (outside_of f head).known)))
 
--- a function with a result that it may have
+-- after a function whose result has to be of a supported type
 abbrev pub resulted : RawFunction → Option RawBody → Filed → Shape → Verdict Filed
 resulted d body f result =
     if is_result result then lift (headed d body f result) (parameters_typed (entered f.known) d.parameters) else Fault IncompleteType d.place
 
--- a function whose result has this type
+-- after a function whose result has this type
 abbrev pub function_typed : RawFunction → Option RawBody → Filed → Shape → Verdict Filed
 function_typed d body f result =
     if may_be_function f (is_some body) result (meaning_here d.name f.known) then resulted d body f result else Fault DeclaredTwice d.place
 
--- a declared function, after whose words stands a type
+-- after the declaration of a function; `ty` is the type of its specifiers
 abbrev pub function_added : RawFunction → Option RawBody → Filed → Shape → Verdict Filed
 function_added d body f ty = function_typed d body f (starred d.pointers.items ty)

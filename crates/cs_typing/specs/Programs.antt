@@ -1,4 +1,4 @@
--- The typed program of a file: its structs, objects, literals and functions, and the numbers that stand in it.
+-- The typed program of a file: its structs, objects, literals and functions, and the numbers that occur in it.
 use Rattle.std.specs.Prelude.{ℕ, ℤ, pos, List, [], ◌∷◌}
 use Rattle.std.specs.Ordering.{int_eq}
 use Rattle.indexmap.specs.IndexSet.{insert_all}
@@ -23,11 +23,11 @@ abbrev pub numbers_in : List Token → List ℤ
 numbers_in [] = []
 numbers_in (t ∷ ts) = number_before t.kind (numbers_in ts)
 
--- the different ones, in the order in which they appear first
+-- the different ones, in the order of their first occurrences
 abbrev pub constants_in : List Token → List ℤ
 constants_in tokens = insert_all int_eq [] (numbers_in tokens)
 
--- the program of a typed file, whose places are in these files
+-- the program of a typed file, whose positions are in these files
 abbrev pub program_of : DataModel → List (List ℕ) → List Token → Filed → TypedProgram
 program_of model files tokens f = record {
   model = model;
@@ -39,6 +39,6 @@ program_of model files tokens f = record {
   constants = constants_in tokens;
 }
 
--- the program that the parts of a file are, or the first failing place
+-- the program of the parts of a file, or its first type error
 abbrev pub typed : DataModel → List (List ℕ) → List Token → List RawExternal → Verdict TypedProgram
 typed model files tokens file = lift (λ (f : Filed). Fine (program_of model files tokens f)) (typed_file model tokens file)

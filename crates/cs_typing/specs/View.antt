@@ -1,8 +1,8 @@
--- Parts of typed files of the program seen as plain data.
+-- Parts of typed files, as contracts see the types in the code.
 use Rattle.std.specs.Prelude.{List, map, reverse}
 use Rattle.cs_scopes.specs.Meanings.{Declaration, declaration_of}
 use Rattle.cs_declarations.specs.declared.scopes.Inner.{Inner}
 
--- what a scope declared, in the order in which it did
+-- the declarations of a scope, in their order
 abbrev pub inner_of : Inner → List Declaration
 inner_of inner = map declaration_of (reverse inner.list.items)

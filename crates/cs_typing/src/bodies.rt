@@ -23,7 +23,7 @@ use cs_statements::{Inside, Where, items_typed, labels_of_body};
 use cs_types::CType;
 use std::alloc::{AllocError, Global};
 
-// Puts a body into the function with this number.
+// Sets the body of the function with this number.
 fn put_body(
     alloc: Global,
     functions: &mut Vec<Function>,
@@ -52,7 +52,7 @@ fn put_body(
     Ok(())
 }
 
-// A file with the body of the function with this number, whose parameters' scope declares so much.
+// A file with the body of the function with this number; `inner` are the declarations of its parameters' scope.
 #[tactic(auto, using(cs_scopes::proofs::Lifting::lifts))]
 fn with_body(
     alloc: Global,
@@ -109,7 +109,7 @@ fn with_body(
     })
 }
 
-// A file with one more function, which has a result that it may have.
+// A file with one more function, whose result has to be of a supported type.
 #[tactic(auto, using(cs_scopes::proofs::Lifting::lifts))]
 fn resulted(
     alloc: Global,
@@ -139,7 +139,7 @@ fn resulted(
     }
 }
 
-/// A file with one more function, after whose words stands a type.
+/// Returns a file with one more function; `base` is the type of its specifiers.
 #[tactic(auto, using(cs_scopes::proofs::Lifting::lifts))]
 pub fn with_function(
     alloc: Global,

@@ -15,7 +15,7 @@ use cs_scopes::TypeRefusal;
 use cs_types::{CType, DataModel};
 use std::alloc::Global;
 
-// What stands before the declarators of a part of a file.
+// The specifiers of a part of a file.
 fn specs_of(kind: &RawExternalKind) -> &RawSpecs
     ensures { result.now ≡ specs_of kind.now }
 {
@@ -28,7 +28,7 @@ fn specs_of(kind: &RawExternalKind) -> &RawSpecs
     }
 }
 
-// A file with what one more part declares, before whose declarators stands a type.
+// A file with what one more part declares; `base` is the type of its specifiers.
 #[tactic(auto, using(cs_scopes::proofs::Lifting::lifts))]
 fn with_external(
     alloc: Global,
@@ -57,7 +57,7 @@ fn with_external(
     }
 }
 
-/// A file with one more part.
+/// Returns a file with one more part.
 #[tactic(auto, using(cs_scopes::proofs::Lifting::lifts))]
 pub fn external_typed(
     alloc: Global,
@@ -73,7 +73,7 @@ pub fn external_typed(
     with_external(alloc, filed, base, &external.kind)
 }
 
-// A file with further parts, one after another.
+// A file with more parts, one after another.
 fn with_externals(alloc: Global, before: Filed, file: &[RawExternal]) -> Result<Filed, TypeRefusal>
     ensures { Answers filed_of (file_typed file.now (filed_of before)) result }
 {
@@ -84,7 +84,7 @@ fn with_externals(alloc: Global, before: Filed, file: &[RawExternal]) -> Result<
     Ok(filed)
 }
 
-/// A file with these tokens, or the first failing place in it.
+/// Returns the file with these tokens, or its first type error.
 pub fn typed_file(
     alloc: Global,
     model: DataModel,

@@ -19,7 +19,7 @@ use indexmap::IndexSet;
 use std::alloc::{AllocError, Global};
 use std::mem::forget;
 
-// The different values of the integer constants among tokens, in the order in which they appear first.
+// The different values of the integer constants among tokens, in the order of their first occurrences.
 fn constants_of(alloc: Global, tokens: &[Token]) -> Result<Vec<i128>, AllocError>
     ensures { IfOk result (λ numbers. numbers.items ≡ constants_in tokens.now) }
 {
@@ -34,7 +34,7 @@ fn constants_of(alloc: Global, tokens: &[Token]) -> Result<Vec<i128>, AllocError
     Vec::from_slice(alloc, numbers.as_slice())
 }
 
-// The names once more.
+// A copy of names.
 fn copied(alloc: Global, names: &[Name]) -> Result<Vec<Name>, AllocError>
     ensures { IfOk result (λ made. made.items ≡ names.now) }
 {
@@ -45,9 +45,9 @@ fn copied(alloc: Global, names: &[Name]) -> Result<Vec<Name>, AllocError>
     Ok(made)
 }
 
-/// The program that the parts of a file with these tokens are, whose places are in these files, or the first failing place. It is
-/// well formed where these are the tree and the tokens of a file's text: no constant is too wide for the types of its list (C11 6.4.4,
-/// paragraph 2), places are in the files, and the text is short.
+/// Returns the program of a file with these parts and tokens, whose positions are in these files, or its first type error. It
+/// is well formed if these are the tree and the tokens of a file's text: no constant is too large for the types of its list
+/// (C11 6.4.4, paragraph 2), positions are in the files, and the text is short.
 #[tactic(auto, using(cs_scopes::proofs::Lifting::lifts))]
 pub fn typed(
     alloc: Global,
@@ -73,7 +73,7 @@ pub fn typed(
         ..
     } = known;
     let Context { table, scope, .. } = context;
-    // The names aren't given back one by one: what comes later would be put into their places, all over memory.
+    // The names aren't freed one by one: later allocations would take their places, scattered over memory.
     forget(scope);
     forget(order);
     Ok(Program {

@@ -1,4 +1,4 @@
--- Conversions give well-formed values of the type that is asked for, and two values that meet have one type.
+-- Conversions result in well-formed values of the required type, and two values that are converted to one type have it.
 use Rattle.std.proofs.Common.{◌≡◌, ◌⊎◌, inl, inr, Bool, true, false, ◌||◌, ◌==◌, refl, sym, ap, ◌∙◌}
 use Rattle.std.proofs.Common.{eqb-true}
 use Rattle.cs_types.specs.declared.data_model.DataModel.{DataModel}

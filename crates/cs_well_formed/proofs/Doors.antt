@@ -1,4 +1,4 @@
--- What the doors of the typing of expressions give is what statements, initializers and declarations ask for.
+-- Typed expressions, by the rules of `Roles`, are what statements, initializers and declarations require.
 use Rattle.std.proofs.Common.{◌≡◌, [], Option, Some, None, refl, sym, subst}
 use Rattle.std.proofs.lemmas.List.{append-nil}
 use Rattle.cs_types.specs.IntType.{InRange}

@@ -1,4 +1,4 @@
--- What the doors of the typing of expressions give is bounded by its text, together with the literals after it: for `typed_nodes_are_bounded`.
+-- Typed expressions, by the rules of `Roles`, and the literals after them are bounded by their texts: for `typed_nodes_are_bounded`.
 use Rattle.std.proofs.Common.{ℕ, ◌+◌, ◌≤◌, Option, Some, None, arith}
 use Rattle.cs_types.specs.Shape.{Shape}
 use Rattle.cs_ast.specs.declared.place.Place.{Place}

@@ -1,4 +1,4 @@
--- What the typing of an initializer gives is bounded by its text, first the values that are read, then what the `=` makes of them: for
+-- A typed initializer is bounded by its text, first with the values that are read, then with their conversions at the `=`: for
 -- `typed_nodes_are_bounded`.
 use Rattle.std.proofs.Common.{◌≡◌, ℕ, ◌+◌, ◌*◌, ◌≤◌, Bool, true, false, List, [], ◌∷◌, length, Some, is_some, arith}
 use Rattle.cs_types.specs.Shape.{Shape, void, integer, pointer, array, struct}

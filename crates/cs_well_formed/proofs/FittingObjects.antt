@@ -1,4 +1,4 @@
--- What the rules on places, stores and calls give stands where their operands do, and has a few nodes more: for `typed_nodes_are_bounded`.
+-- The results of the rules on lvalues, stores and calls have positions of their operands, and a few nodes more: for `typed_nodes_are_bounded`.
 use Rattle.std.proofs.Common.{ℕ, suc, ◌+◌, ◌≤◌, List, [], ◌∷◌, Option, Some, None, arith}
 use Rattle.cs_types.specs.declared.data_model.DataModel.{DataModel}
 use Rattle.cs_types.specs.declared.structs.StructType.{StructType}

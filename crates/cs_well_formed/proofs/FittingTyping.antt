@@ -1,4 +1,4 @@
--- What the typing of an expression gives stands where it is written, with at most five nodes for each token and byte of its text: for
+-- A typed expression has positions of the written one, and at most five nodes for each token and byte of its text: for
 -- `typed_nodes_are_bounded`.
 use Rattle.std.proofs.Common.{ℕ, ◌+◌, ◌*◌, ◌≤◌, true, false, List, [], ◌∷◌, length, Option, Some, None, arith}
 use Rattle.std.specs.Prelude.{ℤ, nat_le}

@@ -1,4 +1,4 @@
--- What the rules on values give stands where their operands do, and has a few nodes more: for `typed_nodes_are_bounded`.
+-- The results of the rules on values have positions of their operands, and a few nodes more: for `typed_nodes_are_bounded`.
 use Rattle.std.proofs.Common.{ℕ, ◌+◌, ◌≤◌, Bool, true, false, ◌&&◌, ◌||◌, ◌==◌, cond, List, Option, Some, None, arith}
 use Rattle.std.specs.Prelude.{ℤ}
 use Rattle.cs_types.specs.declared.data_model.DataModel.{DataModel}

@@ -1,4 +1,4 @@
--- What is well formed stays so where the program grows: for the typing of files, which adds to a program part by part.
+-- What is well formed stays so when the program grows: for the typing of files, which adds to a program part by part.
 use Rattle.std.proofs.Common.{◌≡◌, ℕ, ◌<◌, true, List, [], ◌∷◌, Option, Some, None, is_some, refl, sym, ap, ◌∙◌, subst, arith}
 use Rattle.std.specs.Prelude.{IfSome}
 use Rattle.std.proofs.lemmas.List.Elements.{All-weaker}

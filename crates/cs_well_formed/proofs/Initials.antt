@@ -1,4 +1,4 @@
--- What the typing of initializers gives is well formed: first the values that are read, then what the `=` makes of them.
+-- Typed initializers are well formed: first the values that are read, then their conversions at the `=`.
 use Rattle.std.proofs.Common.{◌≡◌, ℕ, zero, suc, ◌≤◌, true, List, [], ◌∷◌, length, map, Option, Some, None, is_some, refl, arith}
 use Rattle.std.specs.Prelude.{nat_le, IfSome}
 use Rattle.std.proofs.lemmas.Bool.Decides.{nat_tests}

@@ -1,4 +1,4 @@
--- Operators on integers give well-formed expressions: the rules of the types of integers.
+-- The results of operators on integers are well formed: the rules of the types of integers.
 use Rattle.std.proofs.Common.{◌≡◌, Bool, true, false, cond, refl, sym, ◌∙◌}
 use Rattle.cs_types.specs.declared.data_model.DataModel.{DataModel}
 use Rattle.cs_types.specs.declared.int_type.IntType.{IntType}

@@ -1,4 +1,4 @@
--- The members of a struct that is laid out are whole: for the initializers of its objects.
+-- The members of a struct with a layout have complete types: for the initializers of its objects.
 use Rattle.std.proofs.Common.{◌≡◌, ℕ, zero, suc, true, List, [], ◌∷◌, map, slice_get, Option, Some, None, is_some, refl, ap}
 use Rattle.std.specs.Option.{option_map}
 use Rattle.std.proofs.lemmas.Option.{option_and_then_some}

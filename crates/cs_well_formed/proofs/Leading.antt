@@ -1,4 +1,4 @@
--- What declarations make known: for the typing of statements and files, which goes on after them.
+-- What declarations make known: for the typing of statements and files after them.
 use Rattle.std.proofs.Common.{◌≡◌, ◌≢◌, ℕ, ◌≤◌, zero, suc, Bool, true, false, ◌||◌, List, [], ◌∷◌, ◌++◌, length, set}
 use Rattle.std.proofs.Common.{slice_get, Option, Some, None, is_some, refl, sym, ap, ◌∙◌, subst, arith}
 use Rattle.std.specs.Prelude.{ℤ, pos, ◌≤ℤ◌, int_le}

@@ -1,4 +1,4 @@
--- Names and string literals are well formed: the rules of names, and which literals stand before which.
+-- Names and string literals are well formed: the rules of names, and the order of literals.
 use Rattle.std.proofs.Common.{◌≡◌, ℕ, Bool, true, false, cond, List, [], ◌∷◌, ◌++◌, append_assoc, length, Option, Some, None, slice_get, refl}
 use Rattle.std.proofs.Common.{sym, ap, ◌∙◌}
 use Rattle.std.specs.Prelude.{nat_eq, nat_le, IfSome}

@@ -1,4 +1,4 @@
--- The types of what is well formed name structs, where the declared types do: for the law `types_are_named`.
+-- The types of what is well formed name structs, if the declared types do: for the law `types_are_named`.
 use Rattle.std.proofs.Common.{◌≡◌, inl, inr, List, [], ◌∷◌, Option, Some, None, sym}
 use Rattle.std.specs.Prelude.{IfSome}
 use Rattle.std.specs.List.{All}

@@ -1,4 +1,4 @@
--- Numbers that an integer type holds: for the constants of an expression.
+-- Numbers that an integer type can represent: for the constants of an expression.
 use Rattle.std.proofs.Common.{◌≡◌, ℕ, ◌*◌, ◌^◌, ◌<◌, ◌≤◌, Bool, true, false, cond, List, [], ◌∷◌, Some, arith, refl, subst}
 use Rattle.std.specs.Prelude.{ℤ, pos, ◌≤ℤ◌, int_le, FitsSigned}
 use Rattle.std.specs.Int.{w32}

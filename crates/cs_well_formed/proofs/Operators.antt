@@ -1,4 +1,4 @@
--- Operators between values give well-formed expressions: the rules of operators.
+-- The results of operators between values are well formed: the rules of operators.
 use Rattle.std.proofs.Common.{◌≡◌, inl, inr, true, ◌&&◌, refl, sym, ap, ◌∙◌, eqb-true}
 use Rattle.cs_types.specs.declared.data_model.DataModel.{DataModel}
 use Rattle.cs_types.specs.declared.int_type.IntType.{IntType}

@@ -1,4 +1,4 @@
--- Operators that name objects give well-formed expressions: the rules of addresses, subscripts and members.
+-- The results of operators that designate objects are well formed: the rules of addresses, subscripts and members.
 use Rattle.std.proofs.Common.{◌≡◌, ℕ, zero, suc, Bool, true, false, cond, List, [], ◌∷◌, Option, Some, None, slice_get, refl}
 use Rattle.std.specs.Prelude.{nat_eq}
 use Rattle.std.specs.Cmp.Lexicographic.{pointwise}

@@ -1,4 +1,4 @@
--- Operators that store give well-formed expressions: the rules of assignments and steps.
+-- The results of operators that store are well formed: the rules of assignments and steps.
 use Rattle.std.proofs.Common.{◌≡◌, Bool, true, false, cond, not, Some, None, refl, subst, arith}
 use Rattle.cs_types.specs.declared.data_model.DataModel.{DataModel}
 use Rattle.cs_types.specs.declared.int_type.IntType.{IntType}

@@ -1,4 +1,4 @@
--- Types that name structs of one table do so of a longer one: for the law `types_are_named`, and for the typing of files.
+-- Types that name structs of a table also name structs of a longer one: for the law `types_are_named`, and for the typing of files.
 use Rattle.std.proofs.Common.{◌≡◌, ℕ, ◌≤◌, List, [], ◌∷◌, length, map, slice_get, Option, Some, None, sym, subst, arith}
 use Rattle.std.specs.Prelude.{IfSome}
 use Rattle.std.specs.List.{All, AllByRecursion}

@@ -1,4 +1,4 @@
--- The size of a text with something after it, and of texts and lists of two parts: for `typed_nodes_are_bounded` and `declarations_are_bounded`.
+-- The size of a text and what follows it, and of texts and lists of two parts: for `typed_nodes_are_bounded` and `declarations_are_bounded`.
 use Rattle.std.proofs.Common.{◌≡◌, ℕ, zero, suc, ◌+◌, ◌≤◌, List, [], ◌∷◌, ◌++◌, map, set, sum, sym, ap, ◌∙◌, arith}
 use Rattle.std.proofs.lemmas.List.{map-append}
 use Rattle.std.proofs.lemmas.List.Sums.{sum_by-append, sum_by-cons}

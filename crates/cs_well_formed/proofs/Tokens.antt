@@ -1,4 +1,4 @@
--- The constants of a tree are among the tokens of its text: so that what the lexer takes has no constant that is too wide.
+-- The constants of a tree are among the tokens of its text: no constant is too large, since the lexer accepts no such token.
 use Rattle.std.proofs.Common.{Bool, true, false, List, [], ◌∷◌}
 use Rattle.std.specs.List.{AllByRecursion}
 use Rattle.std.proofs.lemmas.List.Elements.{recursion_from_All}

@@ -1,4 +1,4 @@
--- What the typing of an expression gives is well formed, by the productions of its tree.
+-- Typed expressions are well formed, by the productions of their trees.
 use Rattle.std.proofs.Common.{◌≡◌, ℕ, suc, Bool, true, false, cond, List, [], ◌∷◌, length, Option, Some, None, refl, subst, arith}
 use Rattle.std.specs.Prelude.{ℤ, pos}
 use Rattle.cs_types.specs.declared.int_type.IntType.TheVariants.{Int}

@@ -1,4 +1,4 @@
--- What holds of what a rule gives, if it gives something: for each rule of the typing of expressions.
+-- Properties of the result of a rule, if it has one: for each rule of the typing of expressions.
 use Rattle.std.proofs.Common.{◌≡◌, Bool, true, false, cond, ◌&&◌, not, Option, Some, None, refl, subst}
 use Rattle.cs_ast.specs.declared.place.Place.{Place}
 use Rattle.cs_ast.specs.TypedTree.{Typed}

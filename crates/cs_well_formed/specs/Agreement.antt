@@ -1,4 +1,4 @@
--- What is known where an expression is typed, and what is there in the program of which it becomes a part.
+-- What is known where an expression is typed, and what exists in the program of which it becomes a part.
 use Rattle.std.specs.Prelude.{◌≡◌, ℕ, ◌≤◌, List, [], ◌∷◌, ◌++◌, length, Some, slice_get}
 use Rattle.std.specs.List.{All}
 use Rattle.cs_types.specs.declared.int_type.IntType.TheVariants.{Int}
@@ -20,7 +20,7 @@ use Rattle.cs_declarations.specs.LaidOut.{IsOfTable}
 use Rattle.cs_well_formed.specs.Structs.{NamesStructs, StructsName}
 use Rattle.cs_well_formed.specs.Expressions.{Setting, TypesAroundAreNamed, parameter_types, sizes_of}
 
--- structs that have their members in one table keep them in the other, and none is gone
+-- structs that have their members in one table keep them in the other, which has no fewer structs
 pub record Keeps (one other : List StructType) : Type 0 where
   pub members : (number : ℕ) (members : List Member) → members_of one number ≡ Some members → members_of other number ≡ Some members
   pub longer : length one ≤ length other
@@ -30,13 +30,13 @@ abbrev pub IsNamed : List StructType → Meaning → Type 0
 IsNamed table (Typedef ty) = NamesStructs table ty
 IsNamed table other = Unit {0}
 
--- the types that can be written where this is known name structs of its table: by typedefs, by tags, and by the members of structs
+-- the types that can be written here name structs of the table: those of typedefs, tags, and members of structs
 pub record KnownTypesAreNamed (c : Context) : Type 0 where
   pub declarations : All (λ (d : Declaration). IsNamed c.table.list d.meaning) c.scope.declarations
   pub tags : All (λ (t : Tag). IsOfTable c.table.list t.meaning) c.scope.tags
   pub members : StructsName c.table.list c.table.list
 
--- a function that gives a block of memory, with the types that C11 7.22.3 gives it
+-- a function that allocates memory, with the types that C11 7.22.3 requires
 abbrev pub IsAllocator : TypedProgram → Allocator → Signature → Type 0
 IsAllocator p a f = (f.result ≡ pointer void) × (f.parameters ≡ sizes_of p.model a)
 
@@ -44,14 +44,14 @@ IsAllocator p a f = (f.result ≡ pointer void) × (f.parameters ≡ sizes_of p.
 abbrev pub IsRoutine : TypedProgram → ℕ → Signature → Type 0
 IsRoutine p number f = (r : Routine) × (slice_get p.routines number ≡ Some r) × (r.returns ≡ f.result) × (parameter_types r ≡ f.parameters)
 
--- what a call of a function is
+-- the function that is called
 abbrev pub IsFunction : TypedProgram → Callee → Signature → Type 0
 IsFunction p Malloc f = IsAllocator p allocator.Malloc f
 IsFunction p Calloc f = IsAllocator p allocator.Calloc f
 IsFunction p Free f = (f.result ≡ void) × (f.parameters ≡ pointer void ∷ [])
 IsFunction p (Numbered number) f = IsRoutine p number f
 
--- what a name stands for is there, with its type
+-- what a name denotes exists, with its type
 abbrev pub IsThere : Setting → Meaning → Type 0
 IsThere s (Typedef ty) = Unit {0}
 IsThere s (Constant value) = InRange s.program.model Int value
@@ -59,8 +59,8 @@ IsThere s (Global number ty) = (g : FileObject) × (slice_get s.program.globals 
 IsThere s (Local number ty) = (v : Variable) × (slice_get s.variables number ≡ Some v) × (v.ty ≡ ty)
 IsThere s (Function f) = IsFunction s.program f.callee f
 
--- what is known where an expression is typed holds in the program: its data model, the structs that have their members by now,
--- and the declarations in force; types that are written there, or declared around it, name structs
+-- what is known where an expression is typed holds in the program: its data model, the structs that have their members already,
+-- and the declarations in scope; types that are written there, or declared around it, name structs
 pub record Agrees (s : Setting) (c : Context) : Type 0 where
   pub model : c.model ≡ s.program.model
   pub table : Keeps c.table.list s.program.table

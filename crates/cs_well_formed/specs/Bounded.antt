@@ -1,4 +1,4 @@
--- What typing gives stands among the places of what is written, and has no more nodes than the size of its text allows.
+-- Typed trees have positions of the written ones, and no more nodes than the size of their texts allows.
 use Rattle.std.specs.Prelude.{◌≡◌, ℕ, ◌+◌, ◌*◌, ◌≤◌, List, length, Option}
 use Rattle.cs_types.specs.Shape.{Shape}
 use Rattle.cs_ast.specs.declared.place.Place.{Place}
@@ -38,7 +38,7 @@ pub record IsBounded (Is : Place → Type 0) (literals following : Literals) (si
   pub nodes : expression_nodes e ≤ 16 * size
   pub with_texts : expression_nodes e + texts_nodes following ≤ texts_nodes literals + 16 * size
 
--- the same of an initializer
+-- the same for an initializer
 pub record IsBoundedInitial (Is : Place → Type 0) (literals following : Literals) (size : ℕ) (i : Initial) : Type 0 where
   pub stands : InitialStandsAmong Is i
   pub nodes : initial_nodes i ≤ 16 * size
@@ -55,12 +55,12 @@ FormedAreBounded Is =
     WrittenAmong Is at k → formed c purpose literals target at k ≡ Fine e
     → IsBounded Is literals (literals_after literals k) (size_of (text (written_kind k))) e
 
--- an expression that has to have a value
+-- an expression that must have a value
 abbrev pub OperandsAreBounded : (Place → Type 0) → Type 0
 OperandsAreBounded Is = (c : Context) (literals : Literals) (target : Option Shape) (e : RawExpr) (v : Typed) →
     ExpressionAmong Is e → operand_of c literals target e ≡ Fine v → IsBoundedBy Is literals e v
 
--- an expression whose value goes to a type as if by assignment
+-- an expression whose value is converted to a type as if by assignment
 abbrev pub AssignedAreBounded : (Place → Type 0) → Type 0
 AssignedAreBounded Is = (c : Context) (literals : Literals) (at : Place) (target : Shape) (e : RawExpr) (v : Typed) →
     Is at → ExpressionAmong Is e → assigned_value c literals at target e ≡ Fine v → IsBoundedBy Is literals e v
@@ -70,17 +70,17 @@ abbrev pub TestsAreBounded : (Place → Type 0) → Type 0
 TestsAreBounded Is = (c : Context) (literals : Literals) (at : Place) (e : RawExpr) (v : Typed) →
     ExpressionAmong Is e → test_of c literals at e ≡ Fine v → IsBoundedBy Is literals e v
 
--- an expression that a `switch` goes by
+-- an expression that controls a `switch`
 abbrev pub SelectorsAreBounded : (Place → Type 0) → Type 0
 SelectorsAreBounded Is = (c : Context) (literals : Literals) (at : Place) (e : RawExpr) (v : Typed) →
     Is at → ExpressionAmong Is e → selector_of c literals at e ≡ Fine v → IsBoundedBy Is literals e v
 
--- an expression whose value is dropped
+-- an expression whose value is discarded
 abbrev pub DiscardedAreBounded : (Place → Type 0) → Type 0
 DiscardedAreBounded Is = (c : Context) (literals : Literals) (e : RawExpr) (v : Typed) →
     ExpressionAmong Is e → discarded_value c literals e ≡ Fine v → IsBoundedBy Is literals e v
 
--- the literals after an expression are those before it with those of its text
+-- the literals after an expression are those before it and those of its text
 pub record TextsGrow (literals following : Literals) (size : ℕ) : Type 0 where
   pub no_fewer : texts_nodes literals ≤ texts_nodes following
   pub no_more : texts_nodes following ≤ texts_nodes literals + size
@@ -88,7 +88,7 @@ pub record TextsGrow (literals following : Literals) (size : ℕ) : Type 0 where
 abbrev pub LiteralsAreBounded : Type 0
 LiteralsAreBounded = (literals : Literals) (k : RawExprKind) → TextsGrow literals (literals_after literals k) (size_of (text (written_kind k)))
 
--- what an object holds at first
+-- the initializer of an object
 abbrev pub InitialsAreBounded : (Place → Type 0) → Type 0
 InitialsAreBounded Is =
     (c : Context) (literals following : Literals) (storage : Storage) (at : Place) (ty : Shape) (raw : RawInitial) (found : Initial) →
@@ -99,21 +99,21 @@ InitialsAreBounded Is =
 abbrev pub known_nodes : Environment → ℕ
 known_nodes k = all_nodes struct_nodes (table_of k)
 
--- what is known after a text of some size: no literal more, and so many structs and members more at most
+-- what is known after a text of some size: the same literals, and at most so many more structs and members
 pub record Grows (k m : Environment) (size : ℕ) : Type 0 where
   pub literals : m.literals ≡ k.literals
   pub structs : known_nodes m ≤ known_nodes k + 16 * size
 
--- the words before declarators, with the bodies of structs and enums
+-- specifiers, with the bodies of structs and enums
 abbrev pub WordsAreBounded : Type 0
 WordsAreBounded = (k m : Environment) (at : Place) (raw : RawSpecs) (ty : Shape) → specs_type k at raw ≡ Fine (ty, m)
     → Grows k m (size_of (specs_text (specs raw)))
 
--- typedefs make no structs
+-- typedefs declare no structs
 abbrev pub TypedefsAreBounded : Type 0
 TypedefsAreBounded = (k m : Environment) (base : Shape) (names : List RawDeclarator) → typedefs_added base names k ≡ Fine m → Grows k m 0
 
--- the parameters of a function, with their marks; a parameter may have no token of its own
+-- the parameters of a function, with their marks whether they may be written through; a parameter may have no token of its own
 pub record IsBoundedHead (k : Environment) (head : Head) (size : ℕ) : Type 0 where
   pub literals : head.known.literals ≡ k.literals
   pub nodes : length head.variables + length head.written + known_nodes head.known ≤ known_nodes k + 16 * size + 16

@@ -1,4 +1,4 @@
--- Written constants, each of which some type of its list holds (C11 6.4.4, paragraph 2).
+-- Written constants that some type of their lists can represent (C11 6.4.4, paragraph 2).
 use Rattle.std.specs.Prelude.{FitsSigned}
 use Rattle.std.specs.Int.{w32}
 use Rattle.cs_ast.specs.HeldTokens.{IsHeldConstant}
@@ -7,7 +7,7 @@ use Rattle.cs_ast.specs.RawTree.{SizeOf, SizeOfType, Cast, Infix, Choice, Assign
 use Rattle.cs_ast.specs.RawDeclarations.{Initial, Single, Listed, Initials, NoItem, MoreItems}
 
 abbrev mutual
-  -- the integer constants of an expression are not too wide, and its characters are numbers of `int`
+  -- the integer constants of an expression are not too large, and its characters are numbers of `int`
   pub HasConstants : Written → Type 0
   HasConstants (Numeral constant) = IsHeldConstant constant
   HasConstants (Character value) = FitsSigned w32 value
@@ -29,13 +29,13 @@ abbrev mutual
   HasConstants (Assign operator object value) = HasConstants object × HasConstants value
   HasConstants (Comma first second) = HasConstants first × HasConstants second
 
-  -- the same of expressions in a row
+  -- the same for a list of expressions
   pub HaveConstants : WrittenList → Type 0
   HaveConstants End = Unit {0}
   HaveConstants (More first others) = HasConstants first × HaveConstants others
 
 abbrev mutual
-  -- the same of the values of an initializer
+  -- the same for the values of an initializer
   pub InitialHasConstants : Initial → Type 0
   InitialHasConstants (Single e) = HasConstants e
   InitialHasConstants (Listed items comma) = InitialsHaveConstants items

@@ -1,4 +1,4 @@
--- Well-formed expressions: each node has the type and the parts that its form asks for (C11 6.5), and each number names what is there.
+-- Well-formed expressions: each node has the type and the parts that its form requires (C11 6.5), and each number names something that exists.
 use Rattle.std.specs.Prelude.{◌≡◌, ℕ, ◌+◌, ◌⊎◌, true, false, List, [], ◌∷◌, map, length, take, slice_get, Some}
 use Rattle.cs_types.specs.declared.data_model.DataModel.{DataModel}
 use Rattle.cs_types.specs.declared.int_type.IntType.{IntType}
@@ -22,7 +22,7 @@ use Rattle.cs_folding.specs.TypedParts.{type_of, form_of}
 use Rattle.cs_expressions.specs.Calls.{block_of}
 use Rattle.cs_well_formed.specs.Structs.{NamesStructs, VariablesName, TypesAreNamed}
 
--- where expressions stand: in a program, in a function with these parameters and locals and so many labels, with this result
+-- the context of expressions: a program, and a function with these parameters and locals, this number of labels, and this result
 pub record Setting : Type 0 where
   pub program : TypedProgram
   pub variables : List Variable
@@ -35,14 +35,14 @@ pub record TypesAroundAreNamed (s : Setting) : Type 0 where
   pub variables : VariablesName s.program.table s.variables
   pub returns : NamesStructs s.program.table s.returns
 
--- an expression that names an object, and one that is a value
+-- an expression that designates an object, and one that is a value
 abbrev pub IsObject : Typed → Type 0
 IsObject e = is_object (form_of e) ≡ true
 
 abbrev pub IsValue : Typed → Type 0
 IsValue e = is_object (form_of e) ≡ false
 
--- something of a type
+-- an expression has a type
 abbrev pub HasType : Typed → Shape → Type 0
 HasType e ty = type_of e ≡ ty
 
@@ -74,19 +74,19 @@ pub record HasMember (p : TypedProgram) (number offset : ℕ) (ty : Shape) : Typ
   pub offset_is : member.offset ≡ offset
   pub type_is : member.ty ≡ ty
 
--- an object of the type can be held whole: it is no incomplete struct, and not `void`
+-- an object of the type can be held whole: the type is neither `void` nor an incomplete struct
 abbrev pub IsWhole : TypedProgram → Shape → Type 0
 IsWhole p ty = is_complete p.table ty ≡ true
 
--- what an object of the type holds is one value: the type is whole, and no array (C11 6.3.2.1)
+-- an object of the type holds one value: the type is complete, and not an array (C11 6.3.2.1)
 abbrev pub IsHeld : TypedProgram → Shape → Type 0
 IsHeld p ty = IsWhole p ty × (is_array ty ≡ false)
 
--- a pointer to an object of a whole type, which can move to the object's neighbours
+-- a pointer to an object of a complete type, which can move to the object's neighbours
 abbrev pub IsElementPointer : TypedProgram → Shape → Type 0
 IsElementPointer p ty = (target : Shape) × (ty ≡ pointer target) × IsWhole p target
 
--- the operands of an operator of two integers have its type; what is shifted by may have another
+-- the right operand of an operator of two integers has the operator's type; the right operand of a shift may have another one
 abbrev pub IsRight : BinOp → Shape → Typed → Type 0
 IsRight Shl ty e = IsIntegerValue e
 IsRight Shr ty e = IsIntegerValue e
@@ -99,7 +99,7 @@ IsConverted (integer ty) from = IsInteger from
 IsConverted (pointer target) from = (from ≡ pointer target) ⊎ ((target ≡ void) × IsPointer from)
 IsConverted other from = ⊥
 
--- values in a row have these types, one for one
+-- values in a list have these types, one for one
 abbrev pub AreValuesOf : TypedList → List Shape → Type 0
 AreValuesOf NoMore [] = Unit {0}
 AreValuesOf (Further e others) (ty ∷ types) = IsValueOf e ty × AreValuesOf others types
@@ -114,12 +114,12 @@ sizes_of model Calloc = integer (size_type_of model) ∷ integer (size_type_of m
 abbrev pub parameter_types : Routine → List Shape
 parameter_types r = map (λ (v : Variable). v.ty) (take r.parameters r.variables)
 
--- the call has what its function asks for
+-- the call has the arguments and the type that its function requires
 abbrev pub IsCalled : TypedProgram → ℕ → TypedList → Shape → Type 0
 IsCalled p number arguments ty = (r : Routine) × (slice_get p.routines number ≡ Some r) × (r.returns ≡ ty) × AreValuesOf arguments (parameter_types r)
 
 abbrev mutual
-  -- an expression whose parts are well formed, and fit its form and its type
+  -- an expression whose parts are well formed, and suit its form and its type
   pub IsWell : Setting → Typed → Type 0
   IsWell s (Of at ty form) = IsWellForm s ty form
 
@@ -163,7 +163,7 @@ abbrev mutual
       × (element ≡ block_of target) × NamesStructs s.program.table ty
   IsWellForm s ty (Free e) = IsWell s e × (ty ≡ void) × IsValueOf e (pointer void)
 
-  -- the same of expressions in a row
+  -- the same for a list of expressions
   pub AreWell : Setting → TypedList → Type 0
   AreWell s NoMore = Unit {0}
   AreWell s (Further e others) = IsWell s e × AreWell s others

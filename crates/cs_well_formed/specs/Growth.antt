@@ -1,4 +1,4 @@
--- A program that grows: what it has by now, it has after each further part of a file.
+-- A program that grows: what it has, it still has after each further part of a file.
 use Rattle.std.specs.Prelude.{◌≡◌, ℕ, ◌≤◌, List, Some, slice_get}
 use Rattle.cs_types.specs.Shape.{Shape}
 use Rattle.cs_ast.specs.TypedTree.{Typed, Initial, Statement}
@@ -10,7 +10,7 @@ use Rattle.cs_well_formed.specs.Statements.{IsWellStatement}
 use Rattle.cs_well_formed.specs.Programs.{IsWellGlobal, IsWellRoutine}
 use Rattle.cs_well_formed.specs.Agreement.{Keeps, Agrees}
 
--- what the one program has, the other has too, with the same types
+-- what the first program has, the second one has too, with the same types
 pub record Extends (p q : TypedProgram) : Type 0 where
   pub model : p.model ≡ q.model
   pub table : Keeps p.table q.table
@@ -20,7 +20,7 @@ pub record Extends (p q : TypedProgram) : Type 0 where
   pub routines : (number : ℕ) (r : Routine) → slice_get p.routines number ≡ Some r
       → (o : Routine) × (slice_get q.routines number ≡ Some o) × (o.returns ≡ r.returns) × (parameter_types o ≡ parameter_types r)
 
--- the same of where expressions stand
+-- the same for the context of expressions
 pub record Grows (s t : Setting) : Type 0 where
   pub program : Extends s.program t.program
   pub variables : (number : ℕ) (v : Variable) → slice_get s.variables number ≡ Some v
@@ -28,7 +28,7 @@ pub record Grows (s t : Setting) : Type 0 where
   pub labels : s.labels ≤ t.labels
   pub returns : s.returns ≡ t.returns
 
--- what is well formed stays so, and what agrees, where the types that are declared then name structs too
+-- what is well formed stays so, and what agrees still agrees, if the types that are declared then name structs too
 abbrev pub ExpressionsStay : Type 0
 ExpressionsStay = (s t : Setting) (e : Typed) → Grows s t → IsWell s e → IsWell t e
 

@@ -33,7 +33,7 @@ abbrev mutual
   AreWellParts s (ty ∷ types) (Part first others) = IsWellInitial s ty first × AreWellParts s types others
 
 abbrev mutual
-  -- the values of an initializer are constants, as an object has to have them that stands in a file (paragraph 4)
+  -- the values of an initializer are constants, as those of a file-scope object have to be (paragraph 4)
   pub HasConstantValues : DataModel → Initial → Type 0
   HasConstantValues model (Value v) = is_admitted model InFile v ≡ true
   HasConstantValues model (Bytes bytes) = Unit {0}

@@ -1,11 +1,11 @@
--- Jumps lead to labels that are there (C11 6.8.6.1).
+-- Jumps lead to labels that exist (C11 6.8.6.1).
 use Rattle.std.specs.Prelude.{◌≡◌, ◌⊎◌, ℕ, ◌<◌}
 use Rattle.cs_ast.specs.TypedTree.{Statement, Block, Declare, Run, If, IfElse, While, Do, For, Switch, Goto, Label, Break, Continue, Return, Statements, Empty}
 use Rattle.cs_ast.specs.TypedTree.{Then}
 use Rattle.cs_well_formed.specs.Statements.{label_count, AreNumbered}
 
 abbrev mutual
-  -- a label with this number stands in a statement
+  -- a statement has a label with this number
   pub HasLabel : ℕ → Statement → Type 0
   HasLabel n (Block at statements) = SomeHasLabel n statements
   HasLabel n (If at test body) = HasLabel n body
@@ -26,6 +26,6 @@ abbrev mutual
   SomeHasLabel n Empty = ⊥
   SomeHasLabel n (Then first others) = HasLabel n first ⊎ SomeHasLabel n others
 
--- in a body whose labels are numbered as they stand, each number below their count is one of a label
+-- in a body whose labels are numbered in their order, each number below their count is that of a label
 abbrev pub LabelsAreThere : Type 0
 LabelsAreThere = (body : Statement) (n : ℕ) → AreNumbered 0 body → n < label_count body → HasLabel n body

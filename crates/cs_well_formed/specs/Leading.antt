@@ -1,4 +1,4 @@
--- What declarations make known: structs get their members and keep them, and what they declare is there.
+-- What declarations make known: structs get their members and keep them, and what is declared exists.
 use Rattle.std.specs.Prelude.{◌≡◌, ℕ, List, Some, slice_get}
 use Rattle.std.specs.List.{All}
 use Rattle.cs_types.specs.Shape.{Shape}
@@ -30,7 +30,7 @@ abbrev pub AreVariables : Setting → List Variable → Type 0
 AreVariables s variables = (number : ℕ) (v : Variable) → slice_get variables number ≡ Some v
     → (w : Variable) × (slice_get s.variables number ≡ Some w) × (w.ty ≡ v.ty)
 
--- the words before declarators, with the bodies of structs and enums
+-- specifiers, with the bodies of structs and enums
 abbrev pub WordsLead : Type 0
 WordsLead = (s : Setting) (k m : Environment) (at : Place) (words : RawSpecs) (ty : Shape) → k.context.model ≡ s.program.model
     → specs_type k at words ≡ Fine (ty, m) → Leads s k m
@@ -44,7 +44,7 @@ abbrev pub ParametersLead : Type 0
 ParametersLead = (s : Setting) (k : Environment) (raw : RawParameters) (head : Head) → k.context.model ≡ s.program.model → AreVariables s head.variables
     → parameters_typed k raw ≡ Fine head → Leads s k head.known
 
--- the type of a declared object is whole
+-- the type of a declared object is complete
 abbrev pub ObjectsAreWhole : Type 0
 ObjectsAreWhole = (s : Setting) (c : Context) (base : Shape) (d : RawInit) (ty : Shape) → Agrees s c → object_type c base d ≡ Fine ty
     → IsWhole s.program ty

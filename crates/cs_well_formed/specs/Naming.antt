@@ -1,4 +1,4 @@
--- Types name structs of the table: those of all that is well formed, where the declared types do, and those that declarations make known.
+-- Types name structs of the table: those of all well-formed nodes, if the declared types do, and those that declarations make known.
 use Rattle.std.specs.Prelude.{◌≡◌, List}
 use Rattle.cs_types.specs.Shape.{Shape}
 use Rattle.cs_ast.specs.declared.place.Place.{Place}
@@ -29,7 +29,7 @@ InitialsAreNamed = (s : Setting) (ty : Shape) (i : Initial) → TypesAroundAreNa
 abbrev pub StatementsAreNamed : Type 0
 StatementsAreNamed = (s : Setting) (b : Statement) → TypesAroundAreNamed s → IsWellStatement s b → StatementNames s.program.table b
 
--- the type that words name, and all that is known after them
+-- the type that specifiers name, and all that is known after them
 abbrev pub WordsAreNamed : Type 0
 WordsAreNamed = (k m : Environment) (at : Place) (words : RawSpecs) (ty : Shape) → KnownTypesAreNamed k.context → specs_type k at words ≡ Fine (ty, m)
     → NamesStructs (table_of m) ty × KnownTypesAreNamed m.context

@@ -1,4 +1,4 @@
--- How many nodes a typed program has, with the entries of its lists; the nodes of types aren't counted.
+-- The number of nodes of a typed program, with the entries of its lists; the nodes of types aren't counted.
 use Rattle.std.specs.Prelude.{ℕ, suc, ◌+◌, List, length, map, Option, Some, None}
 use Rattle.std.specs.List.{sum}
 use Rattle.cs_types.specs.Members.{Member}
@@ -10,11 +10,11 @@ use Rattle.cs_ast.specs.TypedTree.{For, Switch, Goto, Label, Break, Continue, Re
 use Rattle.cs_ast.specs.TypedProgram.{TypedProgram, FileObject, Routine}
 
 abbrev mutual
-  -- how many nodes an expression has
+  -- the number of nodes of an expression
   pub expression_nodes : Typed → ℕ
   expression_nodes (Of at ty form) = suc (part_nodes form)
 
-  -- how many its parts have
+  -- the number of nodes of its parts
   pub part_nodes : Form → ℕ
   part_nodes (Number value) = 0
   part_nodes Null = 0
@@ -46,18 +46,18 @@ abbrev mutual
   part_nodes (Allocate allocator arguments element) = row_nodes arguments
   part_nodes (Free e) = expression_nodes e
 
-  -- how many expressions in a row have
+  -- the number of nodes of a list of expressions
   pub row_nodes : TypedList → ℕ
   row_nodes NoMore = 0
   row_nodes (Further first others) = expression_nodes first + row_nodes others
 
--- how many an optional part has
+-- the number of nodes of an optional part
 abbrev pub nodes_if_any : {T : Type 0} → (T → ℕ) → Option T → ℕ
 nodes_if_any count None = 0
 nodes_if_any count (Some x) = count x
 
 abbrev mutual
-  -- how many an initializer has, with the bytes of its texts
+  -- the number of nodes of an initializer, with the bytes of its string literals
   pub initial_nodes : Initial → ℕ
   initial_nodes (Value value) = suc (expression_nodes value)
   initial_nodes (Parts parts) = suc (initials_nodes parts)
@@ -68,7 +68,7 @@ abbrev mutual
   initials_nodes (Part first others) = initial_nodes first + initials_nodes others
 
 abbrev mutual
-  -- how many a statement has, with the cases of a `switch`
+  -- the number of nodes of a statement, with the cases of a `switch`
   pub statement_nodes : Statement → ℕ
   statement_nodes (Block at statements) = suc (statements_nodes statements)
   statement_nodes (Declare at declaration initial) = suc (nodes_if_any initial_nodes initial)
@@ -86,12 +86,12 @@ abbrev mutual
   statement_nodes (Continue at) = 1
   statement_nodes (Return at value) = suc (nodes_if_any expression_nodes value)
 
-  -- how many statements in a row have
+  -- the number of nodes of a list of statements
   pub statements_nodes : Statements → ℕ
   statements_nodes Empty = 0
   statements_nodes (Then first others) = statement_nodes first + statements_nodes others
 
--- how many all of a list have
+-- the sum for a list
 abbrev pub all_nodes : {T : Type 0} → (T → ℕ) → List T → ℕ
 all_nodes count list = sum (map count list)
 
@@ -103,7 +103,7 @@ struct_nodes s = suc (nodes_if_any (λ (members : List Member). length members) 
 abbrev pub literal_nodes : List ℕ → ℕ
 literal_nodes bytes = suc (length bytes)
 
--- a file-scope object with what it holds at first
+-- a file-scope object with its initializer
 abbrev pub object_nodes : FileObject → ℕ
 object_nodes g = suc (nodes_if_any initial_nodes g.initial)
 

@@ -1,4 +1,4 @@
--- Typed trees all of whose places are among some: those of the files that a program has.
+-- Typed trees all of whose positions are in a set: that of the files of a program.
 use Rattle.std.specs.Prelude.{ℕ, ◌<◌, IfSome}
 use Rattle.std.specs.List.{All}
 use Rattle.cs_ast.specs.declared.place.Place.{Place}
@@ -8,12 +8,12 @@ use Rattle.cs_ast.specs.TypedTree.{Further, Initial, Value, Parts, Bytes, Initia
 use Rattle.cs_ast.specs.TypedTree.{Switch, Goto, Label, Break, Continue, Return, Statements, Empty, Then}
 use Rattle.cs_ast.specs.TypedProgram.{TypedProgram, FileObject, Routine}
 
--- the places of so many files
+-- a position in one of `count` files
 abbrev pub IsOfFiles : ℕ → Place → Type 0
 IsOfFiles count at = at.file < count
 
 abbrev mutual
-  -- an expression, and all in it, stands among these places
+  -- the positions of an expression, and of all in it, are in this set
   pub StandsAmong : (Place → Type 0) → Typed → Type 0
   StandsAmong Is (Of at ty form) = Is at × PartsStandAmong Is form
 
@@ -48,7 +48,7 @@ abbrev mutual
   PartsStandAmong Is (Allocate allocator arguments element) = RowStandsAmong Is arguments
   PartsStandAmong Is (Free e) = StandsAmong Is e
 
-  -- the same of expressions in a row
+  -- the same for a list of expressions
   pub RowStandsAmong : (Place → Type 0) → TypedList → Type 0
   RowStandsAmong Is NoMore = Unit {0}
   RowStandsAmong Is (Further first others) = StandsAmong Is first × RowStandsAmong Is others
@@ -81,23 +81,23 @@ abbrev mutual
   StatementStandsAmong Is (Continue at) = Is at
   StatementStandsAmong Is (Return at value) = Is at × IfSome value (StandsAmong Is)
 
-  -- the same of statements in a row
+  -- the same for a list of statements
   pub StatementsStandAmong : (Place → Type 0) → Statements → Type 0
   StatementsStandAmong Is Empty = Unit {0}
   StatementsStandAmong Is (Then first others) = StatementStandsAmong Is first × StatementsStandAmong Is others
 
--- a file-scope object, by its first declaration
+-- a file-scope object: the positions of its first declaration and of its initializer
 pub record ObjectStandsAmong (Is : Place → Type 0) (g : FileObject) : Type 0 where
   pub at : Is g.at
   pub initial : IfSome g.initial (InitialStandsAmong Is)
 
--- a function, from its name to the end of its body
+-- a function: the positions of its name, of the end of its body, and in its body
 pub record RoutineStandsAmong (Is : Place → Type 0) (r : Routine) : Type 0 where
   pub at : Is r.at
   pub closes : Is r.closes
   pub body : IfSome r.body (StatementStandsAmong Is)
 
--- all that has a place in a program
+-- all positions in a program
 pub record ProgramStandsAmong (Is : Place → Type 0) (p : TypedProgram) : Type 0 where
   pub globals : All (ObjectStandsAmong Is) p.globals
   pub routines : All (RoutineStandsAmong Is) p.routines

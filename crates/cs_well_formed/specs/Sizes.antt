@@ -7,6 +7,6 @@ abbrev pub text_size : Kinds → ℕ
 text_size [] = 0
 text_size (t ∷ ts) = token_size t + text_size ts
 
--- what is written so, with nothing after it
+-- the size of what is written so, with nothing after it
 abbrev pub size_of : (Kinds → Kinds) → ℕ
 size_of spell = text_size (spell [])

@@ -13,7 +13,7 @@ use Rattle.cs_folding.specs.TypedParts.{type_of}
 use Rattle.cs_well_formed.specs.Expressions.{Setting, IsWell, IsValue, IsScalarValue, IsIntegerValue, IsValueOf}
 use Rattle.cs_well_formed.specs.Initials.{IsWellInitial}
 
--- a value that is dropped, if it is there
+-- a value that is discarded, if there is one
 abbrev pub IsDroppedIfAny : Setting → Option Typed → Type 0
 IsDroppedIfAny s None = Unit {0}
 IsDroppedIfAny s (Some e) = IsWell s e × IsValue e
@@ -26,17 +26,17 @@ IsTestIfAny s (Some e) = IsWell s e × IsScalarValue e
 abbrev pub IsNumberOf : DataModel → Shape → ℤ → Type 0
 IsNumberOf model ty n = (kind : IntType) → ty ≡ integer kind → InRange model kind n
 
--- a case stands before one of so many statements, or after the last; its number is one of the type that the `switch` goes by
+-- a case precedes one of `count` statements, or follows the last one; its number is one of the type of the `switch`
 pub record IsCase (model : DataModel) (ty : Shape) (count : ℕ) (c : Case) : Type 0 where
   pub item : c.item ≤ count
   pub number : IfSome c.value (IsNumberOf model ty)
 
--- the cases of a `switch`: no two have one number, and one at most is `default` (C11 6.8.4.2, paragraph 3)
+-- the cases of a `switch`: no two have the same number, and at most one is `default` (C11 6.8.4.2, paragraph 3)
 pub record AreCases (model : DataModel) (ty : Shape) (count : ℕ) (cases : List Case) : Type 0 where
   pub each : All (IsCase model ty count) cases
   pub apart : AllPairs (λ (c : Case) (d : Case). c.value ≢ d.value) cases
 
--- a value is returned just where the function has a result
+-- a value is returned exactly if the function has a result
 abbrev pub IsReturned : Setting → Option Typed → Type 0
 IsReturned s None = s.returns ≡ void
 IsReturned s (Some e) = IsWell s e × IsValueOf e s.returns
@@ -63,7 +63,7 @@ abbrev mutual
   AreWellStatements s Empty = Unit {0}
   AreWellStatements s (Then first others) = IsWellStatement s first × AreWellStatements s others
 
--- how many labels stand in a statement
+-- the number of labels in a statement
 abbrev mutual
   pub label_count : Statement → ℕ
   label_count (Block at statements) = label_counts statements
@@ -86,7 +86,7 @@ abbrev mutual
   label_counts (Then first others) = label_count first + label_counts others
 
 abbrev mutual
-  -- the labels of a statement have the numbers from this one on, as they stand
+  -- the labels of a statement are numbered in their order, beginning with this number
   pub AreNumbered : ℕ → Statement → Type 0
   AreNumbered n (Block at statements) = AllAreNumbered n statements
   AreNumbered n (If at test body) = AreNumbered n body
@@ -108,8 +108,8 @@ abbrev mutual
   AllAreNumbered n (Then first others) = AreNumbered n first × AllAreNumbered (n + label_count first) others
 
 abbrev mutual
-  -- each `break` stands in a loop or a `switch`, and each `continue` in a loop (C11 6.8.6.2, 6.8.6.3), where it is said whether the
-  -- statement itself stands in one
+  -- each `break` is in a loop or a `switch`, and each `continue` in a loop (C11 6.8.6.2, 6.8.6.3); the two flags are whether the statement
+  -- itself is in one
   pub JumpsLead : Bool → Bool → Statement → Type 0
   JumpsLead breaks continues (Block at statements) = AllJumpsLead breaks continues statements
   JumpsLead breaks continues (If at test body) = JumpsLead breaks continues body

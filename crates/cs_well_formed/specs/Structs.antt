@@ -1,4 +1,4 @@
--- The numbers that stand for structs name structs of the table, also those in the types of pointers.
+-- The numbers of structs in types are those of structs of the table, also in the types of pointers.
 use Rattle.std.specs.Prelude.{◌<◌, List, length, IfSome}
 use Rattle.std.specs.List.{All}
 use Rattle.cs_types.specs.declared.structs.StructType.{StructType}
@@ -54,7 +54,7 @@ abbrev mutual
   PartsName table (Allocate allocator arguments element) = RowNames table arguments × NamesStructs table element
   PartsName table (Free e) = ExpressionNames table e
 
-  -- the same of expressions in a row
+  -- the same for a list of expressions
   pub RowNames : List StructType → TypedList → Type 0
   RowNames table NoMore = Unit {0}
   RowNames table (Further first others) = ExpressionNames table first × RowNames table others
@@ -87,20 +87,20 @@ abbrev mutual
   StatementNames table (Continue at) = Unit {0}
   StatementNames table (Return at value) = IfSome value (ExpressionNames table)
 
-  -- the same of statements in a row
+  -- the same for a list of statements
   pub StatementsName : List StructType → Statements → Type 0
   StatementsName table Empty = Unit {0}
   StatementsName table (Then first others) = StatementNames table first × StatementsName table others
 
--- the types of members
+-- the types of members name structs of the table
 abbrev pub MembersName : List StructType → List Member → Type 0
 MembersName table members = All (λ (m : Member). NamesStructs table m.ty) members
 
--- the types of the members of some structs, those that have them
+-- the types of the members of these structs do, if they have members
 abbrev pub StructsName : List StructType → List StructType → Type 0
 StructsName table structs = All (λ (s : StructType). IfSome s.members (MembersName table)) structs
 
--- the types of variables
+-- the types of variables do
 abbrev pub VariablesName : List StructType → List Variable → Type 0
 VariablesName table variables = All (λ (v : Variable). NamesStructs table v.ty) variables
 

@@ -7,7 +7,7 @@ use Rattle.cs_grammar.specs.Text.{Kinds, text}
 use Rattle.cs_grammar.specs.FileText.{initial_text}
 use Rattle.cs_well_formed.specs.Constants.{HasConstants, InitialHasConstants}
 
--- where no token is too wide, no constant is
+-- if no token is too large, no constant is
 abbrev pub TextsHoldConstants : Type 0
 TextsHoldConstants = (e : Written) (following : Kinds) → All IsHeldToken (text e following) → HasConstants e
 

@@ -1,5 +1,5 @@
--- Written trees all of whose places are among some, as far as typed trees take their places from them: those of expressions, statements,
--- declared names, braces and `=`.
+-- Written trees all of whose positions are in a set, as far as typed trees take their positions from them: those of expressions,
+-- statements, declared names, braces and `=`.
 use Rattle.std.specs.Prelude.{IfSome}
 use Rattle.std.specs.List.{All}
 use Rattle.cs_ast.specs.declared.place.Place.{Place}
@@ -24,7 +24,7 @@ use Rattle.cs_ast.specs.declared.raw.external.RawExternalKind.TheVariants as ext
 use Rattle.cs_ast.specs.declared.raw.external.RawExternal.{RawExternal}
 
 abbrev mutual
-  -- an expression at a place, and all in it, stands among these places
+  -- the positions of an expression at a position, and of all in it, are in this set
   pub WrittenAmong : (Place → Type 0) → Place → RawExprKind → Type 0
   WrittenAmong Is at (kind.Name name) = Is at
   WrittenAmong Is at (kind.Number constant) = Is at
@@ -47,7 +47,7 @@ abbrev mutual
   WrittenAmong Is at (kind.Assign' operator place p object place' q value) = Is at × WrittenAmong Is place object × WrittenAmong Is place' value
   WrittenAmong Is at (kind.Comma' place p first place' q second) = Is at × WrittenAmong Is place first × WrittenAmong Is place' second
 
-  -- the same of expressions in a row
+  -- the same for a list of expressions
   pub RowAmong : {n : _} → (Place → Type 0) → Row_of-RawExpr n → Type 0
   RowAmong Is end_of-RawExpr = Unit {0}
   RowAmong Is (more_of-RawExpr place p first others) = WrittenAmong Is place first × RowAmong Is others
@@ -65,7 +65,7 @@ abbrev mutual
   AllValuesAmong Is first_value.end_of-RawInitial = Unit {0}
   AllValuesAmong Is (first_value.more_of-RawInitial first others) = ValuesAmong Is first × AllValuesAmong Is others
 
--- what an object holds at first, with its `=`
+-- the initializer of an object, with its `=`
 pub record FirstValueAmong (Is : Place → Type 0) (v : RawFirstValue) : Type 0 where
   pub equals : Is v.place
   pub values : ValuesAmong Is v.initial
@@ -82,7 +82,7 @@ FirstAmong Is (first_part.Run e) = ExpressionAmong Is e
 FirstAmong Is (first_part.Declare s objects) = All (DeclaredAmong Is) objects.items
 
 abbrev mutual
-  -- a statement at a place, and all in it
+  -- the positions of a statement at a position, and of all in it, are in this set
   pub SentenceAmong : (Place → Type 0) → Place → RawStmtKind → Type 0
   SentenceAmong Is at (statement.Block' shape row) = Is at × ItemsAmong Is row
   SentenceAmong Is at statement.Empty = Is at
@@ -101,7 +101,7 @@ abbrev mutual
   SentenceAmong Is at (statement.Return value) = Is at × IfSome value (ExpressionAmong Is)
   SentenceAmong Is at (statement.Label' name place p body) = Is at × SentenceAmong Is place body
 
-  -- what stands in a block
+  -- an item of a block
   pub ItemAmong : (Place → Type 0) → RawItem → Type 0
   ItemAmong Is (items.TheVariants.Declare s objects) = All (DeclaredAmong Is) objects.items
   ItemAmong Is (items.TheVariants.Run' place p body) = SentenceAmong Is place body
@@ -110,7 +110,7 @@ abbrev mutual
   ItemsAmong Is statements.end_of-RawItem = Unit {0}
   ItemsAmong Is (statements.more_of-RawItem first others) = ItemAmong Is first × ItemsAmong Is others
 
-  -- what stands in a `switch`
+  -- the items of a `switch`
   pub SwitchItemsAmong : {n : _} → (Place → Type 0) → statements.Row_of-RawSwitchItem n → Type 0
   SwitchItemsAmong Is statements.end_of-RawSwitchItem = Unit {0}
   SwitchItemsAmong Is (statements.more_of-RawSwitchItem first others) = SwitchItemAmong Is first × SwitchItemsAmong Is others

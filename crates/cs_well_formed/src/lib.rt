@@ -1,4 +1,4 @@
-//! Well-formed programs, in `specs/`: what every typed program is, and what later calls may ask of one.
+//! Well-formed programs, in `specs/`: what holds of every typed program, and what later calls may require of one.
 #![tactic(auto)]
 
 ghost use Rattle.std.specs.Prelude.{ℕ};
@@ -11,7 +11,7 @@ ghost use Rattle.cs_well_formed.specs.Naming.{ExpressionsAreNamed, InitialsAreNa
 ghost use Rattle.cs_well_formed.specs.Places.{IsOfFiles};
 ghost use Rattle.cs_well_formed.specs.Tokens.{TextsHoldConstants, InitialTextsHoldConstants};
 
-/// What the typing of an expression gives is well formed, with the type that is asked for.
+/// A typed expression is well formed, and has the type that its use requires.
 pub fn expressions_are_well_formed()
     ensures formed { FormedAreWell }
     ensures operands { OperandsAreWell }
@@ -22,15 +22,15 @@ pub fn expressions_are_well_formed()
     ensures constants { ConstantsAreInRange }
 {}
 
-/// What an object of a whole type holds at first is well formed, where the structs of the program are laid out, and constant where
-/// the object stands in a file.
+/// The initializer of an object of a complete type is well formed, if the structs of the program have layouts, and constant if
+/// the object is one of file scope.
 pub fn initializers_are_well_formed()
     ensures well_formed { InitialsAreWell }
     ensures constant { FileInitialsAreConstant }
 {}
 
-/// Where the declared types of a program name structs of its table, so do those of all nodes that are well formed in it; and where
-/// what is known names structs, so do the types that are declared then.
+/// If the declared types of a program name structs of its table, so do the types of all nodes that are well formed in it; and
+/// if what is known names structs, so do the types that are declared then.
 pub fn types_are_named()
     ensures expressions { ExpressionsAreNamed }
     ensures initializers { InitialsAreNamed }
@@ -41,7 +41,7 @@ pub fn types_are_named()
     ensures objects { ObjectsAreNamed }
 {}
 
-/// What is well formed stays so where the program grows, and what is known goes on to agree with it.
+/// What is well formed stays so when the program grows, and what is known still agrees with it.
 pub fn well_formed_stays()
     ensures expressions { ExpressionsStay }
     ensures initializers { InitialsStay }
@@ -51,13 +51,13 @@ pub fn well_formed_stays()
     ensures routines { RoutinesStay }
 {}
 
-/// The constants of a written tree are among its tokens: where none of them is too wide, no constant is.
+/// The constants of a written tree are among its tokens: if none of them is too large, no constant is.
 pub fn constants_are_tokens()
     ensures expressions { TextsHoldConstants }
     ensures initializers { InitialTextsHoldConstants }
 {}
 
-/// After a declaration structs keep their members, and what it declares is there; the type of a declared object is whole.
+/// After a declaration structs keep their members, and what it declares exists; the type of a declared object is complete.
 pub fn declarations_lead()
     ensures words { WordsLead }
     ensures typedefs { TypedefsLead }
@@ -65,12 +65,12 @@ pub fn declarations_lead()
     ensures objects { ObjectsAreWhole }
 {}
 
-/// Where the labels of a body are numbered as they stand, a `goto` leads to one that is there.
+/// If the labels of a body are numbered in their order, a `goto` leads to one that exists.
 pub fn labels_are_there()
     ensures { LabelsAreThere }
 {}
 
-/// What typing gives stands among the places of what is written, and has no more nodes than the size of its text allows.
+/// A typed tree has positions of the written one, and no more nodes than the size of its text allows.
 pub fn typed_nodes_are_bounded()
     ensures formed { (count : ℕ) → FormedAreBounded (IsOfFiles count) }
     ensures operands { (count : ℕ) → OperandsAreBounded (IsOfFiles count) }

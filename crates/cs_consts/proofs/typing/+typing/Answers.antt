@@ -1,4 +1,4 @@
--- The cycle of typing: each return is its production's equation at these parts.
+-- The cycle of typing: each return is the equation of its production for these parts.
 use Rattle.std.proofs.Common.{◌≡◌, ◌+◌, ◌<◌, [], ◌∷◌, ◌++◌, max, drop, length, map, Some, None, Err, pos, rules, arith, refl, sym, ap}
 use Rattle.std.proofs.Common.{subst, ◌∙◌}
 use Rattle.std.specs.Prelude.{option_copied, OnOk, FitsSigned, vec_len, ◌⊎◌, ◌≤◌, min}
