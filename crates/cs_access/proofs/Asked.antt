@@ -1,4 +1,4 @@
--- Checkers that are asked one by one, and the kinds that they give conditions for: for the contract of `check`.
+-- Querying checkers one by one, and the kinds for which they have conditions: for the contract of `check`.
 use Rattle.std.proofs.Common.{◌≡◌, ◌<◌, ◌≤◌, ◌+◌, ℕ, Bool, true, false, List, [], ◌∷◌, ◌++◌, take, drop, get_or, set, map}
 use Rattle.std.proofs.Common.{length, refl, sym, ap, ◌∙◌}
 use Rattle.std.proofs.Common.{subst, inl, inr, arith, Option, None, Result, Ok, Err}

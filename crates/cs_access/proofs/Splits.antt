@@ -1,4 +1,4 @@
--- A state split by whether an operation is faulty, kind by kind: for the contract of `check`.
+-- Splitting a state by whether an operation is faulty, for one kind after another: for the contract of `check`.
 use Rattle.std.proofs.Common.{◌≡◌, ◌<◌, ◌≤◌, ◌+◌, ◌^◌, ℕ, Bool, true, false, not, ◌&&◌, ◌||◌, ℤ, pos, neg_ℤ, ◌+ℤ◌}
 use Rattle.std.proofs.Common.{int_le, List, [], ◌∷◌}
 use Rattle.std.proofs.Common.{◌++◌, Option, None, Some, length, take, get_or, refl, sym, ap, ◌∙◌, subst, inl, inr, arith}

@@ -1,4 +1,4 @@
--- The steps to the offsets of an access: for the contract of `reach`.
+-- The offsets of an access and their states: for the contract of `reach`.
 use Rattle.std.proofs.Common.{◌≡◌, ◌≢◌, ◌<◌, ◌≤◌, ◌+◌, ◌^◌, ◌-◌, ℕ, zero, suc, Bool, true, false, ◌&&◌, ℤ, pos}
 use Rattle.std.proofs.Common.{negsuc, neg_ℤ, ◌-ℤ◌, ◌*ℤ◌}
 use Rattle.std.proofs.Common.{◌<ℤ◌, ◌≤ℤ◌}

@@ -1,4 +1,4 @@
--- The kinds of faults that checkers give conditions for, with the values of the deciding term at which an operation has them.
+-- The kinds of faults for which checkers have conditions, with the values of the deciding term at which an operation has such a fault.
 use Rattle.std.specs.Prelude.{◌≡◌, ◌⊎◌, false, List, [], ◌∷◌, ◌++◌, Option, map}
 use Rattle.std.specs.List.{All}
 use Rattle.cs_model.specs.declared.kind.Kind.{Kind}
@@ -10,12 +10,12 @@ use Rattle.cs_checker.specs.Faults.{is_faulty_for}
 use Rattle.cs_access.specs.Subjects.{term_of, CanDecide, AreFaultyValues}
 use Rattle.cs_access.specs.declared.checking.FaultyKind.{FaultyKind}
 
--- the operation is faulty for the kind just at these values of the deciding term
+-- the operation is faulty for the kind exactly at these values of the deciding term
 abbrev pub HasFaultyValues : Subject → FaultyKind → Type 0
 HasFaultyValues subject faulty =
     (v : Valuation) → CanDecide subject v → contains faulty.values (value_of v (term_of subject)) ≡ is_faulty_for faulty.kind subject v
 
--- the same of each of some kinds
+-- this holds for each of some kinds
 abbrev pub HaveFaultyValues : Subject → List FaultyKind → Type 0
 HaveFaultyValues subject found = All (HasFaultyValues subject) found
 
@@ -32,12 +32,12 @@ IsNextKind subject kind before after =
     (HasNoFaults subject kind × (after ≡ before))
     ⊎ ((faulty : FaultyKind) × (faulty.kind ≡ kind) × HasFaultyValues subject faulty × (after ≡ before ++ faulty ∷ []))
 
--- the kind is added with the values at which one of the conditions holds
+-- the kind is added with the values for which one of the conditions holds
 abbrev pub IsListed : Kind → List (Option Cond) → List FaultyKind → List FaultyKind → Type 0
 IsListed kind conds before after =
     (faulty : FaultyKind) × (faulty.kind ≡ kind) × AreFaultyValues conds faulty.values × (after ≡ before ++ faulty ∷ [])
 
--- of these kinds in order, just those are listed that the operation can be faulty for, with their faulty values; others, too
+-- the kinds for which the operation can be faulty are listed in order, with their faulty values; others may be listed too
 abbrev pub AreFaultyKinds : Subject → List Kind → List FaultyKind → Type 0
 AreFaultyKinds subject [] found = found ≡ []
 AreFaultyKinds subject (kind ∷ kinds) found =

@@ -19,12 +19,12 @@ pub record IsListing (set : List Interval) (numbers : List ℤ) : Type 0 where
   pub ascending : IsAscending numbers
   pub members : (x : ℤ) → IsTrue (contains set x) ↔ Contains numbers x
 
--- the numbers that were there and those from one to the other, in order
+-- the numbers before, and those from `low` to `high`, in order
 pub record AreAdded (before : List ℤ) (low high : ℤ) (after : List ℤ) : Type 0 where
   pub ascending : IsAscending after
   pub members : (x : ℤ) → Contains after x ↔ (Contains before x ⊎ ((low ≤ℤ x) × (x ≤ℤ high)))
 
--- one of the numbers that are followed where there are too many: the least, that of least absolute value, and the greatest
+-- one of the numbers that are followed if there are too many: the least, that of least absolute value, and the greatest
 abbrev pub IsFollowed : List Interval → ℤ → Type 0
 IsFollowed set x = IsLeast set x ⊎ IsLeastAbs set x ⊎ IsGreatest set x
 

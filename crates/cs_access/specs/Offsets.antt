@@ -16,7 +16,7 @@ use Rattle.cs_access.specs.declared.reaching.ReachedOffset.{ReachedOffset}
 use Rattle.cs_access.specs.declared.reaching.Reached.{Reached}
 use Rattle.cs_access.specs.declared.reaching.Reached.TheVariants as reached
 
--- the state has just the valuations under which the term has this value
+-- the state has exactly the valuations with which the term has this value
 abbrev pub IsReachedAt : State → Lin → ReachedOffset → Type 0
 IsReachedAt before term step = IsPart before (λ v. int_eq (value_of v term) step.offset) step.state
 
@@ -28,19 +28,19 @@ pub record AreSteps (before : State) (term : Lin) (steps : List ReachedOffset) :
   pub ascending : IsAscending (offsets_of steps)
   pub states : All (IsReachedAt before term) steps
 
--- the set has at most so many numbers
+-- the set has at most this many numbers
 pub record HasAtMost (set : List Interval) (most : ℕ) : Type 0 where
   pub count : ℕ
   pub is : IsCount set count
   pub few : count ≤ most
 
--- there are no more offsets than the budget allows, and each has a step
+-- there are no more offsets than the budget allows, and each is followed
 pub record AreAll (before : State) (term : Lin) (splits : ℕ) (steps : List ReachedOffset) : Type 0 where
   pub few : (set : List Interval) → IsSetOf before.constraints term.sym set → HasAtMost set splits
   pub each : AreSteps before term steps
   pub complete : (v : Valuation) → Fits v before.constraints → Contains (offsets_of steps) (value_of v term)
 
--- the term's symbol may have more numbers than the budget allows, and so has the term; just the runs with a followed number have a step
+-- the term's symbol may have more numbers than the budget allows, and so may the term; exactly the runs with a followed number are followed
 pub record AreTooMany (before : State) (term : Lin) (splits count : ℕ) (steps : List ReachedOffset) : Type 0 where
   pub set : List Interval
   pub is : IsSetOf before.constraints term.sym set
@@ -56,11 +56,11 @@ abbrev pub AreReached : State → Lin → ℕ → Reached → Type 0
 AreReached before term splits (reached.All steps) = AreAll before term splits steps.items
 AreReached before term splits (reached.TooMany count steps) = AreTooMany before term splits count steps.items
 
--- under no valuation that fits the term has this value
+-- the term has this value under no valuation that fits
 abbrev pub IsNeverAt : State → Lin → ℤ → Type 0
 IsNeverAt before term offset = (v : Valuation) → Fits v before.constraints → int_eq (value_of v term) offset ≡ false
 
--- for each of these offsets in order, the next step is the one to it, or no run has it
+-- for each of these offsets in order, the next state is that of the runs that have it, or no run has it
 abbrev pub AreTried : State → Lin → List ℤ → List ReachedOffset → Type 0
 AreTried before term [] steps = steps ≡ []
 AreTried before term (offset ∷ offsets) steps =
@@ -68,13 +68,13 @@ AreTried before term (offset ∷ offsets) steps =
     ⊎ ((step : ReachedOffset) × (rest : List ReachedOffset) × (steps ≡ step ∷ rest) × (step.offset ≡ offset)
     × IsReachedAt before term step × AreTried before term offsets rest)
 
--- no run has the offset, or the step to it is the last
+-- no run has the offset, or the offset is appended, with the state of its runs
 abbrev pub IsTried : State → Lin → ℤ → List ReachedOffset → List ReachedOffset → Type 0
 IsTried before term offset steps more =
     (IsNeverAt before term offset × (more ≡ steps))
     ⊎ ((step : ReachedOffset) × (step.offset ≡ offset) × IsReachedAt before term step × (more ≡ steps ++ step ∷ []))
 
--- the term's values at these numbers lie from -2^126 to 2^126
+-- the term's values at these numbers are from -2^126 to 2^126
 abbrev pub HasInside : Lin → List ℤ → Type 0
 HasInside term numbers = (x : ℤ) → Contains numbers x → IsInside (value_at term x)
 

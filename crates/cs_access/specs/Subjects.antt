@@ -10,7 +10,7 @@ use Rattle.cs_checker.specs.declared.answer.Cond.{Cond}
 use Rattle.cs_checker.specs.declared.subject.Subject.{Subject}
 use Rattle.cs_checker.specs.declared.subject.Subject.TheVariants.{Move, Divisor, Rest, Release, Shift}
 
--- the term that decides whether the operation is faulty, the number 0 if none does
+-- the term that decides whether the operation is faulty; the number 0 if none does
 abbrev pub term_of : Subject → Lin
 term_of (Move null amount) = amount
 term_of (Divisor term) = term
@@ -24,7 +24,7 @@ pub record IsKnownSum (first second : Lin) : Type 0 where
   pub second_number : IsNumber second
   pub inside : IsInside (first.value +ℤ second.value)
 
--- the operation's terms have values from -2^126 to 2^126; where it brings a sum, of two numbers
+-- the operation's terms have values from -2^126 to 2^126; if one is a sum, it is of two constants
 abbrev pub CanDecide : Subject → Valuation → Type 0
 CanDecide (Move null amount) v = IsInside (value_of v amount)
 CanDecide (Divisor term) v = IsInside (value_of v term)
@@ -33,13 +33,13 @@ CanDecide (Release block offset) v = IsInside (value_of v offset)
 CanDecide (Shift count width) v = IsInside (value_of v count)
 CanDecide other v = Unit {0}
 
--- for each operation that brings such terms, the set has just the values of the deciding term at which one of the conditions holds
+-- for each operation with such terms, the set has exactly the values of the deciding term for which one of the conditions holds
 abbrev pub AreFaultyValues : List (Option Cond) → List Interval → Type 0
 AreFaultyValues conds set =
     (subject : Subject) → HasTermsFor subject conds → (v : Valuation) → CanDecide subject v
     → contains set (value_of v (term_of subject)) ≡ some_holds conds v
 
--- the set has the values of another one, and those at which the condition holds, if there is one
+-- the set has the values of another one, and those for which the condition holds, if there is one
 abbrev pub AreJoined : List Interval → Option Cond → List Interval → Type 0
 AreJoined set cond joined =
     (subject : Subject) → HasTermsFor subject (cond ∷ []) → (v : Valuation) → CanDecide subject v

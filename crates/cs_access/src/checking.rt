@@ -1,4 +1,4 @@
-//! What checkers say of an operation that is about to be done.
+//! The checks of an operation that is about to be done.
 ghost use Rattle.std.specs.Prelude.{◌≡◌, ◌⊎◌, ℤ, ◌&&◌, not, map, length, IfOk, OnOk, OnErr};
 ghost use Rattle.cs_ranges.specs.RangeSet.{contains};
 ghost use Rattle.cs_access.specs.Checks.{IsKnown, CanCheck, AreFaults, IsRest, HaveCounted, IsTakenOut, IsRestIn};
@@ -12,25 +12,25 @@ use cs_state::State;
 use cs_terms::Lin;
 use std::alloc::{AllocError, Global};
 
-/// The valuations under which a subject is faulty for a kind.
+/// A part of a state: the valuations under which a subject is faulty for a kind.
 #[derive(Drop)]
 pub struct FaultyPart {
     pub kind: Kind,
     pub state: State,
 }
 
-/// The valuations under which a subject isn't faulty.
+/// The rest of a state: the valuations under which a subject isn't faulty.
 #[derive(Drop)]
 pub enum Rest {
-    /// All of them: the state as it was.
+    /// All valuations: the state doesn't change.
     Whole,
-    /// Some of them.
+    /// Some valuations.
     Part(Box<State>),
-    /// None.
+    /// No valuation.
     Nothing,
 }
 
-/// What checkers make of a state.
+/// The result of the checks of a state.
 #[derive(Drop)]
 pub struct Checked {
     /// The faulty parts, in the order of the checkers.
@@ -38,14 +38,14 @@ pub struct Checked {
     pub rest: Rest,
 }
 
-/// A kind of faults, and the values of the deciding term at which an operation has them.
+/// A kind of faults, and the values of the deciding term at which an operation has such a fault.
 #[derive(Drop)]
 pub struct FaultyKind {
     pub kind: Kind,
     pub values: RangeSet,
 }
 
-/// Asks each checker once about what is about to be done.
+/// Queries each checker once about what is about to be done, and splits the state into faulty parts and the rest.
 pub fn check(
     alloc: Global,
     state: &State,
@@ -75,7 +75,7 @@ pub fn check(
     split(alloc, state, subject, &found)
 }
 
-// Asks each checker once: the kinds of those that give a condition, in order. Also where memory runs out all of them are asked.
+// Queries each checker once, also if memory runs out; returns the kinds of those that have a condition, in order.
 fn faulty_kinds(
     alloc: Global,
     checkers: &mut Vec<Box<dyn Checker>>,
@@ -117,7 +117,7 @@ fn list_kind(
     Ok(())
 }
 
-// Splits a state by the values of the term that decides: at which it is faulty for which kind, and at which for none.
+// Splits a state by the values of the deciding term: those that are faulty for each kind, and those that are faulty for none.
 #[inline(never)]
 fn split(
     alloc: Global,
@@ -144,7 +144,7 @@ fn split(
     Ok(Checked { faults, rest })
 }
 
-// Adds the part of a state in which a term has a bad value, where there is one.
+// Adds the part of a state in which a term has a bad value, if there is one.
 fn take_out(
     state: &State,
     term: Lin,
@@ -168,7 +168,7 @@ fn take_out(
     }
 }
 
-// The numbers of a set without others.
+// Removes the bad values from a set.
 fn without(good: RangeSet, bad: &RangeSet) -> Result<RangeSet, AllocError>
     ensures { IfOk result (λ left.
         (x : ℤ) → contains left x ≡ (contains good x && not (contains bad.now x))) }
@@ -180,7 +180,7 @@ fn without(good: RangeSet, bad: &RangeSet) -> Result<RangeSet, AllocError>
     }
 }
 
-// The part of a state in which a term has a good value; all of it where all values are good.
+// The part of a state in which a term has a good value; all of it if all values are good.
 fn rest_of(
     alloc: Global,
     state: &State,

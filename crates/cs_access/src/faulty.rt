@@ -1,4 +1,4 @@
-//! The values of an operation's term at which it ends in a fault.
+//! The values of an operation's term for which it ends in a fault.
 ghost use Rattle.std.specs.Prelude.{◌≡◌, ◌+ℤ◌, ℤ, pos, Some, int_le, [], ◌∷◌, IfOk};
 ghost use Rattle.cs_ranges.specs.Interval.{IsInside, in_interval};
 ghost use Rattle.cs_ranges.specs.RangeSet.{contains};
@@ -10,7 +10,7 @@ use cs_ranges::{GREATEST, Interval, LEAST, RangeSet};
 use cs_terms::{Lin, Lin2};
 use std::alloc::{AllocError, Global};
 
-/// The term that decides whether an operation is faulty; 0 where no term does.
+/// Returns the term that decides whether an operation is faulty; 0 if no term does.
 pub(crate) fn deciding_term(subject: &Subject) -> Lin
     ensures { result ≡ term_of subject.now }
 {
@@ -40,7 +40,7 @@ fn zero() -> Lin
     }
 }
 
-/// The values of the deciding term at which one of the conditions holds.
+/// Returns the values of the deciding term for which one of the conditions holds.
 pub(crate) fn faulty_values(alloc: Global, conds: &[Option<Cond>]) -> Result<RangeSet, AllocError>
     ensures { IfOk result (λ set. AreFaultyValues conds.now set) }
 {
@@ -51,7 +51,7 @@ pub(crate) fn faulty_values(alloc: Global, conds: &[Option<Cond>]) -> Result<Ran
     Ok(set)
 }
 
-// The set with the values at which a condition holds, where there is one.
+// The set with the values for which a condition holds, if there is one.
 fn with_values(alloc: Global, set: RangeSet, cond: &Option<Cond>) -> Result<RangeSet, AllocError>
     ensures { IfOk result (λ joined. AreJoined set cond.now joined) }
 {
@@ -64,7 +64,7 @@ fn with_values(alloc: Global, set: RangeSet, cond: &Option<Cond>) -> Result<Rang
     }
 }
 
-// The values at which a condition holds: all or none where its term is a number.
+// The values for which a condition holds: all or none if its term is a constant.
 fn values_of(alloc: Global, cond: &Cond) -> Result<RangeSet, AllocError>
     ensures { IfOk result (λ set. AreFaultyValues (Some cond.now ∷ []) set) }
 {
@@ -85,7 +85,7 @@ fn all_or_none(alloc: Global, all: bool) -> Result<RangeSet, AllocError>
     }
 }
 
-// The numbers in some intervals, as far as a set may have them.
+// The numbers of some intervals, as far as a set may have them.
 fn values_in(alloc: Global, intervals: &[Interval]) -> Result<RangeSet, AllocError>
     ensures { IfOk result (λ set.
         (x : ℤ) → IsInside x → contains set x ≡ contains intervals.now x) }
@@ -98,7 +98,7 @@ fn values_in(alloc: Global, intervals: &[Interval]) -> Result<RangeSet, AllocErr
     Ok(set)
 }
 
-// The numbers in an interval, as far as a set may have them.
+// The numbers of an interval, as far as a set may have them.
 fn numbers_in(alloc: Global, interval: &Interval) -> Result<RangeSet, AllocError>
     ensures { IfOk result (λ set.
         (x : ℤ) → IsInside x → contains set x ≡ in_interval interval.now x) }
@@ -108,7 +108,7 @@ fn numbers_in(alloc: Global, interval: &Interval) -> Result<RangeSet, AllocError
     from.intersect(&upto)
 }
 
-// The numbers that aren't less.
+// The numbers that are at least `low`.
 fn at_least(alloc: Global, low: i128) -> Result<RangeSet, AllocError>
     ensures { IfOk result (λ set. (x : ℤ) → IsInside x → contains set x ≡ int_le low x) }
 {
@@ -121,7 +121,7 @@ fn at_least(alloc: Global, low: i128) -> Result<RangeSet, AllocError>
     Ok(RangeSet::of(alloc, low, GREATEST)?)
 }
 
-// The numbers that aren't greater.
+// The numbers that are at most `high`.
 fn at_most(alloc: Global, high: i128) -> Result<RangeSet, AllocError>
     ensures { IfOk result (λ set. (x : ℤ) → IsInside x → contains set x ≡ int_le x high) }
 {
@@ -134,7 +134,7 @@ fn at_most(alloc: Global, high: i128) -> Result<RangeSet, AllocError>
     Ok(RangeSet::of(alloc, LEAST, high)?)
 }
 
-// Whether the sum of two numbers is in one of some intervals.
+// Whether the sum of two constants is in one of some intervals.
 fn has_sum(intervals: &[Interval], numbers: &Lin2) -> bool
     ensures { result
         ≡ contains intervals.now (numbers.now.first.value +ℤ numbers.now.second.value) }
@@ -147,7 +147,7 @@ fn has_sum(intervals: &[Interval], numbers: &Lin2) -> bool
     false
 }
 
-// Whether the sum of two numbers is in an interval. A sum past 128 bits is in none.
+// Whether the sum of two constants is in an interval. A sum beyond 128 bits is in none.
 fn is_sum_in(interval: &Interval, numbers: &Lin2) -> bool
     ensures { result
         ≡ in_interval interval.now (numbers.now.first.value +ℤ numbers.now.second.value) }

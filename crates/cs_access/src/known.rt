@@ -1,4 +1,4 @@
-//! Whether the terms of an operation are known well enough to split a state by them, decided at run time.
+//! Whether enough is known about the terms of an operation to split a state by them, decided at run time.
 ghost use Rattle.std.specs.Prelude.{◌≡◌, ◌≢◌, ◌+ℤ◌, true, ℤ, IsTrue, None, Some};
 ghost use Rattle.cs_ranges.specs.Affine.{affine};
 ghost use Rattle.cs_ranges.specs.Interval.{IsInside};
@@ -13,7 +13,7 @@ use cs_ranges::{GREATEST, LEAST, RangeSet};
 use cs_state::State;
 use cs_terms::{Lin, Lin2, Sym};
 
-/// Whether the terms of an operation are known, as `check` requires. No also where a part of a value doesn't fit in 128 bits.
+/// Whether the terms of an operation are known, as `check` requires. Also false if a part of a value doesn't fit in 128 bits.
 pub fn can_check(state: &State, subject: &Subject) -> bool
     ensures { result ≡ true → CanCheck state.now.constraints subject.now }
 {
@@ -32,8 +32,8 @@ pub fn can_check(state: &State, subject: &Subject) -> bool
     }
 }
 
-/// Whether a term's symbol, where it has one, is declared, and its values lie from `LEAST` to `GREATEST`, as `reach` requires. No also
-/// where a part of a value doesn't fit in 128 bits.
+/// Whether a term's symbol, if it has one, is declared, and its values are from `LEAST` to `GREATEST`, as `reach` requires. Also false
+/// if a part of a value doesn't fit in 128 bits.
 pub fn is_known(state: &State, term: Lin) -> bool
     ensures { result ≡ true → IsKnown state.now.constraints term }
 {
@@ -43,7 +43,7 @@ pub fn is_known(state: &State, term: Lin) -> bool
     }
 }
 
-// Whether a term's symbol is declared, and the term's values over its numbers lie inside.
+// Whether a term's symbol is declared, and the term's values for its numbers are within the bounds.
 fn is_known_over(state: &State, term: Lin, sym: Sym) -> bool
     requires symbol { term.sym ≡ Some sym }
     ensures { result ≡ true → IsKnownOver state.now.constraints term sym }
@@ -54,7 +54,7 @@ fn is_known_over(state: &State, term: Lin, sym: Sym) -> bool
     }
 }
 
-// Whether a term's values over the numbers of its symbol lie inside. They rise or fall all along, so that those at both ends decide.
+// Whether a term's values for the numbers of its symbol are within the bounds. The term is monotone, so the values at both ends decide.
 fn stays_inside(term: Lin, set: &RangeSet) -> bool
     requires symbol { term.sym ≢ None }
     ensures { result ≡ true → (x : ℤ) → IsTrue (contains set.now x)
@@ -66,7 +66,7 @@ fn stays_inside(term: Lin, set: &RangeSet) -> bool
     is_inside_at(term, first) && is_inside_at(term, last)
 }
 
-// Whether a term's value at a number of its symbol lies inside, and all parts of it fit.
+// Whether a term's value at a number of its symbol is within the bounds, and all parts of it fit.
 fn is_inside_at(term: Lin, number: i128) -> bool
     ensures { result ≡ true → IsInside (affine term.slope term.at term.value number) }
 {
@@ -79,7 +79,7 @@ fn is_inside_at(term: Lin, number: i128) -> bool
     is_sum_inside(term.value, rise)
 }
 
-// Whether a sum is one of two numbers, and small.
+// Whether a sum is one of two constants, and is within the bounds.
 fn is_known_sum(sum: Lin2) -> bool
     ensures { result ≡ true → IsKnownSum sum.first sum.second }
 {
@@ -89,7 +89,7 @@ fn is_known_sum(sum: Lin2) -> bool
     is_sum_inside(sum.first.value, sum.second.value)
 }
 
-// Whether the sum of two numbers lies inside.
+// Whether the sum of two numbers is within the bounds.
 fn is_sum_inside(first: i128, second: i128) -> bool
     ensures { result ≡ true → IsInside (first +ℤ second) }
 {
@@ -99,7 +99,7 @@ fn is_sum_inside(first: i128, second: i128) -> bool
     is_inside(sum)
 }
 
-// Whether a term is a number from `LEAST` to `GREATEST`.
+// Whether a term is a constant from `LEAST` to `GREATEST`.
 fn is_number(term: Lin) -> bool
     ensures { result ≡ true → IsNumber term }
 {

@@ -20,13 +20,13 @@ pub struct ReachedOffset {
     pub state: State,
 }
 
-/// The offsets of an access.
+/// The offsets of an access that are followed.
 #[derive(Drop)]
 pub enum Reached {
     /// All of them, in order.
     All(Vec<ReachedOffset>),
-    /// There are more than the budget allows: so many. Followed are those that the symbol's number of least absolute value, its least
-    /// and its greatest give, each once.
+    /// There are this many, more than the budget allows. The exploration follows only those at the symbol's number of least absolute value, at
+    /// its least and at its greatest, each once.
     TooMany(u64, Vec<ReachedOffset>),
 }
 
@@ -44,7 +44,7 @@ pub fn reach(alloc: Global, state: &State, offset: Lin, splits: u64) -> Result<R
     }
 }
 
-// The numbers of the term's symbol, where there is one.
+// The numbers of the term's symbol, if it has one.
 fn numbers_of(state: &State, term: Lin) -> Option<&RangeSet>
     ensures { MatchOption result (HasNoSet state.now.constraints term.sym) (λ set.
         IsSetOf state.now.constraints term.sym set.now × IsInhabited set.now) }
@@ -52,7 +52,7 @@ fn numbers_of(state: &State, term: Lin) -> Option<&RangeSet>
     state.constraints.range_of(term.sym?)
 }
 
-// The offset of a constant.
+// The offset of a constant term.
 fn one_step(alloc: Global, state: &State, offset: Lin) -> Result<Vec<ReachedOffset>, AllocError>
     requires known { IsKnown state.now.constraints offset }
     requires number { offset.sym ≡ None }
@@ -63,7 +63,7 @@ fn one_step(alloc: Global, state: &State, offset: Lin) -> Result<Vec<ReachedOffs
     Ok(steps)
 }
 
-// The offsets over the numbers of the term's symbol.
+// The offsets for the numbers of the term's symbol.
 fn reach_over(
     alloc: Global,
     state: &State,
@@ -87,7 +87,7 @@ fn reach_over(
     Ok(Reached::TooMany(as_count(count), steps))
 }
 
-// A count as far as 64 bits go.
+// A count, at most the greatest number of 64 bits.
 fn as_count(count: u128) -> u64
     ensures { result ≡ min count (2 ^ 64 - 1) }
 {
@@ -109,7 +109,7 @@ fn all_numbers(alloc: Global, set: &RangeSet) -> Result<Vec<i128>, AllocError>
     Ok(numbers)
 }
 
-// Adds the numbers of an interval, which are greater than those that are there, in order.
+// Adds the numbers of an interval, which are greater than those in the list, in order.
 fn push_numbers(numbers: &mut Vec<i128>, interval: Interval) -> Result<(), AllocError>
     requires proper { IsProper interval }
     requires ascending { IsAscending numbers.old.items }
@@ -142,7 +142,7 @@ fn followed_numbers(alloc: Global, set: &RangeSet) -> Result<Vec<i128>, AllocErr
     each_once(alloc, least, nearest, greatest)
 }
 
-// Three numbers that don't fall, each once.
+// Three numbers in ascending order, each once.
 fn each_once(alloc: Global, first: i128, second: i128, third: i128) -> Result<Vec<i128>, AllocError>
     requires second { first ≤ℤ second }
     requires third { second ≤ℤ third }
@@ -159,7 +159,7 @@ fn each_once(alloc: Global, first: i128, second: i128, third: i128) -> Result<Ve
     Ok(numbers)
 }
 
-// The offsets at these numbers of the offset's symbol, which ascend.
+// The offsets at these numbers of the offset's symbol, which are in ascending order.
 fn steps_at(
     alloc: Global,
     state: &State,
@@ -180,7 +180,7 @@ fn steps_at(
     Ok(steps)
 }
 
-// Adds the step to the offset at a number of its symbol.
+// Adds the offset at a number of its symbol.
 fn push_at(
     alloc: Global,
     steps: &mut Vec<ReachedOffset>,
@@ -197,7 +197,7 @@ fn push_at(
     push_step(alloc, steps, state, offset, there)
 }
 
-// Numbers of a term's symbol that ascend, in the order in which the term's value grows.
+// Ascending numbers of a term's symbol, in the order in which the term's value grows.
 fn by_offset(term: Lin, numbers: Vec<i128>) -> Vec<i128>
     ensures { result.items ≡ in_order term numbers.items }
 {
@@ -208,7 +208,7 @@ fn by_offset(term: Lin, numbers: Vec<i128>) -> Vec<i128>
     numbers
 }
 
-// Adds the step to an offset, where there are runs that have it.
+// Adds an offset, if some runs have it.
 fn push_step(
     alloc: Global,
     steps: &mut Vec<ReachedOffset>,
@@ -224,7 +224,7 @@ fn push_step(
     push_part(steps, state, term, offset, &only)
 }
 
-// The same, with the set that has just the offset.
+// The same, with the set that has only the offset.
 fn push_part(
     steps: &mut Vec<ReachedOffset>,
     state: &State,

@@ -1,4 +1,4 @@
--- What writes to a base region that was never filled are in the memory of a state's meaning: for the contracts of stores.
+-- Writes to a base region that was never filled, in the memory that a state represents: for the contracts of stores.
 use Rattle.std.proofs.Common.{◌≡◌, ◌≢◌, ◌⊎◌, inl, inr, ◌==◌, ℕ, Bool, true, false, List, true≢false, refl, sym, ap, ◌∙◌, subst}
 use Rattle.std.specs.Prelude.{Option, None, Some, slice_get, option_map, if◌then◌else◌}
 use Rattle.std.specs.Option.{option_and_then}

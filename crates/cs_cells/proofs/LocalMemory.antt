@@ -1,4 +1,4 @@
--- What the memory of a state's meaning holds in the locals of the frame that runs.
+-- The locals of the current frame in the memory that a state represents.
 use Rattle.std.proofs.Common.{◌≡◌, ℕ, ◌<◌, nat_eq, List, ◌∷◌, map, length, Option, Some, None, option_map, slice_get, if◌then◌else◌}
 use Rattle.std.proofs.Common.{refl, sym, ap, ◌∙◌, inl, inr, arith}
 use Rattle.std.proofs.lemmas.Option.{slice_get_cases}

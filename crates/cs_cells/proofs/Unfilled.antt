@@ -1,4 +1,4 @@
--- What base regions hold that were never filled: for the lemmas on bindings.
+-- The contents of base regions that were never filled: for the lemmas on bindings.
 use Rattle.std.proofs.Common.{◌≡◌, ◌≢◌, ◌≤◌, ◌+◌, ℕ, suc, Bool, true, false, cond, [], ◌∷◌, refl, sym, ap, ◌∙◌, arith}
 use Rattle.std.specs.Prelude.{Option, None, Some}
 use Rattle.std.specs.Ordering.{eq_by_cmp}

@@ -1,4 +1,4 @@
--- States of locals alone whose locals were written to: what their memory is then, and that they stay such.
+-- States with pointers to locals only, after a write to their locals: their memory, and that they remain such states.
 use Rattle.std.proofs.Common.{◌≡◌, ◌≢◌, ◌⊎◌, inl, inr, ◌∷◌, ℕ, Bool, List, map, refl, sym, ap, ◌∙◌, subst}
 use Rattle.std.specs.Prelude.{Option, None, Some, slice_get}
 use Rattle.std.proofs.lemmas.Bool.Decides.{eqb_tells}

@@ -1,4 +1,4 @@
-//! What cells hold: what was bound, else what fills their object.
+//! The contents of cells: what was bound, else what fills their object.
 ghost use Rattle.cs_objects.specs.Prepared.{IsReady};
 ghost use Rattle.std.specs.Prelude.{◌≡◌, ℕ, IfOk, IfErr};
 ghost use Rattle.cs_ranges.specs.RangeSet.{IsInhabited};
@@ -25,22 +25,22 @@ use cs_values::paths::root_path;
 use cs_values::{Cell as FirstCell, Object};
 use std::alloc::{AllocError, Global};
 
-// What a cell is found to hold: a value, or an input that isn't looked up yet, by its path.
+// The contents of a cell: a value, or an input that isn't looked up yet, by its path.
 enum Contents {
     Here(Value),
-    /// What a constant initializer gives.
+    /// The value of a constant initializer.
     First(FirstCell),
     Input(Path),
 }
 
-/// What a cell is read as: a value, or an input, whose symbol the state may not have yet.
+/// The result of reading a cell: a value, or an input, whose symbol the state may not have yet.
 #[derive(Clone, Copy)]
 pub enum Cell {
     Known(Value),
     Received(Input),
 }
 
-/// An input: its symbol, the least and the greatest number that it may have, and the value that it gives.
+/// An input: its symbol, the least and the greatest number that it may have, and its value.
 #[derive(Clone, Copy)]
 pub struct Input {
     pub sym: Sym,
@@ -49,7 +49,7 @@ pub struct Input {
     pub value: Value,
 }
 
-/// The value of the scalar that begins at an offset of an object.
+/// Returns the value of the scalar that begins at an offset of an object, and notes an input as read.
 pub fn read(
     context: &Context,
     state: &mut State,
@@ -76,7 +76,7 @@ pub fn read(
     }
 }
 
-/// The scalar that begins at an offset of an object. An input isn't declared, and its cell isn't noted as read.
+/// Returns the scalar that begins at an offset of an object. An input isn't declared, and its cell isn't noted as read.
 pub fn look_up(
     context: &Context,
     state: &mut State,
@@ -107,7 +107,7 @@ pub fn look_up(
     }
 }
 
-// What is found at an offset of an object.
+// The contents at an offset of an object.
 fn found(
     context: &Context,
     state: &State,
@@ -127,7 +127,7 @@ fn found(
     }
 }
 
-// What an object that was filled holds where nothing was bound since.
+// The contents of an object that was filled, where nothing was bound since.
 fn unbound(
     context: &Context,
     state: &State,
@@ -155,7 +155,7 @@ fn unbound(
     }
 }
 
-// What an object holds to which nothing was written.
+// The contents of an object to which nothing was written.
 fn unwritten(
     context: &Context,
     state: &State,
@@ -193,7 +193,7 @@ fn unwritten(
     }
 }
 
-// What a static object holds at first.
+// The initial contents of a static object.
 fn filled(
     context: &Context,
     state: &State,
@@ -234,7 +234,7 @@ fn static_value(tables: &mut Tables, cell: FirstCell) -> Result<Value, AllocErro
     }
 }
 
-// The base region that an object is.
+// The base region of an object.
 fn base_of(object: Object) -> Result<Base, AllocError> {
     match object {
         Object::Start(path) => Ok(Base::Entry(path)),
@@ -253,21 +253,21 @@ fn zero(scalar: BlockType) -> Value {
     }
 }
 
-// The path of a cell after another path.
+// The path of a cell, from the path of its object and its offset.
 fn cell_path(mut path: Path, offset: u64) -> Result<Path, AllocError> {
     path.cells.push(offset)?;
     Ok(path)
 }
 
-/// What the input of a scalar gives.
+/// The kind of value of a scalar's input.
 pub enum Kind {
     Integer(IntType),
-    /// A pointer, to elements of a type, which each have so many bytes.
+    /// A pointer to elements of a type, each of this size in bytes.
     Pointer(CType, u64),
     Nothing,
 }
 
-// What the input of the scalar at an offset gives.
+// The kind of value of the input of the scalar at an offset.
 fn scalar_kind(
     context: &Context,
     state: &State,
@@ -285,7 +285,7 @@ fn scalar_kind(
     }
 }
 
-/// What the input of a type gives.
+/// Returns the kind of value of an input of a type.
 pub fn kind_of(context: &Context, ty: &CType) -> Result<Kind, AllocError>
     requires { IsReady context.now.setting.now }
 {
@@ -299,7 +299,7 @@ pub fn kind_of(context: &Context, ty: &CType) -> Result<Kind, AllocError>
     }
 }
 
-/// The value that the input at a path gives. Its symbol is declared.
+/// Returns the value of the input at a path, and declares its symbol.
 pub fn received(
     context: &Context,
     state: &mut State,
@@ -318,7 +318,7 @@ pub fn received(
     Ok(input.value)
 }
 
-// The input at a path: an integer is any number of its type; a pointer is null, or names a block of its own. Anything else is never set.
+// The input at a path: an integer is any number of its type; a pointer is null, or points to its own block. Anything else is never set.
 fn input_at(
     context: &Context,
     state: &mut State,
@@ -359,7 +359,7 @@ fn input_at(
     }
 }
 
-// A symbol may have the numbers from one to another, if nothing is known of it yet.
+// Declares a symbol with the numbers from `least` to `greatest`, unless it is declared already.
 pub fn declare(
     alloc: Global,
     state: &mut State,
@@ -375,7 +375,7 @@ pub fn declare(
     Ok(())
 }
 
-/// The numbers from one to another. There are some, and they lie inside the bounds of sets.
+/// Returns the numbers from `least` to `greatest`. There has to be one, and they have to be within the bounds of sets.
 pub fn interval(alloc: Global, least: i128, greatest: i128) -> Result<RangeSet, AllocError>
     ensures { IfOk result (λ set. IsInhabited set) }
 {
@@ -385,7 +385,7 @@ pub fn interval(alloc: Global, least: i128, greatest: i128) -> Result<RangeSet, 
     RangeSet::of(alloc, least, greatest)
 }
 
-// The block after an unknown pointer.
+// The start block to which an unknown pointer points.
 fn start_block(
     context: &Context,
     tables: &mut Tables,

@@ -1,5 +1,5 @@
-//! The inputs that the scalars of a struct are read from. The state gets to know them many at a time, which takes much less time than one
-//! by one.
+//! The inputs from which the scalars of a struct are read. They are made known to the state many at a time, which takes much less time
+//! than one by one.
 
 use crate::cells::{Input, interval};
 use cs_state::State;
@@ -10,16 +10,16 @@ use std::alloc::{AllocError, Global};
 #[derive(Drop)]
 pub struct Inputs {
     alloc: Global,
-    // All cells, each with its input's symbol.
+    // All cells, each with the symbol of its input.
     cells: Vec<(u64, Sym)>,
-    // The newest symbols. They aren't declared yet, and may have the numbers from one to another.
+    // The newest symbols. They aren't declared yet, and may have the numbers from `least` to `greatest`.
     syms: Vec<Sym>,
     least: i128,
     greatest: i128,
 }
 
 impl Inputs {
-    /// None so far.
+    /// Returns an empty list.
     pub fn new(alloc: Global) -> Inputs {
         Inputs {
             alloc,
@@ -30,7 +30,7 @@ impl Inputs {
         }
     }
 
-    /// The cell at an offset was read as an input.
+    /// Adds the input that was read from the cell at an offset.
     pub fn add(&mut self, state: &mut State, offset: u64, input: Input) -> Result<(), AllocError> {
         self.cells.push((offset, input.sym))?;
         if state.constraints.range_of(input.sym).is_some() {
@@ -45,7 +45,7 @@ impl Inputs {
         Ok(())
     }
 
-    /// The state knows all of them, as cells of this base region.
+    /// Makes all inputs known to the state, as cells of this base region.
     pub fn settle(&mut self, state: &mut State, base: u64) -> Result<(), AllocError> {
         self.declare(state)?;
         if !self.cells.is_empty() {

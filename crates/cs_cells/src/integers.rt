@@ -1,5 +1,5 @@
-//! Which scalars of a struct are integers. They are asked about in the order of their offsets: so the members are gone through once, and a
-//! row of scalars is looked at once.
+//! Which scalars of a struct are integers. They are requested in the order of their offsets, so the members are traversed once, and the
+//! scalars of an array are inspected at once.
 ghost use Rattle.cs_objects.specs.Prepared.{IsReady};
 
 use cs_objects::blocks::BlockType;
@@ -7,20 +7,20 @@ use cs_progress::Context;
 use cs_types::{CType, Member, members_of};
 use std::alloc::AllocError;
 
-/// The scalars of a type, as far as they were asked about.
+/// The scalars of a type, as far as they were requested.
 #[derive(Clone, Copy)]
 pub struct Integers<'a> {
     ty: &'a CType,
-    // The member that was come to last, and those after it.
+    // The member reached last, and the members after it.
     member: Option<&'a Member>,
     rest: &'a [Member],
-    // Whether the scalars before an offset are integers, but for those that were asked about earlier.
+    // Whether the scalars from the offset inspected last up to `end` are integers.
     answer: bool,
     end: u64,
 }
 
 impl<'a> Integers<'a> {
-    /// No scalar was asked about.
+    /// Returns the scalars of a type before the first request.
     pub fn of(context: &Context<'a>, ty: &'a CType) -> Integers<'a> {
         Integers {
             ty,
@@ -31,7 +31,7 @@ impl<'a> Integers<'a> {
         }
     }
 
-    /// Whether the scalar at an offset is an integer. Each offset is greater than those before it.
+    /// Whether the scalar at an offset is an integer. Each offset has to be greater than those before it.
     pub fn has(&mut self, context: &Context<'a>, offset: u64) -> Result<bool, AllocError>
         requires { IsReady context.now.setting.now }
     {
@@ -42,7 +42,7 @@ impl<'a> Integers<'a> {
         Ok(self.answer)
     }
 
-    // Goes on to the member in which an offset lies.
+    // Advances to the member in which an offset is.
     fn come_to(&mut self, offset: u64) {
         let mut rest = self.rest;
         while let Some((next, after)) = rest.split_first() {
@@ -55,7 +55,7 @@ impl<'a> Integers<'a> {
         self.rest = rest;
     }
 
-    // Looks at the scalar at an offset: in a row of scalars at all of them.
+    // Inspects the scalar at an offset; in an array of scalars, all of them.
     fn look(&mut self, context: &Context<'a>, offset: u64) -> Result<(), AllocError>
         requires { IsReady context.now.setting.now }
     {
@@ -92,7 +92,7 @@ fn members<'a>(context: &Context<'a>, ty: &CType) -> &'a [Member] {
     }
 }
 
-// Whether a type's scalars are integers, where they have one type.
+// Whether a type's scalars are integers, if they all have the same type.
 fn row_of(ty: &CType) -> Option<bool> {
     match ty {
         CType::Int(_) => Some(true),

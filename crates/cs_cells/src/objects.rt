@@ -1,4 +1,4 @@
-//! What is known of the object that a base region is.
+//! What is known about the object of a base region.
 ghost use Rattle.std.specs.Prelude.{◌≡◌, false, ℕ, IfOk};
 ghost use Rattle.cs_objects.specs.Prepared.{IsReady};
 ghost use Rattle.cs_state.specs.Naming.{Naming, naming, Extends};
@@ -16,14 +16,14 @@ use cs_terms::Lin;
 use cs_types::CType;
 use std::alloc::AllocError;
 
-/// An object: whether it may be accessed, how many bytes it has, and its type.
+/// An object: whether it may be accessed, its size in bytes, and its type.
 #[derive(Clone, Copy)]
 pub struct Known<'a> {
     pub standing: Standing,
     pub extent: Lin,
-    /// The type of the object; of the elements, one after the other without an end, in a start block or a heap block.
+    /// The type of the object; in a start block or a heap block, that of its elements, which follow one another without an end.
     pub ty: BlockType<'a>,
-    /// Whether it is a row of elements.
+    /// Whether the object is an array of elements.
     pub is_row: bool,
     /// Whether a store to it is a fault: a const file-scope object or a string literal (C11 6.4.5, 6.7.3).
     pub constant: bool,
@@ -31,7 +31,7 @@ pub struct Known<'a> {
     pub freeable: Freeable,
 }
 
-/// What is known of the object of a base region.
+/// Returns what is known about the object of a base region.
 pub fn object<'t>(
     context: &Context<'t>,
     state: &State,
@@ -116,7 +116,7 @@ fn text<'t>(context: &Context<'t>, number: u32) -> Result<Known<'t>, AllocError>
     })
 }
 
-// A local, which is there while its frame is.
+// A local, which exists as long as its frame.
 fn local<'t>(
     context: &Context<'t>,
     state: &State,
@@ -161,7 +161,7 @@ fn local_type<'t>(
     Some(&local.ty)
 }
 
-// The frame with a number, where it hasn't ended.
+// The frame with a number, if it hasn't ended.
 fn frame_numbered(state: &State, number: u64) -> Option<&Frame> {
     if state.frame.number == number {
         return Some(&state.frame);
@@ -170,7 +170,7 @@ fn frame_numbered(state: &State, number: u64) -> Option<&Frame> {
 }
 
 impl<'a> Known<'a> {
-    /// Whether an object of a type begins at an offset: a scalar of that very type, or that struct.
+    /// Whether an object of a type begins at an offset: a scalar of exactly that type, or that struct.
     pub fn begins(
         &self,
         context: &Context<'a>,
@@ -188,7 +188,7 @@ impl<'a> Known<'a> {
         }
     }
 
-    /// The scalar that begins at an offset; `Void` where none does.
+    /// Returns the scalar that begins at an offset; `Void` if none does.
     pub fn scalar(&self, context: &Context<'a>, offset: u64) -> Result<BlockType<'a>, AllocError>
         requires { IsReady context.now.setting.now }
     {
@@ -199,7 +199,7 @@ impl<'a> Known<'a> {
         Ok(found.unwrap_or(BlockType::Void))
     }
 
-    // Where an offset lies in the type; nowhere in a row of elements without bytes.
+    // The offset in the type for an offset in the object; none in an array of elements without bytes.
     fn position(&self, context: &Context<'a>, offset: u64) -> Result<Option<u64>, AllocError>
         requires { IsReady context.now.setting.now }
     {

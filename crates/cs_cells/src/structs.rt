@@ -1,4 +1,4 @@
-//! The scalars of a struct, read at once.
+//! Reading all scalars of a struct at once.
 ghost use Rattle.std.specs.Prelude.{◌≡◌, IfErr};
 ghost use Rattle.cs_objects.specs.Prepared.{IsReady};
 ghost use Rattle.cs_state.specs.Naming.{naming, Extends};
@@ -13,7 +13,7 @@ use cs_state::{State, Tables};
 use cs_store::Value;
 use cs_types::CType;
 
-/// The scalars of a struct that begins at an offset of a base region, in order.
+/// Returns the scalars of a struct that begins at an offset of a base region, in order.
 pub fn read_all<'t>(
     context: &Context<'t>,
     state: &mut State,
@@ -40,8 +40,8 @@ pub fn read_all<'t>(
     Ok(values)
 }
 
-// The scalar at an offset of a base region. An input that was read before, and not written since, has its symbol: a number is known by that
-// alone, without its path.
+// The scalar at an offset of a base region. An input that was read before, and not written since, has a symbol in the state; if it is
+// a number, the symbol is enough, without the path.
 fn read_one(
     context: &Context,
     state: &mut State,

@@ -1,4 +1,4 @@
--- What is added of a state in which something shows first: for the contracts of `ask` and `select`.
+-- The successors that are added for a state whose operation shows a label: for the contracts of `ask` and `select`.
 use Rattle.std.proofs.Common.{◌≡◌, ℕ, ◌<◌, ◌≤◌, Bool, true, false, not, List, [], ◌∷◌, Option, None, Some, sym}
 use Rattle.std.proofs.Common.{subst}
 use Rattle.std.specs.Prelude.{Result, OnOk, MatchOption, is_some, option_map}

@@ -1,4 +1,4 @@
--- An answer that depends on its symbol stays, and any other is a constant: for the contract of `settled`.
+-- An answer that depends on its symbol doesn't change, and any other becomes a constant: for the contract of `settled`.
 use Rattle.std.proofs.Common.{◌≡◌, ◌≢◌, ◌≤◌, ◌⊎◌, inl, inr, ℤ, pos, ◌+ℤ◌, ◌-ℤ◌, ◌*ℤ◌, unsigned_abs, List}
 use Rattle.std.proofs.Common.{Option, None, Some, refl, sym, ap, ◌∙◌}
 use Rattle.std.proofs.Common.{subst, true≢false, arith}

@@ -1,4 +1,4 @@
--- What is added to what comes of a state: the children of the pieces of what shows first, and the ends of faulty parts.
+-- What is added to the successors of a state: the children of the pieces of the label that it shows, and the ends of faulty parts.
 use Rattle.std.specs.Prelude.{◌≡◌, ◌≢◌, ℕ, List, [], ◌++◌, All}
 use Rattle.std.specs.Global.{Box}
 use Rattle.cs_ast.specs.declared.place.Place.{Place}
@@ -19,7 +19,7 @@ pub record Adds (before after : Children) (made : List Child) (ends : List State
   pub endings : after.ends.items ≡ before.ends.items ++ ends
   pub cuts : after.cuts.items ≡ before.cuts.items
 
--- the ends still differ in their outcomes, if they did
+-- if the outcomes of the ends differed before, they still do
 abbrev pub KeepApart : Children → Children → Type 0
 KeepApart before after = OutcomesDiffer before.ends.items → OutcomesDiffer after.ends.items
 
@@ -32,7 +32,7 @@ abbrev pub AddsChildren : List Rule → State → Place → Sym → List Piece �
 AddsChildren rules state place guess pieces before after =
     (made : List Child) × Adds before after made [] × AreOfPieces rules state place guess pieces made
 
--- children and ends are added that are all that comes of a state in which something shows first
+-- children and ends are added that are all successors of a state whose operation shows a label
 abbrev pub AddsPieces : ℕ → List Rule → Box State → Place → (Sym → List Piece → Type 0) → Children → Children → Type 0
 AddsPieces limit rules state place AreSplit before after = (made : List Child) × (ends : List StateEnd) × Adds before after made ends
     × ComesOfPieces limit rules state place AreSplit made ends

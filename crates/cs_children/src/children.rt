@@ -1,4 +1,4 @@
-//! What comes of a state: the states directly after its next events, and its ends.
+//! The successors of a state: the states directly after its next events, and its ends.
 ghost use Rattle.std.specs.Prelude.{◌≡◌, ◌≤◌, true, false, [], ◌∷◌, map, option_map, OnOk, IfOk, MatchOption};
 ghost use Rattle.cs_objects.specs.Prepared.{IsReady};
 ghost use Rattle.cs_constraints.specs.Constraints.{IsDeclared};
@@ -27,7 +27,7 @@ use cs_terms::{Lin, Sym, SymName};
 use std::alloc::{AllocError, Global};
 use std::mem;
 
-/// What comes of a state.
+/// The successors of a state, and the cuts there.
 #[derive(Drop)]
 pub struct Children {
     pub made: Vec<Child>,
@@ -36,7 +36,7 @@ pub struct Children {
 }
 
 impl Children {
-    /// Nothing.
+    /// Returns children without successors and cuts.
     pub fn new(alloc: Global) -> Children
         ensures { AreNone result }
     {
@@ -47,7 +47,7 @@ impl Children {
         }
     }
 
-    /// Finds all that comes of a state.
+    /// Finds all successors of a state.
     pub fn find(
         &mut self,
         exploration: &Exploration,
@@ -69,7 +69,7 @@ impl Children {
         found
     }
 
-    // Finds all that comes of a state, with an attempt that has the checkers.
+    // Finds all successors of a state, with an attempt that has the checkers.
     fn find_with(
         &mut self,
         exploration: &Exploration,
@@ -109,9 +109,9 @@ impl Children {
         Err(AllocError)
     }
 
-    // The runs of a state end. No other end has this outcome, so that want of memory is never answered for one: each check that leaves a
-    // part of a state comes in an operation with an event, directly before it (an operator's) or directly after it (a pointer was looked at).
-    // So between two events a place is checked once in such a way, and the faults of one kind are one part.
+    // Adds an end of a state. No other end has this outcome, so the want of memory below is never returned: each check that splits a
+    // state belongs to an operation with an event, directly before it (an operator's) or directly after it (when a pointer was inspected). So
+    // between two events a place is checked once in such a way, and the faults of one kind are one part.
     fn end(&mut self, outcome: Outcome, state: Box<State>) -> Result<(), AllocError>
         ensures adds { OnOk result (Adds self.old self.new [] ((outcome, state) ∷ [])) }
         ensures apart { OnOk result (KeepApart self.old self.new) }
@@ -135,7 +135,7 @@ impl Children {
         false
     }
 
-    // What checkers have found: the faulty parts of a state end, and the rest goes on; false where there is none.
+    // Handles what checkers have found: the faulty parts of a state become ends, and the rest continues; false if there is no rest.
     #[inline(never)]
     fn checked(
         &mut self,
@@ -162,7 +162,7 @@ impl Children {
         }
     }
 
-    // The faulty parts of a state end.
+    // Adds the faulty parts of a state as ends.
     fn end_faulty(
         &mut self,
         alloc: Global,
@@ -180,8 +180,8 @@ impl Children {
         Ok(())
     }
 
-    // An operation shows. The symbol of the guess isn't declared, since it is named by the number of the next event, and a state declares the
-    // symbol of a guess only where it passes that event: so want of memory is never answered for it.
+    // Adds the successors of a state whose operation shows a label. The symbol of the guess isn't declared, since it is named by the number
+    // of the next event, and a state declares the symbol of a guess only when it passes that event: so want of memory is never returned for it.
     #[inline(never)]
     fn ask(
         &mut self,
@@ -210,7 +210,7 @@ impl Children {
         self.add_all(exploration, state, at, pieces, guess)
     }
 
-    // A `switch` shows its case.
+    // Adds the successors of a state that is at a `switch`, which shows its case.
     #[inline(never)]
     fn select(
         &mut self,
@@ -236,7 +236,7 @@ impl Children {
         self.add_all(exploration, state, at, pieces, Sym(0))
     }
 
-    // The states after all pieces. The last of them takes the state before as it is, and the others copy it.
+    // Adds the states after all pieces. The last of them takes the state before as it is, and the others copy it.
     fn add_all(
         &mut self,
         exploration: &Exploration,
@@ -256,7 +256,7 @@ impl Children {
         self.add(exploration, before, place, last, guess)
     }
 
-    // The states after pieces, each from a copy of the state before. Mostly there is none, and then no memory is reserved for it.
+    // Adds the states after pieces, each from a copy of the state before. Mostly there is none, and then no memory is reserved for it.
     #[inline]
     fn add_copies(
         &mut self,
@@ -295,9 +295,9 @@ impl Children {
         Ok(())
     }
 
-    // The state after one piece. Its answer is over a declared symbol, so that want of memory is never answered for one that isn't: a symbol of
-    // the operands, which the state mentions and so has declared, or the symbol of the guess, which the piece declares. It is over one on which
-    // it depends, so that a state mentions no symbol but those that the state before mentions and those of guesses.
+    // Adds the state after one piece. Its answer is over a declared symbol, so the want of memory below is never returned: that symbol is
+    // one of the operands', which the state mentions and so has declared, or that of the guess, which the piece declares. The answer depends
+    // on its symbol, so a state mentions no symbols but those that the state before mentions and those of guesses.
     fn add(
         &mut self,
         exploration: &Exploration,
@@ -349,7 +349,7 @@ impl Children {
         Ok(())
     }
 
-    // An access shows its offset.
+    // Adds the successors of a state whose access shows its offset.
     #[inline(never)]
     fn reach(
         &mut self,
@@ -374,7 +374,7 @@ impl Children {
         }
     }
 
-    // The states after all offsets.
+    // Adds the states after all offsets.
     fn add_offsets(
         &mut self,
         exploration: &Exploration,
@@ -387,7 +387,7 @@ impl Children {
         Ok(())
     }
 
-    // The state after one offset.
+    // Adds the state after one offset.
     fn add_offset(
         &mut self,
         exploration: &Exploration,
@@ -401,14 +401,14 @@ impl Children {
     }
 }
 
-// Whether two outcomes are one.
+// Whether two outcomes are the same.
 fn is_same(one: Outcome, other: Outcome) -> bool
     ensures { one ≡ other → result ≡ true }
 {
     one == other
 }
 
-// The budget of events is used up.
+// The outcome of runs whose budget of events is used up.
 fn over(at: Place) -> Outcome
     ensures { result ≡ Outcome.Over Budget.Events at }
 {
@@ -427,7 +427,7 @@ fn event_after(exploration: &Exploration, state: &State) -> Option<u64>
     state.counters.events.checked_add(1)
 }
 
-// A state passes an event.
+// Advances a state past an event.
 fn pass(
     exploration: &Exploration,
     state: &mut State,
@@ -447,7 +447,7 @@ fn pass(
     Ok(())
 }
 
-// A state passes the event that shows an offset.
+// Advances a state past the event that shows an offset.
 fn pass_offset(
     exploration: &Exploration,
     state: &mut State,
@@ -462,7 +462,7 @@ fn pass_offset(
     Ok(event)
 }
 
-// The symbol of the guess, where something was guessed.
+// The symbol of the guess, if something was guessed.
 fn guess_of(guessed: Option<Guessed>, guess: Sym) -> Option<Sym>
     ensures { result ≡ option_map (λ what. guess) guessed }
 {
@@ -472,7 +472,7 @@ fn guess_of(guessed: Option<Guessed>, guess: Sym) -> Option<Sym>
     }
 }
 
-// Whether the symbol of a term, where it has one, is declared.
+// Whether the symbol of a term, if it has one, is declared.
 fn is_declared(state: &State, term: Lin) -> bool
     ensures { result ≡ true → IsDeclared state.now.constraints term.sym }
 {
@@ -482,7 +482,7 @@ fn is_declared(state: &State, term: Lin) -> bool
     }
 }
 
-// What a guess was asked for.
+// The note of a guess: the event, the symbol, and the operation whose result is guessed.
 fn asked(event: u64, guess: Sym, guessed: Guessed) -> Asked
     ensures { result ≡ asked_for event guess guessed }
 {
@@ -497,7 +497,7 @@ fn asked(event: u64, guess: Sym, guessed: Guessed) -> Asked
     }
 }
 
-// What an offset shows.
+// The number that an offset shows.
 fn shown(offset: i128) -> Result<u64, AllocError> {
     match u64::try_from(offset) {
         Ok(shown) => Ok(shown),

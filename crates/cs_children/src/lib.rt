@@ -1,4 +1,4 @@
-//! What comes of a state: the states directly after its next events, and its ends.
+//! The successors of a state: the states directly after its next events, and its ends.
 #![tactic(auto)]
 
 mod children;

@@ -1,4 +1,4 @@
-//! The terms that lead on after an event.
+//! The terms with which a run continues after an event.
 ghost use Rattle.std.specs.Prelude.{◌≡◌, true, Some, IfOk, IfSome};
 ghost use Rattle.cs_ranges.specs.Affine.{affine};
 ghost use Rattle.cs_pieces.specs.Settled.{IsSettled, IsConstantAt};
@@ -8,7 +8,8 @@ use cs_explored::constant;
 use cs_terms::{Lin, Sym};
 use std::alloc::AllocError;
 
-/// An answer as it leads on: over the symbol of the guess, or over one on which it depends before the event; else the constant that it is.
+/// Returns the answer with which a run continues: a term over the symbol of the guess, or over one on which it depends before the
+/// event; else its value as a constant.
 pub(crate) fn settled(
     before: &Constraints,
     guess: Option<Sym>,
@@ -34,7 +35,7 @@ pub(crate) fn settled(
     }
 }
 
-// The constant that an answer is where its symbol has one number.
+// The value of an answer as a constant, if its symbol has only this number.
 fn settled_at(answer: Lin, only: i128) -> Result<Lin, AllocError>
     ensures { IfOk result (IsConstantAt answer only) }
 {
@@ -54,7 +55,7 @@ fn is_guess(guess: Option<Sym>, sym: Sym) -> bool
     }
 }
 
-// The value of a term at a number of its symbol. No answer has a value that doesn't fit.
+// The value of a term at a number of its symbol, unless it takes more than 128 bits, which no answer's value does.
 fn value_at(term: Lin, number: i128) -> Option<i128>
     ensures { IfSome result (λ value.
         value ≡ affine term.slope term.at term.value number) }

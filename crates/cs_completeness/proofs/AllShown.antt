@@ -1,4 +1,4 @@
--- Each end of an exploration that is a fault or a budget has a finding: a suspect of its outcome is evident, and the outcome of each evident suspect is listed.
+-- Each end whose outcome is a fault or a budget has a finding: a suspect of its outcome is evident, and the outcome of each evident suspect is listed.
 use Rattle.std.proofs.Common.{◌≡◌, ℕ, List, [], All, Some, slice_get, sym, ap, ◌∙◌, subst}
 use Rattle.std.specs.Prelude.{Contains}
 use Rattle.std.proofs.lemmas.List.Elements.{All-weaker, All-contains_itself}

@@ -1,4 +1,4 @@
--- A symbol that is given another number: what that makes of the inputs and guesses of a valuation's run, by the symbol's name. For `IsEvident`.
+-- Changing the number of a symbol: how that changes the inputs and guesses of a valuation's run, by the symbol's name. For `IsEvident`.
 use Rattle.std.proofs.Common.{◌≡◌, ◌≢◌, ℕ, zero, suc, ◌==◌, ℤ, Bool, true, false, cond, List, [], ◌∷◌, map, All, Some, slice_get, inl}
 use Rattle.std.proofs.Common.{inr}
 use Rattle.std.proofs.Common.{if◌then◌else◌, refl, sym, ap, ◌∙◌, subst}

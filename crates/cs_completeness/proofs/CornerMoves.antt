@@ -1,4 +1,4 @@
--- The corners of a suspected guess are valuations: the symbols of its operands have the ends that were noted. For `IsEvidentGuess`.
+-- The corners of a suspected guess are valuations: the symbols of its operands have the noted ends. For `IsEvidentGuess`.
 use Rattle.std.proofs.Common.{◌≡◌, ◌≢◌, ◌⊎◌, inl, inr, ℕ, ℤ, List, [], ◌∷◌, map, Option, None, Some, All, slice_get}
 use Rattle.std.proofs.Common.{refl, sym, ap, ◌∙◌, subst, arith}
 use Rattle.std.specs.Prelude.{Contains}

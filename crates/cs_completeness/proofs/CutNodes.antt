@@ -1,5 +1,5 @@
--- A cut for want of nodes is listed for its reason: the chains of the rows and of the refused one are passed by runs of the program, and the faults directly
--- after the rows that others come from are reported. For the contract of `analyze`.
+-- A cut caused by the budget of nodes has its reason: runs of the program pass the chains of the rows and of the refused one, and the faults directly
+-- after rows that have children are reported. For the contract of `analyze`.
 use Rattle.std.proofs.Common.{◌≡◌, ◌≤◌, ℕ, suc, ℤ, List, [], ◌∷◌, ◌++◌, length, Option, None, Some, slice_get}
 use Rattle.std.proofs.Common.{refl, sym, ◌∙◌, subst, arith}
 use Rattle.std.specs.Prelude.{All, Contains}

@@ -1,4 +1,4 @@
--- An exploration that covers the runs of an entry, and whose ends all have findings, leaves no run out: for `analyze`.
+-- An exploration that covers the runs of an entry, and whose ends all have findings, misses no run: for `analyze`.
 use Rattle.std.proofs.Common.{◌≡◌, ℕ, List, [], ◌∷◌, refl, subst, arith}
 use Rattle.std.proofs.lemmas.Option.{slice_get_within, get_or_from_slice_get}
 use Rattle.std.specs.Prelude.{Contains}

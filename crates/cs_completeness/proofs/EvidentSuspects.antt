@@ -1,4 +1,4 @@
--- The suspect of an end of an exploration is evident, if the entry works with integers alone and its code is the lowering of the program.
+-- The suspect of an end of an exploration is evident, if the entry is an integer entry and its code is the lowering of the program.
 use Rattle.std.proofs.Common.{◌≡◌, ◌≤◌, ℕ, ℤ, List, [], ◌∷◌, map, length, Some, All, slice_get}
 use Rattle.std.proofs.Common.{refl, sym, ap, ◌∙◌, subst, arith}
 use Rattle.std.specs.Prelude.{Contains}

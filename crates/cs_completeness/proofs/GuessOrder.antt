@@ -1,4 +1,4 @@
--- A state's guesses stand in the order of their events: for `IsEvident`.
+-- A state's guesses are in the order of their events: for `IsEvident`.
 use Rattle.std.proofs.Common.{◌≡◌, ◌<◌, ℕ, [], ◌∷◌, map, Option, None, Some, slice_get, refl, sym, ap, ◌∙◌, subst, arith}
 use Rattle.std.specs.Prelude.{IsTrue, is_some, option_map}
 use Rattle.std.specs.FinMap as finite

@@ -1,4 +1,4 @@
--- Acts that read no input, whatever answers they have, and the runs that consist of them.
+-- Acts that read no input, with any answers, and the runs that consist of them.
 use Rattle.std.proofs.Common.{◌≡◌, ℕ, ℤ, Bool, true, false, List, Option, None, Some}
 use Rattle.std.proofs.Common.{if◌then◌else◌, refl, sym, ap, ◌∙◌, subst}
 use Rattle.cs_types.specs.declared.data_model.DataModel.{DataModel}

@@ -1,4 +1,4 @@
--- Memory in which locals hold numbers, pointers to locals, or nothing that was ever set: that of code that works with integers alone.
+-- Memory whose locals hold numbers, pointers to locals, or unset: that of integer code.
 use Rattle.std.proofs.Common.{◌≡◌, ℕ, suc, ℤ, Bool, true, false, List, [], ◌∷◌, map, Option, None, Some}
 use Rattle.std.proofs.Common.{if◌then◌else◌, refl, sym, ◌∙◌, subst}
 use Rattle.std.specs.Prelude.{◌==◌, option_map, slice_get}

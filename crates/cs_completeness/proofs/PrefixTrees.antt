@@ -1,4 +1,4 @@
--- The chains of an exact graph's rows are the nodes of a prefix tree, and a row on the way to another one has a child: for `IsOutOfNodes`.
+-- The chains of an exact graph's rows are the nodes of a prefix tree, and a row that is on another row's chain has a child: for `IsOutOfNodes`.
 use Rattle.std.proofs.Common.{◌≡◌, ◌⊎◌, inl, inr, ◌<◌, ◌≤◌, ℕ, List, [], ◌∷◌, ◌++◌, length}
 use Rattle.std.proofs.Common.{refl, sym, ap, ◌∙◌, subst, arith}
 use Rattle.std.proofs.lemmas.Option.{same_Some}

@@ -1,4 +1,4 @@
--- The run of an entry that works with integers alone reads no input but its parameters: its pointers point to locals, whose scalars were set or never set.
+-- The run of an integer entry reads no inputs but its parameters: its pointers point to locals, whose scalars were set or never set.
 use Rattle.std.proofs.Common.{◌≡◌, ℕ, ◌-◌, ◌+◌, ℤ, pos, Bool, true, false, List, [], ◌∷◌, length, Option, None, Some, All}
 use Rattle.std.proofs.Common.{if◌then◌else◌, refl, sym, subst}
 use Rattle.std.specs.Prelude.{unwrap_or, slice_get}

@@ -1,4 +1,4 @@
--- The operands of a question under valuations that give their symbols the same numbers, and that equal operands are no ground to guess. For `IsEvidentGuess`.
+-- The operands of a question under valuations that agree on their symbols, and that equal operands are no ground to guess. For `IsEvidentGuess`.
 use Rattle.std.proofs.Common.{◌≡◌, ℤ, pos, Bool, true, false, Option, None, Some, refl, sym, ap, ◌∙◌, subst}
 use Rattle.std.specs.Prelude.{IsTrue, not, ◌||◌}
 use Rattle.std.specs.Ordering.{int_eq}

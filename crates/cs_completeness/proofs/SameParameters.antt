@@ -1,4 +1,4 @@
--- Runs of an entry that works with integers alone, which give its parameters the same numbers and list the same guesses, are alike: for `IsEvident`.
+-- Runs of an integer entry with the same numbers of its parameters and the same guesses are alike: for `IsEvident`.
 use Rattle.std.proofs.Common.{◌≡◌, ℕ, suc, List, [], ◌++◌, map, length, Some, slice_get, get_or, inl, inr}
 use Rattle.std.proofs.Common.{sym, ap, ◌∙◌, subst, append_assoc, arith}
 use Rattle.std.specs.Prelude.{Contains}

@@ -1,4 +1,4 @@
--- What an exploration of an entry that works with integers alone says of its ends.
+-- What an exploration of an integer entry states about its ends.
 use Rattle.std.specs.Prelude.{ℕ, []}
 use Rattle.cs_ast.specs.TypedProgram.{TypedProgram}
 use Rattle.cs_cfg.specs.Graph.{Code}
@@ -11,7 +11,7 @@ use Rattle.cs_exactness.specs.Exact.{IsExact}
 use Rattle.cs_exactness.specs.Noted.{EachNotesEvents}
 use Rattle.cs_guesses.specs.Graphs.{IsGuessedGraph}
 
--- they stand for the runs of just their valuations, note the events that lead to them, and what they note of guesses is so
+-- they represent exactly the runs of their valuations, note the events that lead to them, and what they note about guesses is true
 pub record HasExactEnds (code : Code) (program : TypedProgram) (entry : ℕ) (budgets : Budgets) (explored : Explored) : Type 0 where
   pub exact : IsExact code program entry (run_budgets budgets) (naming explored.tables) explored.rows.items explored.ends.items
   pub noted : EachNotesEvents [] explored.rows.items explored.ends.items

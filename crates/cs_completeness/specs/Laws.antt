@@ -1,4 +1,4 @@
--- Laws of entries that work with integers alone: what an exploration of such an entry says of its runs makes the entry's result complete.
+-- Laws of integer entries: what an exploration of such an entry states about its runs makes the entry's result complete.
 use Rattle.std.specs.Prelude.{ℕ, [], All, Contains}
 use Rattle.cs_ast.specs.TypedProgram.{TypedProgram}
 use Rattle.cs_cfg.specs.Graph.{Code}
@@ -25,20 +25,20 @@ use Rattle.cs_witness.specs.Evidence.{IsEvident}
 use Rattle.cs_completeness.specs.Ends.{HasExactEnds}
 use Rattle.cs_completeness.specs.Shown.{ShowsAllEnds}
 
--- where the ends are exact, each suspect of one that is a fault or a budget is evident
+-- if the ends are exact, each suspect of an end whose outcome is a fault or a budget is evident
 abbrev pub SuspectsAreEvident : Type 0
 SuspectsAreEvident = (code : Code) (program : TypedProgram) (entry : ℕ) (budgets : Budgets) (explored : Explored) (end : End) (suspect : Suspect)
     → IsLoweredEntry code program entry → IsIntegerEntry code program entry → HasEachOnce (naming explored.tables).syms
     → HasExactEnds code program entry budgets explored → Contains explored.ends.items end → IsSuspectOf (naming explored.tables) end suspect
     → IsFinding end.outcome → IsEvident program entry (run_budgets budgets) suspect
 
--- where the runs are covered and all ends are shown, each run's end is reported
+-- if the runs are covered and all ends are shown, each run's end is reported
 abbrev pub NoRunIsMissed : Type 0
 NoRunIsMissed = (code : Code) (program : TypedProgram) (budgets : Budgets) (explored : Explored) (given : EntryResult) → IsLowered code program
     → IsIntegerFunction program given.entry → CoversPositions code program given.entry (run_budgets budgets) explored → ShowsAllEnds explored given
     → ReportsEveryRun program budgets given
 
--- where all ends are shown, a cut for want of nodes has its reason
+-- if all ends are shown, a cut caused by the budget of nodes has its reason
 abbrev pub CutsHaveReasons : Type 0
 CutsHaveReasons = (code : Code) (program : TypedProgram) (limits : Budgets) (explored : Explored) (given : EntryResult) → IsLowered code program
     → IsIntegerFunction program given.entry

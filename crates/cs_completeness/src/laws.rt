@@ -1,17 +1,17 @@
-//! Laws of complete analyses.
+//! Why analyses are complete, as lemmas.
 ghost use Rattle.cs_completeness.specs.Laws.{SuspectsAreEvident, NoRunIsMissed, CutsHaveReasons};
 
-/// Each suspect of an end that is a fault or a budget carries its evidence.
+/// Proves that each suspect of an end whose outcome is a fault or a budget has its evidence.
 pub fn suspects_are_evident()
     ensures { SuspectsAreEvident }
 {}
 
-/// Where an exploration covers the runs of an entry, and all that it ends in is reported, no run is missed.
+/// Proves that no run is missed if an exploration covers the runs of an entry, and each outcome that it found is reported.
 pub fn no_run_is_missed()
     ensures { NoRunIsMissed }
 {}
 
-/// A cut for want of nodes has its reason in the runs of the program.
+/// Proves that a cut caused by the budget of nodes has its reason in the runs of the program.
 pub fn cuts_have_reasons()
     ensures { CutsHaveReasons }
 {}

@@ -1,4 +1,4 @@
-//! What makes the analysis of an entry that works with integers alone complete. Definitions and laws.
+//! Why the analysis of an integer entry is complete. Definitions and lemmas.
 #![tactic(auto)]
 
 pub mod laws;

@@ -1,4 +1,4 @@
--- A run comes to a child, and to a row with an equal live part, under its own numbers of what is mentioned: for `CoversOwn`.
+-- A run reaches a child, and a row with an equal live part, under its own numbers of what is mentioned: for `CoversOwn`.
 use Rattle.std.proofs.Common.{◌≡◌, ◌≢◌, inl, inr, ℕ, suc, ℤ, pos, Bool, true, false, List, [], ◌∷◌, ◌++◌, Option, None}
 use Rattle.std.proofs.Common.{Some, length, slice_get, refl}
 use Rattle.std.proofs.Common.{sym, ap, ◌∙◌, subst}

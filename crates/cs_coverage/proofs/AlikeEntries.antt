@@ -1,4 +1,4 @@
--- Maps with keys beside a zero whose entries are alike, as live parts say them, hold what is alike: for states with equal live parts.
+-- Maps with keys beside a zero whose entries have equal live parts have the same contents: for states with equal live parts.
 use Rattle.std.proofs.Common.{◌≡◌, ℕ, Bool, true, false, cond, List, [], ◌∷◌, map, Option, None, Some, refl, sym, ap, ◌∙◌, subst}
 use Rattle.std.specs.Prelude.{is_some, IsTrue}
 use Rattle.std.specs.Ordering.{eq_by_cmp}

@@ -1,4 +1,4 @@
--- What holds of all that a map finds holds of its entries, and the other way round; and so of the cells that were read: for what states mention.
+-- What holds for each value that a map finds holds for its entries, and conversely; also for the cells that were read: for what states mention.
 use Rattle.std.proofs.Common.{◌≡◌, ℕ, Bool, true, false, cond, List, [], ◌∷◌, ◌++◌, map, Option, None, Some, All, refl, sym, ap, ◌∙◌, subst}
 use Rattle.std.specs.List.{flat_map}
 use Rattle.std.specs.Option.{unwrap_or}

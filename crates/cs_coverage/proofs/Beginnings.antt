@@ -1,4 +1,4 @@
--- The state in which the exploration of an integer entry begins stands for the beginning of each run: for `IsBeginning`.
+-- The state in which the exploration of an integer entry begins represents the beginning of each run: for `IsBeginning`.
 use Rattle.std.proofs.Common.{◌≡◌, ◌≢◌, ◌<◌, ℕ, zero, suc, ℤ, pos, Bool, true, List, [], ◌∷◌, ◌++◌, map, length, Option, None}
 use Rattle.std.proofs.Common.{Some, slice_get}
 use Rattle.std.proofs.Common.{◌⊎◌, inl, inr, false, refl, sym, ap, ◌∙◌, subst, arith}

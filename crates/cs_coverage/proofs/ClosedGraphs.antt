@@ -1,4 +1,4 @@
--- A closed graph stays closed as it grows: as tables have more names, as ends and rows are added, and as a row is given and all that comes of it was added.
+-- A closed graph stays closed as it grows: as names, ends and rows are added, and as a row is taken from the worklist and its successors are added.
 use Rattle.std.proofs.Common.{◌≡◌, ◌⊎◌, inl, inr, ◌<◌, ℕ, zero, suc, List, [], ◌∷◌, ◌++◌, length, Some, slice_get, refl, sym, ap}
 use Rattle.std.proofs.Common.{subst, arith}
 use Rattle.std.proofs.lemmas.Bool.{cases_order}

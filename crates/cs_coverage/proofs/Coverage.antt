@@ -1,5 +1,4 @@
--- In a closed graph in which no row waits, each run without guesses stands at a row at its beginning and directly after each of its events, and at an
--- end at its end.
+-- In a closed graph in which no row waits, each run without guesses has a row at its beginning and directly after each of its events, and an end at its end.
 use Rattle.std.proofs.Common.{◌≡◌, ◌⊎◌, inl, inr, ℕ, suc, ℤ, List, [], ◌∷◌, ◌++◌, map, length, refl, sym, ap, ◌∙◌, subst, arith}
 use Rattle.std.proofs.lemmas.List.{append-nil, append_assoc, length-append, map-append}
 use Rattle.std.proofs.lemmas.List.Elements.{All-get_or}

@@ -1,4 +1,4 @@
--- A row is expanded once all that comes of it was added, and the graph is closed but for the rows that wait: for the contracts of the exploration.
+-- A row is expanded once all its successors are added; the graph is closed, except for the rows that wait: for the contracts of the exploration.
 use Rattle.std.proofs.Common.{◌≡◌, inl, ℕ, zero, suc, List, [], ◌∷◌, ◌++◌, map, length, Some, slice_get, refl, sym, ap, ◌∙◌, subst}
 use Rattle.std.proofs.Common.{arith}
 use Rattle.std.specs.Global.{Box}

@@ -1,4 +1,4 @@
--- States with equal live parts that say all mean the same under valuations that agree on what is mentioned.
+-- States with equal live parts, which have all of them, mean the same under valuations that agree on what is mentioned.
 use Rattle.std.proofs.Common.{◌≡◌, ℕ, pos, List, [], ◌∷◌, map, length, Option, None, Some, if◌then◌else◌, refl, sym, ap}
 use Rattle.std.proofs.Common.{◌∙◌, arith}
 use Rattle.std.specs.Prelude.{option_map, slice_get, unwrap_or}

@@ -1,4 +1,4 @@
--- A state's live part is the same with other sets, where the symbols that it mentions have the same: for `AgreesOnLive`.
+-- A state has the same live part with other sets, if these are the same for the symbols that it mentions: for `AgreesOnLive`.
 use Rattle.std.proofs.Common.{◌≡◌, ℕ, Bool, true, List, [], ◌∷◌, map, Option, None, Some, All, if◌then◌else◌, refl, sym, ap, ◌∙◌, subst}
 use Rattle.std.specs.Prelude.{option_map, is_some}
 use Rattle.std.specs.Option.{option_map_or, unwrap_or}

@@ -1,4 +1,4 @@
--- Terms with one live part have one value, under valuations that agree on their symbols: for states with equal live parts.
+-- Terms with equal live parts have the same value, under valuations that agree on their symbols: for states with equal live parts.
 use Rattle.std.proofs.Common.{◌≡◌, ℕ, ℤ, Option, None, Some, refl, sym, ap, ◌∙◌}
 use Rattle.std.specs.Prelude.{option_map}
 use Rattle.std.proofs.lemmas.Option.{same_Some}

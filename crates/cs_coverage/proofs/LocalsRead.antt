@@ -1,4 +1,4 @@
--- A state of locals alone in integer code reads no input in its operation in progress: for the coverage of runs.
+-- In integer code, the operation in progress of a state with pointers to locals only reads no input: for the coverage of runs.
 use Rattle.std.proofs.Common.{◌≡◌, ◌-◌, ◌<◌, ℕ, Bool, List, [], ◌∷◌, map, length, Option, None, Some, All, refl, sym, ap, subst, arith}
 use Rattle.std.specs.Prelude.{option_map, slice_get, reverse}
 use Rattle.std.specs.Option.{option_and_then, option_map_or}

@@ -1,4 +1,4 @@
--- What a state mentions is mentioned alike by each one with an equal live part: for the merging of rows.
+-- States with equal live parts mention the same symbols: for the merging of rows.
 use Rattle.std.proofs.Common.{◌≡◌, ℕ, Bool, true, List, [], ◌∷◌, Option, None, Some, map, All, refl, sym, ap, ◌∙◌, subst}
 use Rattle.std.specs.Prelude.{option_map}
 use Rattle.std.specs.Option.{option_map_or}

@@ -1,4 +1,4 @@
--- A run that has come to where a state stands has come to where each other one with an equal live part stands: for the merging of rows.
+-- A run that has reached a state has reached each other state with an equal live part: for the merging of rows.
 use Rattle.std.proofs.Common.{◌≡◌, ℕ, List, [], ◌∷◌, map, Option, None, Some, refl, sym, ap, ◌∙◌, subst}
 use Rattle.std.specs.Prelude.{option_map, unwrap_or, is_some, IsTrue, reverse}
 use Rattle.std.specs.Option.{option_and_then}

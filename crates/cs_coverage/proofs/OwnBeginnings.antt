@@ -1,4 +1,4 @@
--- All runs fit the state in which an exploration begins, by their own numbers: for `own_valuation`.
+-- All runs fit the state in which an exploration begins, under their own numbers: for `own_valuation`.
 use Rattle.std.proofs.Common.{◌≡◌, ℕ, zero, suc, ℤ, pos, Bool, true, false, List, [], ◌∷◌, ◌++◌, map, Option, Some, slice_get}
 use Rattle.std.proofs.Common.{true≢false, if◌then◌else◌, IsTrue, refl, sym, ap, ◌∙◌, subst}
 use Rattle.std.specs.Prelude.{is_some, option_map, unwrap_or}

@@ -1,4 +1,4 @@
--- An input gives the same cell by its own number as by that which a run was given: for `input_number`.
+-- An input has the same cell with a run's own number as with the number that the run was given: for `input_number`.
 use Rattle.std.proofs.Common.{◌≡◌, ℤ, pos, Bool, true, false, if◌then◌else◌, refl, ap}
 use Rattle.cs_types.specs.declared.data_model.DataModel.{DataModel}
 use Rattle.cs_inputs.specs.declared.path.Path.{Path}

@@ -1,4 +1,4 @@
--- The state in which the exploration of an integer entry begins stands for the beginning of each run under the run's own numbers: for `IsBeginning`.
+-- The state in which the exploration of an integer entry begins represents the beginning of each run under the run's own numbers: for `IsBeginning`.
 use Rattle.std.proofs.Common.{◌≡◌, ℕ, ℤ, Bool, true, List, [], Option, None, Some, refl, sym, ap, ◌∙◌, subst}
 use Rattle.std.specs.Prelude.{is_some, IsTrue}
 use Rattle.cs_inputs.specs.declared.path.Path.{Path}

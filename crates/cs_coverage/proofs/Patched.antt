@@ -1,4 +1,4 @@
--- A valuation that fits some sets and gives each symbol the number that another one gives it, where its set has that: for states with equal live parts.
+-- A valuation that fits some sets, and agrees with another one on each symbol whose set permits it: for states with equal live parts.
 use Rattle.std.proofs.Common.{◌≡◌, ℕ, ℤ, Bool, true, false, List, Option, None, Some, if◌then◌else◌, refl, sym, ap, ◌∙◌, subst}
 use Rattle.std.specs.Prelude.{IsTrue}
 use Rattle.cs_ranges.specs.declared.range_set.Interval.{Interval}

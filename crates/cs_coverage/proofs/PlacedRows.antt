@@ -1,4 +1,4 @@
--- A closed graph in which all that comes of a row was placed stays closed, and has rows for all of it: for the exploration of a row.
+-- A closed graph in which all children of a row were placed stays closed, and has rows for all of them: for the exploration of a row.
 use Rattle.std.proofs.Common.{◌≡◌, inl, inr, ℕ, zero, suc, List, [], ◌∷◌, ◌++◌, length, Some, slice_get, refl, sym, ap, ◌∙◌, subst}
 use Rattle.std.proofs.Common.{arith}
 use Rattle.std.specs.Prelude.{nat_eq}

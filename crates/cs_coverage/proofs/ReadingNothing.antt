@@ -1,4 +1,4 @@
--- Integer code reads no input: what its memory holds was set or never set. For the coverage of runs, whose cells are those of their own inputs.
+-- Integer code reads no input: each cell of its memory was set, or was never set. For the coverage of runs, whose cells are those of their own inputs.
 use Rattle.std.proofs.Common.{◌≡◌, ℕ, ℤ, Bool, true, false, List, [], ◌∷◌, Option, None, Some, All, if◌then◌else◌, refl, sym}
 use Rattle.std.proofs.Common.{subst}
 use Rattle.std.specs.Prelude.{unwrap_or, slice_get}

@@ -1,4 +1,4 @@
--- The keys of a graph say the live parts of its rows, also once a row was added: for `HaveKeys`.
+-- The keys of a graph represent the live parts of its rows, also after a row was added: for `HaveKeys`.
 use Rattle.std.proofs.Common.{◌≡◌, inl, inr, ◌<◌, ◌+◌, ℕ, zero, suc, List, [], ◌∷◌, ◌++◌, length, Some, slice_get, refl, sym, ap}
 use Rattle.std.proofs.Common.{◌∙◌, subst, arith}
 use Rattle.std.proofs.lemmas.List.{length-append}

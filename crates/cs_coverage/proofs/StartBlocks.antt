@@ -1,4 +1,4 @@
--- No block comes with integer parameters: for the state in which an exploration begins.
+-- Integer parameters have no start blocks: for the state in which an exploration begins.
 use Rattle.std.proofs.Common.{◌≡◌, ℕ, length, Option, None, Some, refl, sym, ◌∙◌}
 use Rattle.cs_types.specs.declared.int_type.IntType.{IntType}
 use Rattle.cs_types.specs.Shape.{Shape, integer, pointer}

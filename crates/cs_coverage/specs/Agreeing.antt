@@ -1,4 +1,4 @@
--- Valuations that give what a state mentions the numbers that a run gives it.
+-- Valuations that have a run's numbers for the symbols that a state mentions.
 use Rattle.std.specs.Prelude.{◌≡◌, ℕ, Bool, true, List, All}
 use Rattle.std.specs.FinMap as finite
 use Rattle.std.specs.Ordering.{int_eq}
@@ -10,20 +10,20 @@ use Rattle.cs_state.specs.declared.state.State.{State}
 use Rattle.cs_state.specs.Cells.{Blocks}
 use Rattle.cs_progress.specs.Locals.{IsOver, HasLocalsAlone}
 
--- whether two valuations give a symbol the same number
+-- whether two valuations have the same number for a symbol
 abbrev pub agreeing : Valuation → Valuation → ℕ → Bool
 agreeing own valuation symbol = int_eq (valuation symbol) (own symbol)
 
--- the extent and the symbol of a block are over symbols that are known
+-- the extent and the symbol of a block are over known symbols
 abbrev pub IsBlockOver : (ℕ → Bool) → Block → Type 0
 IsBlockOver known block = IsOver known block.extent × (known block.sym.0 ≡ true)
 
--- the same of all blocks
+-- this holds for all blocks
 abbrev pub AreBlocksOver : (ℕ → Bool) → Blocks → Type 0
 AreBlocksOver known blocks = All (λ (entry : (ℕ × ℕ) × Block). IsBlockOver known entry.1) (finite.entries blocks)
 
--- a valuation gives each symbol that a state mentions the number that another one gives it: those in operands, answers, memory, in what was read and
--- returned, and those of blocks
+-- two valuations have the same number for each symbol that a state mentions: in operands, answers, memory, in the cells that were read and in the result,
+-- and in blocks
 pub record AgreesOnMentioned (program : TypedProgram) (bases : List Base) (state : State) (own valuation : Valuation) : Type 0 where
   pub known : ℕ → Bool
   pub mentions : HasLocalsAlone program bases known state

@@ -1,4 +1,4 @@
--- A closed graph: what comes of each row that waits no longer is there, under all names that extend those of the tables so far.
+-- A closed graph: it has the successors of each row that doesn't wait any more, under all names that extend those of the tables so far.
 use Rattle.std.specs.Prelude.{◌≡◌, ◌⊎◌, ℕ, ℤ, List, [], Some, length, slice_get}
 use Rattle.std.specs.Global.{Box}
 use Rattle.cs_inputs.specs.declared.path.Path.{Path}
@@ -29,7 +29,7 @@ use Rattle.cs_successors.specs.Coming.{IsIntegerState, ComesOfState}
 use Rattle.cs_coverage.specs.OwnNumbers.{own_valuation}
 use Rattle.cs_explored.specs.Placing.{RowGraph, IsPlain}
 
--- a row has the live part of a child
+-- some row has the live part of a child
 pub record HasRowFor (rows : List Row) (child : Child) : Type 0 where
   pub number : ℕ
   pub row : Row
@@ -51,23 +51,23 @@ pub record AreNames (given names : Naming) : Type 0 where
 abbrev pub Waits : List (ℕ × ℕ) → ℕ → Type 0
 Waits work number = (visits : ℕ) × IsWaiting work visits number
 
--- a row waits, or is the one that is worked on
+-- a row waits, or is the one whose successors are being found
 abbrev pub IsOpen : ℕ → List (ℕ × ℕ) → ℕ → Type 0
 IsOpen row work number = Waits work number ⊎ (number ≡ row)
 
--- the key of each row says its live part
+-- the key of each row represents its live part
 abbrev pub HaveKeys : RowGraph → Type 0
 HaveKeys graph = (number : ℕ) (key : List ℕ) (row : Row) → slice_get graph.keys number ≡ Some key → slice_get graph.rows number ≡ Some row
     → key ≡ words_of (live_part row.state.value)
 
--- a state stands for the beginning of each run under the run's own numbers, whatever the run lists, passes and reads
+-- a state represents the beginning of each run under the run's own numbers, whatever the run guesses, passes and reads
 abbrev pub BeginsOwn : Code → TypedProgram → ℕ → Naming → State → Type 0
 BeginsOwn code program entry names state =
     (budgets : RunBudgets) (inputs : Path → ℤ) (guesses : List Guess) (steps : List Step) (log : Log)
     → let own = own_valuation program entry names (setting_with program budgets inputs guesses) steps log in
     Fits own state.constraints × (meaning code names program state own ≡ code_started code program inputs entry (routine_of program entry))
 
--- the state stands for the beginning of each run of an entry, under some valuation that fits, and under the run's own numbers
+-- the state represents the beginning of each run of an entry, under some valuation that fits, and under the run's own numbers
 pub record IsBeginning (code : Code) (program : TypedProgram) (entry : ℕ) (names : Naming) (state : State) : Type 0 where
   pub answers : state.answers ≡ []
   pub events : state.counters.events ≡ 0
@@ -77,18 +77,18 @@ pub record IsBeginning (code : Code) (program : TypedProgram) (entry : ℕ) (nam
       × (meaning code names program state valuation ≡ code_started code program inputs entry (routine_of program entry))
 
 module _ (code : Code) (program : TypedProgram) (entry : ℕ) (budgets : RunBudgets) (rules : List Rule) (given : Naming) where
-  -- a state of integer code, whose live part says all of it
+  -- a state of integer code, whose live part has all of it
   pub record IsRowState (state : State) : Type 0 where
     pub integer : (names : Naming) → AreNames given names → IsIntegerState code program budgets names state
     pub plain : IsPlain state
 
-  -- the first row stands for the beginnings of all runs of the entry
+  -- the first row represents the beginnings of all runs of the entry
   pub record BeginsAtRow (rows : List Row) : Type 0 where
     pub row : Row
     pub there : slice_get rows 0 ≡ Some row
     pub begins : (names : Naming) → AreNames given names → IsBeginning code program entry names row.state.value
 
-  -- all that comes of a row is there: a row for each child, and each end, whose live part has all that its state holds
+  -- the graph has all successors of a row: a row for each child, and each end, whose live part has all that its state holds
   pub record IsExpanded (rows : List Row) (ends : List End) (number : ℕ) (row : Row) : Type 0 where
     pub made : List Child
     pub endings : List (Outcome × Box State)
@@ -97,13 +97,13 @@ module _ (code : Code) (program : TypedProgram) (entry : ℕ) (budgets : RunBudg
     pub listed : (place : ℕ) (one : Outcome × Box State) → slice_get endings place ≡ Some one → IsListed ends number one
     pub plain : (place : ℕ) (one : Outcome × Box State) → slice_get endings place ≡ Some one → IsPlain one.1.value
 
-  -- a graph is closed but for the rows that wait
+  -- a graph is closed, except for the rows that wait
   pub record IsClosed (rows : List Row) (ends : List End) (Waits : ℕ → Type 0) : Type 0 where
     pub first : BeginsAtRow rows
     pub states : (number : ℕ) (row : Row) → slice_get rows number ≡ Some row → IsRowState row.state.value
     pub expanded : (number : ℕ) (row : Row) → slice_get rows number ≡ Some row → ¬ Waits number → IsExpanded rows ends number row
 
-  -- a graph with the keys of its rows is closed but for the rows that are open by what waits in it
+  -- a graph with the keys of its rows is closed, except for the rows that are open in its worklist
   pub record IsClosedGraph (graph : RowGraph) (ends : List End) (Open : List (ℕ × ℕ) → ℕ → Type 0) : Type 0 where
     pub keys : HaveKeys graph
     pub long : length graph.keys ≡ length graph.rows

@@ -1,4 +1,4 @@
--- What an exploration is to find of the runs of an entry: their positions and their ends, under their own numbers of live symbols.
+-- What an exploration has to find for the runs of an entry: their positions and their ends, under their own numbers of live symbols.
 use Rattle.std.specs.Prelude.{◌≡◌, ◌≢◌, ℕ, ℤ, List, [], ◌∷◌, Some, slice_get, Contains}
 use Rattle.cs_inputs.specs.declared.path.Path.{Path}
 use Rattle.cs_ast.specs.declared.place.Place.{Place}
@@ -30,17 +30,17 @@ use Rattle.cs_successors.specs.EntryRuns.{events_of, setting_with, HasLeft, Ends
 use Rattle.cs_coverage.specs.OwnNumbers.{own_valuation}
 use Rattle.cs_coverage.specs.Phases.{IsPhaseAlong}
 
--- the live part of a state depends on what numbers a symbol may have
+-- the live part of a state depends on the numbers that a symbol may have
 pub record IsLive (state : State) (sym : ℕ) : Type 0 where
   pub sets : Sets
   pub elsewhere : (other : ℕ) → other ≢ sym → set_of sets other ≡ set_of state.constraints other
   pub differs : live_part (record state { constraints = sets }) ≢ live_part state
 
--- a valuation gives each symbol on which the state's live part depends the number that another one gives it
+-- two valuations have the same number for each symbol on which the state's live part depends
 abbrev pub AgreesOnLive : State → Valuation → Valuation → Type 0
 AgreesOnLive state own valuation = (sym : ℕ) → IsLive state sym → valuation sym ≡ own sym
 
--- what is pending is no access at one of these places
+-- the pending operation is no access at one of these places
 abbrev pub IsElsewhere : (Place → Type 0) → Pending → Type 0
 IsElsewhere IsCut (Accesses at object offset) = ¬ IsCut at
 IsElsewhere IsCut other = Unit {0}
@@ -53,27 +53,27 @@ PassesNone IsCut (one ∷ steps) = IsElsewhere IsCut one.pending × PassesNone I
 abbrev pub IsCutAt : List Cut → Place → Type 0
 IsCutAt cuts place = (count : ℕ) × Contains cuts (Splits place count)
 
--- nothing was cut for want of nodes
+-- no cut was caused by the budget of nodes
 abbrev pub HasAllNodes : List Cut → Type 0
 HasAllNodes cuts = (nodes : ℕ) → ¬ Contains cuts (Nodes nodes)
 
 module _ (code : Code) (program : TypedProgram) (entry : ℕ) (budgets : RunBudgets) (names : Naming) (rules : List Rule) where
-  -- the state stands for a run that has passed these events and has so much left to do: under a valuation that gives live symbols their own numbers in this
-  -- run, and with the phase that the rules give the events
+  -- the state represents a run that has passed these events and has this act left: under a valuation in which live symbols have this run's own numbers,
+  -- and with the phase that the rules determine for the events
   pub record StandsForRun (state : State) (setting : Setting) (own : Valuation) (events : List Event) (left : Act CodeState) (log : Log) : Type 0 where
     pub valuation : Valuation
     pub stands : StandsFor code program budgets names state valuation (left_of (read_cell setting) [] left) log
     pub agrees : AgreesOnLive state own valuation
     pub phase : IsPhaseAlong rules events state.phase
 
-  -- some row stands for a run directly after these steps
+  -- some row represents a run directly after these steps
   pub record HasRow (rows : List Row) (setting : Setting) (steps : List Step) (left : Act CodeState) (log : Log) : Type 0 where
     pub number : ℕ
     pub row : Row
     pub there : slice_get rows number ≡ Some row
     pub stands : StandsForRun row.state.value setting (own_valuation program entry names setting steps log) (events_of steps) left log
 
-  -- some end stands for a run that passes these steps and ends so, with a log
+  -- some end represents a run that passes these steps and ends with this outcome and this log
   pub record HasEnd (ends : List End) (setting : Setting) (steps : List Step) (outcome : Outcome) (log : Log) : Type 0 where
     pub number : ℕ
     pub end : End
@@ -85,7 +85,7 @@ module _ (code : Code) (program : TypedProgram) (entry : ℕ) (budgets : RunBudg
     pub stands : StandsForRun end.state.value setting (own_valuation program entry names setting steps log) (events_of steps) last before
 
 module _ (code : Code) (program : TypedProgram) (entry : ℕ) (budgets : RunBudgets) (rules : List Rule) where
-  -- a run without guesses stands at a row at its beginning and after each event, and at an end at its end, unless an access that was cut comes before
+  -- each run without guesses has a row at its beginning and after each event, and an end at its end, unless it has passed an access that was cut
   pub record Covers (explored : Explored) : Type 0 where
     pub positions : HasAllNodes explored.cuts.items → (inputs : Path → ℤ) (steps : List Step) (left : Act CodeState) (log : Log)
         → HasLeft code program entry budgets (setting_with program budgets inputs []) steps left log → PassesNone (IsCutAt explored.cuts.items) steps

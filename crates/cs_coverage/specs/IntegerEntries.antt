@@ -1,4 +1,4 @@
--- Entries that work with integers alone.
+-- Integer entries.
 use Rattle.std.specs.Prelude.{◌≡◌, ℕ, Some, slice_get}
 use Rattle.cs_types.specs.declared.int_type.IntType.{IntType}
 use Rattle.cs_types.specs.Shape.{integer}
@@ -13,7 +13,7 @@ abbrev pub HasIntegerParameters : TypedProgram → ℕ → Type 0
 HasIntegerParameters program function = (number : ℕ) (v : Variable)
     → slice_get (parameters_of (routine_of program function)) number ≡ Some v → (ty : IntType) × (v.ty ≡ integer ty)
 
--- an entry's code works with integers alone, and its parameters are integers
+-- an entry has integer code, and its parameters are integers
 pub record IsIntegerEntry (code : Code) (program : TypedProgram) (entry : ℕ) : Type 0 where
   pub integers : HasIntegerCode code program entry
   pub parameters : HasIntegerParameters program entry

@@ -4,7 +4,7 @@ use Rattle.cs_events.specs.declared.event.Event.{Event}
 use Rattle.cs_explored.specs.declared.watch.Rule.{Rule}
 use Rattle.cs_explored.specs.Watching.{IsPhaseAfter}
 
--- the rules give these events the phase: at the beginning it is 0
+-- the phase that the rules determine for these events; at the beginning it is 0
 pub data IsPhaseAlong (rules : List Rule) : List Event → ℕ → Type 0 where
   begins : IsPhaseAlong rules [] 0
   follows : {events : List Event} {before after : ℕ} (event : Event) → IsPhaseAlong rules events before → IsPhaseAfter rules before event after

@@ -1,5 +1,5 @@
--- A part of what an exploration is to find of the runs of an entry (`Covering`): some state of a row or end stands for a run at each of its positions, with the
--- phase that the rules give the run's events, and under the run's own numbers of the symbols that it mentions.
+-- A part of what an exploration has to find for the runs of an entry (`Covering`): some state of a row or end represents a run at each of its positions, with
+-- the phase that the rules determine for the run's events, and under the run's own numbers of the symbols that it mentions.
 use Rattle.std.specs.Prelude.{◌≡◌, ℕ, ℤ, List, [], Some, slice_get}
 use Rattle.cs_inputs.specs.declared.path.Path.{Path}
 use Rattle.cs_ast.specs.TypedProgram.{TypedProgram}
@@ -26,7 +26,7 @@ use Rattle.cs_coverage.specs.OwnNumbers.{own_valuation}
 use Rattle.cs_coverage.specs.Phases.{IsPhaseAlong}
 
 module _ (code : Code) (program : TypedProgram) (entry : ℕ) (budgets : RunBudgets) (names : Naming) where
-  -- some row's state stands for a run that has so much left to do, with this log
+  -- some row's state represents a run with this remaining act and this log
   pub record HasPosition (rows : List Row) (setting : Setting) (left : Act CodeState) (log : Log) : Type 0 where
     pub number : ℕ
     pub row : Row
@@ -34,7 +34,7 @@ module _ (code : Code) (program : TypedProgram) (entry : ℕ) (budgets : RunBudg
     pub valuation : Valuation
     pub stands : StandsFor code program budgets names row.state.value valuation (left_of (read_cell setting) [] left) log
 
-  -- some end's state stands for a run that passes these steps and ends so, with a log, before it ends; and has what the run returns
+  -- some end's state represents a run that passes these steps and ends with this outcome and log, before it ends; and it has the value that the run returns
   pub record HasEnding (ends : List End) (setting : Setting) (steps : List Step) (outcome : Outcome) (log : Log) : Type 0 where
     pub number : ℕ
     pub end : End
@@ -48,7 +48,7 @@ module _ (code : Code) (program : TypedProgram) (entry : ℕ) (budgets : RunBudg
     pub returned : HasReturned outcome (result_in names.bases end.state.value.blocks valuation end.state.value.result)
 
 module _ (code : Code) (program : TypedProgram) (entry : ℕ) (budgets : RunBudgets) where
-  -- a run without guesses has such a position at its beginning and after each event, and such an end, unless an access that was cut comes before
+  -- each run without guesses has such a position at its beginning and after each event, and such an end, unless it has passed an access that was cut
   pub record CoversPositions (explored : Explored) : Type 0 where
     pub positions : HasAllNodes explored.cuts.items → (inputs : Path → ℤ) (steps : List Step) (left : Act CodeState) (log : Log)
         → HasLeft code program entry budgets (setting_with program budgets inputs []) steps left log → PassesNone (IsCutAt explored.cuts.items) steps
@@ -57,7 +57,7 @@ module _ (code : Code) (program : TypedProgram) (entry : ℕ) (budgets : RunBudg
         → EndsAfter code program entry budgets (setting_with program budgets inputs []) steps outcome log → PassesNone (IsCutAt explored.cuts.items) steps
         → HasEnding code program entry budgets (naming explored.tables) explored.ends.items (setting_with program budgets inputs []) steps outcome log
 
-  -- some row's state stands for a run that has passed these steps and has so much left to do. It has the phase of the events, and stands for the run under
+  -- some row's state represents a run that has passed these steps and has this act left. It has the phase of the events, and represents the run under
   -- the run's own numbers of the symbols that it mentions
   pub record HasOwnRow (rules : List Rule) (names : Naming) (rows : List Row) (setting : Setting) (steps : List Step) (left : Act CodeState) (log : Log)
       : Type 0 where
@@ -65,14 +65,14 @@ module _ (code : Code) (program : TypedProgram) (entry : ℕ) (budgets : RunBudg
     pub phase : IsPhaseAlong rules (events_of steps) position.row.state.value.phase
     pub agrees : AgreesOnMentioned program names.bases position.row.state.value (own_valuation program entry names setting steps log) position.valuation
 
-  -- the same of some end's state, before the run ends so
+  -- this holds for some end's state, before the run ends with this outcome
   pub record HasOwnEnd (rules : List Rule) (names : Naming) (ends : List End) (setting : Setting) (steps : List Step) (outcome : Outcome) (log : Log)
       : Type 0 where
     pub ending : HasEnding code program entry budgets names ends setting steps outcome log
     pub phase : IsPhaseAlong rules (events_of steps) ending.end.state.value.phase
     pub agrees : AgreesOnMentioned program names.bases ending.end.state.value (own_valuation program entry names setting steps log) ending.valuation
 
-  -- each run without guesses has such a position at its beginning and after each event, and such an end, with the same conditions
+  -- each run without guesses has such a position at its beginning and after each event, and such an end, under the same conditions
   pub record CoversOwn (rules : List Rule) (explored : Explored) : Type 0 where
     pub positions : HasAllNodes explored.cuts.items → (inputs : Path → ℤ) (steps : List Step) (left : Act CodeState) (log : Log)
         → HasLeft code program entry budgets (setting_with program budgets inputs []) steps left log → PassesNone (IsCutAt explored.cuts.items) steps

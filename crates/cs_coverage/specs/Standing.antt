@@ -1,4 +1,4 @@
--- Where runs stand in a graph: at a row directly after an event, and at an end before they end.
+-- The positions of runs in a graph: a row directly after an event, and an end before they end.
 use Rattle.std.specs.Prelude.{◌≡◌, ℕ, List, Some, length, slice_get}
 use Rattle.cs_ast.specs.TypedProgram.{TypedProgram}
 use Rattle.cs_terms.specs.Term.{Valuation}
@@ -23,8 +23,8 @@ use Rattle.cs_coverage.specs.Agreeing.{AgreesOnMentioned}
 use Rattle.cs_coverage.specs.Phases.{IsPhaseAlong}
 
 module _ (code : Code) (program : TypedProgram) (entry : ℕ) (budgets : RunBudgets) (names : Naming) (rules : List Rule) where
-  -- a run that has passed these steps and has so much left to do, with this log, has come to where a row stands, which has the phase of the events: under a
-  -- valuation that agrees with one that is the run's own on what the row's state mentions
+  -- a run that has passed these steps, with this remaining act and this log, has reached a row, which has the phase of the events: under a valuation that
+  -- agrees with the run's own one on what the row's state mentions
   pub record StandsAtRow (rows : List Row) (setting : Setting) (own : Valuation) (steps : List Step) (left : Act CodeState) (log : Log) : Type 0 where
     pub number : ℕ
     pub row : Row
@@ -35,7 +35,7 @@ module _ (code : Code) (program : TypedProgram) (entry : ℕ) (budgets : RunBudg
     pub phase : IsPhaseAlong rules (events_of steps) row.state.value.phase
     pub agrees : AgreesOnMentioned program names.bases row.state.value own valuation
 
-  -- a run that passes these steps and ends so, with this log, has come before that to where an end stands, whose state is one of integer code
+  -- a run that passes these steps and ends with this outcome and log has reached an end before that, whose state is one of integer code
   pub record StandsAtEnd (ends : List End) (setting : Setting) (own : Valuation) (steps : List Step) (outcome : Outcome) (log : Log) : Type 0 where
     pub number : ℕ
     pub end : End

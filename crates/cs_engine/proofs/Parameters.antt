@@ -1,4 +1,4 @@
--- Parameters that are looked at one by one: for the contracts of `can_start` and what it calls.
+-- Checking parameters one by one: for the contracts of `can_start` and the functions that it calls.
 use Rattle.std.proofs.Common.{◌≡◌, ◌<◌, ◌≤◌, inl, inr, ℕ, List, Option, None, Some, length, map, slice_get, refl, sym, ap, ◌∙◌, subst}
 use Rattle.std.proofs.Common.{arith}
 use Rattle.std.specs.Option.{option_map}

@@ -1,6 +1,6 @@
--- What an exploration says of runs is so: of its rows and ends, and of the cuts that it lists. The contract of `explore` says a part of it, of entries that
--- work with integers alone (`IsExactOnIntegers`, `HasOwnOnIntegers`, `HasGuessesOnIntegers` and `HasReasonsOnIntegers` of `Exploring`), whose states have no
--- heap blocks; no contract says the whole.
+-- What an exploration states about runs is true: its rows, its ends, and the cuts that it lists. The contract of `explore` states a part of this, for integer
+-- entries (`IsExactOnIntegers`, `HasOwnOnIntegers`, `HasGuessesOnIntegers` and `HasReasonsOnIntegers` of `Exploring`), whose states have no heap blocks; no
+-- contract states the whole.
 use Rattle.std.specs.Prelude.{ℕ, List, All}
 use Rattle.cs_ast.specs.TypedProgram.{TypedProgram}
 use Rattle.cs_events.specs.declared.outcome.RunBudgets.{RunBudgets}
@@ -18,12 +18,12 @@ use Rattle.cs_exactness.specs.Graphs.{IsExactGraph}
 use Rattle.cs_exactness.specs.Noted.{EachState}
 use Rattle.cs_guesses.specs.Graphs.{IsGuessedGraph}
 
--- what is said of where each state's heap blocks were made
+-- each row and end records where the heap blocks of its state were made
 abbrev pub EachRecordsAllocations : Code → TypedProgram → ℕ → RunBudgets → Naming → List Row → List End → Type 0
 EachRecordsAllocations code program entry budgets names rows ends =
     EachState rows ends (λ number state chain. RecordsAllocations code program entry budgets names state chain)
 
--- rows and ends say just what is so of runs, with what states record of guesses and allocations, and each cut has its reason
+-- rows and ends represent only runs, states record their guesses and allocations as the runs have them, and each cut has its reason
 pub record IsExactExploration (code : Code) (program : TypedProgram) (entry : ℕ) (limits : Budgets) (rules : List Rule) (explored : Explored)
     : Type 0 where
   pub graph : IsExactGraph code program entry (run_budgets limits) (naming explored.tables) rules explored.rows.items explored.ends.items

@@ -1,4 +1,4 @@
--- What a state records of where its heap blocks were made. Its guesses and its phase are noted too (`NotesEvents` of `cs_exactness`).
+-- What a state records about where its heap blocks were made. Its guesses and its phase are noted too (`NotesEvents` of `cs_exactness`).
 use Rattle.std.specs.Prelude.{◌≡◌, ℕ, suc, true, List, Some, slice_get}
 use Rattle.cs_ast.specs.TypedProgram.{TypedProgram}
 use Rattle.cs_terms.specs.Term.{Valuation}
@@ -21,7 +21,7 @@ use Rattle.cs_state.specs.Meaning.{setting_of}
 use Rattle.cs_state.specs.Naming.{Naming}
 use Rattle.cs_successors.specs.EntryRuns.{events_of, HasLeft}
 
--- at the event with a number, one of these steps, an allocation with a number gave a block
+-- among these steps, the event with this number is the allocation with this number, and it returned a block
 pub record IsMadeAt (steps : List Step) (event allocation : ℕ) : Type 0 where
   pub passed : ℕ
   pub number : event ≡ suc passed
@@ -31,7 +31,7 @@ pub record IsMadeAt (steps : List Step) (event allocation : ℕ) : Type 0 where
   pub gives : one.event.label ≡ Alloc true
 
 module _ (code : Code) (program : TypedProgram) (entry : ℕ) (budgets : RunBudgets) (names : Naming) where
-  -- in the run of each valuation that fits, each heap block of the state was made at the event with the number that the block has
+  -- in the run of each valuation that fits, each heap block of the state was made at the event whose number the block has
   abbrev pub RecordsAllocations : State → List Event → Type 0
   RecordsAllocations state chain = (valuation : Valuation) (steps : List Step) (left : Act CodeState) (log : Log)
       → Fits valuation state.constraints

@@ -18,7 +18,7 @@ use cs_keys::laws::keys_are_exact;
 use cs_successors::Exploration;
 use std::alloc::AllocError;
 
-/// Explores the runs of an entry.
+/// Explores all runs of an entry, and returns the rows, the ends and the cuts.
 pub fn explore(
     exploration: &Exploration,
     entry: u32,
@@ -61,7 +61,7 @@ pub fn explore(
     Ok(findings.explored())
 }
 
-// The row in which the entry begins, where the budget of nodes allows it.
+// The findings with the row in which the entry begins, if the budget of nodes allows one.
 fn begin(exploration: &Exploration, entry: u32) -> Result<Findings, AllocError>
     requires ready { IsReady exploration.now.context.now.setting.now }
     requires nodes { exploration.now.budgets.nodes ≤ 200000 }
@@ -81,7 +81,7 @@ fn begin(exploration: &Exploration, entry: u32) -> Result<Findings, AllocError>
     Ok(findings)
 }
 
-// Finds what comes of each row, until none waits or the graph is full.
+// Finds the children and ends of each row, until no row waits or the graph is full.
 fn expand_all(
     exploration: &Exploration,
     findings: &mut Findings,
@@ -107,7 +107,7 @@ fn expand_all(
     Err(AllocError)
 }
 
-// Finds what comes of a row: its ends and cuts first, then its children. False where the graph is full.
+// Finds the successors of a row: its ends and cuts first, then its children. False if the graph is full.
 fn expand(
     exploration: &Exploration,
     findings: &mut Findings,

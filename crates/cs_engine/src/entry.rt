@@ -17,7 +17,7 @@ use cs_types::CType;
 use cs_values::types::is_small;
 use std::alloc::AllocError;
 
-/// The state in which an entry begins. An entry that can't begin is want of memory.
+/// Returns the state in which an entry begins. An entry that can't begin is reported as want of memory.
 pub(crate) fn start(context: &Context, entry: u32, tables: &mut Tables) -> Result<State, AllocError>
     requires { IsReady context.now.setting.now }
     ensures start { IfOk result (IsStart (view.code context.now.code.now)
@@ -32,8 +32,8 @@ pub(crate) fn start(context: &Context, entry: u32, tables: &mut Tables) -> Resul
     State::start(context.alloc, context.code, program, entry, tables)
 }
 
-// Whether an entry can begin: no two of its parameters have one name (C11 6.7, paragraph 3), and no size passes the bounds in what they
-// point to. Both hold of each file that was read, but not of each program that is well-formed.
+// Whether an entry can begin: its parameters have different names (C11 6.7, paragraph 3), and no size in what they point to exceeds
+// the bounds. Both hold for each file that was read, but not for each program that is well formed.
 fn can_start(program: &Program, entry: u32) -> bool
     requires { HasLayouts program.now }
     ensures sizes { result ≡ true → HaveSizes (typed_program program.now)
@@ -47,7 +47,7 @@ fn can_start(program: &Program, entry: u32) -> bool
     }
 }
 
-// The parameters of a function.
+// The parameters of a function, which are the first of its locals.
 fn parameters_of(function: &Function) -> &[Local]
     ensures { map variable result.now ≡ meaning.parameters_of (routine function.now) }
 {
@@ -65,7 +65,7 @@ fn can_receive(program: &Program, parameters: &[Local]) -> bool
     have_sizes(program, parameters) && differ_in_name(parameters)
 }
 
-// Whether no size passes the bounds in what the parameters point to.
+// Whether no size in what the parameters point to exceeds the bounds.
 fn have_sizes(program: &Program, parameters: &[Local]) -> bool
     requires { HasLayouts program.now }
     ensures { result ≡ true
@@ -92,7 +92,7 @@ fn has_sizes(program: &Program, ty: &CType) -> bool
     }
 }
 
-// Whether no two parameters have one name.
+// Whether all parameters have different names.
 fn differ_in_name(parameters: &[Local]) -> bool
     ensures { result ≡ true → DifferInName (map variable parameters.now) }
 {

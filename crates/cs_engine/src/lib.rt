@@ -1,4 +1,4 @@
-//! The exploration of an entry: all states that its runs come to, how they end, and where the exploration was cut.
+//! The exploration of an entry: all states that its runs reach, how they end, and where the exploration was cut.
 #![tactic(auto)]
 
 mod engine;

@@ -5,7 +5,7 @@ ghost use Rattle.cs_terms.specs.Table.{HasEachOnce};
 
 use cs_state::Tables;
 
-/// Nothing has two numbers. The lengths are asked for what they say of the names.
+/// Proves that no region and no symbol has two numbers. The lengths are read for what their contracts state about the names.
 pub fn have_each_once(tables: &Tables)
     ensures bases { IsNumbered (naming tables.now).bases }
     ensures syms { HasEachOnce (naming tables.now).syms }

@@ -1,4 +1,4 @@
--- No two rows have one chain where no two siblings have one label, and so no two rows or ends are alike: for `AreDistinct`.
+-- If no two siblings have the same label, no two rows have the same chain, and so no two rows or ends are alike: for `AreDistinct`.
 use Rattle.std.proofs.Common.{◌≡◌, ℕ, List, [], ◌∷◌, ◌++◌, length, refl, sym, ap, arith}
 use Rattle.std.proofs.lemmas.List.{length-append}
 use Rattle.cs_ast.specs.TypedProgram.{TypedProgram}

@@ -1,4 +1,4 @@
--- A graph whose rows and ends come from rows is exact, and the faults after rows that others come from are found: for `IsExactGraph` and `FindsFaults`.
+-- A graph whose rows and ends have sources is exact, and the faults after rows that have children are found: for `IsExactGraph` and `FindsFaults`.
 use Rattle.std.proofs.Common.{◌≡◌, inl, inr, ℕ, List, [], Some, slice_get, refl, sym, ap, ◌∙◌, subst}
 use Rattle.cs_ast.specs.TypedProgram.{TypedProgram}
 use Rattle.cs_events.specs.declared.outcome.Outcome.TheVariants.{Fault}

@@ -1,4 +1,4 @@
--- Rows and ends stand for the runs of just the valuations that fit them, where each comes from a row: for `IsExact`.
+-- Rows and ends that have sources represent the runs of exactly the valuations that fit them: for `IsExact`.
 use Rattle.std.proofs.Common.{◌≡◌, inl, inr, ◌<◌, ℕ, zero, suc, List, [], ◌∷◌, ◌++◌, Some, slice_get, refl, sym, ap, subst, arith}
 use Rattle.std.proofs.lemmas.List.{append-nil}
 use Rattle.cs_ast.specs.TypedProgram.{TypedProgram}

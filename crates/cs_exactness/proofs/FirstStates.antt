@@ -1,4 +1,4 @@
--- The state in which the exploration of an integer entry begins stands, under each valuation that fits, for the beginning of that valuation's run: for
+-- The state in which the exploration of an integer entry begins represents, under each valuation that fits, the beginning of that valuation's run: for
 -- `IsFirstState`.
 use Rattle.std.proofs.Common.{◌≡◌, ℕ, ℤ, pos, Bool, true, List, Option, None, Some, slice_get, refl, sym, ap, ◌∙◌, subst}
 use Rattle.std.specs.Prelude.{is_some, IsTrue, if◌then◌else◌}

@@ -1,4 +1,4 @@
--- What the run of a valuation lists by a state's guesses, once one more was guessed: for the runs of rows.
+-- The guesses of a valuation's run according to a state, after one more guess: for the runs of rows.
 use Rattle.std.proofs.Common.{◌≡◌, ◌≢◌, ◌<◌, ◌≤◌, inl, inr, ℕ, ℤ, suc, Bool, true, cond, List, [], ◌∷◌, map, Option, None, Some}
 use Rattle.std.proofs.Common.{refl, sym, ap, ◌∙◌, subst}
 use Rattle.std.proofs.Common.{All, arith}

@@ -1,4 +1,4 @@
--- Each state has just the guesses of the events that lead to its row, in order, and the phase that the rules give these: for `EachNotesEvents`.
+-- Each state has exactly the guesses of the events that lead to its row, in order, and the phase that the rules determine for these: for `EachNotesEvents`.
 use Rattle.std.proofs.Common.{◌≡◌, ◌⊎◌, ◌<◌, inl, inr, ℕ, suc, Bool, true, false, cond, List, [], ◌∷◌, ◌++◌, length, map, None}
 use Rattle.std.proofs.Common.{Some, slice_get, refl}
 use Rattle.std.proofs.Common.{Option, sym, ap, ◌∙◌, subst, arith}

@@ -1,5 +1,5 @@
--- Runs without guesses, and those that guess truths alone, fit the rows to whose chains their events belong, under their own numbers: by induction over the
--- chain, from what a run that passes a child's event has come to. For `HasOwnRuns`.
+-- Runs without guesses, and those that guess only truths, fit the rows whose chains they pass, under their own numbers: by induction over the chain, from
+-- what a run that passes a child's event has reached. For `HasOwnRuns`.
 use Rattle.std.proofs.Common.{◌≡◌, ◌<◌, ◌≤◌, inl, inr, ℕ, zero, suc, ℤ, pos, List, [], ◌∷◌, ◌++◌, map, length, Option, None, Some}
 use Rattle.std.proofs.Common.{slice_get}
 use Rattle.std.proofs.Common.{refl, sym, ap, ◌∙◌, subst, arith}

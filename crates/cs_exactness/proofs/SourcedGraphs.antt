@@ -1,4 +1,4 @@
--- The rows and ends of a graph come from rows as an exploration goes on: as it begins, as a row is given, and as what comes of it was added.
+-- The rows and ends of a graph have sources throughout an exploration: at its beginning, as a row is taken from the worklist, and as its successors are added.
 use Rattle.std.proofs.Common.{◌≡◌, ◌≢◌, inl, inr, ◌<◌, ◌+◌, ℕ, zero, suc, List, [], ◌∷◌, ◌++◌, map, length, Some, slice_get}
 use Rattle.std.proofs.Common.{refl, sym, ap, ◌∙◌, subst}
 use Rattle.std.proofs.Common.{arith}

@@ -1,4 +1,4 @@
--- Rows and ends come from rows also once a child or the ends of a row were added: for what is kept as an exploration goes on.
+-- Rows and ends still have sources after a child or the ends of a row were added: for the invariant of an exploration.
 use Rattle.std.proofs.Common.{◌≡◌, ◌≢◌, ◌⊎◌, inl, inr, ◌<◌, ◌+◌, ℕ, zero, suc, List, [], ◌∷◌, ◌++◌, map, length, Some}
 use Rattle.std.proofs.Common.{slice_get, refl, sym, ap, ◌∙◌, subst}
 use Rattle.std.proofs.Common.{arith}

@@ -1,4 +1,4 @@
--- The run of each valuation that fits a row passes the row's chain and comes to where the row stands: by induction over the chain, from what each row is of its
+-- The run of each valuation that fits a row passes the row's chain and reaches the row: by induction over the chain, since each row is a child of its
 -- parent. For `IsExactRow`.
 use Rattle.std.proofs.Common.{◌≡◌, ◌<◌, ◌≤◌, inl, inr, ℕ, List, [], ◌∷◌, ◌++◌, map, None, Some, slice_get, refl, sym, ap, ◌∙◌}
 use Rattle.std.proofs.Common.{subst}

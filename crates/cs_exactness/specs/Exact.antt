@@ -1,5 +1,5 @@
--- What the rows and ends of a graph say of runs: under each valuation that fits they stand for the run of that valuation, at the position to which the row's
--- events lead. `explore` of `cs_engine` ensures it of entries that work with integers alone.
+-- What the rows and ends of a graph state about runs: under each valuation that fits, they represent the run of that valuation, at the position to which
+-- the row's events lead. `explore` of `cs_engine` ensures it for integer entries.
 use Rattle.std.specs.Prelude.{◌≡◌, ℕ, List, [], Some, slice_get}
 use Rattle.cs_ast.specs.TypedProgram.{TypedProgram}
 use Rattle.cs_terms.specs.Term.{Valuation}
@@ -27,12 +27,12 @@ abbrev pub IsPossible : State → Type 0
 IsPossible state = (valuation : Valuation) × Fits valuation state.constraints
 
 module _ (code : Code) (program : TypedProgram) (entry : ℕ) (budgets : RunBudgets) (names : Naming) where
-  -- the state stands for the run of a valuation where so much is left to do
+  -- the state represents the run of a valuation when this act remains
   abbrev pub Stands : State → Valuation → Act CodeState → Log → Type 0
   Stands state valuation left log =
       StandsFor code program budgets names state valuation (left_of (read_cell (setting_of names budgets state valuation)) [] left) log
 
-  -- the run of the valuation passes just these events first, and directly after them the state stands for it
+  -- the run of the valuation passes exactly these events first, and directly after them the state represents it
   pub record ComesToState (state : State) (chain : List Event) (valuation : Valuation) : Type 0 where
     pub steps : List Step
     pub passes : events_of steps ≡ chain
@@ -41,7 +41,7 @@ module _ (code : Code) (program : TypedProgram) (entry : ℕ) (budgets : RunBudg
     pub has_left : HasLeft code program entry budgets (setting_of names budgets state valuation) steps left log
     pub stands : Stands state valuation left log
 
-  -- the run of the valuation passes just these events and ends as the end says, and the end's state stands for it before that
+  -- the run of the valuation passes exactly these events and has the outcome of the end, and the end's state represents it before that
   pub record ComesToEnd (end : End) (chain : List Event) (valuation : Valuation) : Type 0 where
     pub steps : List Step
     pub passes : events_of steps ≡ chain
@@ -54,7 +54,7 @@ module _ (code : Code) (program : TypedProgram) (entry : ℕ) (budgets : RunBudg
     pub returned : HasReturned outcome (result_in names.bases end.state.value.blocks valuation end.state.value.result)
     pub stands : Stands end.state.value valuation last before
 
-  -- a row has a chain, by which the runs of all valuations that fit come to it, under the program's data model; and there are some
+  -- a row has a chain, by which the runs of all valuations that fit reach it, under the program's data model; and some valuation fits
   pub record IsExactRow (rows : List Row) (number : ℕ) (row : Row) : Type 0 where
     pub model : row.state.value.model ≡ program.model
     pub chain : List Event
@@ -62,7 +62,7 @@ module _ (code : Code) (program : TypedProgram) (entry : ℕ) (budgets : RunBudg
     pub possible : IsPossible row.state.value
     pub comes : (valuation : Valuation) → Fits valuation row.state.value.constraints → ComesToState row.state.value chain valuation
 
-  -- the runs of all valuations that fit an end pass its row's chain and end as it says, under the program's data model; and there are some
+  -- the runs of all valuations that fit an end pass its row's chain and have its outcome, under the program's data model; and some valuation fits
   pub record IsExactEnd (rows : List Row) (end : End) : Type 0 where
     pub model : end.state.value.model ≡ program.model
     pub chain : List Event
@@ -70,7 +70,7 @@ module _ (code : Code) (program : TypedProgram) (entry : ℕ) (budgets : RunBudg
     pub possible : IsPossible end.state.value
     pub comes : (valuation : Valuation) → Fits valuation end.state.value.constraints → ComesToEnd end chain valuation
 
-  -- rows and ends stand for the runs of just the valuations that fit them
+  -- rows and ends represent the runs of exactly the valuations that fit them
   pub record IsExact (rows : List Row) (ends : List End) : Type 0 where
     pub of_rows : (number : ℕ) (row : Row) → slice_get rows number ≡ Some row → IsExactRow rows number row
     pub of_ends : (number : ℕ) (end : End) → slice_get ends number ≡ Some end → IsExactEnd rows end

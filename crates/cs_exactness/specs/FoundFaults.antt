@@ -1,4 +1,4 @@
--- The faults directly after the events of rows that others come from: where an exploration is cut for want of nodes, these have all been found.
+-- The faults directly after the events of rows that have children: an exploration has found all of them, also if the budget of nodes is used up.
 use Rattle.std.specs.Prelude.{◌≡◌, ◌≢◌, ℕ, ℤ, List, [], Some, slice_get}
 use Rattle.cs_inputs.specs.declared.path.Path.{Path}
 use Rattle.cs_ast.specs.declared.place.Place.{Place}
@@ -15,7 +15,7 @@ use Rattle.cs_explored.specs.declared.explored.Row.{Row}
 use Rattle.cs_successors.specs.EntryRuns.{events_of, setting_with, EndsAfter}
 use Rattle.cs_exactness.specs.Chains.{IsChain}
 
--- another row comes from the one with a number
+-- the row with this number has a child
 abbrev pub HasChild : List Row → ℕ → Type 0
 HasChild rows number = (other : ℕ) × (row : Row) × (slice_get rows other ≡ Some row) × (other ≢ number) × (row.parent ≡ number)
 
@@ -23,7 +23,7 @@ HasChild rows number = (other : ℕ) × (row : Row) × (slice_get rows other ≡
 abbrev pub HasFaultEnd : List End → Kind → Place → Type 0
 HasFaultEnd ends kind at = (number : ℕ) × (end : End) × (slice_get ends number ≡ Some end) × (end.outcome ≡ Fault kind at)
 
--- each fault of a run without guesses that comes directly after the events of a row that others come from is the outcome of an end
+-- each fault of a run without guesses directly after the events of a row that has a child is the outcome of an end
 abbrev pub FindsFaults : Code → TypedProgram → ℕ → RunBudgets → List Row → List End → Type 0
 FindsFaults code program entry budgets rows ends = (number : ℕ) (chain : List Event) → HasChild rows number → IsChain rows number chain
     → (inputs : Path → ℤ) (steps : List Step) (kind : Kind) (at : Place) (log : Log) → events_of steps ≡ chain

@@ -1,4 +1,4 @@
--- What the rows and ends of a graph say of runs, and that it is so.
+-- What the rows and ends of a graph state about runs is true.
 use Rattle.std.specs.Prelude.{ℕ, List}
 use Rattle.cs_ast.specs.TypedProgram.{TypedProgram}
 use Rattle.cs_events.specs.declared.outcome.RunBudgets.{RunBudgets}
@@ -12,7 +12,7 @@ use Rattle.cs_exactness.specs.Exact.{IsExact}
 use Rattle.cs_exactness.specs.Noted.{EachNotesEvents}
 use Rattle.cs_exactness.specs.OwnRuns.{HasOwnRuns}
 
--- rows and ends stand for the runs of their valuations, no two are alike, each state notes the events that lead to it, and the runs of these events fit it
+-- rows and ends represent the runs of their valuations, no two are alike, each state notes the events that lead to it, and the runs of these events fit it
 pub record IsExactGraph (code : Code) (program : TypedProgram) (entry : ℕ) (budgets : RunBudgets) (names : Naming) (rules : List Rule) (rows : List Row)
     (ends : List End) : Type 0 where
   pub exact : IsExact code program entry budgets names rows ends

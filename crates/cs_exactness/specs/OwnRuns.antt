@@ -1,4 +1,4 @@
--- Runs without guesses, and those that guess truths alone, fit the states to which their events lead.
+-- Runs without guesses, and those that guess only truths, fit the states to which their events lead.
 use Rattle.std.specs.Prelude.{◌≡◌, ℕ, ℤ, List, [], Some, slice_get}
 use Rattle.cs_inputs.specs.declared.path.Path.{Path}
 use Rattle.cs_ast.specs.TypedProgram.{TypedProgram}
@@ -27,20 +27,20 @@ abbrev pub IsAny : ℕ → Type 0
 IsAny event = Unit {0}
 
 module _ (code : Code) (program : TypedProgram) (entry : ℕ) (budgets : RunBudgets) (names : Naming) where
-  -- a state stands for a run under the run's own numbers, which so fit the state
+  -- a state represents a run under the run's own numbers, which therefore fit the state
   abbrev pub StandsForOwn : State → Setting → List Step → Act CodeState → Log → Type 0
   StandsForOwn state setting steps left log =
       StandsFor code program budgets names state (own_valuation program entry names setting steps log) (left_of (read_cell setting) [] left) log
 
-  -- each run that passes just these events first fits the state, if it lists no guess, or just the truths that the state has guessed; and the state stands
-  -- for it then
+  -- each run that passes exactly these events first fits the state, if it has no guesses, or only truths, where the state guesses; and the state
+  -- represents it then
   abbrev pub FitsAfter : State → List Event → Type 0
   FitsAfter state chain =
       (inputs : Path → ℤ) (guesses : List Guess) (steps : List Step) (left : Act CodeState) (log : Log) → ListsOwn state chain IsAny guesses
       → HasLeft code program entry budgets (setting_with program budgets inputs guesses) steps left log → events_of steps ≡ chain
       → StandsForOwn state (setting_with program budgets inputs guesses) steps left log
 
-  -- an end's state stands for a run under the run's own numbers before the run ends so, and has what it returns
+  -- an end's state represents a run under the run's own numbers before the run ends with this outcome, and has the value that it returns
   pub record EndsOwn (state : State) (setting : Setting) (steps : List Step) (outcome : Outcome) (log : Log) : Type 0 where
     pub last : Act CodeState
     pub before : Log
@@ -48,7 +48,7 @@ module _ (code : Code) (program : TypedProgram) (entry : ℕ) (budgets : RunBudg
     pub stands : StandsFor code program budgets names state (own_valuation program entry names setting steps log) (left_of (read_cell setting) [] last) before
     pub returned : HasReturned outcome (result_in names.bases state.blocks (own_valuation program entry names setting steps log) state.result)
 
-  -- each such run that passes just these events and ends as an end says fits the end's state
+  -- each such run that passes exactly these events and has the outcome of an end fits the end's state
   abbrev pub FitsAtEnd : End → List Event → Type 0
   FitsAtEnd end chain =
       (inputs : Path → ℤ) (guesses : List Guess) (steps : List Step) (outcome : Outcome) (log : Log) → ListsOwn end.state.value chain IsAny guesses
@@ -56,7 +56,7 @@ module _ (code : Code) (program : TypedProgram) (entry : ℕ) (budgets : RunBudg
       → end.outcome ≡ end_of outcome
       → EndsOwn end.state.value (setting_with program budgets inputs guesses) steps outcome log
 
-  -- the runs of each row's chain fit the row's state, and those that end as an end does fit the end's
+  -- the runs of each row's chain fit the row's state, and those with the outcome of an end fit the end's state
   pub record HasOwnRuns (rows : List Row) (ends : List End) : Type 0 where
     pub of_rows : (number : ℕ) (row : Row) (chain : List Event) → slice_get rows number ≡ Some row → IsChain rows number chain
         → FitsAfter row.state.value chain

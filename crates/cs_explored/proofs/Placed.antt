@@ -1,4 +1,4 @@
--- Children, ends and cuts that are added one after another: for the contracts of `Findings`.
+-- Adding children, ends and cuts one after another: for the contracts of `Findings`.
 use Rattle.std.proofs.Common.{◌≡◌, ◌<◌, ℕ, Bool, true, false, List, [], ◌∷◌, ◌++◌, map, length, take, Some, slice_get, refl, sym, ap, ◌∙◌, subst}
 use Rattle.std.proofs.Common.{arith}
 use Rattle.std.specs.Prelude.{drop, nat_eq}

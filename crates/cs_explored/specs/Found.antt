@@ -10,32 +10,32 @@ use Rattle.cs_explored.specs.declared.explored.Row.{Row}
 use Rattle.cs_explored.specs.declared.explored.End.{End}
 use Rattle.cs_explored.specs.declared.findings.Findings.{Findings}
 
--- the row with a number comes from one before it, the first one from itself
+-- the row with this number has a parent before it; the first row is its own parent
 abbrev pub ComesFromBefore : ℕ → Row → Type 0
 ComesFromBefore number row = (row.parent < number) ⊎ ((number ≡ 0) × (row.parent ≡ 0))
 
--- each row comes from one before it
+-- each row but the first has a parent before it
 abbrev pub AreLinked : List Row → Type 0
 AreLinked rows = (number : ℕ) (row : Row) → slice_get rows number ≡ Some row → ComesFromBefore number row
 
--- each end is one of a row
+-- each end belongs to a row
 abbrev pub AreOfRows : List Row → List End → Type 0
 AreOfRows rows ends = All (λ (end : End). end.row < length rows) ends
 
--- there are no more rows than nodes may be, each comes from one before it, and each end is one of a row
+-- there are no more rows than the budget of nodes allows, each has a parent before it, and each end belongs to a row
 pub record IsSound (findings : Findings) : Type 0 where
   pub budget : findings.graph.nodes ≡ findings.nodes
   pub few : length findings.graph.rows ≤ findings.nodes
   pub linked : AreLinked findings.graph.rows
   pub ends : AreOfRows findings.graph.rows findings.ends.items
 
--- no row is lost, and what was sound is sound
+-- no row is lost, and sound findings stay sound
 pub record Grows (before after : Findings) : Type 0 where
   pub nodes : after.nodes ≡ before.nodes
   pub rows : length before.graph.rows ≤ length after.graph.rows
   pub sound : IsSound before → IsSound after
 
--- a row with an equal key was there, or the row is the last from now on; or the graph was full, which is a cut
+-- a row with an equal key exists, or this row is appended; or the graph is full, which is a cut
 abbrev pub IsPlaced : List ℕ → Row → Bool → Findings → Findings → Type 0
 IsPlaced key row true before after =
     ((visits : ℕ) × (added : Added) × IsAdded (pointwise nat_eq) key visits row added before.graph after.graph)

@@ -1,4 +1,4 @@
--- Children that are placed in a graph, one after another, each as a row unless one has its key.
+-- Placing children in a graph, one after another: each becomes a row unless one has its key.
 use Rattle.std.specs.Prelude.{◌≡◌, ℕ, nat_eq, Bool, true, false, List, [], ◌∷◌, ◌++◌, map, All, None, Some, length, slice_get}
 use Rattle.std.specs.Global.{Box}
 use Rattle.std.specs.Cmp.Lexicographic.{pointwise}
@@ -26,45 +26,45 @@ RowGraph = Contents (List ℕ) Row
 abbrev pub child_row : ℕ → Child → Row
 child_row parent child = record { parent = parent; event = Some child.event; guess = child.guess; state = child.state }
 
--- a row with an equal key was there, or the row is the last from now on
+-- a row with an equal key exists, or this row is appended
 abbrev pub PlacesRow : Row → RowGraph → RowGraph → Type 0
 PlacesRow row before after =
     (visits : ℕ) × (added : Added) × IsAdded (pointwise nat_eq) (words_of (live_part row.state.value)) visits row added before after
 
--- the same of all children of a row, one after another
+-- all children of a row are placed, one after another
 abbrev pub PlacesAll : ℕ → List Child → RowGraph → RowGraph → Type 0
 PlacesAll parent [] before after = after ≡ before
 PlacesAll parent (child ∷ made) before after =
     (between : RowGraph) × PlacesRow (child_row parent child) before between × PlacesAll parent made between after
 
--- the end of a row
+-- an end as one of this row
 abbrev pub end_of_row : ℕ → Outcome × Box State → End
 end_of_row row one = record { row = row; outcome = one.0; state = one.1 }
 
--- the row in which an entry begins
+-- the row in which an entry begins, which is its own parent
 abbrev pub first_row : Box State → Row
 first_row state = record { parent = 0; event = None; guess = None; state = state }
 
--- ends and tables are kept
+-- ends and tables don't change
 pub record KeepsEnds (before after : Findings) : Type 0 where
   pub ends : after.ends.items ≡ before.ends.items
   pub tables : after.tables ≡ before.tables
 
--- rows and tables are kept
+-- rows and tables don't change
 pub record KeepsRows (before after : Findings) : Type 0 where
   pub graph : after.graph ≡ before.graph
   pub tables : after.tables ≡ before.tables
 
--- what a state holds and what it has read is kept under numbers beside zeros, so that its live part has all of it
+-- each value that a state holds or has read is kept under numbers beside zeros, so that the live part has all of it
 pub record IsPlain (state : State) : Type 0 where
   pub store : HasPlainKeys state.store
   pub read : HasPlainCells state.read
 
--- the same of the states of ends
+-- the states of ends are plain
 abbrev pub ArePlainEnds : List (Outcome × Box State) → Type 0
 ArePlainEnds ends = All (λ (one : Outcome × Box State). IsPlain one.1.value) ends
 
--- ends of a row are added, and nothing else changes
+-- ends of a row are added, with plain states, and nothing else changes
 pub record AddsEnds (row : ℕ) (new : List (Outcome × Box State)) (before after : Findings) : Type 0 where
   pub ends : after.ends.items ≡ before.ends.items ++ map (end_of_row row) new
   pub plain : ArePlainEnds new
@@ -77,18 +77,18 @@ pub record AddsCuts (new : List Cut) (before after : Findings) : Type 0 where
   pub ends : after.ends.items ≡ before.ends.items
   pub rows : KeepsRows before after
 
--- and of the states of children
+-- the states of children are plain
 abbrev pub ArePlainChildren : List Child → Type 0
 ArePlainChildren made = All (λ (child : Child). IsPlain child.state.value) made
 
--- the first of a row's children are placed
+-- the first few of a row's children are placed
 pub record PlacesFirst (parent : ℕ) (made : List Child) (before after : RowGraph) : Type 0 where
   pub some : List Child
   pub left : List Child
   pub all : made ≡ some ++ left
   pub placed : PlacesAll parent some before after
 
--- the first of a row's children are placed, and the next one is refused: no row has its key, and there are as many rows as there may be
+-- the first few of a row's children are placed, and the next one is refused: no row has its key, and the graph is full
 pub record PlacesUntilFull (parent : ℕ) (made : List Child) (before after : RowGraph) : Type 0 where
   pub first : PlacesFirst parent made before after
   pub refused : Child
@@ -96,7 +96,7 @@ pub record PlacesUntilFull (parent : ℕ) (made : List Child) (before after : Ro
   pub unseen : IsUnseen (pointwise nat_eq) (words_of (live_part refused.state.value)) after.keys
   pub full : length after.rows ≡ after.nodes
 
--- all children of a row are placed, and nothing is cut; or the first of them, and then the graph is full, which is a cut
+-- all children of a row are placed, without a cut; or the first few of them, and the graph is full, which is a cut
 abbrev pub PlacesChildren : ℕ → List Child → Bool → Findings → Findings → Type 0
 PlacesChildren parent made true before after =
     PlacesAll parent made before.graph after.graph × (after.cuts.items ≡ before.cuts.items) × ArePlainChildren made

@@ -18,7 +18,7 @@ pub record IsFor (call : Call) (rule : Rule) : Type 0 where
   pub place_is : rule.place ≡ call.place
   pub phase_is : rule.from ≡ call.phase
 
--- the rules before a number aren't for this call
+-- none of the rules before this number is for the call
 abbrev pub NoneBefore : List Rule → Call → ℕ → Type 0
 NoneBefore rules call number = (earlier : ℕ) (rule : Rule) → earlier < number → slice_get rules earlier ≡ Some rule → IsFor call rule → ⊥
 
@@ -33,12 +33,12 @@ pub record IsFirstFor (rules : List Rule) (call : Call) (rule : Rule) : Type 0 w
 abbrev pub IsUnruled : List Rule → Call → Type 0
 IsUnruled rules call = (number : ℕ) (rule : Rule) → slice_get rules number ≡ Some rule → IsFor call rule → ⊥
 
--- a call leads on by the first rule for it; where there is none, the phase stays
+-- the phase after a call: that of the first rule for it; if there is none, the phase doesn't change
 abbrev pub IsPhaseAfterCall : List Rule → Call → ℕ → Type 0
 IsPhaseAfterCall rules call after =
     ((rule : Rule) × IsFirstFor rules call rule × (after ≡ rule.to)) ⊎ (IsUnruled rules call × (after ≡ call.phase))
 
--- the same of what shows at a place; where that is no call, the phase stays
+-- the phase after an event with this label; if it isn't a call, the phase doesn't change
 abbrev pub IsPhaseAfterLabel : List Rule → ℕ → Place → Label → ℕ → Type 0
 IsPhaseAfterLabel rules phase place (Callee function) after =
     IsPhaseAfterCall rules (record { function = function; place = place; phase = phase }) after

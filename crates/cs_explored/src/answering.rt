@@ -1,11 +1,11 @@
-//! The number that leads on after an event.
+//! The number with which a run continues after an event.
 ghost use Rattle.std.specs.Prelude.{◌≡◌};
 ghost use Rattle.cs_explored.specs.Answering.{constant, leads_on};
 
 use cs_events::Label;
 use cs_terms::Lin;
 
-/// The number that leads on after an event: of an allocation whether it gives a block.
+/// Returns the number with which a run continues after an event: for an allocation, 1 if it returns a block and 0 if not; else the answer.
 pub fn leads_on(label: Label, answer: Lin) -> Lin
     ensures { result ≡ leads_on label answer }
 {
@@ -15,7 +15,7 @@ pub fn leads_on(label: Label, answer: Lin) -> Lin
     }
 }
 
-/// The term that is a number.
+/// Returns the constant term with this value.
 pub fn constant(value: i128) -> Lin
     ensures { result ≡ constant value }
 {

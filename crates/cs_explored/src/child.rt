@@ -1,10 +1,10 @@
-//! What comes of a row.
+//! The children of a row.
 
 use cs_events::Event;
 use cs_state::State;
 use cs_terms::Sym;
 
-/// A state directly after an event.
+/// A state directly after an event, as a successor of a row.
 #[derive(Drop)]
 pub struct Child {
     pub event: Event,

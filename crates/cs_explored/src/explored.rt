@@ -5,19 +5,19 @@ use cs_results::Cut;
 use cs_state::{State, Tables};
 use cs_terms::Sym;
 
-/// A row of the graph: a state directly after an event, and the row from which this event leads there.
+/// A row of the graph: a state directly after an event, and the row that this event follows.
 #[derive(Drop)]
 pub struct Row {
-    /// The number of the row that it comes from; that of the first row is its own.
+    /// The number of the row before it; the first row has its own number here.
     pub parent: u32,
-    /// The event that leads there; none leads to the first row.
+    /// The event after which the state is; the first row has none.
     pub event: Option<Event>,
     /// The symbol of the number that was guessed at this event.
     pub guess: Option<Sym>,
     pub state: Box<State>,
 }
 
-/// How runs end that come from a row.
+/// An end of runs that pass a row.
 #[derive(Drop)]
 pub struct End {
     pub row: u32,

@@ -16,19 +16,19 @@ use cs_results::Cut;
 use cs_state::{State, Tables};
 use std::alloc::{AllocError, Global};
 
-/// What is found so far.
+/// The rows, ends and cuts found so far.
 #[derive(Drop)]
 pub struct Findings {
     pub graph: Graph<Key, Row>,
     pub ends: Vec<End>,
     pub cuts: Vec<Cut>,
     pub tables: Tables,
-    /// How many rows there may be.
+    /// The greatest number of rows.
     pub nodes: u64,
 }
 
 impl Findings {
-    /// Nothing, with capacity for so many rows.
+    /// Returns findings without rows, ends or cuts, with a budget of `nodes` rows.
     pub fn new(alloc: Global, nodes: u64) -> Findings
         requires { nodes ≤ 200000 }
         ensures sound { IsSound result }
@@ -47,7 +47,7 @@ impl Findings {
         }
     }
 
-    /// The row in which the entry begins; false where the graph is full.
+    /// Adds the row in which the entry begins; false if the graph is full.
     pub fn add_first(&mut self, alloc: Global, state: Box<State>) -> Result<bool, AllocError>
         requires none { length self.old.graph.rows ≡ 0 }
         ensures grows { OnOk result (Grows self.old self.new) }
@@ -67,7 +67,7 @@ impl Findings {
         )
     }
 
-    /// Adds a row, if no other has its key; false where the graph is full, which is listed as a cut.
+    /// Adds a row if no other has its key; false if the graph is full, which is listed as a cut.
     pub fn add(&mut self, alloc: Global, row: Row) -> Result<bool, AllocError>
         requires parent { ComesFromBefore (length self.old.graph.rows) row }
         ensures placed { IfOk result (λ added.
@@ -91,7 +91,7 @@ impl Findings {
         }
     }
 
-    /// Adds what comes of a row; false where the graph is full.
+    /// Adds the children of a row; false if the graph is full.
     pub fn add_all(&mut self, alloc: Global, row: u32, made: Vec<Child>) -> Result<bool, AllocError>
         requires { row < length self.old.graph.rows }
         ensures grows { OnOk result (Grows self.old self.new) }
@@ -107,7 +107,7 @@ impl Findings {
         Ok(true)
     }
 
-    /// Runs that come from a row end so.
+    /// Adds ends of runs that pass a row.
     pub fn add_ends(&mut self, row: u32, ends: Vec<(Outcome, Box<State>)>) -> Result<(), AllocError>
         requires { row < length self.old.graph.rows }
         ensures grows { OnOk result (Grows self.old self.new) }
@@ -124,7 +124,7 @@ impl Findings {
         Ok(())
     }
 
-    /// The exploration was cut there too.
+    /// Adds cuts of the exploration.
     pub fn add_cuts(&mut self, cuts: &[Cut]) -> Result<(), AllocError>
         ensures grows { OnOk result (Grows self.old self.new) }
         ensures adds { OnOk result (AddsCuts cuts.now self.old self.new) }
@@ -135,7 +135,7 @@ impl Findings {
         Ok(())
     }
 
-    /// All of it, for good.
+    /// Returns all that was found.
     pub fn explored(self) -> Explored
         requires { IsSound self }
         ensures few { length result.rows.items ≤ self.nodes }
@@ -162,7 +162,7 @@ impl Findings {
     }
 }
 
-// What a state holds and what it has read is kept under numbers beside zeros, of which a key has all.
+// Each value that a state holds or has read is kept under numbers beside zeros, so that a key has all of it.
 fn is_plain(state: &Box<State>)
     ensures { IsPlain state.now.value }
 {
@@ -170,7 +170,7 @@ fn is_plain(state: &Box<State>)
     state.read.has_plain_cells();
 }
 
-// Lists the large tables of a row's state, so that the states after it share what was listed.
+// Lists the large tables of a row's state, so that the states after it share the listing.
 fn list(row: &mut Row) -> Result<(), AllocError>
     ensures { OnOk result (row.new ≡ row.old) }
 {

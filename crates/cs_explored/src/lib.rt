@@ -1,4 +1,4 @@
-//! What an exploration has found: rows, ends and cuts, as they are added, and what an event leads on with.
+//! What an exploration has found: rows, ends and cuts, as they are added, and the number with which a run continues after an event.
 #![tactic(auto)]
 
 mod answering;

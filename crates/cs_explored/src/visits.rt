@@ -1,8 +1,8 @@
-//! How often the frames of a state have reached loop heads and labels, by which rows are ordered.
+//! The number of visits by which rows are ordered: how often the frames of a state have reached loop heads and labels.
 
 use cs_state::State;
 
-/// How often all frames of a state together have reached loop heads and labels, as far as 64 bits count.
+/// The number of visits of loop heads and labels of all frames together, at most the greatest number of 64 bits.
 pub(crate) fn visits_of(state: &State) -> u64 {
     let mut sum = sum_of(state.frame.visits.as_slice());
     for depth in 0..state.callers.depth() {

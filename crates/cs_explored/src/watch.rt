@@ -1,11 +1,11 @@
-//! Protocols that an exploration watches.
+//! The protocols that an exploration watches.
 ghost use Rattle.std.specs.Prelude.{◌≡◌, true};
 ghost use Rattle.cs_explored.specs.Watching.{IsFor, IsPhaseAfter};
 
 use cs_ast::Place;
 use cs_events::{Event, Label};
 
-/// A call of a function at a place that leads from one phase to another.
+/// A rule of a protocol: a call of this function at this place leads from one phase to another.
 #[derive(Clone, Copy)]
 pub struct Rule {
     pub function: u32,
@@ -14,7 +14,7 @@ pub struct Rule {
     pub to: u32,
 }
 
-/// The phase after an event: a call leads on by the first rule for it; everything else leaves the phase as it is.
+/// Returns the phase after an event: for a call, that of the first rule for it; everything else keeps the phase.
 pub fn phase_after(rules: &[Rule], phase: u32, event: &Event) -> u32
     ensures { IsPhaseAfter rules.now phase event.now result }
 {
@@ -29,7 +29,7 @@ pub fn phase_after(rules: &[Rule], phase: u32, event: &Event) -> u32
     phase
 }
 
-// Whether a rule is for a call of a function at a place, in a phase.
+// Whether a rule is for a call of this function at this place, in this phase.
 fn is_for(rule: &Rule, function: u32, place: Place, phase: u32) -> bool
     ensures yes { result ≡ true
         → IsFor (record { function = function; place = place; phase = phase }) rule.now }

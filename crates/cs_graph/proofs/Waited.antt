@@ -1,4 +1,4 @@
--- Rows that join a worklist and rows that are taken from it: for the contracts of `Worklist`.
+-- Rows that are added to a worklist or taken from it: for the contracts of `Worklist`.
 use Rattle.std.proofs.Common.{◌≡◌, ◌⊎◌, ◌<◌, ◌≤◌, ℕ, List, [], ◌∷◌, refl, sym, ap, ◌∙◌, inl, inr, subst, arith}
 use Rattle.std.specs.List.{Contains, All}
 use Rattle.std.specs.declared.cmp.Ordering.{Ordering}

@@ -1,4 +1,4 @@
--- What becomes of a graph to which a row is added.
+-- A graph after a row is added.
 use Rattle.std.specs.Prelude.{◌≡◌, ◌<◌, ℕ, Bool, true, false, List, [], ◌∷◌, ◌++◌, Some, length, slice_get}
 use Rattle.cs_graph.specs.Contents.{Contents}
 use Rattle.cs_graph.specs.Waiting.{HasJoined}
@@ -12,20 +12,20 @@ module _ {K : Type 0} (eq : K → K → Bool) where
   abbrev pub IsUnseen : K → List K → Type 0
   IsUnseen key keys = (place : ℕ) (other : K) → slice_get keys place ≡ Some other → eq key other ≡ false
 
-  -- the key at this place is equal to it
+  -- the key at this place is equal to this one
   abbrev pub IsSeenAt : K → ℕ → List K → Type 0
   IsSeenAt key place keys = (other : K) × (slice_get keys place ≡ Some other) × (eq key other ≡ true)
 
 module _ {K R : Type 0} where
-  -- no row is there
+  -- a graph without rows, with a budget of this many nodes
   abbrev pub empty : ℕ → Contents K R
   empty nodes = record { keys = []; rows = []; work = []; nodes = nodes }
 
-  -- other rows wait
+  -- the graph with another worklist
   abbrev pub with_work : List (ℕ × ℕ) → Contents K R → Contents K R
   with_work work graph = record graph { work = work }
 
-  -- the row is the last, under the next number, and waits
+  -- the row is appended, under the next number, and waits
   pub record IsNew (key : K) (visits : ℕ) (row : R) (number : ℕ) (before after : Contents K R) : Type 0 where
     pub next : number ≡ length before.rows
     pub keys : after.keys ≡ before.keys ++ key ∷ []
@@ -34,13 +34,13 @@ module _ {K R : Type 0} where
     pub nodes : after.nodes ≡ before.nodes
 
 module _ {K R : Type 0} (eq : K → K → Bool) where
-  -- a row with an equal key is there and nothing changes, or there is none and the row is there from then on
+  -- a row with an equal key exists and nothing changes, or none does and the row is added
   abbrev pub IsAdded : K → ℕ → R → Added → Contents K R → Contents K R → Type 0
   IsAdded key visits row (Old number) before after = IsSeenAt eq key number before.keys × (after ≡ before)
   IsAdded key visits row (New number) before after =
       IsUnseen eq key before.keys × (length before.rows < before.nodes) × IsNew key visits row number before after
 
-  -- nothing changes: the key is new and there are as many rows as there may be, or memory ran out
+  -- nothing changes: the key is new and the number of rows is at its limit, or memory ran out
   abbrev pub IsRefused : K → GraphRefusal → Contents K R → Contents K R → Type 0
   IsRefused key Full before after = IsUnseen eq key before.keys × (length before.rows ≡ before.nodes) × (after ≡ before)
   IsRefused key Memory before after = after ≡ before

@@ -1,11 +1,11 @@
-//! What comes of adding a row.
+//! The results of adding a row.
 ghost use Rattle.std.specs.Prelude.{◌≡◌};
 ghost use Rattle.cs_graph.specs.declared.adding.GraphRefusal.TheVariants.{Memory};
 
 use std::alloc::AllocError;
 use thiserror::Error;
 
-/// The number of the row with a key.
+/// The number of the row that has the key.
 #[derive(Clone, Copy, PartialEq, Eq, Debug)]
 pub enum Added {
     /// The row was added under this number.
@@ -17,7 +17,7 @@ pub enum Added {
 /// Why a row isn't added.
 #[derive(Clone, Copy, PartialEq, Eq, Debug, Error)]
 pub enum GraphRefusal {
-    /// The key is new, and there are as many rows as there may be.
+    /// The key is new, and the number of rows is at its limit.
     #[error("too many rows")]
     Full,
     /// Memory ran out.

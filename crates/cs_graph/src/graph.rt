@@ -14,7 +14,7 @@ use std::marker::Model;
 /// Rows in the order in which they were added, no two with equal keys. A contract sees the keys, the rows, the rows that wait and the
 /// greatest number of rows.
 ///
-/// A row is given once to be worked on, and those with the least visits first.
+/// Each row is taken from the worklist once, those with the fewest visits first.
 #[derive(Drop)]
 pub struct Graph<K: Eq + Hash, R> {
     /// The keys in the order of the rows, each with its row's number.
@@ -36,7 +36,7 @@ impl<K: Eq + Hash, R> Model for Graph<K, R> {
 }
 
 impl<K: Eq + Hash, R> Graph<K, R> {
-    /// No row, with capacity for so many.
+    /// Returns a graph without rows, whose budget is `nodes` rows.
     pub fn new(alloc: Global, nodes: u64) -> Graph<K, R>
         requires { nodes ≤ 200000 }
         ensures { result ≡ empty nodes }
@@ -49,7 +49,7 @@ impl<K: Eq + Hash, R> Graph<K, R> {
         }
     }
 
-    /// Adds a row with its key and its number of visits, where no row has an equal key.
+    /// Adds a row with its key and its number of visits, unless a row has an equal key.
     pub fn add(&mut self, key: K, visits: u64, row: R) -> Result<Added, GraphRefusal>
     where
         K: Drop,
@@ -87,7 +87,7 @@ impl<K: Eq + Hash, R> Graph<K, R> {
         Ok(number)
     }
 
-    /// A row that wasn't given before, none where all were.
+    /// Returns the next row of the worklist, with the fewest visits; none if no row waits.
     pub fn next(&mut self) -> Option<u32>
         ensures some { IfSome result (λ row. IsGiven row self.old.work self.new.work) }
         ensures none { IfNone result (self.old.work ≡ []) }
@@ -96,14 +96,14 @@ impl<K: Eq + Hash, R> Graph<K, R> {
         self.work.take()
     }
 
-    /// The rows in order.
+    /// Returns the rows in order.
     pub fn rows(&self) -> &[R]
         ensures { result.now ≡ self.now.rows }
     {
         self.rows.as_slice()
     }
 
-    /// The rows in order, for good.
+    /// Returns the rows in order, without the rest of the graph.
     pub fn into_rows(self) -> Vec<R>
     where
         K: Drop,

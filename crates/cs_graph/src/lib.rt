@@ -1,4 +1,4 @@
-//! The rows of an exploration: each key has one row, and the rows that still have to be worked on are given by their visits.
+//! The rows of an exploration: each key has one row, and the worklist returns the rows by their visits.
 #![tactic(auto)]
 
 mod adding;

@@ -1,4 +1,4 @@
-//! Keys and rows side by side.
+//! Keys and rows, which are kept in the same order.
 ghost use Rattle.std.specs.Prelude.{◌≡◌, ◌<◌, ◌++◌, [], ◌∷◌, None, vec_len, vec_capacity, OnOk};
 ghost use Rattle.indexmap.specs.IndexMap.{get, spare};
 
@@ -6,17 +6,17 @@ use indexmap::IndexMap;
 use std::alloc::AllocError;
 use std::hash::Hash;
 
-// The first capacity, so large that few explorations reserve twice.
+// The first capacity, large enough that few explorations reserve twice.
 const FIRST: usize = 8;
 
-// The number under a key.
+// The number of the row that has a key.
 pub(crate) fn number_of<K: Eq + Hash>(keys: &IndexMap<K, u32>, key: &K) -> Option<u32>
     ensures { result ≡ get K.eq keys.now key.now }
 {
     Some(*keys.get(key)?)
 }
 
-// Reserves capacity for one more of both.
+// Reserves capacity for one more key and one more row.
 pub(crate) fn reserve<K: Eq + Hash, R>(
     keys: &mut IndexMap<K, u32>,
     rows: &mut Vec<R>,
@@ -31,7 +31,7 @@ pub(crate) fn reserve<K: Eq + Hash, R>(
     rows.reserve(more)
 }
 
-// Puts a row last, with its key and its number.
+// Appends a row, with its key and its number.
 pub(crate) fn put<K: Eq + Hash + Drop, R: Drop>(
     keys: &mut IndexMap<K, u32>,
     rows: &mut Vec<R>,

@@ -1,4 +1,4 @@
-//! The rows that still have to be worked on.
+//! The worklist: rows whose successors aren't found yet.
 ghost use Rattle.std.specs.Prelude.{◌≡◌, ℕ, [], IfNone, IfSome, OnOk, OnErr};
 ghost use Rattle.cs_graph.specs.Waiting.{IsWaiting, HasJoined, IsGiven};
 
@@ -6,7 +6,7 @@ use std::alloc::{AllocError, Global};
 use std::collections::BTreeSet;
 use std::marker::Model;
 
-/// Rows that wait to be given, each with a number of visits. A contract sees the pairs of visits and row, in order.
+/// The rows that wait, each with its number of visits. A contract sees the pairs of visits and row, in order.
 #[derive(Drop)]
 pub struct Worklist {
     waiting: BTreeSet<(u64, u32)>,
@@ -24,7 +24,7 @@ impl Model for Worklist {
 }
 
 impl Worklist {
-    /// No row waits.
+    /// Returns a worklist without rows.
     pub fn new(alloc: Global) -> Worklist
         ensures { result ≡ [] }
     {
@@ -33,7 +33,7 @@ impl Worklist {
         }
     }
 
-    /// A row that doesn't wait yet waits from now on.
+    /// Adds a row that doesn't wait yet.
     pub fn add(&mut self, visits: u64, row: u32) -> Result<(), AllocError>
         requires { (other : ℕ) → ¬ IsWaiting self.old other row }
         ensures ok { OnOk result (HasJoined visits row self.old self.new) }
@@ -43,7 +43,7 @@ impl Worklist {
         Ok(())
     }
 
-    /// Takes a row with the least visits, none where no row waits.
+    /// Takes a row with the fewest visits; none if no row waits.
     pub fn take(&mut self) -> Option<u32>
         ensures some { IfSome result (λ row. IsGiven row self.old self.new) }
         ensures none { IfNone result ((self.old ≡ []) × (self.new ≡ [])) }

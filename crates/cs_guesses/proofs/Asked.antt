@@ -1,4 +1,4 @@
--- What is noted of each guess of a row's or an end's state is so: for `AreAskedAlong`.
+-- What is noted about each guess of a row's or an end's state is true: for `AreAskedAlong`.
 use Rattle.std.proofs.Common.{◌≡◌, ◌<◌, ◌≤◌, inl, inr, ℕ, suc, ℤ, List, [], ◌∷◌, ◌++◌, Some, slice_get, refl, sym, ap, ◌∙◌}
 use Rattle.std.proofs.Common.{subst, arith}
 use Rattle.std.specs.Prelude.{Contains}

@@ -1,4 +1,4 @@
--- Corners at which the named symbols of a guess's operands have ends, made of those that give the ground to guess: for `HasReasonAt`.
+-- Corners at which the named symbols of a guess's operands have ends, made from those that are the ground to guess: for `HasReasonAt`.
 use Rattle.std.proofs.Common.{◌≡◌, ◌≢◌, ◌⊎◌, inl, inr, ℤ, pos, Option, None, Some, slice_get, refl, sym, ap, ◌∙◌, subst}
 use Rattle.std.specs.Prelude.{IsTrue}
 use Rattle.cs_types.specs.declared.data_model.DataModel.{DataModel}

@@ -1,4 +1,4 @@
--- The runs that come to a guessed question, as runs of the program: for real guesses, and for corners.
+-- The runs that reach a guessed question, as runs of the program: for real guesses, and for corners.
 use Rattle.std.proofs.Common.{◌≡◌, ◌≤◌, ℕ, List, Some, slice_get, refl, sym, ap, ◌∙◌, subst}
 use Rattle.cs_inputs.specs.Inputs.{number_at}
 use Rattle.cs_ast.specs.TypedProgram.{TypedProgram}

@@ -1,4 +1,4 @@
--- Corners of a noted guess have noted ends, so these give the ground to guess: for `IsAskedAlong` and for real guesses.
+-- Corners of a noted guess have noted ends, so valuations with these are the ground to guess: for `IsAskedAlong` and for real guesses.
 use Rattle.std.proofs.Common.{◌⊎◌, inl, inr, Option, sym, subst}
 use Rattle.cs_types.specs.declared.data_model.DataModel.{DataModel}
 use Rattle.cs_ranges.specs.declared.range_set.Interval.{Interval}

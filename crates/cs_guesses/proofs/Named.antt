@@ -1,4 +1,4 @@
--- The symbols that a guessed question mentions have names: runs go by the numbers of named symbols alone, and one run comes to one question. For `IsCornered`.
+-- The symbols that a guessed question mentions have names: a run depends only on the numbers of named symbols, and reaches one question. For `IsCornered`.
 use Rattle.std.proofs.Common.{◌≡◌, inl, inr, ℕ, suc, List, [], ◌∷◌, length, map, Option, None, Some}
 use Rattle.std.proofs.Common.{if◌then◌else◌, slice_get, refl, sym, ap, ◌∙◌, subst, arith}
 use Rattle.std.specs.Prelude.{Contains}

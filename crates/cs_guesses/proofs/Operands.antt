@@ -1,4 +1,4 @@
--- The operands of a question that is noted have the form that corners ask for.
+-- The operands of a noted question have the form that corners require.
 use Rattle.cs_ast.specs.declared.typed.operator.BinOp.{BinOp}
 use Rattle.cs_ast.specs.declared.typed.operator.BinOp.TheVariants.{Add, Sub, Mul, Div, Rem, Shl, Shr, And, Xor, Or}
 use Rattle.cs_terms.specs.declared.term.Lin.{Lin}

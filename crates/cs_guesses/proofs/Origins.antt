@@ -1,4 +1,4 @@
--- Where each guess of a row's state was made: at a child of a row on the way, whose runs come to the question. For `IsAskedAlong` and for real guesses.
+-- The origin of each guess of a row's state: a child of a row of its chain, whose runs reach the question. For `IsAskedAlong` and for real guesses.
 use Rattle.std.proofs.Common.{◌≡◌, ◌⊎◌, ◌<◌, ◌≤◌, inl, inr, ℕ, suc, List, [], ◌∷◌, ◌++◌, length, map, Option, None, Some}
 use Rattle.std.proofs.Common.{slice_get, refl}
 use Rattle.std.proofs.Common.{sym, ap, ◌∙◌, subst, arith}

@@ -1,4 +1,4 @@
--- Runs of lowered code are runs of its program, and the run of a valuation goes by the numbers of the valuation: for `HasRealGuesses`.
+-- Runs of lowered code are runs of its program, and the run of a valuation has the numbers of the valuation: for `HasRealGuesses`.
 use Rattle.std.proofs.Common.{◌≡◌, inl, inr, ℕ, zero, suc, ℤ, pos, Bool, cond, List, [], ◌∷◌, map, length, Option}
 use Rattle.std.proofs.Common.{Some, refl, sym, ap, ◌∙◌, subst, arith}
 use Rattle.std.specs.Prelude.{is_some, unwrap_or, if◌then◌else◌, Contains}

@@ -1,5 +1,4 @@
--- Whether an operation is followed exactly, and what may be guessed in place of its result, depends on the ends of its operands' ranges alone: for
--- `IsInexact`.
+-- Whether an operation is followed exactly, and what may be guessed instead of its result, depends only on the ends of its operands' ranges: for `IsInexact`.
 use Rattle.std.proofs.Common.{◌≡◌, ◌⊎◌, inl, inr, ℕ, Bool, true, false, ℤ, pos, ◌+ℤ◌, ◌-ℤ◌, List, Option, None, Some, refl, sym}
 use Rattle.std.proofs.Common.{ap, subst, ◌∙◌, arith}
 use Rattle.std.specs.Prelude.{◌≤ℤ◌, int_le, int_lt, IsTrue}

@@ -1,4 +1,4 @@
--- The operands of a question that integer code asks are integers of C, under each valuation that fits: for `HasReasonAt`.
+-- The operands of a question of integer code are integers of C, under each valuation that fits: for `HasReasonAt`.
 use Rattle.std.proofs.Common.{◌≡◌, ℤ, pos, List, Option, None, Some, refl, sym, ap, subst, arith}
 use Rattle.std.specs.Prelude.{is_some}
 use Rattle.cs_types.specs.IntType.{IsIntegerOfC}

@@ -1,4 +1,4 @@
--- What is said of each guess of a state: the operation whose result it stands for comes at its event, with the operands that were noted, and isn't followed
+-- What holds for each guess of a state: the operation whose result it represents is pending at its event, with the noted operands, and isn't followed
 -- exactly.
 use Rattle.std.specs.Prelude.{◌≡◌, ◌≢◌, ◌⊎◌, ◌<◌, ℕ, suc, nat_lt, ℤ, List, [], ◌∷◌, ◌++◌, length, filter, Option, Some}
 use Rattle.std.specs.Prelude.{IsTrue, slice_get, Contains}
@@ -38,7 +38,7 @@ use Rattle.cs_successors.specs.EntryRuns.{events_of, setting_with, HasLeft, Pass
 use Rattle.cs_guesses.specs.Inexact.{AreRanges, IsInexact}
 use Rattle.cs_coverage.specs.OwnNumbers.{own_valuation, ListsOwn}
 
--- by another valuation the symbol, where there is one, has its own number or one of the ends
+-- in the other valuation the symbol, if there is one, has its own number or one of the ends
 abbrev pub HasOwnOrEnd : Option Sym → Interval → Valuation → Valuation → Type 0
 HasOwnOrEnd symbol ends v w = (sym : Sym) → symbol ≡ Some sym → (w sym.0 ≡ v sym.0) ⊎ ((w sym.0 ≡ ends.low) ⊎ (w sym.0 ≡ ends.high))
 
@@ -48,7 +48,7 @@ pub record IsMoved (asked : Asked) (v w : Valuation) : Type 0 where
   pub right : HasOwnOrEnd asked.right.sym asked.ends.right v w
   pub others : (other : Sym) → asked.left.sym ≢ Some other → asked.right.sym ≢ Some other → w other.0 ≡ v other.0
 
--- one or two such valuations give the ground to guess
+-- one or two such valuations are the ground to guess
 pub record HasGround (model : DataModel) (asked : Asked) (meant : Question) (v : Valuation) : Type 0 where
   pub others : Others Valuation
   pub moved : EachIs (IsMoved asked v) others
@@ -58,40 +58,40 @@ pub record HasGround (model : DataModel) (asked : Asked) (meant : Question) (v :
 abbrev pub HasOther : Asked → Question → Valuation → (Pair → ℤ) → Type 0
 HasOther asked meant v operand = (w : Valuation) × IsMoved asked v w × (operand (operands_under meant w) ≢ operand (operands_under meant v))
 
--- the guessed number may be used, also with an operand that is the same under all of them
+-- the guessed number may be used, also with an operand that is the same under all such valuations
 pub record IsUsable (model : DataModel) (asked : Asked) (meant : Question) (v : Valuation) : Type 0 where
   pub used : IsTrue (may_be_used model (operation_of v meant) (v asked.guess.0))
   pub left : IsTrue (fits_left (operation_of v meant) (v asked.guess.0)) ⊎ HasOther asked meant v (λ pair. pair.0)
   pub right : IsTrue (fits_right (operation_of v meant) (v asked.guess.0)) ⊎ HasOther asked meant v (λ pair. pair.1)
 
--- what a run goes by that lists just the guesses before an event
+-- the setting of a run with only the guesses before this event
 abbrev pub before_event : ℕ → Setting → Setting
 before_event event setting = record setting { guesses = filter (λ (guess : Guess). nat_lt guess.event event) setting.guesses }
 
--- what is pending at the event of a guess, with the operands' values under a valuation
+-- the pending operation at the event of a guess, with the operands' values under a valuation
 abbrev pub pending_for : Event → Question → Valuation → Pending
 pending_for event meant v = Operates event.place (operation_of v meant)
 
--- this is pending at a step, and the fact is about its own result
+-- this is pending at a step, and the fact determines its own result
 pub record IsStepOf (model : DataModel) (asked : Asked) (meant : Question) (event : Event) (one : Step) (v : Valuation) : Type 0 where
   pub pends : one.pending ≡ pending_for event meant v
   pub determines : DeterminesResult model asked.fact meant v
 
--- valuations that fit a state, also with ends for the numbers of the operands' symbols, fit the row to which the events before the guess lead
+-- valuations that fit a state, also with ends as the numbers of the operands' symbols, fit the row to which the events before the guess lead
 abbrev pub FitEarlier : List Row → State → Asked → List Event → Type 0
 FitEarlier rows state asked before = (number : ℕ) (row : Row) (v w : Valuation) → slice_get rows number ≡ Some row → IsChain rows number before
     → Fits v state.constraints → IsMoved asked v w
     → Fits w row.state.value.constraints
 
 module _ (code : Code) (program : TypedProgram) (entry : ℕ) (budgets : RunBudgets) (names : Naming) where
-  -- the runs of these valuations, which list just the guesses before the event, pass the events before it and come to the operation
+  -- the runs of these valuations, with only the guesses before the event, pass the events before it and reach the operation
   abbrev pub ComeMoved : State → Asked → Question → List Event → Event → Type 0
   ComeMoved state asked meant before event = (v w : Valuation) → Fits v state.constraints → IsMoved asked v w
       → PassesTo code program entry budgets (before_event asked.event (setting_of names budgets state w)) before (pending_for event meant w)
       × DeterminesResult program.model asked.fact meant w
 
-  -- so does each run that passes these events and one more, if it lists no guess, or below that event just the truths that the state has guessed there;
-  -- with the numbers that this run gives symbols
+  -- so does each run that passes these events and one more, if it has no guess, or before that event only truths, where the state guesses; with the numbers
+  -- that this run has for symbols
   abbrev pub ComeOwn : State → Asked → Question → List Event → Event → Type 0
   ComeOwn state asked meant before event =
       (inputs : Path → ℤ) (guesses : List Guess) (steps : List Step) (one : Step) (left : Act CodeState) (log : Log)
@@ -99,7 +99,7 @@ module _ (code : Code) (program : TypedProgram) (entry : ℕ) (budgets : RunBudg
       → HasLeft code program entry budgets (setting_with program budgets inputs guesses) (steps ++ one ∷ []) left log → events_of steps ≡ before
       → IsStepOf program.model asked meant event one (own_valuation program entry names (setting_with program budgets inputs guesses) steps log)
 
-  -- what is said of a guess of a state to which a chain of events leads
+  -- what holds for a guess of a state to which a chain of events leads
   pub record IsAskedAlong (rows : List Row) (state : State) (chain : List Event) (asked : Asked) : Type 0 where
     pub before : List Event
     pub event : Event
@@ -120,6 +120,6 @@ module _ (code : Code) (program : TypedProgram) (entry : ℕ) (budgets : RunBudg
     pub grounds : (v : Valuation) → Fits v state.constraints → HasGround program.model asked meant v
     pub usable : (v : Valuation) → Fits v state.constraints → IsUsable program.model asked meant v
 
-  -- all guesses of the state
+  -- this holds for all guesses of the state
   abbrev pub AreAskedAlong : List Row → State → List Event → Type 0
   AreAskedAlong rows state chain = (asked : Asked) → Contains (finite.values state.asked) asked → IsAskedAlong rows state chain asked

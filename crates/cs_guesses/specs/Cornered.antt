@@ -1,5 +1,5 @@
--- The corners of a guess, as runs of the program: the named symbols of its operands have the ends that were noted, and all others their own numbers. They come
--- to the guessed operation, and show that its result has to be guessed.
+-- The corners of a guess, as runs of the program: the named symbols of its operands have the noted ends, and all others their own numbers. These runs reach
+-- the guessed operation, and show that its result has to be guessed.
 use Rattle.std.specs.Prelude.{◌≡◌, ◌≢◌, ◌⊎◌, ◌<◌, ℕ, suc, ℤ, IsTrue, List, length, Option, Some, slice_get, Contains}
 use Rattle.std.specs.FinMap as finite
 use Rattle.cs_types.specs.declared.data_model.DataModel.{DataModel}
@@ -34,7 +34,7 @@ use Rattle.cs_guesses.specs.Real.{run_at}
 abbrev pub IsNamed : Naming → Sym → Type 0
 IsNamed names sym = (name : SymName) × (slice_get names.syms sym.0 ≡ Some name)
 
--- the symbol, where there is one with a name, has one of the ends
+-- the symbol, if there is one and it has a name, has one of the ends
 abbrev pub HasEnd : Naming → Option Sym → Interval → Valuation → Type 0
 HasEnd names symbol ends w = (sym : Sym) → symbol ≡ Some sym → IsNamed names sym → (w sym.0 ≡ ends.low) ⊎ (w sym.0 ≡ ends.high)
 
@@ -48,12 +48,12 @@ pub record IsAtEnds (names : Naming) (asked : Asked) (v w : Valuation) : Type 0 
   pub right : HasEnd names asked.right.sym asked.ends.right w
   pub others : (other : Sym) → ¬ IsOfOperand names asked other → w other.0 ≡ v other.0
 
--- under some corner of the first valuation an operand isn't what it is under the second
+-- under some corner of the first valuation an operand differs from its value under the second
 abbrev pub HasOtherCorner : Naming → Asked → Question → Valuation → Valuation → (Pair → ℤ) → Type 0
 HasOtherCorner names asked meant v w operand =
     (corner : Valuation) × IsAtEnds names asked v corner × (operand (operands_under meant corner) ≢ operand (operands_under meant w))
 
--- corners of the first valuation give the ground to guess the operation's result under the second, which may have guessed its number
+-- corners of the first valuation are the ground to guess the operation's result under the second, and the number that it guesses may be used
 pub record HasReasonAt (model : DataModel) (names : Naming) (asked : Asked) (meant : Question) (v w : Valuation) : Type 0 where
   pub others : Others Valuation
   pub at_ends : EachIs (IsAtEnds names asked v) others
@@ -65,11 +65,11 @@ pub record HasReasonAt (model : DataModel) (names : Naming) (asked : Asked) (mea
   pub small : IsSmall (operands_under meant w)
 
 module _ (program : TypedProgram) (entry : ℕ) (budgets : RunBudgets) (names : Naming) (state : State) where
-  -- the run of a valuation that lists just the guesses before an event comes to the operation after these events
+  -- the run of a valuation with only the guesses before an event reaches the operation after these events
   abbrev pub ComesTo : ℕ → List Event → Place → Question → Valuation → Type 0
   ComesTo event passed at meant w = Comes program entry budgets (before event (run_at names state w)) passed (Operates at (operation_of w meant))
 
-  -- a guess of the run of a valuation that fits
+  -- a guess of the run of a valuation that fits is real, as corners show
   pub record IsCornered (asked : Asked) (v : Valuation) : Type 0 where
     pub passed : List Event
     pub number : asked.event ≡ suc (length passed)
@@ -81,10 +81,10 @@ module _ (program : TypedProgram) (entry : ℕ) (budgets : RunBudgets) (names : 
     pub comes : Comes program entry budgets (run_at names state v) passed (Operates at (operation_of v meant))
     pub reason : HasReasonAt program.model names asked meant v v
     pub corners : (w : Valuation) → IsAtEnds names asked v w → ComesTo asked.event passed at meant w × IsSmall (operands_under meant w)
-    -- the corners of later guesses come there too, each with its own number for this one
+    -- the runs of the corners of later guesses reach it too, each with its own number for this guess
     pub later : (other : Asked) (w : Valuation) → Contains (finite.values state.asked) other → asked.event < other.event → IsAtEnds names other v w
         → ComesTo other.event passed at meant w × HasReasonAt program.model names asked meant v w
 
-  -- all guesses of the runs of valuations that fit
+  -- this holds for all guesses of the runs of valuations that fit
   abbrev pub HasCorners : Type 0
   HasCorners = (v : Valuation) (asked : Asked) → Fits v state.constraints → Contains (finite.values state.asked) asked → IsCornered asked v

@@ -1,4 +1,4 @@
--- Why an exploration was cut: a row that was one too many, or an access with too many offsets.
+-- Why an exploration was cut: one row too many, or an access with too many offsets.
 use Rattle.std.specs.Prelude.{◌≡◌, ◌<◌, ℕ, ℤ, List, [], ◌∷◌, ◌++◌, Some, length, slice_get, Contains}
 use Rattle.cs_ast.specs.declared.place.Place.{Place}
 use Rattle.cs_ast.specs.TypedProgram.{TypedProgram}
@@ -26,8 +26,8 @@ use Rattle.cs_exactness.specs.Graphs.{IsExactGraph}
 use Rattle.cs_guesses.specs.Graphs.{IsGuessedGraph}
 
 module _ (code : Code) (program : TypedProgram) (entry : ℕ) (budgets : RunBudgets) (names : Naming) where
-  -- there are as many rows as nodes may be, and one more was refused. Of these rows with the refused one all that is said of rows is so, and where others come
-  -- from a row, the faults directly after its events have been found
+  -- the budget of nodes is used up, and one more row was refused. These rows with the refused one are exact, and their guesses real; and for each row that
+  -- has a child, the faults directly after its events have been found
   pub record IsOutOfNodes (rules : List Rule) (rows : List Row) (ends : List End) (most nodes : ℕ) : Type 0 where
     pub budget : nodes ≡ most
     pub full : length rows ≡ nodes
@@ -36,13 +36,13 @@ module _ (code : Code) (program : TypedProgram) (entry : ℕ) (budgets : RunBudg
     pub guesses : IsGuessedGraph code program entry budgets names (rows ++ refused ∷ []) ends
     pub finds : FindsFaults code program entry budgets (rows ++ refused ∷ []) ends
 
-  -- after these events the run of a valuation is about to reach an offset in an object, by the access at a place
+  -- after these events, the run of a valuation is about to access an object at an offset, at this place
   abbrev pub IsAboutToReach : State → List Event → Place → Object → Valuation → ℤ → Type 0
   IsAboutToReach state chain at object valuation offset =
       PassesTo code program entry budgets (setting_of names budgets state valuation) chain (Accesses at object offset)
 
-  -- directly after the events of some row the access at a place reaches so many offsets in one object, one under each valuation that fits, which are more
-  -- than are followed
+  -- directly after the events of some row, the access at a place may have this many offsets in one object, one under each valuation that fits; these are
+  -- more than are followed
   pub record HasManyOffsets (rows : List Row) (most : ℕ) (at : Place) (count : ℕ) : Type 0 where
     pub many : most < count
     pub number : ℕ
@@ -59,12 +59,12 @@ module _ (code : Code) (program : TypedProgram) (entry : ℕ) (budgets : RunBudg
     pub attained : (offset : ℤ) → Contains offsets offset
         → (valuation : Valuation) × Fits valuation row.state.value.constraints × IsAboutToReach row.state.value chain at object valuation offset
 
-  -- what a cut is listed for
+  -- the reason of a cut
   abbrev pub IsCutFor : List Rule → List Row → List End → Budgets → Cut → Type 0
   IsCutFor rules rows ends limits (Nodes nodes) = IsOutOfNodes rules rows ends limits.nodes nodes
   IsCutFor rules rows ends limits (Splits at count) = HasManyOffsets rows limits.splits at count
 
-  -- what a cut is listed for where the entry works with integers alone: no access is cut
+  -- the reason of a cut for an integer entry, in which no access is cut
   pub record IsCutForNodes (rules : List Rule) (rows : List Row) (ends : List End) (most : ℕ) (cut : Cut) : Type 0 where
     pub nodes : ℕ
     pub is : cut ≡ Nodes nodes

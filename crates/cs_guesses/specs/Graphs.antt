@@ -1,4 +1,4 @@
--- A graph whose states note of their guesses what is so, and whose guesses are real, as corners show.
+-- A graph whose states' notes about guesses are true, and whose guesses are real, as corners show.
 use Rattle.std.specs.Prelude.{ℕ, List}
 use Rattle.cs_ast.specs.TypedProgram.{TypedProgram}
 use Rattle.cs_events.specs.declared.outcome.RunBudgets.{RunBudgets}
@@ -11,8 +11,8 @@ use Rattle.cs_guesses.specs.Asking.{AreAskedAlong}
 use Rattle.cs_guesses.specs.Cornered.{HasCorners}
 use Rattle.cs_guesses.specs.Real.{HasRealGuesses, IsLoweredEntry}
 
--- what each state notes of its guesses is so; and the guesses of the runs for which it stands are real, and corners show it, if the code is the lowering of
--- the program
+-- what each state notes about its guesses is true; and if the code is the lowering of the program, the guesses of the runs that it represents are real, as
+-- corners show
 pub record IsGuessedGraph (code : Code) (program : TypedProgram) (entry : ℕ) (budgets : RunBudgets) (names : Naming) (rows : List Row) (ends : List End)
     : Type 0 where
   pub asked : EachState rows ends (λ number state chain. AreAskedAlong code program entry budgets names rows state chain)

@@ -7,13 +7,13 @@ use Rattle.cs_eval.specs.declared.question.Question.{Question}
 use Rattle.cs_eval.specs.Followed.{IsFollowed, IsGuess}
 use Rattle.cs_eval.specs.Noted.{IsRangeOf}
 
--- ranges of symbols, each with some number, of which those of the operands' symbols have the ends that were noted
+-- ranges of symbols, each with some number, where those of the operands' symbols have the noted ends
 pub record AreRanges (asked : Asked) (sets : Sets) : Type 0 where
   pub inhabited : AreInhabited sets
   pub left : IsRangeOf sets asked.left.sym asked.ends.left
   pub right : IsRangeOf sets asked.right.sym asked.ends.right
 
--- whatever ranges have these ends: the operation isn't followed exactly, and the number of the guess symbol may be guessed in place of its result
+-- for all ranges with these ends: the operation isn't followed exactly, and the number of the guess symbol may be guessed instead of its result
 abbrev pub IsInexact : DataModel → Asked → Question → Valuation → Type 0
 IsInexact model asked meant v = (sets : Sets) → AreRanges asked sets
     → ¬ IsFollowed model sets meant v × IsGuess model sets meant v (v asked.guess.0)

@@ -17,13 +17,13 @@ use Rattle.cs_state.specs.Naming.{Naming}
 use Rattle.cs_state.specs.Valuations.{guesses_of}
 use Rattle.cs_findings.specs.RealGuesses.{AreReal}
 
--- the inputs for which symbols stand, with their numbers
+-- the inputs that symbols represent, with their numbers
 abbrev pub inputs_of : List SymName → Valuation → List (Path × ℤ)
 inputs_of [] v = []
 inputs_of (Input path ∷ names) v = (path, v 0) ∷ inputs_of names (λ symbol. v (suc symbol))
 inputs_of (GuessAt event ∷ names) v = inputs_of names (λ symbol. v (suc symbol))
 
--- what the run of a valuation begins with
+-- the inputs and guesses of the run of a valuation
 abbrev pub run_at : Naming → State → Valuation → ProgramRun
 run_at names state v = record { inputs = inputs_of names.syms v; guesses = guesses_of v state.asked }
 

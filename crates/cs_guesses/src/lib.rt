@@ -1,2 +1,3 @@
-//! What an exploration notes of its guesses, and that each guess of a run that it finds is real: definitions, and the laws from which it follows.
+//! What an exploration notes about its guesses, and that each guess of a run that it finds is real: definitions, and the lemmas from which
+//! it follows.
 #![tactic(auto)]

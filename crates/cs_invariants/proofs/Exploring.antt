@@ -1,4 +1,4 @@
--- What is found stays closed but for the rows that are open, as an exploration goes on: for the contracts of `begin`, `expand` and `expand_all`.
+-- During an exploration, the graph stays closed, except for the rows that are open: for the contracts of `begin`, `expand` and `expand_all`.
 use Rattle.std.proofs.Common.{◌≡◌, ℕ, Bool, true, false, List, [], ◌∷◌, ◌++◌, map, Some, slice_get, refl, sym, ap, ◌∙◌, subst}
 use Rattle.std.specs.Prelude.{Contains}
 use Rattle.std.specs.Global.{Box}

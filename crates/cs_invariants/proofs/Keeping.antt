@@ -1,4 +1,4 @@
--- What is kept as an exploration goes on, and what holds once it is done: for the contracts of `begin`, `expand`, `expand_all` and `explore`.
+-- The invariant of an exploration, and what holds when it is done: for the contracts of `begin`, `expand`, `expand_all` and `explore`.
 use Rattle.std.proofs.Common.{◌≡◌, inl, inr, ℕ, Bool, true, false, List, [], ◌∷◌, ◌++◌, Some, slice_get, refl, sym, ap, ◌∙◌, subst}
 use Rattle.std.specs.Prelude.{All}
 use Rattle.std.specs.Global.{Box}

@@ -1,4 +1,4 @@
--- What is found comes from rows, as an exploration goes on: for the contracts of `explore`, `begin`, `expand` and `expand_all`.
+-- During an exploration, rows and ends have sources: for the contracts of `explore`, `begin`, `expand` and `expand_all`.
 use Rattle.std.proofs.Common.{◌≡◌, ℕ, Bool, true, false, List, [], ◌∷◌, ◌++◌, map, Some, length, slice_get, refl, sym, ap, ◌∙◌, subst}
 use Rattle.std.specs.Global.{Box}
 use Rattle.std.proofs.lemmas.List.{append-nil}

@@ -1,2 +1,2 @@
-//! What holds of an exploration while it goes on, and at its end. Definitions and lemmas.
+//! The invariant of an exploration, and what holds at its end. Definitions and lemmas.
 #![tactic(auto)]

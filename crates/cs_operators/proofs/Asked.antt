@@ -1,4 +1,4 @@
--- A question that an operator asks, the last of its act or one before: for the contracts of operators.
+-- The question of an operator, as the last one of its act or an earlier one: for the contracts of operators.
 use Rattle.std.proofs.Common.{◌≡◌, ℕ, ℤ, List, Result, Ok, Err, IsErr, IsErrAnd, IfOk, IfErr, sym, ap, ◌∙◌, subst}
 use Rattle.cs_inputs.specs.declared.path.Path.{Path}
 use Rattle.cs_ast.specs.declared.place.Place.{Place}

@@ -1,4 +1,4 @@
--- What the silence of checkers of every kind shows of an act, and what the faults do that they find: for the contract of `check`.
+-- What follows for an act if checkers of all kinds find no fault, and what a fault that they find does: for the contract of `check`.
 use Rattle.std.proofs.Common.{◌≡◌, ℕ, zero, suc, ℤ, inl, inr, Bool, true, false, true≢false, List, [], ◌∷◌, length, map, All, Any, Result, Ok}
 use Rattle.std.proofs.Common.{Err, IsErr, OnOk, refl, sym, ap, ◌∙◌, subst, arith}
 use Rattle.std.proofs.lemmas.List.{length-map, length-drop}

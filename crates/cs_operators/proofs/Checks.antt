@@ -1,4 +1,4 @@
--- What each check of an operator does in its act: it stops in its kind of fault exactly where the subject is faulty for it.
+-- The checks of each operator in its act: each stops with its kind of fault exactly if the subject is faulty for it.
 use Rattle.std.proofs.Common.{◌≡◌, ℕ, ◌*◌, ℤ, pos, negsuc, int_lt, int_le, Bool, true, false, not, ◌&&◌, ◌||◌, true≢false, Option, None}
 use Rattle.std.proofs.Common.{Some, if◌then◌else◌, refl, sym, ap, ◌∙◌, arith}
 use Rattle.std.proofs.lemmas.Int.{ints}

@@ -1,4 +1,4 @@
--- Which comparison it is: for the contracts of `compare` and `compare_pointers`.
+-- The kinds of comparisons: for the contracts of `compare` and `compare_pointers`.
 use Rattle.std.proofs.Common.{◌≡◌, ◌⊎◌, inl, inr, ℤ, Bool, true, false, ◌||◌, if◌then◌else◌, refl, ap, ◌∙◌}
 use Rattle.cs_ast.specs.declared.place.Place.{Place}
 use Rattle.cs_ast.specs.declared.typed.operator.CmpOp.{CmpOp}

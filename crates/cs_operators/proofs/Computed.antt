@@ -1,4 +1,4 @@
--- The whole of an operation, by the part of its act that it carries out and by what it leaves: for the contracts of `computing`.
+-- All of an operation, from the part of its act that it carries out and its result: for the contracts of `computing`.
 use Rattle.std.proofs.Common.{◌≡◌, ℕ, ℤ, Bool, Result, Ok, Err, IsErr, IsErrAnd, IfErr, OnOk, true≢false, sym, ap, ◌∙◌}
 use Rattle.cs_inputs.specs.declared.path.Path.{Path}
 use Rattle.cs_ast.specs.TypedProgram.{TypedProgram}

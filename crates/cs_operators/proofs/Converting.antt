@@ -1,4 +1,4 @@
--- What a conversion leaves as it was: for the contract of `convert`.
+-- What a conversion doesn't change: for the contract of `convert`.
 use Rattle.std.proofs.Common.{◌≡◌, ◌<◌, ℤ, pos, Bool, true, false, true≢false, List, [], ◌∷◌, length, drop, map, Option, None, Some}
 use Rattle.std.proofs.Common.{slice_get, if◌then◌else◌, refl, sym, ap, ◌∙◌, arith}
 use Rattle.std.specs.Option.{unwrap_or}

@@ -1,4 +1,4 @@
--- Two pointers are looked at, one after the other: for the contracts of `difference` and `compare_pointers`.
+-- Inspecting two pointers, one after the other: for the contracts of `difference` and `compare_pointers`.
 use Rattle.std.proofs.Common.{◌≡◌, ℕ, ℤ, List, Result, Ok, Err, IsErr, IsErrAnd, IfOk, IfErr, sym, ap}
 use Rattle.cs_ast.specs.declared.place.Place.{Place}
 use Rattle.cs_terms.specs.declared.term.Lin.{Lin}

@@ -1,4 +1,4 @@
--- The order tests of a pointer that is moved: for the contract of `moved`.
+-- The order tests of a moved pointer: for the contract of `moved`.
 use Rattle.std.proofs.Common.{◌≡◌, ◌+ℤ◌, ◌-ℤ◌, ◌*ℤ◌, neg_ℤ, ℕ, ℤ, pos, negsuc, sym, arith}
 use Rattle.std.proofs.lemmas.Int.{ints}
 use Rattle.cs_types.specs.declared.data_model.DataModel.{DataModel}

@@ -1,4 +1,4 @@
--- Base regions and the objects that they are: for the contract of `in_one_object`.
+-- Base regions and their objects: for the contract of `in_one_object`.
 use Rattle.std.proofs.Common.{◌≡◌, ◌≢◌, ℕ, zero, suc, ℤ, Bool, true, false, cond, true≢false, List}
 use Rattle.std.proofs.Common.{[], ◌∷◌, Option, None, Some, slice_get, is_some, refl, sym, ap, ◌∙◌}
 use Rattle.std.proofs.lemmas.Option.{same_Some}

@@ -1,4 +1,4 @@
--- What an operator of two integers checks before it works: for the contract of `operate`.
+-- The checks of an operator with two integer operands: for the contract of `operate`.
 use Rattle.std.proofs.Common.{◌≡◌, ◌⊎◌, inl, inr, ℕ, ◌*◌, ℤ, refl, sym, subst}
 use Rattle.cs_types.specs.declared.data_model.DataModel.{DataModel}
 use Rattle.cs_types.specs.declared.int_type.IntType.{IntType}

@@ -1,4 +1,4 @@
--- Two pointers that have to point into one object: for the contracts of `related` and `equality`.
+-- Two pointers that have to point into the same object: for the contracts of `related` and `equality`.
 use Rattle.std.proofs.Common.{◌≡◌, ◌≢◌, ℤ, pos, Bool, true, false, cond, ◌&&◌, List, Option, None, Some, option_map, slice_get, refl, sym, ap}
 use Rattle.std.proofs.Common.{◌∙◌, subst}
 use Rattle.std.specs.Prelude.{is_some, unwrap_or}

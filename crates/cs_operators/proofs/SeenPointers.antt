@@ -1,4 +1,4 @@
--- Pointers that were looked at: for the contracts of `not_null`, `named` and `arrow`.
+-- Inspected pointers: for the contracts of `not_null`, `named` and `arrow`.
 use Rattle.std.proofs.Common.{◌≡◌, ◌≢◌, ◌+ℤ◌, ℕ, ℤ, pos, Bool, true, false, List, Option, None, Some, slice_get, refl, sym, ap, ◌∙◌}
 use Rattle.cs_ast.specs.declared.place.Place.{Place}
 use Rattle.cs_model.specs.declared.kind.Kind.TheVariants as kind

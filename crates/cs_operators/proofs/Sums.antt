@@ -1,4 +1,4 @@
--- A pointer that is moved, after it was looked at: for the contract of `sum`.
+-- Moving an inspected pointer: for the contract of `sum`.
 use Rattle.std.proofs.Common.{◌≡◌, ◌≢◌, ℕ, ℤ, Option, None, Some, refl, ap, ◌∙◌}
 use Rattle.cs_types.specs.declared.data_model.DataModel.{DataModel}
 use Rattle.cs_ast.specs.declared.place.Place.{Place}

@@ -1,4 +1,4 @@
--- What a test shows, of a number or of a pointer that was looked at: for the contracts of `test` and `equality`.
+-- The label of a test, of a number or of an inspected pointer: for the contracts of `test` and `equality`.
 use Rattle.std.proofs.Common.{◌≡◌, ◌≢◌, ℕ, ℤ, pos, Bool, true, false, List, Option, None, Some, if◌then◌else◌, slice_get, refl, sym, ap}
 use Rattle.std.proofs.Common.{◌∙◌, subst}
 use Rattle.cs_ast.specs.declared.place.Place.{Place}

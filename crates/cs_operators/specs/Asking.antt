@@ -1,4 +1,4 @@
--- The checkers that an operation asks, and what their silence shows of its act.
+-- The checkers that an operation queries, and what follows for its act if they find no fault.
 use Rattle.std.specs.Prelude.{◌≡◌, true, false, List, map}
 use Rattle.cs_model.specs.declared.kind.Kind.{Kind}
 use Rattle.cs_ast.specs.declared.place.Place.{Place}
@@ -17,7 +17,7 @@ use Rattle.cs_access.specs.Checks.{is_faulty}
 abbrev pub KeepKinds : {Checker : Type 0} → (Checker → Kind) → List Checker → List Checker → Type 0
 KeepKinds kind before after = map kind after ≡ map kind before
 
--- under no valuation that fits the state is what is about to be done a fault of one of these kinds
+-- what is about to be done is a fault of one of these kinds under no valuation that fits the state
 abbrev pub IsNoFault : State → Subject → List Kind → Type 0
 IsNoFault state subject kinds = (valuation : Valuation) → Fits valuation state.constraints → is_faulty kinds subject valuation ≡ false
 
@@ -25,11 +25,11 @@ IsNoFault state subject kinds = (valuation : Valuation) → Fits valuation state
 abbrev pub HasEveryKind : {Checker : Type 0} → (Checker → Kind) → List Checker → Type 0
 HasEveryKind kind checkers = AreAllKinds (map kind checkers)
 
--- an act begins with a check of the subject: it stops in a fault of each kind that the subject is faulty for, and goes on if there is none
+-- an act begins with a check of the subject: it stops with a fault of each kind for which the subject is faulty, and continues if there is none
 pub record IsCheckOf (subject : Subject) (at : Place) (valuation : Valuation) (checked : Act CodeState → Act CodeState) : Type 0 where
   pub faulty : (kind : Kind) → is_faulty_for kind subject valuation ≡ true → (act : Act CodeState) → checked act ≡ Stops (Fault kind at)
   pub good : ((kind : Kind) → is_faulty_for kind subject valuation ≡ false) → (act : Act CodeState) → checked act ≡ act
 
--- the same under each valuation that fits
+-- this holds under each valuation that fits
 abbrev pub ChecksFor : State → Subject → Place → (Valuation → Act CodeState → Act CodeState) → Type 0
 ChecksFor state subject at checked = (valuation : Valuation) → Fits valuation state.constraints → IsCheckOf subject at valuation (checked valuation)

@@ -1,4 +1,4 @@
--- Pointers that were looked at, and tests.
+-- Inspected pointers, and tests.
 use Rattle.std.specs.Prelude.{ℕ, ℤ, pos, ◌+ℤ◌, ◌-ℤ◌, ◌*ℤ◌, neg_ℤ, Bool, true, false, not, List, slice_get}
 use Rattle.cs_types.specs.declared.data_model.DataModel.{DataModel}
 use Rattle.cs_types.specs.DataModel.{offset_bound_of}
@@ -28,15 +28,15 @@ use Rattle.cs_state.specs.Cells.{cell_of, pointer_to}
 use Rattle.cs_progress.specs.declared.pointers.Seen.{Seen}
 use Rattle.cs_progress.specs.Seeing.{IsSeen, IsSeenNamed}
 
--- the cell that a value of the state is
+-- the cell of a value of the state
 abbrev pub cell_in : List Base → State → Value → Valuation → Cell
 cell_in bases state value valuation = cell_of bases state.blocks valuation value
 
--- the cell that a base region's offset points to
+-- the pointer to an offset of a base region
 abbrev pub cell_at : List Base → ℕ × Lin → Valuation → Cell
 cell_at bases found valuation = pointer_to (slice_get bases found.0) (value_of valuation found.1)
 
--- this is seen of the cell under each valuation that fits, and the base region that it points to has a name
+-- this is what is seen of the cell under each valuation that fits, and the base region that it points to has a name
 pub record Sees (bases : List Base) (state : State) (seen : Seen) (cell : Valuation → Cell) : Type 0 where
   pub named : IsSeenNamed bases seen
   pub seen_is : (valuation : Valuation) → Fits valuation state.constraints → IsSeen bases valuation seen (cell valuation)
@@ -45,7 +45,7 @@ pub record Sees (bases : List Base) (state : State) (seen : Seen) (cell : Valuat
 abbrev pub both_values : Lin × Lin → Valuation → ℤ × ℤ
 both_values terms valuation = (value_of valuation terms.0, value_of valuation terms.1)
 
--- what a test shows of a truth: `!` shows the opposite
+-- the label that a test shows: `!` shows the opposite
 abbrev pub shows_of : Tested → Bool → Label
 shows_of Not holds = label.Truth (not holds)
 shows_of tested holds = label_of tested holds
@@ -54,17 +54,17 @@ shows_of tested holds = label_of tested holds
 abbrev pub test : Place → Tested → Cell → (Bool → Act CodeState) → Act CodeState
 test at tested cell onward = operators.truth at cell (λ holds. shows_then at (shows_of tested holds) (onward holds))
 
--- a pointer's offset within its bounds is moved by an amount of elements of so many bytes (C11 6.5.6, paragraph 8)
+-- the offset of a pointer moved by a number of elements of this size, if it stays within its bounds (C11 6.5.6, paragraph 8)
 abbrev pub moved_within : DataModel → Place → ℤ → ℤ → ℕ → (ℤ → Act CodeState) → Act CodeState
 moved_within model at offset amount size onward =
     ordered at (offset +ℤ pos (offset_bound_of model)) (amount *ℤ pos size)
     (ordered at (pos (offset_bound_of model) -ℤ offset) (neg_ℤ (amount *ℤ pos size)) (Asks at (operation.Sum offset amount size) onward))
 
--- two pointers that were looked at are compared for equality
+-- two inspected pointers are compared for equality
 abbrev pub equality : Place → CmpOp → Cell → Cell → (ℤ → Act CodeState) → Act CodeState
 equality at operator one other onward = operators.equality at operator (operators.both_null one other) (operators.in_one_object one other) onward
 
--- two pointers that were looked at have to point into one object: their offsets
+-- the offsets of two inspected pointers, which have to point into the same object
 abbrev pub related : Place → Cell → Cell → (ℤ × ℤ → Act CodeState) → Act CodeState
 related at one other onward = operators.in_relation at (operators.related one other) (λ first second. onward (first, second))
 

@@ -15,7 +15,7 @@ use cs_progress::{Next, Pause, Progress};
 use cs_state::State;
 use std::alloc::Global;
 
-/// How far an operation has come, and the checkers that it asks about what it is about to do.
+/// The progress of an operation, and the checkers that it queries about what it is about to do.
 #[derive(Drop)]
 pub struct Attempt {
     pub alloc: Global,
@@ -24,7 +24,7 @@ pub struct Attempt {
 }
 
 impl Attempt {
-    /// An operation that begins.
+    /// Returns an attempt at the beginning of an operation.
     pub fn new(alloc: Global, checkers: Vec<Box<dyn Checker>>) -> Attempt
         ensures checkers { result.checkers.items ≡ checkers.items }
         ensures used { result.progress.used ≡ 0 }
@@ -36,8 +36,8 @@ impl Attempt {
         }
     }
 
-    /// What is about to be done is no fault, under no valuation that fits. What comes before an event that was answered was checked before
-    /// that event.
+    /// Checks that what is about to be done is a fault under no valuation that fits; else the operation waits with the faulty parts. What
+    /// comes before an answered event was checked before that event.
     pub fn check(&mut self, state: &State, at: Place, subject: Subject) -> Result<(), Pause>
         ensures kinds { KeepKinds (λ b. kind_of b) self.old.checkers.items
             self.new.checkers.items }

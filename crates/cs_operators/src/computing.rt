@@ -1,4 +1,4 @@
-//! Operations that compute with their operands alone, in whose place they leave their result.
+//! Operations that only compute with their operands, which they replace by their result.
 ghost use Rattle.std.specs.Prelude.{◌≡◌, ℕ, Bool, List, OnOk};
 ghost use Rattle.cs_types.specs.Shape.{shape_of};
 ghost use Rattle.cs_ast.specs.TypedProgram.{TypedProgram};
@@ -32,7 +32,7 @@ use cs_state::{State, Temporary};
 use cs_store::Value;
 use cs_types::{CType, IntType};
 
-/// The place of a member of the struct at a place.
+/// Replaces the place of a struct by that of a member.
 pub fn member(state: &mut State, offset: u64) -> Result<(), Pause>
     ensures act { (code : Code) (names : Naming) (program : TypedProgram) (budgets : RunBudgets)
         (at : Place) (progress : Progress) → Computes code names program state.old state.new
@@ -42,7 +42,7 @@ pub fn member(state: &mut State, offset: u64) -> Result<(), Pause>
     replace_with(state, 1, place)
 }
 
-/// The place of a member of the struct that a pointer points to (C11 6.5.2.3, paragraph 4).
+/// Replaces a pointer to a struct by the place of a member (C11 6.5.2.3, paragraph 4).
 pub fn member_through(
     state: &mut State,
     attempt: &mut Attempt,
@@ -61,7 +61,7 @@ pub fn member_through(
     replace_with(state, 1, place)
 }
 
-/// An operator of one integer (C11 6.5.3.3).
+/// Applies an operator with one integer operand (C11 6.5.3.3).
 pub fn unary(
     state: &mut State,
     progress: &mut Progress,
@@ -83,7 +83,7 @@ pub fn unary(
     replace_with(state, 1, Value::Number(result))
 }
 
-/// Whether a value isn't zero, which shows (C11 6.5.13, 6.5.14).
+/// Replaces a value by whether it isn't zero, which is an event (C11 6.5.13, 6.5.14).
 pub fn judge(state: &mut State, progress: &mut Progress, at: Place) -> Result<(), Pause>
     ensures act { (code : Code) (names : Naming) (program : TypedProgram) (budgets : RunBudgets)
         → HaveNames names.bases state.old
@@ -99,7 +99,7 @@ pub fn judge(state: &mut State, progress: &mut Progress, at: Place) -> Result<()
     replace_with(state, 1, Value::Number(number_of(holds)))
 }
 
-/// Whether a value is zero, which shows (C11 6.5.3.3, paragraph 5).
+/// Replaces a value by whether it is zero, which is an event (C11 6.5.3.3, paragraph 5).
 pub fn negate(state: &mut State, progress: &mut Progress, at: Place) -> Result<(), Pause>
     ensures act { (code : Code) (names : Naming) (program : TypedProgram) (budgets : RunBudgets)
         → HaveNames names.bases state.old
@@ -115,7 +115,7 @@ pub fn negate(state: &mut State, progress: &mut Progress, at: Place) -> Result<(
     replace_with(state, 1, Value::Number(number_of(!holds)))
 }
 
-/// An operator of two integers (C11 6.5.5 to 6.5.7, 6.5.10 to 6.5.12).
+/// Applies an operator with two integer operands (C11 6.5.5 to 6.5.7, 6.5.10 to 6.5.12).
 pub fn binary(
     context: &Context,
     state: &mut State,
@@ -143,7 +143,7 @@ pub fn binary(
     replace_with(state, 2, Value::Number(result))
 }
 
-/// A comparison (C11 6.5.8, 6.5.9).
+/// Applies a comparison (C11 6.5.8, 6.5.9).
 pub fn compare_operands(
     state: &mut State,
     attempt: &mut Attempt,
@@ -168,7 +168,7 @@ pub fn compare_operands(
     replace_with(state, 2, Value::Number(result))
 }
 
-/// The difference of two pointers to objects of so many bytes (C11 6.5.6, paragraph 9).
+/// Subtracts two pointers to objects of this size in bytes (C11 6.5.6, paragraph 9).
 pub fn subtract(
     state: &mut State,
     attempt: &mut Attempt,
@@ -188,7 +188,7 @@ pub fn subtract(
     replace_with(state, 2, Value::Number(result))
 }
 
-/// A pointer is moved by an amount of elements of so many bytes (C11 6.5.6, paragraph 8).
+/// Moves a pointer by a number of elements of this size in bytes (C11 6.5.6, paragraph 8).
 pub fn add(
     context: &Context,
     state: &mut State,
@@ -225,7 +225,7 @@ fn pointer_age(order: Order) -> usize
     }
 }
 
-// The age of the other one.
+// The age of the operand that is the amount.
 fn amount_age(order: Order) -> usize
     ensures { result ≡ expressions.amount_age order }
 {
@@ -235,7 +235,7 @@ fn amount_age(order: Order) -> usize
     }
 }
 
-/// A conversion of a value of a type: only that of a number to an integer type changes it; of a void value nothing is left (C11 6.3.2.2).
+/// Converts a value: only a conversion from a number to an integer type changes it; one to `void` leaves no value (C11 6.3.2.2).
 pub fn convert(
     context: &Context,
     state: &mut State,
@@ -271,7 +271,7 @@ pub fn convert(
     }
 }
 
-/// The result of a call that is used was set (C11 6.9.1, paragraph 12).
+/// Checks that the result of a call was set if it is used (C11 6.9.1, paragraph 12).
 pub fn use_result(state: &State, attempt: &mut Attempt, at: Place) -> Result<(), Pause>
     ensures kinds { KeepKinds (λ b. kind_of b) attempt.old.checkers.items
         attempt.new.checkers.items }

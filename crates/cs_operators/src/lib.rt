@@ -1,4 +1,4 @@
-//! What operators and pointers do, with what is checked before.
+//! Operators and pointers, with the checks that come before them.
 #![tactic(auto)]
 
 mod attempt;

@@ -33,7 +33,7 @@ use cs_store::Value;
 use cs_terms::Lin;
 use cs_types::{CType, DataModel, IntType, bytes, offset_bound};
 
-/// Whether a value counts as true (C11 6.8.4.1, paragraph 2), which shows in a way; a pointer is looked at first.
+/// Whether a value counts as true (C11 6.8.4.1, paragraph 2). The event depends on the kind of test; a pointer is inspected first.
 pub fn test(
     state: &State,
     progress: &mut Progress,
@@ -59,14 +59,14 @@ pub fn test(
     Ok(holds)
 }
 
-/// The number of a truth (C11 6.5.8, paragraph 6).
+/// Returns the number of a truth value (C11 6.5.8, paragraph 6).
 pub fn number_of(holds: bool) -> Lin
     ensures { result ≡ terms.constant (truth_number holds) }
 {
     constant(if holds { 1 } else { 0 })
 }
 
-/// An operator of two integers: what it checks, and then its result.
+/// Returns the result of an operator with two integer operands, after its checks.
 pub fn operate(
     model: DataModel,
     state: &State,
@@ -104,7 +104,7 @@ pub fn operate(
     attempt.progress.ask(state, at, question)
 }
 
-/// A conversion of a number of a type. It shows where the new type doesn't hold every number of the old one (C11 6.3.1.3).
+/// Returns a number converted to a type. The conversion is an event unless the new type has every number of the old one (C11 6.3.1.3).
 pub fn convert_number(
     model: DataModel,
     state: &State,
@@ -127,7 +127,7 @@ pub fn convert_number(
     progress.ask(state, at, Question::Convert(to, number))
 }
 
-// Whether a type holds every number of another.
+// Whether a type has every number of another one.
 fn takes_all(model: DataModel, from: &CType, to: IntType) -> bool
     ensures { result ≡ operators.takes_all model (shape_of from.now) to }
 {
@@ -139,7 +139,7 @@ fn takes_all(model: DataModel, from: &CType, to: IntType) -> bool
     low <= least && greatest <= high
 }
 
-/// A number with the sign of a direction.
+/// Returns a number, negated if the direction is backward.
 pub fn directed(direction: Direction, number: Lin) -> Result<Lin, Pause>
     ensures value { IfOk result (λ made. (valuation : Valuation)
         → value_of valuation made ≡ cells.directed direction (value_of valuation number)) }
@@ -151,7 +151,7 @@ pub fn directed(direction: Direction, number: Lin) -> Result<Lin, Pause>
     }
 }
 
-/// A pointer moved by an amount of elements of so many bytes: its offset stays within its bounds (C11 6.5.6, paragraph 8).
+/// Returns a pointer moved by a number of elements of this size: its offset stays within its bounds (C11 6.5.6, paragraph 8).
 pub fn sum(
     context: &Context,
     state: &State,
@@ -191,7 +191,7 @@ pub fn sum(
     }
 }
 
-// The offset of a pointer that is moved.
+// The offset of a moved pointer.
 fn moved(
     context: &Context,
     state: &State,
@@ -221,7 +221,7 @@ fn moved(
     attempt.progress.ask(state, at, question)
 }
 
-/// A comparison of two numbers or two pointers (C11 6.5.8, 6.5.9).
+/// Returns the result of a comparison of two numbers or two pointers (C11 6.5.8, 6.5.9).
 pub fn compare(
     state: &State,
     attempt: &mut Attempt,
@@ -246,7 +246,7 @@ pub fn compare(
     attempt.progress.ask(state, at, question)
 }
 
-// A comparison of two pointers, which are looked at first.
+// Compares two pointers, which are inspected first.
 fn compare_pointers(
     state: &State,
     attempt: &mut Attempt,
@@ -279,7 +279,7 @@ fn compare_pointers(
     }
 }
 
-// Two pointers compared for equality: offsets are compared where they point into one object (C11 6.5.9, paragraph 6).
+// Compares two pointers for equality: by their offsets if they point into the same object (C11 6.5.9, paragraph 6).
 fn equality(
     state: &State,
     progress: &mut Progress,
@@ -303,7 +303,7 @@ fn equality(
     Ok(number_of(holds))
 }
 
-// The offsets of two pointers into one object.
+// The offsets of two pointers into the same object.
 fn in_one_object(left: Seen, right: Seen) -> Option<(Lin, Lin)>
     ensures { (bases : List Base) (valuation : Valuation) (one other : Cell) → IsNumbered bases
         → IsSeenNamed bases left → IsSeenNamed bases right
@@ -324,7 +324,7 @@ fn in_one_object(left: Seen, right: Seen) -> Option<(Lin, Lin)>
     }
 }
 
-// Whether two pointers that don't point into one object compare so: they are equal where both are null.
+// The result for two pointers that don't point into the same object: they are equal if both are null.
 fn compares_apart(operator: CmpOp, left: Seen, right: Seen) -> bool
     ensures { (bases : List Base) (valuation : Valuation) (one other : Cell)
         → IsSeenNamed bases left → IsSeenNamed bases right
@@ -335,7 +335,7 @@ fn compares_apart(operator: CmpOp, left: Seen, right: Seen) -> bool
     same == matches!(operator, CmpOp::Equal)
 }
 
-// The offsets of two pointers into one object, null being an object of its own.
+// The offsets of two pointers into the same object, where null is an object of its own.
 fn in_relation(left: Seen, right: Seen) -> Option<(Lin, Lin)>
     ensures { (bases : List Base) (valuation : Valuation) (one other : Cell) → IsNumbered bases
         → IsSeenNamed bases left → IsSeenNamed bases right
@@ -349,7 +349,7 @@ fn in_relation(left: Seen, right: Seen) -> Option<(Lin, Lin)>
     }
 }
 
-// The same; it is a fault where there are none (C11 6.5.6, paragraph 9; 6.5.8, paragraph 5).
+// The same, with a check: it is a fault if there are none (C11 6.5.6, paragraph 9; 6.5.8, paragraph 5).
 fn related(
     state: &State,
     attempt: &mut Attempt,
@@ -371,7 +371,7 @@ fn related(
     found.ok_or(Pause::Memory)
 }
 
-/// How many elements of so many bytes lie between two pointers (C11 6.5.6, paragraph 9).
+/// Returns the number of elements of this size between two pointers (C11 6.5.6, paragraph 9).
 pub fn difference(
     state: &State,
     attempt: &mut Attempt,

@@ -1,4 +1,4 @@
-//! Pointers that are checked.
+//! Checked pointers.
 ghost use Rattle.std.specs.Prelude.{List};
 ghost use Rattle.cs_regions.specs.declared.base.Base.{Base};
 ghost use Rattle.cs_terms.specs.Term.{Valuation, value_of};
@@ -20,7 +20,7 @@ use cs_state::State;
 use cs_store::Value;
 use cs_terms::{Lin, Lin2};
 
-/// Null is a fault where an object is needed (C11 6.5.3.2, paragraph 4).
+/// Checks that a pointer isn't null where an object is needed (C11 6.5.3.2, paragraph 4).
 pub fn not_null(state: &State, attempt: &mut Attempt, at: Place, seen: Seen) -> Result<(), Pause>
     ensures kinds { KeepKinds (λ b. kind_of b) attempt.old.checkers.items
         attempt.new.checkers.items }
@@ -33,7 +33,7 @@ pub fn not_null(state: &State, attempt: &mut Attempt, at: Place, seen: Seen) -> 
     attempt.check(state, at, Subject::Through { null })
 }
 
-/// The base region and the offset that a pointer names. It was checked before that there is one.
+/// Returns the base region and the offset of a pointer, which was checked not to be null.
 pub fn named(
     state: &State,
     attempt: &mut Attempt,
@@ -59,7 +59,7 @@ pub fn named(
     }
 }
 
-/// The member at so many bytes of the object that a pointer points to (C11 6.5.2.3, paragraph 4).
+/// Returns the place of a member, at an offset in bytes, of the object that a pointer points to (C11 6.5.2.3, paragraph 4).
 pub fn arrow(
     state: &State,
     attempt: &mut Attempt,
@@ -84,7 +84,7 @@ pub fn arrow(
     }
 }
 
-/// An order test: the sum of two parts isn't below 0, or else it is out of bounds.
+/// Tests an order, which is an event, and checks it: a sum of two parts below 0 is out of bounds.
 pub fn ordered(
     state: &State,
     attempt: &mut Attempt,

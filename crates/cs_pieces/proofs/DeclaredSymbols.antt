@@ -1,4 +1,4 @@
--- Symbols that are declared stay so where some valuations are kept, and states of locals alone mention no others: for the contract of `find`.
+-- Symbols stay declared if some valuations remain, and states with pointers to locals only mention no others: for the contract of `find`.
 use Rattle.std.proofs.Common.{◌≡◌, ℕ, ◌+◌, ℤ, pos, negsuc, ◌≤ℤ◌, ◌<ℤ◌, Bool, true, false, true≢false, List, [], ◌∷◌}
 use Rattle.std.proofs.Common.{◌||◌, Option, None, Some, All, inl, inr, refl, sym, ap, ◌∙◌, subst, arith}
 use Rattle.std.specs.Prelude.{is_some, unsigned_abs, int_le, ◌&&◌}

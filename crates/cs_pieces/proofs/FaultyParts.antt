@@ -1,4 +1,4 @@
--- The faulty parts of a state end, and the rest goes on: for the contract of `find`.
+-- The faulty parts of a state end, and the rest continues: for the contract of `find`.
 use Rattle.std.proofs.Common.{◌≡◌, ℕ, suc, Bool, true, false, not, List, [], ◌∷◌, ◌||◌, All, inl, inr, refl, sym, ap, ◌∙◌, subst}
 use Rattle.std.specs.Prelude.{◌⊎◌, Contains, ◌≤◌}
 use Rattle.std.specs.FinMap as finite

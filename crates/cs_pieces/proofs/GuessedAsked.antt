@@ -1,4 +1,4 @@
--- The guesses of a state, which are at its events, and what it notes of the last one: for the contract of `find`.
+-- The guesses of a state, which are at its events, and what it notes about the last one: for the contract of `find`.
 use Rattle.std.proofs.Common.{◌≡◌, ℕ, ◌+◌, ◌≤◌, [], ◌∷◌, Option, None, Some, All, map, refl, sym, ap, ◌∙◌, subst, arith}
 use Rattle.std.specs.Prelude.{option_map, Contains}
 use Rattle.std.specs.FinMap as finite

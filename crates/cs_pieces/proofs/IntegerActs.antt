@@ -1,4 +1,4 @@
--- What integer code does shows no offset of an access, no allocation, no division by 0 and no shift by 64 bits or more: for the contract of `find`.
+-- Acts of integer code have no offset of an access, no allocation, no division by 0 and no shift by 64 bits or more: for the contract of `find`.
 use Rattle.std.proofs.Common.{◌≡◌, ℕ, zero, suc, ℤ, Bool, true, false, List, [], ◌∷◌, Option, None, Some, All, if◌then◌else◌, refl, sym}
 use Rattle.std.proofs.Common.{◌≢◌, ◌≤◌, ◌*◌, pos, ◌&&◌, true≢false, ap, ◌∙◌, subst, arith}
 use Rattle.std.proofs.lemmas.Bool.{and_parts}

@@ -1,4 +1,4 @@
--- What is noted of the guesses of pieces, by what was asked: for the contract of `find`.
+-- What is noted about the guesses of pieces, from the question: for the contract of `find`.
 use Rattle.std.proofs.Common.{◌≡◌, ℕ, ℤ, List, [], ◌∷◌, Option, Some, refl, subst}
 use Rattle.cs_types.specs.declared.data_model.DataModel.{DataModel}
 use Rattle.cs_terms.specs.Term.{Valuation}

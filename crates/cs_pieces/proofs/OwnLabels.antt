@@ -1,4 +1,4 @@
--- What shows at an operation says whether the operation is followed there, and a guess that shows a truth is that of a test: for `back` of `IsChildOf`.
+-- The label of an operation determines whether the operation is followed there, and a guess that shows a truth is that of a test: for `back` of `IsChildOf`.
 use Rattle.std.proofs.Common.{◌≡◌, inl, inr, ℕ, zero, suc, ℤ, pos, negsuc, Bool, true, false, List, Option, None, Some, refl, sym, ap, ◌∙◌}
 use Rattle.std.proofs.Common.{◌≤ℤ◌, subst, arith}
 use Rattle.std.proofs.lemmas.Int.{ints}

@@ -1,4 +1,4 @@
--- A run passes its next event to the child of a piece of what shows first: for the contract of `find`.
+-- A run passes its next event and reaches the child of a piece of the label that it shows: for the contract of `find`.
 use Rattle.std.proofs.Common.{◌≡◌, ℕ, suc, ◌+◌, ◌<◌, ◌≤◌, ℤ, Bool, true, false, [], ◌∷◌, ◌++◌, Option, length, map}
 use Rattle.std.proofs.Common.{if◌then◌else◌, refl, sym, ap, ◌∙◌, arith}
 use Rattle.std.proofs.lemmas.Bool.Decides.{nat_tests}

@@ -1,4 +1,4 @@
--- What comes of a state to which runs come silently from another one comes of that one too: for the contract of `find`.
+-- The successors of a state that runs reach silently from another one are successors of that one too: for the contract of `find`.
 use Rattle.std.proofs.Common.{◌≡◌, ℕ, zero, suc, List, [], ◌∷◌, ◌++◌, None, Some, All, inl, inr, refl, ap, ◌∙◌, subst}
 use Rattle.std.specs.Prelude.{◌⊎◌, slice_get}
 use Rattle.std.proofs.lemmas.List.Elements.{All-nil, All-cons, All-append, All-weaker}

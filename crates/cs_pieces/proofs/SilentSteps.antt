@@ -1,4 +1,4 @@
--- Steps of a state with which nothing shows: an operation that is done, and one that waits. For the contract of `find`.
+-- Silent steps of a state: an operation that is done, and one that waits. For the contract of `find`.
 use Rattle.std.proofs.Common.{◌≡◌, ℕ, List, [], ◌∷◌, Option, None, Some, length, map, refl, sym, ap, ◌∙◌, subst, arith, inl}
 use Rattle.std.specs.Prelude.{reverse, option_map, Contains, ◌≤◌}
 use Rattle.std.proofs.lemmas.List.Elements.{All-nil}

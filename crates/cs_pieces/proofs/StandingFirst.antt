@@ -1,4 +1,4 @@
--- What stands first in an act, by what is left of it without answers: for the contract of `find`.
+-- What comes first in an act, from what remains of it without answers: for the contract of `find`.
 use Rattle.std.proofs.Common.{◌≡◌, List, [], refl, subst}
 use Rattle.cs_events.specs.declared.event.Event.{Event}
 use Rattle.cs_events.specs.Acts.{Act, Goes, Stops, Reads, Asks, Allocates, Reaches, Touches}

@@ -1,4 +1,4 @@
--- What comes of a state in which something shows first: a child for each piece of it, and the ends of its faulty parts.
+-- The successors of a state whose operation shows a label: a child for each piece of it, and the ends of its faulty parts.
 use Rattle.std.specs.Prelude.{◌≡◌, ℕ, ◌+◌, ◌<◌, ◌≤◌, Bool, true, false, List, [], ◌∷◌, ◌++◌, map}
 use Rattle.std.specs.Prelude.{Option, None, Some, option_map, slice_get}
 use Rattle.std.specs.FinMap as finite
@@ -38,7 +38,7 @@ use Rattle.cs_explored.specs.Watching.{IsPhaseAfter}
 use Rattle.cs_pieces.specs.Settled.{IsSettled}
 use Rattle.cs_successors.specs.Coming.{StateEnd}
 
--- a state directly after an event, with what leads on there and the phase of a watched protocol
+-- a state directly after an event, with the answer with which it continues and the phase of a watched protocol
 abbrev pub after_event : Lin → ℕ → State → State
 after_event answer phase state = record state {
   answers = state.answers ++ answer ∷ [];
@@ -50,7 +50,7 @@ after_event answer phase state = record state {
 abbrev pub IsPassed : List Rule → Event → Lin → State → State → Type 0
 IsPassed rules event answer before after = IsPhaseAfter rules before.phase event after.phase × (after ≡ after_event answer after.phase before)
 
--- what a state notes of a guess at an event, for whose result this symbol stands
+-- what a state notes about a guess at an event; the symbol represents the guessed result
 abbrev pub asked_for : ℕ → Sym → Guessed → Asked
 asked_for event guess what = record {
   event = event;
@@ -62,12 +62,12 @@ asked_for event guess what = record {
   fact = what.fact;
 }
 
--- the guesses before an event and directly after it, where just this was guessed there, or nothing
+-- the guesses before an event and directly after it, if this was guessed there, or nothing
 abbrev pub AreNotedAfter : ℕ → Sym → Option Guessed → Guesses → Guesses → Type 0
 AreNotedAfter event guess None before after = after ≡ before
 AreNotedAfter event guess (Some what) before after = after ≡ finite.insert before (event, 0) (asked_for event guess what)
 
--- the child that a piece makes of a state
+-- the child of a state for a piece
 pub record IsOfPiece (rules : List Rule) (before : State) (place : Place) (guess : Sym) (piece : Piece) (child : Child) : Type 0 where
   pub event : child.event ≡ record { place = place; label = piece.label }
   pub guessed : child.guess ≡ option_map (λ guessed. guess) piece.guessed
@@ -85,18 +85,18 @@ pub record IsOfPiece (rules : List Rule) (before : State) (place : Place) (guess
 abbrev pub AreOfPieces : List Rule → State → Place → Sym → List Piece → List Child → Type 0
 AreOfPieces rules before place guess pieces made = AllZip (IsOfPiece rules before place guess) pieces made
 
--- an event is the next one, and the budget of events lets it pass
+-- an event is the next one, and the budget of events permits it
 abbrev pub IsNextEvent : ℕ → ℕ → ℕ → Type 0
 IsNextEvent limit passed event = (passed < limit) × (event ≡ passed + 1)
 
--- what comes of a state in which something shows first: an end where the budget of events is used up, else a child for each piece
+-- the successors of a state whose operation shows a label: an end if the budget of events is used up, else a child for each piece
 pub data ComesOfPieces (limit : ℕ) (rules : List Rule) (state : Box State) (place : Place) (AreSplit : Sym → List Piece → Type 0)
     : List Child → List StateEnd → Type 0 where
   over : limit ≤ state.value.counters.events → ComesOfPieces limit rules state place AreSplit [] ((Over Events place, state) ∷ [])
   shows : {pieces : List Piece} {made : List Child} (guess : Sym) → state.value.counters.events < limit → AreSplit guess pieces
       → AreOfPieces rules state.value place guess pieces made → ComesOfPieces limit rules state place AreSplit made []
 
--- the pieces of a question, whose guess symbol stands for a guess at the next event and isn't declared yet
+-- the pieces of a question, whose guess symbol represents a guess at the next event and isn't declared yet
 pub record AreOfQuestion (model : DataModel) (names : Naming) (state : State) (question : Question) (guess : Sym) (pieces : List Piece) : Type 0 where
   pub named : slice_get names.syms guess.0 ≡ Some (GuessAt (state.counters.events + 1))
   pub fresh : set_of state.constraints guess.0 ≡ None
@@ -120,7 +120,7 @@ IsFaultyEnd place part end = (end.0 ≡ Fault part.kind place) × (end.1.value �
 abbrev pub AreFaultyEnds : Place → List FaultyPart → List StateEnd → Type 0
 AreFaultyEnds place parts ends = AllZip (IsFaultyEnd place) parts ends
 
--- what is left of a state goes on, if anything is left
+-- the rest of a state continues, if there is one
 abbrev pub GoesOn : Rest → Bool → State → State → Type 0
 GoesOn Whole goes before after = (goes ≡ true) × (after ≡ before)
 GoesOn (Part part) goes before after = (goes ≡ true) × (after ≡ part.value)

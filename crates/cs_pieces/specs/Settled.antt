@@ -1,4 +1,4 @@
--- The answers of states: each is over a symbol on which it depends, or over that of a guess.
+-- The answers of states: each is a term over a symbol on which it depends, or over that of a guess.
 use Rattle.std.specs.Prelude.{◌≡◌, ◌≢◌, ◌⊎◌, ℤ, IsTrue, List, Option, None, Some}
 use Rattle.cs_ranges.specs.declared.range_set.Interval.{Interval}
 use Rattle.cs_ranges.specs.Affine.{affine}
@@ -9,7 +9,7 @@ use Rattle.cs_terms.specs.Term.{value_of, value_at}
 use Rattle.cs_constraints.specs.Constraints.{Sets, set_of, Fits}
 use Rattle.cs_terms.specs.Term.{Valuation}
 
--- a term has different values at two of the numbers of its symbol
+-- a term has different values at two of its symbol's numbers
 pub record DependsOn (sets : Sets) (term : Lin) (symbol : Sym) : Type 0 where
   pub set : List Interval
   pub there : set_of sets symbol.0 ≡ Some set
@@ -19,7 +19,7 @@ pub record DependsOn (sets : Sets) (term : Lin) (symbol : Sym) : Type 0 where
   pub has_other : IsTrue (contains set other)
   pub differ : value_at term one ≢ value_at term other
 
--- a term with the same values as a given one, over the symbol of the guess or over one on which it depends before the event
+-- a term with the same values as the given one, over the symbol of the guess or over one on which it depends before the event
 pub record IsSettled (before : Sets) (guess : Option Sym) (given settled : Lin) : Type 0 where
   pub values : (v : Valuation) → Fits v before → value_of v settled ≡ value_of v given
   pub over : (symbol : Sym) → settled.sym ≡ Some symbol → (guess ≡ Some symbol) ⊎ DependsOn before settled symbol

@@ -1,2 +1,2 @@
-//! What comes of the pieces of a state in which something shows first, and of its faulty parts. Definitions and lemmas.
+//! The successors of the pieces of a state whose operation shows a label, and of its faulty parts. Definitions and lemmas.
 #![tactic(auto)]

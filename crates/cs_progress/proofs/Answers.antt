@@ -1,4 +1,4 @@
--- The next of the answers that are left: for the contract of `answer`.
+-- The next of the remaining answers: for the contract of `answer`.
 use Rattle.std.proofs.Common.{◌≡◌, ℕ, ◌+◌, ◌<◌, List, ◌∷◌, length, get_or, map, drop, sym, ap, ◌∙◌}
 use Rattle.std.proofs.lemmas.List.{drop_more, drop-map}
 

@@ -1,5 +1,4 @@
--- An operation carries out the whole of a part of its act, where its beginning leads to what it has carried out: for the contracts of
--- operations.
+-- An operation carries out all of a part of its act, if the beginning of that leads to what it has carried out: for the contracts of operations.
 use Rattle.std.proofs.Common.{◌≡◌, ℕ, List, Result, Ok, Err, IsErr, IsErrAnd, true≢false, sym, ◌∙◌, subst}
 use Rattle.cs_inputs.specs.declared.path.Path.{Path}
 use Rattle.cs_terms.specs.Term.{Valuation}

@@ -1,4 +1,4 @@
--- Parts of an act one after the other: for the contracts of operations.
+-- Parts of an act, one after the other: for the contracts of operations.
 use Rattle.std.proofs.Common.{◌≡◌, ℤ, List, [], ◌∷◌, sym, ap, ◌∙◌, subst}
 use Rattle.cs_inputs.specs.declared.path.Path.{Path}
 use Rattle.cs_ast.specs.declared.place.Place.{Place}

@@ -1,4 +1,4 @@
--- Names that extend others: for the contracts of what numbers base regions.
+-- Names that extend others: for the contracts of functions that number base regions.
 use Rattle.cs_state.specs.Naming.{Naming, Extends}
 
 pub extends_same : (names : Naming) → Extends names names

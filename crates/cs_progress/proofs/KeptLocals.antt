@@ -1,4 +1,4 @@
--- States of locals alone stay such where their temporaries alone change, and their pointers have names: for the contracts of operations.
+-- States with pointers to locals only remain such if only their temporaries change, and their pointers have names: for the contracts of operations.
 use Rattle.std.proofs.Common.{◌≡◌, ℕ, Bool, List, [], ◌∷◌, ◌++◌, length, All, Result, IfErr, OnOk, refl, sym, ◌∙◌, subst}
 use Rattle.std.proofs.lemmas.List.Elements.{All-take, All-push, All-weaker}
 use Rattle.std.proofs.lemmas.Option.{none-some}

@@ -1,4 +1,4 @@
--- Terms over symbols that are known: for the contracts of `number_in`, `answer` and `ask`.
+-- Terms over known symbols: for the contracts of `number_in`, `answer` and `ask`.
 use Rattle.std.proofs.Common.{◌≡◌, ℕ, ℤ, Bool, Result, IfOk, sym, ap, ◌∙◌}
 use Rattle.std.proofs.lemmas.Option.{none-some}
 use Rattle.std.proofs.lemmas.Result.{IfOk-weaker}

@@ -1,4 +1,4 @@
--- Terms with what is known of their values: for the contracts of `known`, `known_over` and `has_value`.
+-- Terms and what is known about their values: for the contracts of `known`, `known_over` and `has_value`.
 use Rattle.std.proofs.Common.{◌≡◌, ◌≢◌, ◌+ℤ◌, ℤ, Bool, false, List, Option, None, Some, Result, Ok, Err, IfOk, refl, sym, ap, ◌∙◌}
 use Rattle.std.proofs.Common.{arith}
 use Rattle.std.specs.Prelude.{IsTrue}

@@ -1,4 +1,4 @@
--- A look at a value shows whether it is null: for the contracts of `shown_by` and `look`.
+-- The inspection of a value shows whether it is null: for the contracts of `shown_by` and `look`.
 use Rattle.std.proofs.Common.{◌≡◌, ◌≢◌, ℕ, ℤ, Bool, true, false, List, [], ◌∷◌, Option, None, Some, if◌then◌else◌, refl, sym, ap}
 use Rattle.std.proofs.Common.{◌∙◌, subst, arith}
 use Rattle.std.proofs.lemmas.Int.{ints}

@@ -1,4 +1,4 @@
--- What operands of a state are in the state of the code's run.
+-- Operands of a state, and their values in the represented state of the code's run.
 use Rattle.std.proofs.Common.{◌≡◌, ℕ, ◌+◌, List, map, take, drop, reverse, length, sym, ap, ◌∙◌}
 use Rattle.std.proofs.lemmas.List.{length-map, take-map}
 use Rattle.cs_meaning.specs.Machine.{Operand, with_stack}

@@ -1,4 +1,4 @@
--- Where a pointer points that was looked at: for the contract of `resolved`.
+-- Where an inspected pointer points: for the contract of `resolved`.
 use Rattle.std.proofs.Common.{◌≡◌, ℕ, ℤ, pos, Bool, true, false, not, List, Option, Some, slice_get, ap, ◌∙◌, arith}
 use Rattle.std.proofs.lemmas.Int.{ints}
 use Rattle.std.specs.Prelude.{if◌then◌else◌}

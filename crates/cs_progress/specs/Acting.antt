@@ -1,5 +1,5 @@
--- What is left of an operation in progress: its act, of which some answers are used. The operation goes on where the answers that are left lead
--- through its act, and waits where none is left for what stands first.
+-- What remains of an operation in progress: its act, which has used some answers. The operation continues through its act with the answers that
+-- remain, and waits if none remains for its next event.
 use Rattle.std.specs.Prelude.{◌≡◌, ◌≢◌, ℕ, ℤ, List, [], ◌∷◌, All, Option, None, Some, slice_get, Result, IfOk, IfErr}
 use Rattle.cs_inputs.specs.declared.path.Path.{Path}
 use Rattle.cs_ast.specs.declared.place.Place.{Place}
@@ -33,7 +33,7 @@ use Rattle.cs_progress.specs.declared.next.Next.{Next}
 use Rattle.cs_progress.specs.declared.next.Next.TheVariants as next
 use Rattle.cs_progress.specs.Answering.{answers_left}
 
--- an act uses all answers: none is left where it ends or goes on to another state
+-- an act uses all answers: none remains when it stops or continues with another state
 unfoldable pub UsesAll : (Path → InputKind → Cell) → List ℤ → Act CodeState → Type 0
 UsesAll cells answers (Goes next) = answers ≡ []
 UsesAll cells answers (Stops outcome) = answers ≡ []
@@ -46,24 +46,24 @@ UsesAll cells (answer ∷ answers) (Asks at operation onward) = UsesAll cells an
 UsesAll cells (answer ∷ answers) (Allocates at path onward) = UsesAll cells answers (onward (is_true answer))
 UsesAll cells (answer ∷ answers) (Reaches at object offset act) = UsesAll cells answers act
 
--- of an act that uses all answers the same is left as of another one after the later answers, which uses all of these
+-- if the first act uses all answers before, it and the second act with the answers after have the same remainder, and the second uses all of those
 abbrev pub Leads : (Path → InputKind → Cell) → List ℤ → List ℤ → Act CodeState → Act CodeState → Type 0
 Leads cells before after one other =
     UsesAll cells before one → (left_of cells before one ≡ left_of cells after other) × UsesAll cells after other
 
--- under each valuation that fits, an operation gets through the first part of its act, whatever comes after that
+-- under each valuation that fits, an operation executes the first part of its act, whatever comes after that
 abbrev pub GetsThrough : State → ℕ → ℕ → (Valuation → Act CodeState → Act CodeState) → Type 0
 GetsThrough state before after part = (cells : Path → InputKind → Cell) (valuation : Valuation) → Fits valuation state.constraints
     → (act : Act CodeState) → Leads cells (answers_left state before valuation) (answers_left state after valuation) (part valuation act) act
 
--- under each valuation that fits, an operation gets through the first part of its act, which gives what comes after it a result
+-- under each valuation that fits, an operation executes the first part of its act, which yields a result for what comes after it
 abbrev pub Gives : {Given : Type 0} → State → ℕ → ℕ → (Valuation → (Given → Act CodeState) → Act CodeState) → (Valuation → Given)
     → Type 0
 Gives {Given} state before after part given =
     (cells : Path → InputKind → Cell) (valuation : Valuation) → Fits valuation state.constraints → (onward : Given → Act CodeState)
     → Leads cells (answers_left state before valuation) (answers_left state after valuation) (part valuation onward) (onward (given valuation))
 
--- what checkers have made of a state: its faulty parts, and its rest
+-- the result of the checks of a state: its faulty parts, and its rest
 pub record ComesOf (state : State) (checked : Checked) : Type 0 where
   pub subject : Subject
   pub kinds : List Kind
@@ -81,8 +81,8 @@ IsCutShort (Done returned) = ⊥
 IsCutShort (Fault kind at) = Unit {0}
 IsCutShort (Over budget at) = Unit {0}
 
--- what is left of an act in a state begins with what was named: with a question, or with the offset of an access; it is a fault under each
--- valuation that fits one of the faulty parts; or the end of a run that is cut short. An operator doesn't wait for anything else
+-- what remains of an act in a state begins with this: with a question, or with the offset of an access; or it is a fault under each valuation
+-- that fits one of the faulty parts; or the end of a run that is cut short. An operator doesn't wait for anything else
 abbrev pub BeginsWith : List Base → State → Valuation → Next → Act CodeState → Type 0
 BeginsWith bases state valuation next.Done act = ⊥
 BeginsWith bases state valuation (next.Asks at question) act =
@@ -94,25 +94,25 @@ BeginsWith bases state valuation (next.Reaches at base offset) act =
 BeginsWith bases state valuation (next.Checks at checked) act = BeginsWithCheck state valuation at checked.value act
 BeginsWith bases state valuation (next.Ends outcome) act = IsCutShort outcome × (act ≡ Stops outcome)
 
--- this stands first in what is left of an act, if that uses all answers
+-- this comes first in what remains of an act, if that uses all answers
 abbrev pub StandsFirst : List Base → State → ℕ → Next → (Path → InputKind → Cell) → Valuation → Act CodeState → Type 0
 StandsFirst bases state used first cells valuation act =
     UsesAll cells (answers_left state used valuation) act → BeginsWith bases state valuation first (left_of cells (answers_left state used valuation) act)
 
--- the same under each valuation that fits
+-- this holds under each valuation that fits
 abbrev pub WaitsFor : List Base → State → ℕ → Next → (Valuation → Act CodeState) → Type 0
 WaitsFor bases state used first act =
     (cells : Path → InputKind → Cell) (valuation : Valuation) → Fits valuation state.constraints
     → StandsFirst bases state used first cells valuation (act valuation)
 
--- an operation carries out a part of its act that gives a number, a cell or a truth: it gets through it, or what it waits for stands first
+-- an operation carries out a part of its act that yields a number, a cell or a truth: it executes it, or what it waits for comes first there
 pub record CarriesOut {T Given : Type 0} (bases : List Base) (state : State) (before after : Progress) (answer : Result T Pause)
     (part : Valuation → (Given → Act CodeState) → Act CodeState) (given : T → Valuation → Given) : Type 0 where
   pub through : IfOk answer (λ made. Gives state before.used after.used part (given made))
   pub waits : IfErr answer (λ why. why ≡ pause.Waits
       → (onward : Given → Act CodeState) → WaitsFor bases state before.used after.first (λ valuation. part valuation onward))
 
--- the same of a part that gives nothing
+-- the same for a part that yields nothing
 pub record Passes {T : Type 0} (bases : List Base) (state : State) (before after : Progress) (answer : Result T Pause)
     (part : Valuation → Act CodeState → Act CodeState) : Type 0 where
   pub through : IfOk answer (λ done. GetsThrough state before.used after.used part)
@@ -127,11 +127,11 @@ IsNamed bases (value.At base offset) = slice_get bases base ≢ None
 IsNamed bases (value.Start base offset) = slice_get bases base ≢ None
 IsNamed bases value.Unset = Unit {0}
 
--- a value is looked at before an act
+-- a value is inspected before an act
 abbrev pub looked : List Base → State → Place → Value → Valuation → Act CodeState → Act CodeState
 looked bases state at value valuation act = access.look at (cell_of bases state.blocks valuation value) act
 
--- what a look at a value shows, if it shows anything: whether a term isn't 0
+-- the term whose truth an inspection of a value shows, if that is an event
 abbrev pub ShowsLook : State → Value → Option Lin → Type 0
 ShowsLook state value None = (bases : List Base) (valuation : Valuation) (at : Place) (act : Act CodeState)
     → looked bases state at value valuation act ≡ act

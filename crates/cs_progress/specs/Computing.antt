@@ -1,4 +1,4 @@
--- Operations that compute with their operands alone: the whole of what they do.
+-- Operations that only compute with their operands: all of their act.
 use Rattle.std.specs.Prelude.{◌≡◌, List, All, Result, OnOk, IfErr}
 use Rattle.cs_inputs.specs.declared.path.Path.{Path}
 use Rattle.cs_ast.specs.TypedProgram.{TypedProgram}
@@ -28,12 +28,12 @@ IsNamedTemporary bases (temporary.Scalar value) = IsNamed bases value
 IsNamedTemporary bases (temporary.Whole values) = All (IsNamed bases) values
 IsNamedTemporary bases temporary.Nothing = Unit {0}
 
--- the same of all temporaries of the frame that runs
+-- the same for all temporaries of the current frame
 abbrev pub HaveNames : List Base → State → Type 0
 HaveNames bases state = All (IsNamedTemporary bases) state.frame.temporaries
 
--- under each valuation that fits, an operation does the whole of its act, which goes on with the state that is left; or what it waits for
--- stands first in what is left of the act. The run's frame goes on at any point of the code then: the operation leaves that as it is
+-- under each valuation that fits, an operation does all of its act, which continues with the resulting state; or what it waits for comes first
+-- in what remains of the act. This holds for any point of the code at which the run's frame continues: the operation doesn't change that
 pub record Computes {T : Type 0} (code : Code) (names : Naming) (program : TypedProgram) (before after : State) (earlier later : Progress)
     (answer : Result T Pause) (act : CodeState → Act CodeState) : Type 0 where
   pub done : OnOk answer ((todo : Point) (cells : Path → InputKind → Cell) (valuation : Valuation) → Fits valuation before.constraints

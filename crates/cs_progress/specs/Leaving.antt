@@ -1,4 +1,4 @@
--- What is left of a frame that has ended.
+-- What remains of a frame that has ended.
 use Rattle.std.specs.Prelude.{◌≡◌, ◌<◌, ℕ, List, Option, None, Some, length, slice_get, Result, Err}
 use Rattle.cs_ast.specs.declared.typed.program.Function.{Function}
 use Rattle.cs_regions.specs.declared.base.Base.{Base}
@@ -29,11 +29,11 @@ use Rattle.cs_progress.specs.Stepping.{result_in}
 abbrev pub functions_of : Context → List Function
 functions_of context = context.setting.now.program.now.functions.items
 
--- this number is that of the base region of a local with this declaration
+-- this is the number of the base region of a local with this declaration
 abbrev pub IsLocalOf : List Base → ℕ → ℕ → ℕ → Type 0
 IsLocalOf bases frame declaration number = slice_get bases number ≡ Some (Local frame declaration)
 
--- the numbers are those of the first so many locals of a frame, in order, and no base region has two numbers
+-- the numbers are those of the first `count` locals of a frame, in order, and no base region has two numbers
 pub record AreLocals (bases : List Base) (frame count : ℕ) (numbers : List ℕ) : Type 0 where
   pub as_many : length numbers ≡ count
   pub each : (declaration number : ℕ) → slice_get numbers declaration ≡ Some number → IsLocalOf bases frame declaration number
@@ -46,13 +46,13 @@ AreUnset functions bases frame store =
     → (declaration base offset : ℕ) → declaration < length function.locals.items → IsLocalOf bases frame.number declaration base
     → held store base offset ≡ Fill Unset
 
--- the entry has returned what its frame gives: the same scalar, or nothing. Of a struct that isn't said
+-- the entry returns the result of its frame: the same scalar, or nothing. Nothing is stated about a struct
 abbrev pub IsReturned : Temporary → Option Value → Type 0
 IsReturned (temporary.Scalar value) result = result ≡ Some value
 IsReturned (temporary.Whole values) result = Unit {0}
 IsReturned temporary.Nothing result = result ≡ None
 
--- the run ends, which is waited for: the state has what the frame has given as the entry's result, and nothing else has changed
+-- the run ends, and the operation waits with that: the state has the result of the frame as the entry's result, and nothing else changes
 pub record EndsRun {T : Type 0} (before after : State) (first : Next) (answer : Result T Pause) (given : Temporary) : Type 0 where
   pub waits : answer ≡ Err pause.Waits
   pub ends : first ≡ next.Ends (Done returned.Nothing)

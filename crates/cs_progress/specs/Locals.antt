@@ -1,4 +1,4 @@
--- States of functions that work with integers alone: their pointers are the places of locals of the frame that runs.
+-- States of integer functions: their pointers are the places of locals of the current frame.
 use Rattle.std.specs.Prelude.{◌≡◌, ◌<◌, ℕ, Bool, true, List, [], Some, All, slice_get}
 use Rattle.cs_ast.specs.TypedProgram.{TypedProgram}
 use Rattle.cs_cfg.specs.IntegerCode.{count_of_locals}
@@ -19,26 +19,26 @@ use Rattle.cs_state.specs.declared.temporary.Temporary.{Temporary}
 use Rattle.cs_state.specs.declared.temporary.Temporary.TheVariants as temporary
 use Rattle.cs_state.specs.ReadCells.{read_at}
 
--- nothing was filled with anything at an offset of a base region
+-- no offset of a base region was filled, except with unset
 abbrev pub IsUnfilled : Regions → ℕ → ℕ → Type 0
 IsUnfilled regions base offset = (fill : store.Fill) → held regions base offset ≡ Fill fill → fill ≡ Unset
 
--- what is held there then: what was bound, else nothing that was ever set
+-- the value held there then: what was bound, else unset
 abbrev pub value_held : Binding → Value
 value_held (Direct value) = value
 value_held (Fill fill) = value.Unset
 
--- a base region is one of the locals of a frame, which has so many
+-- a base region is one of the first `count` locals of a frame
 pub record IsLocalOf (bases : List Base) (frame count base : ℕ) : Type 0 where
   pub declaration : ℕ
   pub early : declaration < count
   pub named : slice_get bases base ≡ Some (Local frame declaration)
 
--- a term is a constant, or over a symbol that is known
+-- a term is a constant, or over a known symbol
 abbrev pub IsOver : (ℕ → Bool) → Lin → Type 0
 IsOver known term = (symbol : Sym) → term.sym ≡ Some symbol → known symbol.0 ≡ true
 
--- a value that is no pointer, or points to such a local; its term is over a symbol that is known
+-- a value that is no pointer, or points to such a local; its term is over a known symbol
 abbrev pub PointsToLocal : List Base → (ℕ → Bool) → ℕ → ℕ → Value → Type 0
 PointsToLocal bases known frame count (value.Number term) = IsOver known term
 PointsToLocal bases known frame count value.Null = Unit {0}
@@ -53,15 +53,15 @@ PointToLocals bases known frame count (temporary.Whole values) = ⊥
 PointToLocals bases known frame count temporary.Nothing = Unit {0}
 
 module _ (program : TypedProgram) (bases : List Base) (known : ℕ → Bool) where
-  -- a value may be in the frame
+  -- a value may occur in the frame
   abbrev pub IsIn : Frame → Value → Type 0
   IsIn frame value = PointsToLocal bases known frame.number (count_of_locals program frame.spot.function) value
 
   abbrev pub AreIn : Frame → Temporary → Type 0
   AreIn frame temporary = PointToLocals bases known frame.number (count_of_locals program frame.spot.function) temporary
 
-  -- one frame runs, and its pointers, in temporaries, in memory and in what the entry has returned, point to its locals, of which none was filled
-  -- with anything. The symbols that the state mentions are known, those of cells that were read from inputs too
+  -- there is one frame, and its pointers, in temporaries, in memory and in the entry's result, point to its locals, none of which was filled, except
+  -- with unset. The symbols that the state mentions are known, also those of cells that were read from inputs
   pub record HasLocalsAlone (state : State) : Type 0 where
     pub callers : state.callers ≡ []
     pub answers : All (IsOver known) state.answers
@@ -71,18 +71,18 @@ module _ (program : TypedProgram) (bases : List Base) (known : ℕ → Bool) whe
     pub result : (value : Value) → state.result ≡ Some value → IsIn state.frame value
     pub read : (base offset : ℕ) (symbol : Sym) → read_at state.read base offset ≡ Some symbol → known symbol.0 ≡ true
 
--- in each state of locals alone, the symbol of a term is known
+-- in each state with pointers to locals only, the symbol of a term is known
 abbrev pub IsOverKnown : State → Lin → Type 0
 IsOverKnown state term =
     (program : TypedProgram) (bases : List Base) (known : ℕ → Bool) → HasLocalsAlone program bases known state → IsOver known term
 
--- in each such state, a value may be in the frame
+-- in each such state, a value may occur in the frame
 abbrev pub MayBeIn : State → Value → Type 0
 MayBeIn state value =
     (program : TypedProgram) (bases : List Base) (known : ℕ → Bool) → HasLocalsAlone program bases known state
     → IsIn program bases known state.frame value
 
--- and all values of a temporary
+-- in each such state, all values of a temporary may occur in the frame
 abbrev pub MayAllBeIn : State → Temporary → Type 0
 MayAllBeIn state temporary =
     (program : TypedProgram) (bases : List Base) (known : ℕ → Bool) → HasLocalsAlone program bases known state

@@ -1,4 +1,4 @@
--- Where a pointer points that was looked at.
+-- Where an inspected pointer points.
 use Rattle.std.specs.Prelude.{◌≡◌, ◌≢◌, List, None, slice_get}
 use Rattle.cs_terms.specs.Term.{Valuation, value_of}
 use Rattle.cs_constraints.specs.Constraints.{Fits}
@@ -17,13 +17,13 @@ IsNoPointer UnsetCell = Unit {0}
 IsNoPointer NullCell = ⊥
 IsNoPointer (PointerCell object offset) = ⊥
 
--- what is seen of a cell, the base regions being these
+-- what is seen of a cell, with these base regions
 abbrev pub IsSeen : List Base → Valuation → Seen → Cell → Type 0
 IsSeen bases valuation Null cell = cell ≡ NullCell
 IsSeen bases valuation (At base offset) cell = cell ≡ pointer_to (slice_get bases base) (value_of valuation offset)
 IsSeen bases valuation Other cell = IsNoPointer cell
 
--- under each valuation that fits the state, this is seen of the cell that the value is
+-- under each valuation that fits the state, this is seen of the cell of the value
 abbrev pub IsSeenIn : State → Value → Seen → Type 0
 IsSeenIn state value seen =
     (bases : List Base) (valuation : Valuation) → Fits valuation state.constraints

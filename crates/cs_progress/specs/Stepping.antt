@@ -1,4 +1,4 @@
--- Steps of a state: what becomes of one as the operation in progress goes on, beside the run of the code.
+-- Steps of a state, compared with the run of the code: how a state changes as the operation in progress continues.
 use Rattle.std.specs.Prelude.{◌≡◌, ℕ, ◌+◌, ◌≤◌, ℤ, Bool, List, [], map, take, length, Option, None, Some, Result, OnOk, IfErr}
 use Rattle.cs_inputs.specs.declared.path.Path.{Path}
 use Rattle.cs_types.specs.declared.data_model.DataModel.{DataModel}
@@ -44,12 +44,12 @@ use Rattle.cs_progress.specs.Computing.{Computes}
 use Rattle.cs_cfg.specs.IntegerCode.{IsIntegerWork, HasIntegerCode, count_of_locals}
 use Rattle.cs_progress.specs.Locals.{HasLocalsAlone}
 
--- an end's outcome says nothing of what the entry has returned
+-- the outcome of an end, which omits the value that the entry returns
 abbrev pub end_of : Outcome → Outcome
 end_of (Done value) = Done returned.Nothing
 end_of other = other
 
--- what the entry has returned by a state, nothing where the state has no result
+-- the value that the entry returns according to a state; nothing if the state has no result
 abbrev pub result_in : List Base → Blocks → Valuation → Option Value → Operand
 result_in bases blocks valuation None = Nothing
 result_in bases blocks valuation (Some value) = Scalar (cell_of bases blocks valuation value)
@@ -60,7 +60,7 @@ HasReturned (Done returned) result = returned ≡ returned_of result
 HasReturned (Fault kind at) result = Unit {0}
 HasReturned (Over budget at) result = Unit {0}
 
--- an act is the end of the run; where the run is done, the state has what it has returned
+-- an act is the end of the run; if the run is done, the state has the value that it returns
 pub record EndsAs (bases : List Base) (state : State) (valuation : Valuation) (outcome : Outcome) (act : Act CodeState) : Type 0 where
   pub last : Outcome
   pub stops : act ≡ Stops last
@@ -82,7 +82,7 @@ BeginsIn code bases state valuation (next.Selects at term) act = ShowsCase code 
 BeginsIn code bases state valuation (next.Ends outcome) act = EndsAs bases state valuation outcome act
 BeginsIn code bases state valuation other act = BeginsWith bases state valuation other act
 
--- states that differ in their position alone, or in what was computed there
+-- states that differ only in their position, or in what was computed there
 pub record KeepsKnown (before after : State) : Type 0 where
   pub model : after.model ≡ before.model
   pub constraints : after.constraints ≡ before.constraints
@@ -91,7 +91,7 @@ pub record KeepsKnown (before after : State) : Type 0 where
   pub phase : after.phase ≡ before.phase
   pub blocks : after.blocks ≡ before.blocks
 
--- the same, and the frame that runs stands where it stood, with the same callers
+-- the same, and the current frame is at the same spot, with the same callers
 pub record StaysInFrame (before after : State) : Type 0 where
   pub known : KeepsKnown before after
   pub answers : after.answers ≡ before.answers
@@ -99,7 +99,7 @@ pub record StaysInFrame (before after : State) : Type 0 where
   pub number : after.frame.number ≡ before.frame.number
   pub spot : after.frame.spot ≡ before.frame.spot
 
--- a state of locals alone stays one
+-- a state with pointers to locals only remains one
 abbrev pub KeepsLocals : TypedProgram → List Base → (ℕ → Bool) → State → State → Type 0
 KeepsLocals program bases known before after = HasLocalsAlone program bases known before → HasLocalsAlone program bases known after
 
@@ -107,7 +107,7 @@ KeepsLocals program bases known before after = HasLocalsAlone program bases know
 abbrev pub WaitsUnchanged : {T : Type 0} → State → State → Result T Pause → Type 0
 WaitsUnchanged before after answer = IfErr answer (λ why. why ≡ pause.Waits → after ≡ before)
 
--- an operation of a state of locals alone does the whole of its act, and leaves a state of locals alone; or it waits, and has changed nothing
+-- an operation of a state with pointers to locals only does all of its act, and the state remains one; or it waits, and has changed nothing
 pub record Works {T : Type 0} (code : Code) (names : Naming) (program : TypedProgram) (known : ℕ → Bool) (before after : State) (earlier later : Progress)
     (answer : Result T Pause) (act : CodeState → Act CodeState) : Type 0 where
   pub computes : Computes code names program before after earlier later answer act
@@ -115,8 +115,8 @@ pub record Works {T : Type 0} (code : Code) (names : Naming) (program : TypedPro
   pub locals : OnOk answer (HasLocalsAlone program names.bases known after)
   pub unchanged : WaitsUnchanged before after answer
 
--- the work of an operation at a place is done as the reference semantics has it, in each state of locals alone: under all names that
--- extend these
+-- the work of an operation at a place is done as the reference semantics does it, in each state with pointers to locals only: under all names
+-- that extend these
 abbrev pub DoesWork : {T : Type 0} → DataModel → Naming → State → State → Progress → Progress → Result T Pause → Place → Work → Type 0
 DoesWork model given before after earlier later answer at work =
     (code : Code) (names : Naming) (program : TypedProgram) (budgets : RunBudgets) (known : ℕ → Bool) → program.model ≡ model
@@ -124,7 +124,7 @@ DoesWork model given before after earlier later answer at work =
     → IsIntegerWork (count_of_locals program before.frame.spot.function) work
     → Works code names program known before after earlier later answer (do_work code program budgets at work)
 
--- the temporaries below a number alone are left
+-- only the first `number` temporaries remain
 abbrev pub IsCutTo : ℕ → State → State → Type 0
 IsCutTo number before after = after ≡ with_temporaries (take number before.frame.temporaries) before
 
@@ -135,23 +135,23 @@ IsCutForEnd (Switch at temporary cases otherwise) before after = IsCutTo (tempor
 IsCutForEnd (Return temporary) before after = IsCutTo (temporary + 1) before after
 IsCutForEnd other before after = after ≡ before
 
--- there are no others
+-- there are no temporaries that the end of a block doesn't need
 abbrev pub IsCutFor : BlockEnd → State → Type 0
 IsCutFor (Branch at temporary one other) state = length state.frame.temporaries ≤ temporary + 1
 IsCutFor (Switch at temporary cases otherwise) state = length state.frame.temporaries ≤ temporary + 1
 IsCutFor (Return temporary) state = length state.frame.temporaries ≤ temporary + 1
 IsCutFor other state = Unit {0}
 
--- the frame that runs has gone on to a block of its function, and has followed jumps; nothing else has changed
+-- the current frame has continued with a block of its function, and has followed jumps; nothing else changes
 pub record GoesTo (code : Code) (block : ℕ) (before after : State) : Type 0 where
   pub jumps : JumpsTo code (begins before.frame.spot.function block) after.frame.spot
   pub moved : after ≡ at_spot after.frame.spot before
 
--- the frame that runs has gone on after what stood at its spot, and nothing else has changed
+-- the current frame has continued after the instruction at its spot, and nothing else changes
 abbrev pub IsMovedOn : Code → State → State → Type 0
 IsMovedOn code before after = (last : Spot) × IsNext code before.frame.spot (Some last) × (after ≡ at_spot last before)
 
--- the same, after which the frame goes on
+-- the same, and then the frame continues after the operation
 pub record WorksOn {T : Type 0} (code : Code) (names : Naming) (program : TypedProgram) (known : ℕ → Bool) (before after : State) (earlier later : Progress)
     (answer : Result T Pause) (act : CodeState → Act CodeState) : Type 0 where
   pub middle : State
@@ -159,7 +159,7 @@ pub record WorksOn {T : Type 0} (code : Code) (names : Naming) (program : TypedP
   pub moved_on : OnOk answer (IsMovedOn code middle after)
   pub unchanged : WaitsUnchanged before after answer
 
--- the work of an operation is done so, and the frame goes on after it
+-- the work of an operation is done like this, and the frame continues after it
 abbrev pub DoesWorkAndGoesOn : {T : Type 0} → Code → DataModel → RunBudgets → Naming → State → State → Progress → Progress → Result T Pause
     → Place → Work → Type 0
 DoesWorkAndGoesOn code model budgets given before after earlier later answer at work =
@@ -168,8 +168,8 @@ DoesWorkAndGoesOn code model budgets given before after earlier later answer at 
     → IsIntegerWork (count_of_locals program before.frame.spot.function) work
     → WorksOn code names program known before after earlier later answer (do_work code program budgets at work)
 
--- the end of a block leads the run on to a spot from which jumps alone lead to where the state stands then; or it waits, and nothing but the
--- result of the entry has changed
+-- the end of a block leads the run to a spot from which only jumps lead to the spot of the resulting state; or it waits, and nothing changes but
+-- the entry's result
 pub record Leaves {T : Type 0} (code : Code) (names : Naming) (program : TypedProgram) (known : ℕ → Bool) (before after : State) (earlier later : Progress)
     (answer : Result T Pause) (act : CodeState → Act CodeState) : Type 0 where
   pub done : OnOk answer ((spot : Spot) × JumpsTo code spot after.frame.spot
@@ -192,7 +192,7 @@ module _ (code : Code) (names : Naming) (program : TypedProgram) (budgets : RunB
   abbrev pub next_act : State → Valuation → Act CodeState
   next_act state valuation = code_step code program budgets (meaning code names program state valuation)
 
-  -- what is left of that after the answers
+  -- what remains of that after the answers
   abbrev pub next_left : (Path → InputKind → Cell) → State → Valuation → Act CodeState
   next_left cells state valuation = left_of cells (map (value_of valuation) state.answers) (next_act state valuation)
 
@@ -200,7 +200,7 @@ module _ (code : Code) (names : Naming) (program : TypedProgram) (budgets : RunB
   abbrev pub UsesAnswers : (Path → InputKind → Cell) → State → Valuation → Type 0
   UsesAnswers cells state valuation = UsesAll cells (map (value_of valuation) state.answers) (next_act state valuation)
 
-  -- the operation is done: the run goes on to a spot from which jumps alone lead to where the state stands then
+  -- the operation is done: the run continues at a spot from which only jumps lead to the spot of the resulting state
   pub record IsDone (before after : State) : Type 0 where
     pub known : KeepsKnown before after
     pub function : after.frame.spot.function ≡ before.frame.spot.function
@@ -210,7 +210,7 @@ module _ (code : Code) (names : Naming) (program : TypedProgram) (budgets : RunB
     pub goes : (cells : Path → InputKind → Cell) (valuation : Valuation) → Fits valuation before.constraints → UsesAnswers cells before valuation
         → next_left cells before valuation ≡ Goes (meaning code names program (at_spot spot after) valuation)
 
-  -- the operation waits: the run does the same next, and this stands first in what is left of that
+  -- the operation waits: the run does the same next, and this comes first in what remains of that
   pub record Waits (before after : State) (first : Next) : Type 0 where
     pub known : KeepsKnown before after
     pub function : after.frame.spot.function ≡ before.frame.spot.function
@@ -219,12 +219,12 @@ module _ (code : Code) (names : Naming) (program : TypedProgram) (budgets : RunB
     pub begins : (cells : Path → InputKind → Cell) (valuation : Valuation) → Fits valuation before.constraints
         → UsesAnswers cells before valuation → BeginsIn code names.bases after valuation first (next_left cells before valuation)
 
-  -- what becomes of a state as the operation in progress goes on
+  -- how a state changes as the operation in progress continues
   abbrev pub Steps : State → State → Next → Type 0
   Steps before after next.Done = IsDone before after
   Steps before after other = Waits before after other
 
--- the same, in each state of locals alone in which integer code runs: under all names that extend these. It stays such a state
+-- the same, in each state of integer code with pointers to locals only: under all names that extend these. It remains such a state
 pub record StepsInLocals (code : Code) (model : DataModel) (budgets : RunBudgets) (given : Naming) (before after : State) (next : Next)
     : Type 0 where
   pub steps : (names : Naming) (program : TypedProgram) (known : ℕ → Bool) → program.model ≡ model → Extends given names

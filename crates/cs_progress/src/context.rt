@@ -1,4 +1,4 @@
-//! What an exploration goes by.
+//! What all steps of an exploration share.
 ghost use Rattle.std.specs.Prelude.{◌≡◌, Some, slice_get, IfSome};
 ghost use Rattle.cs_ast.specs.declared.typed.program.Function.{Function as SourceFunction};
 ghost use Rattle.cs_objects.specs.Prepared.{IsReady};
@@ -16,31 +16,31 @@ use cs_values::Cell;
 use cs_values::types::size_of;
 use std::alloc::{AllocError, Global};
 
-/// The code of a program, and what its runs go by, but for their inputs and guesses. Nothing of it changes in an exploration.
+/// The code of a program, and the setting of its runs, without inputs and guesses. Nothing of it changes in an exploration.
 #[derive(Drop)]
 pub struct Context<'a> {
     pub alloc: Global,
     pub code: &'a Code,
-    /// It has no inputs and no guesses.
+    /// The setting of the runs, which has no inputs and no guesses here.
     pub setting: &'a Setting<'a>,
 }
 
 impl<'a> Context<'a> {
-    /// The program.
+    /// Returns the program.
     pub fn program(&self) -> &'a Program
         ensures { result.now ≡ self.now.setting.now.program.now }
     {
         self.setting.program
     }
 
-    /// The data model of the program.
+    /// Returns the data model of the program.
     pub fn model(&self) -> DataModel
         ensures { result ≡ self.now.setting.now.program.now.model }
     {
         self.setting.program.model
     }
 
-    /// The locals of a function, its parameters first.
+    /// Returns the locals of a function, its parameters first.
     pub fn locals_of(&self, function: u32) -> Option<&'a [Local]>
         ensures { IfSome result (λ locals. (found : SourceFunction)
             → slice_get (functions_of self.now) function ≡ Some found
@@ -50,35 +50,35 @@ impl<'a> Context<'a> {
         Some(function.locals.as_slice())
     }
 
-    /// The bytes of a type; an incomplete one has none (C11 6.5.3.4).
+    /// Returns the size of a type in bytes; an incomplete one has none (C11 6.5.3.4).
     pub fn size_of(&self, ty: &CType) -> Result<u64, AllocError>
         requires { IsReady self.now.setting.now }
     {
         size_of(self.setting.program, ty)
     }
 
-    /// The bytes of what a pointer to a type points to: after a `void *` these are single bytes (C11 6.3.2.3).
+    /// Returns the size in bytes of what a pointer to a type points to: one byte for a `void *` (C11 6.3.2.3).
     pub fn element_size(&self, target: &CType) -> Result<u64, AllocError>
         requires { IsReady self.now.setting.now }
     {
         element_of(target).size(self.setting.program)
     }
 
-    /// The bytes of the type of an object.
+    /// Returns the size in bytes of the type of an object.
     pub fn bytes(&self, ty: BlockType) -> Result<u64, AllocError>
         requires { IsReady self.now.setting.now }
     {
         ty.size(self.setting.program)
     }
 
-    /// Whether an object of a type begins at an offset of another type: a scalar of that very type, or that struct.
+    /// Whether an object of a type begins at an offset of another type: a scalar of exactly that type, or that struct.
     pub fn begins(&self, whole: BlockType<'a>, ty: &CType, offset: u64) -> Result<bool, AllocError>
         requires { IsReady self.now.setting.now }
     {
         whole.begins(self.setting.program, ty, offset)
     }
 
-    /// The scalar that begins at an offset of a type, if one does.
+    /// Returns the scalar that begins at an offset of a type, if one does.
     pub fn scalar(
         &self,
         whole: BlockType<'a>,
@@ -89,7 +89,7 @@ impl<'a> Context<'a> {
         whole.scalar(self.setting.program, offset)
     }
 
-    /// What a constant initializer gives a scalar at an offset.
+    /// Returns the value with which a constant initializer initializes the scalar at an offset.
     pub fn first_cell(
         &self,
         initializer: &Initializer,
@@ -101,7 +101,7 @@ impl<'a> Context<'a> {
         initializer.cell(self.setting.program, scalar, offset)
     }
 
-    /// The offsets of a type's scalars, in order (C11 6.7.2.1).
+    /// Returns the offsets of a type's scalars, in order (C11 6.7.2.1).
     pub fn offsets(&self, ty: &CType) -> Result<Offsets<'a>, AllocError>
         requires { IsReady self.now.setting.now }
     {

@@ -19,7 +19,7 @@ use cs_state::{State, Tables, Temporary};
 use cs_store::Value;
 use std::alloc::AllocError;
 
-/// The frame that runs ends, and gives a value to the one that called it; the run is done where none did.
+/// Ends the current frame, and pushes its result in the calling frame; if there is none, the run is done.
 pub fn leave(
     context: &Context,
     state: &mut State,
@@ -46,7 +46,7 @@ pub fn leave(
     Ok(())
 }
 
-// What the entry has returned, where this is what its frame gives.
+// The value that the entry returns, if this is the result of its frame.
 fn returned(given: &Temporary) -> Option<Value>
     ensures means { (bases : List regions.Base) (blocks : Blocks) (valuation : Valuation)
         → returned_of (operand_of bases blocks valuation given.now)
@@ -60,7 +60,7 @@ fn returned(given: &Temporary) -> Option<Value>
     }
 }
 
-// The base regions of the locals of the frame that runs.
+// The base regions of the locals of the current frame.
 fn local_bases(
     context: &Context,
     state: &State,
@@ -82,7 +82,7 @@ fn local_bases(
     Ok(bases)
 }
 
-// Adds the base region of one more local of a frame.
+// Adds the base region of the next local of a frame.
 fn add_local(
     tables: &mut Tables,
     bases: &mut Vec<u64>,

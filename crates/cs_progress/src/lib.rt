@@ -1,4 +1,4 @@
-//! An operation in progress: what it goes by, how far it has come, its operands and pointers, and the end of its frame.
+//! An operation in progress: what it works with, which of its answers it has used, its operands and pointers, and the end of its frame.
 #![tactic(auto)]
 
 mod context;

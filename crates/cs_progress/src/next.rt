@@ -1,4 +1,4 @@
-//! What stands first in what is left of an operation.
+//! What an operation in progress does next.
 
 use cs_access::Checked;
 use cs_ast::Place;
@@ -9,16 +9,16 @@ use cs_terms::Lin;
 /// What an operation does next, under every valuation that fits the state.
 #[derive(Drop)]
 pub enum Next {
-    /// The operation is done: the state is as it left it, without answers, and nothing shows.
+    /// The operation is done, without a further event: the state is the one after it, without answers.
     Done,
-    /// An operation on terms is about to show.
+    /// The next event is that of an operation on terms.
     Asks(Place, Question),
-    /// A `switch` on a term is about to show its case. The cases are those of the code at the spot of the state.
+    /// The next event is that of a `switch` on a term, which shows its case. The cases are those of the code at the spot of the state.
     Selects(Place, Lin),
-    /// An access to a base region at an offset, which isn't below 0, is about to show.
+    /// The next event is that of an access to a base region at an offset, which isn't below 0.
     Reaches(Place, u64, Lin),
-    /// What is about to be done is a fault under some of them: the faulty parts of the state, and the rest.
+    /// What comes next is a fault under some valuations: the faulty parts of the state, and the rest.
     Checks(Place, Box<Checked>),
-    /// The run ends. The state is at its end.
+    /// The run ends, at this state.
     Ends(Outcome),
 }

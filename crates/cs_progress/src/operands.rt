@@ -1,4 +1,4 @@
-//! The operands of an operation: the newest temporaries of the frame that runs.
+//! The operands of an operation: the newest temporaries of the current frame.
 ghost use Rattle.std.specs.Prelude.{◌≡◌, ◌<◌, ℕ, Bool, length, List, IfOk, IfErr, OnOk};
 ghost use Rattle.cs_regions.specs.declared.base.Base.{Base};
 ghost use Rattle.cs_state.specs.declared.temporary.Temporary.TheVariants.{Scalar};
@@ -15,7 +15,7 @@ use cs_store::Value;
 use cs_terms::Lin;
 use std::alloc::AllocError;
 
-/// An operand by its age, the newest being 0.
+/// Returns the operand of an age; the newest has age 0.
 pub fn operand(state: &State, age: usize) -> Result<&Temporary, AllocError>
     ensures operand { IfOk result (λ operand. IsOperandAt state.now age operand.now) }
     ensures named { IfOk result (λ operand. (bases : List Base) → HaveNames bases state.now
@@ -30,7 +30,7 @@ pub fn operand(state: &State, age: usize) -> Result<&Temporary, AllocError>
     Ok(&list[list.len() - 1 - age])
 }
 
-/// The scalar that an operand is; any other counts as unset.
+/// Returns the value of an operand that is a scalar; any other counts as unset.
 pub fn value_of(temporary: &Temporary) -> Value
     ensures scalar { IsScalarOf temporary.now result }
     ensures named { (bases : List Base) → IsNamedTemporary bases temporary.now
@@ -45,7 +45,7 @@ pub fn value_of(temporary: &Temporary) -> Value
     }
 }
 
-/// The scalar that an operand is, by its age.
+/// Returns the value of the operand of an age, if it is a scalar; any other counts as unset.
 pub fn value(state: &State, age: usize) -> Result<Value, Pause>
     ensures value { IfOk result (IsCellAt state.now age) }
     ensures named { IfOk result (λ value. (bases : List Base) → HaveNames bases state.now
@@ -57,7 +57,7 @@ pub fn value(state: &State, age: usize) -> Result<Value, Pause>
     Ok(value_of(temporary))
 }
 
-/// The number that an operand is, by its age; any other counts as 0.
+/// Returns the number of the operand of an age; any operand but a number counts as 0.
 pub fn number(state: &State, age: usize) -> Result<Lin, Pause>
     ensures value { IfOk result (IsNumberAt state.now age) }
     ensures over { IfOk result (IsOverKnown state.now) }
@@ -67,7 +67,7 @@ pub fn number(state: &State, age: usize) -> Result<Lin, Pause>
     number_in(state, value)
 }
 
-/// The number that a value is; any other counts as 0.
+/// Returns the term of a value that is a number; any other counts as 0.
 pub fn number_in(state: &State, value: Value) -> Result<Lin, Pause>
     ensures value { IfOk result (IsNumberOf state.now value) }
     ensures over { IfOk result (λ term. MayBeIn state.now value → IsOverKnown state.now term) }
@@ -79,7 +79,7 @@ pub fn number_in(state: &State, value: Value) -> Result<Lin, Pause>
     }
 }
 
-/// Drops so many of the newest operands, and leaves one in their place.
+/// Replaces the newest operands, `count` of them, by one.
 pub fn replace(state: &mut State, count: usize, left: Temporary) -> Result<(), Pause>
     ensures means { OnOk result (MeansReplaced count left state.old state.new) }
     ensures left { OnOk result (IsReplaced count left state.old state.new) }
@@ -90,7 +90,7 @@ pub fn replace(state: &mut State, count: usize, left: Temporary) -> Result<(), P
     Ok(())
 }
 
-/// The same with a scalar.
+/// Replaces the newest operands, `count` of them, by a scalar.
 pub fn replace_with(state: &mut State, count: usize, value: Value) -> Result<(), Pause>
     ensures means { OnOk result (MeansReplaced count (Scalar value) state.old state.new) }
     ensures left { OnOk result (IsReplaced count (Scalar value) state.old state.new) }
@@ -99,7 +99,7 @@ pub fn replace_with(state: &mut State, count: usize, value: Value) -> Result<(),
     replace(state, count, Temporary::Scalar(value))
 }
 
-/// Drops so many of the newest operands.
+/// Drops the newest operands, `count` of them.
 pub fn drop_newest(state: &mut State, count: usize) -> Result<(), Pause>
     ensures means { OnOk result (MeansDropped count state.old state.new) }
     ensures left { OnOk result (IsDropped count state.old state.new) }

@@ -1,11 +1,11 @@
-//! Why an operation doesn't go on by itself.
+//! Why an operation can't continue.
 
 use std::alloc::{AllocError, AllocFailed};
 
-/// What an operation comes to before it is done.
+/// Why an operation pauses before it is done.
 #[derive(Clone, Copy)]
 pub enum Pause {
-    /// Something stands first, which its progress names.
+    /// Something has to be handled first, which its progress names.
     Waits,
     Memory,
 }

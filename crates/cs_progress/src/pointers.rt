@@ -21,17 +21,17 @@ use cs_store::Value;
 use cs_terms::Lin;
 use std::alloc::AllocError;
 
-/// A value, once it was looked at whether it is a null pointer.
+/// A value that was inspected for null.
 #[derive(Clone, Copy)]
 pub enum Seen {
     Null,
-    /// The byte at an offset of a base region.
+    /// A pointer to the byte at an offset of a base region.
     At(u64, Lin),
-    /// No pointer.
+    /// A value that is no pointer.
     Other,
 }
 
-/// A pointer shows whether it is null; nothing else shows.
+/// Inspects whether a value is null: for a pointer, this is an event that shows the result; for any other value, there is no event.
 pub fn look(state: &State, progress: &mut Progress, at: Place, value: Value) -> Result<Seen, Pause>
     ensures seen { IfOk result (IsSeenIn state.now value) }
     ensures named { IfOk result (λ seen. (bases : List Base) → IsNamed bases value
@@ -50,7 +50,7 @@ pub fn look(state: &State, progress: &mut Progress, at: Place, value: Value) -> 
     resolved(state, value)
 }
 
-// What a look at a value shows: whether a number isn't 0. Nothing shows where the value is no pointer.
+// The term whose truth an inspection of a value shows; none if the value is no pointer.
 fn shown_by(state: &State, value: Value) -> Result<Option<Lin>, AllocError>
     ensures { IfOk result (ShowsLook state.now value) }
 {
@@ -63,7 +63,7 @@ fn shown_by(state: &State, value: Value) -> Result<Option<Lin>, AllocError>
     }
 }
 
-/// Where a value points that was looked at.
+/// Returns where an inspected value points.
 pub fn resolved(state: &State, value: Value) -> Result<Seen, Pause>
     ensures seen { IfOk result (IsSeenIn state.now value) }
     ensures named { IfOk result (λ seen. (bases : List Base) → IsNamed bases value
@@ -82,14 +82,14 @@ pub fn resolved(state: &State, value: Value) -> Result<Seen, Pause>
     }
 }
 
-/// The start block or heap block of a base region.
+/// Returns the start block or heap block of a base region.
 pub fn block(state: &State, base: u64) -> Result<&Block, AllocError>
     ensures { IfOk result (λ block. block_of state.now.blocks base ≡ Some block.now) }
 {
     state.blocks.get((base, 0)).ok_or(AllocError)
 }
 
-/// A pointer so many bytes further on; null stays null.
+/// Returns a pointer moved forward by `bytes`; null remains null.
 pub fn further(state: &State, value: Value, bytes: u64) -> Result<Value, Pause>
     ensures moved { IfOk result (IsFurther state.now value bytes) }
     ensures memory { IfErr result (λ why. why ≡ pause.Memory) }
@@ -111,7 +111,7 @@ pub fn further(state: &State, value: Value, bytes: u64) -> Result<Value, Pause>
     }
 }
 
-/// The truth that an answer is, which is a constant.
+/// Returns the truth value of an answer, which is a constant.
 pub fn truth(answer: Lin) -> Result<bool, Pause>
     ensures truth { IfOk result (λ holds. (valuation : Valuation)
         → is_true (value_of valuation answer) ≡ holds) }

@@ -1,4 +1,4 @@
-//! How far an operation that is run again has come.
+//! The progress of an operation that is executed again from its beginning.
 ghost use Rattle.std.specs.Prelude.{◌≡◌, true, IfOk, IfErr, IfSome, MatchOption};
 ghost use Rattle.cs_progress.specs.declared.next.Next.TheVariants as next;
 ghost use Rattle.cs_progress.specs.declared.pause.Pause.TheVariants as pause;
@@ -14,7 +14,7 @@ use cs_events::Outcome;
 use cs_state::State;
 use cs_terms::Lin;
 
-/// How many of its answers an operation has used, and what stands first where it waits. It waits for the first event without an answer.
+/// The number of answers that an operation has used, and what comes next if it waits. It waits for the first event without an answer.
 #[derive(Drop)]
 pub struct Progress {
     pub used: usize,
@@ -22,7 +22,7 @@ pub struct Progress {
 }
 
 impl Progress {
-    /// An operation that begins.
+    /// Returns the progress of an operation at its beginning.
     pub fn new() -> Progress
         ensures { result.used ≡ 0 }
     {
@@ -32,14 +32,14 @@ impl Progress {
         }
     }
 
-    /// What stands first, where the operation waits.
+    /// Returns what comes next, if the operation waits.
     pub fn into_first(self) -> Next
         ensures { result ≡ self.first }
     {
         self.first
     }
 
-    /// Whether an event was answered that comes after what is about to be done.
+    /// Whether a later event than what is about to be done has an answer.
     pub fn is_answered_later(&self, state: &State) -> bool
         ensures later { result ≡ true → IsAnsweredLater state.now self.now.used }
         ensures last { IsAnsweredLater state.now self.now.used → result ≡ true }
@@ -47,7 +47,7 @@ impl Progress {
         self.used < state.answers.as_slice().len()
     }
 
-    /// The operation waits, since this stands first.
+    /// Makes the operation wait for this.
     pub fn wait(&mut self, first: Next) -> Pause
         ensures waits { result ≡ pause.Waits }
         ensures first { self.new.first ≡ first }
@@ -57,7 +57,7 @@ impl Progress {
         Pause::Waits
     }
 
-    /// The run ends.
+    /// Makes the run end.
     pub fn finish(&mut self, outcome: Outcome) -> Pause
         ensures waits { result ≡ pause.Waits }
         ensures first { self.new.first ≡ next.Ends outcome }
@@ -66,7 +66,7 @@ impl Progress {
         self.wait(Next::Ends(outcome))
     }
 
-    /// The number that leads on at an event, which shows the answer to a question.
+    /// Returns the answer of the event that shows the result of a question; without one, the operation waits.
     pub fn ask(&mut self, state: &State, at: Place, question: Question) -> Result<Lin, Pause>
         ensures answered { IfOk result (HasNextValue state.now self.old.used self.new.used) }
         ensures over { IfOk result (IsOverKnown state.now) }
@@ -81,7 +81,7 @@ impl Progress {
         }
     }
 
-    /// A `switch` on a term shows its case.
+    /// Passes the event of a `switch`, which shows the case of a term; without an answer, the operation waits.
     pub fn select(&mut self, state: &State, at: Place, term: Lin) -> Result<(), Pause>
         ensures answered { IfOk result (λ done.
             HasNextAnswer state.now self.old.used self.new.used) }
@@ -94,7 +94,7 @@ impl Progress {
         }
     }
 
-    /// The offset of an access to a base region, which shows.
+    /// Returns the offset of an access to a base region, which is an event; without an answer, the operation waits.
     pub fn reach(&mut self, state: &State, at: Place, base: u64, offset: Lin) -> Result<Lin, Pause>
         ensures answered { IfOk result (HasNextValue state.now self.old.used self.new.used) }
         ensures none { IfErr result (λ why. why ≡ pause.Waits
@@ -108,7 +108,7 @@ impl Progress {
         }
     }
 
-    // The next answer, where there is one.
+    // The next answer, if there is one.
     fn answer(&mut self, state: &State) -> Option<Lin>
         ensures next { MatchOption result (HasNoAnswer state.now self.old.used)
             (IsNextAnswer state.now self.old.used self.new.used) }

@@ -1,4 +1,4 @@
-//! Terms of a state, with what is known of their values.
+//! Terms of a state, and what is known about their values.
 ghost use Rattle.std.specs.Prelude.{◌≡◌, ◌≢◌, ◌+ℤ◌, ◌*ℤ◌, true, ℤ, pos, None, IsTrue, IfOk, IfErr, IfSome};
 ghost use Rattle.cs_ranges.specs.RangeSet.{contains};
 ghost use Rattle.cs_terms.specs.Term.{Valuation, value_of, HasNoOtherSymbol};
@@ -18,7 +18,7 @@ const LEAST: i128 = -0x8000_0000_0000_0000;
 
 const GREATEST: i128 = 0xffff_ffff_ffff_ffff;
 
-/// A number.
+/// Returns the constant term with this value.
 pub fn constant(value: i128) -> Lin
     ensures { result ≡ terms.constant value }
 {
@@ -30,7 +30,7 @@ pub fn constant(value: i128) -> Lin
     }
 }
 
-/// The number of a symbol.
+/// Returns the term whose value is the number of a symbol.
 pub fn own(sym: Sym) -> Lin
     ensures { result ≡ symbol_term sym }
 {
@@ -42,8 +42,8 @@ pub fn own(sym: Sym) -> Lin
     }
 }
 
-/// A term of the state: over a symbol that is declared there, with integers of C as its values. No other term is in a state; one would be
-/// want of memory. A term with one value is a constant.
+/// Returns a term of the state in a normal form: a term with one value as a constant. It has to be over a symbol that is declared there,
+/// with integers of C as its values. No other term occurs in a state; one would be reported as want of memory.
 pub fn known(state: &State, term: Lin) -> Result<Lin, Pause>
     ensures value { IfOk result (HaveOneValue state.now.constraints term) }
     ensures symbol { IfOk result (λ other. HasNoOtherSymbol other.sym term.sym) }
@@ -58,7 +58,7 @@ pub fn known(state: &State, term: Lin) -> Result<Lin, Pause>
     Ok(known_over(term, range)?)
 }
 
-// The same of a term over a symbol with these numbers.
+// The same for a term over a symbol with these numbers.
 fn known_over(term: Lin, range: &RangeSet) -> Result<Lin, AllocError>
     requires { term.sym ≢ None }
     ensures { IfOk result (IsSameOver range.now term) }
@@ -77,7 +77,7 @@ fn known_over(term: Lin, range: &RangeSet) -> Result<Lin, AllocError>
     seen_from(term, least, first)
 }
 
-// The same function by its value at another number.
+// The same function, given by its value at another number.
 fn seen_from(term: Lin, at: i128, value: i128) -> Result<Lin, AllocError>
     requires { value ≡ function_at term at }
     ensures values { IfOk result (λ made.
@@ -90,7 +90,7 @@ fn seen_from(term: Lin, at: i128, value: i128) -> Result<Lin, AllocError>
     Ok(Lin { at, value, ..term })
 }
 
-/// Whether a term is 0: `None` where that depends on the valuation.
+/// Whether a term is 0; `None` if that depends on the valuation.
 pub fn is_zero(state: &State, term: Lin) -> Result<Option<bool>, Pause>
     ensures truth { IfOk result (IsTruthOfValue state.now.constraints term (pos 0)) }
     ensures memory { IfErr result (λ why. why ≡ pause.Memory) }
@@ -98,7 +98,7 @@ pub fn is_zero(state: &State, term: Lin) -> Result<Option<bool>, Pause>
     has_value(state, term, 0)
 }
 
-/// Whether a term has a value: `None` where that depends on the valuation.
+/// Whether a term has a value; `None` if that depends on the valuation.
 pub fn has_value(state: &State, term: Lin, value: i128) -> Result<Option<bool>, Pause>
     ensures truth { IfOk result (IsTruthOfValue state.now.constraints term value) }
     ensures memory { IfErr result (λ why. why ≡ pause.Memory) }
@@ -117,7 +117,7 @@ pub fn has_value(state: &State, term: Lin, value: i128) -> Result<Option<bool>, 
     }
 }
 
-// Whether a term has a value at a number of its symbol.
+// Whether a term has a value at one of its symbol's numbers.
 fn may_have(term: Lin, range: &RangeSet, value: i128) -> Result<bool, AllocError>
     ensures { IfOk result (λ may. (number : ℤ) → IsTrue (contains range.now number)
         → function_at term number ≡ value → may ≡ true) }
@@ -128,7 +128,7 @@ fn may_have(term: Lin, range: &RangeSet, value: i128) -> Result<bool, AllocError
     }
 }
 
-// The number of its symbol at which a term has a value, if there is one.
+// The number of a term's symbol at which the term has a value, if there is one.
 fn solution(term: Lin, value: i128) -> Result<Option<i128>, AllocError>
     ensures { IfOk result (IsSolution term value) }
 {
@@ -150,7 +150,7 @@ fn solution(term: Lin, value: i128) -> Result<Option<i128>, AllocError>
     Ok(Some(number))
 }
 
-/// A term moved by a number.
+/// Returns a term plus a number.
 pub fn shifted(term: Lin, by: i128) -> Result<Lin, Pause>
     ensures memory { IfErr result (λ why. why ≡ pause.Memory) }
     ensures value { IfOk result (λ moved. (valuation : Valuation)
@@ -162,7 +162,7 @@ pub fn shifted(term: Lin, by: i128) -> Result<Lin, Pause>
     Ok(Lin { value, ..term })
 }
 
-/// A term times a number.
+/// Returns a term times a number.
 pub fn scaled(term: Lin, factor: i128) -> Result<Lin, Pause>
     ensures memory { IfErr result (λ why. why ≡ pause.Memory) }
     ensures value { IfOk result (λ made. (valuation : Valuation)
@@ -201,7 +201,7 @@ fn value_at(term: Lin, number: i128) -> Option<i128>
     Some(sum)
 }
 
-// An integer of C.
+// Returns the number if it is an integer of C; any other number is an error.
 fn integer(value: i128) -> Result<i128, AllocError>
     ensures { IfOk result (λ number. number ≡ value) }
 {

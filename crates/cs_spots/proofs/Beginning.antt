@@ -1,4 +1,4 @@
--- What an operation waits for is what its state waits for, and what becomes of the state then: for the contracts of steps.
+-- What an operation waits for is what its state waits for, and how the state changes then: for the contracts of steps.
 use Rattle.std.proofs.Common.{◌≡◌, List, [], Result, Ok, Err, refl, sym, subst}
 use Rattle.cs_types.specs.declared.data_model.DataModel.{DataModel}
 use Rattle.cs_ast.specs.TypedProgram.{TypedProgram}

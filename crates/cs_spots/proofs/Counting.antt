@@ -1,4 +1,4 @@
--- A counted point is reached once more, or its visits are over: for the contract of `reach_counted_point`.
+-- A counted point is visited once more, or its budget of visits is used up: for the contract of `reach_counted_point`.
 use Rattle.std.proofs.Common.{◌≡◌, ℕ, ◌+◌, ◌<◌, ◌≤◌, nat_lt, Bool, true, false, Option, Some, None, Result, Ok, Err, IfErr, OnOk}
 use Rattle.std.proofs.Common.{if◌then◌else◌, refl, sym, ap, ◌∙◌, subst}
 use Rattle.std.proofs.Common.{arith}

@@ -1,4 +1,4 @@
--- States with the temporaries below a number alone, in what they mean: for the contracts of steps.
+-- The meaning of states of which only the first temporaries remain: for the contracts of steps.
 use Rattle.std.proofs.Common.{◌≡◌, ℕ, ◌+◌, ◌-◌, ◌≤◌, min, List, [], ◌∷◌, length, map, take, if◌then◌else◌, refl, sym, ap}
 use Rattle.std.proofs.Common.{◌∙◌, subst, arith}
 use Rattle.std.proofs.lemmas.List.{length-map, length-reverse, length-take, take_min, take_all, take-take}

@@ -1,4 +1,4 @@
--- Where a frame goes on, and what stands there: for the contracts of steps.
+-- Where a frame continues, and the instruction there: for the contracts of steps.
 use Rattle.std.proofs.Common.{◌≡◌, ℕ, zero, suc, List, [], ◌∷◌, Option, Some, None, All, refl, sym, ap, ◌∙◌, subst}
 use Rattle.std.specs.Prelude.{option_map, unwrap_or, slice_get}
 use Rattle.std.specs.Option.{option_and_then}

@@ -1,4 +1,4 @@
--- States that differ in their position: what they share, and that states of locals alone stay such. For the contracts of steps.
+-- States that differ in their position: what they share, and that states with pointers to locals only remain such. For the contracts of steps.
 use Rattle.std.proofs.Common.{◌≡◌, ℕ, Bool, List, [], take, refl, sym, ◌∙◌, subst}
 use Rattle.std.specs.Prelude.{Option, None, Some}
 use Rattle.std.specs.List.{All}

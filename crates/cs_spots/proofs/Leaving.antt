@@ -1,4 +1,4 @@
--- The end of a block is left, by what it leads to or waits for: for the contracts of `ends`.
+-- Leaving the end of a block, for a block to which it leads or to wait: for the contracts of `ends`.
 use Rattle.std.proofs.Common.{◌≡◌, ℕ, ℤ, Bool, List, [], map, Result, Ok, Err, IsErr, IsErrAnd, IfErr, OnOk, true≢false, refl, sym, ap, ◌∙◌}
 use Rattle.std.proofs.Common.{subst}
 use Rattle.cs_inputs.specs.declared.path.Path.{Path}

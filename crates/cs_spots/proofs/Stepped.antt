@@ -1,4 +1,4 @@
--- A step by what stands at the spot of a state, once the temporaries that it doesn't need are dropped: for the contracts of `next`.
+-- A step by the instruction at the spot of a state, after dropping the temporaries that it doesn't need: for the contracts of `next`.
 use Rattle.std.proofs.Common.{◌≡◌, ℕ, ◌+◌, ℤ, Bool, List, [], map, Some, Result, Ok, Err, refl, sym, ap, ◌∙◌, subst}
 use Rattle.cs_inputs.specs.declared.path.Path.{Path}
 use Rattle.cs_ast.specs.TypedProgram.{TypedProgram}

@@ -1,4 +1,4 @@
--- A `switch` shows the case of its number, and goes its way: for the contract of `switch`.
+-- A `switch` shows the case of its number, and continues with that case's block: for the contract of `switch`.
 use Rattle.std.proofs.Common.{◌≡◌, ℕ, ◌+◌, ◌≤◌, ℤ, List, [], ◌∷◌, length, sym, ap, ◌∙◌, subst}
 use Rattle.cs_inputs.specs.declared.path.Path.{Path}
 use Rattle.cs_ast.specs.declared.place.Place.{Place}

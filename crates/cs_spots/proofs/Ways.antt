@@ -1,4 +1,4 @@
--- The way of a number among the cases of a `switch`: for the contract of `way`.
+-- The block for a number among the cases of a `switch`: for the contract of `way`.
 use Rattle.std.proofs.Common.{◌≡◌, ℕ, ◌+◌, ◌<◌, ℤ, Bool, true, false, List, [], ◌∷◌, length, map, get_or, drop, if◌then◌else◌}
 use Rattle.std.proofs.Common.{refl, sym, ap, ◌∙◌}
 use Rattle.std.specs.Ordering.{int_eq}

@@ -1,2 +1,2 @@
-//! What stands at the spot of a state, and what becomes of the state by a step there. Definitions and lemmas.
+//! The instruction at the spot of a state, and how a step there changes the state. Definitions and lemmas.
 #![tactic(auto)]

@@ -1,4 +1,4 @@
--- A branch is a test that touches its control point before it shows: for the contract of `branch`.
+-- A branch is a test that touches its control point before its event: for the contract of `branch`.
 use Rattle.std.proofs.Common.{◌≡◌, ℕ, ◌+◌, ◌≤◌, ℤ, Bool, true, false, if◌then◌else◌, length, subst, List, [], ◌∷◌, Option, Some}
 use Rattle.std.proofs.Common.{None, sym, ap, ◌∙◌}
 use Rattle.std.proofs.lemmas.List.Elements.{All-weaker}

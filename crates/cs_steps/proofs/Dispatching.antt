@@ -1,4 +1,4 @@
--- Operations that do their work: by what they push, by the clauses of operators, and before the frame goes on. For the contracts of `work`.
+-- Operations do their work: those that push, those of operators, and all before the frame continues. For the contracts of `work`.
 use Rattle.std.proofs.Common.{◌≡◌, ◌<◌, ℕ, ℤ, pos, Bool, List, [], ◌∷◌, ◌++◌, Result, Ok, Err, IsErr, IsErrAnd, OnOk, IfErr}
 use Rattle.std.proofs.Common.{true≢false, refl, sym, ap, ◌∙◌}
 use Rattle.std.proofs.lemmas.Result.{on_ok_weaker}

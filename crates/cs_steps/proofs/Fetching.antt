@@ -1,4 +1,4 @@
--- What was loaded for an update, and its number in the type of the operator: for the contracts of `push_converted` and `fetch_number`.
+-- The value that an update loads, and its number in the type of the operator: for the contracts of `push_converted` and `fetch_number`.
 use Rattle.std.proofs.Common.{◌≡◌, ℕ, ℤ, Bool, List, [], ◌∷◌, ◌++◌, Result, Ok, Err, IsErr, IsErrAnd, OnOk, IfErr, true≢false, sym, ap}
 use Rattle.std.proofs.Common.{◌∙◌}
 use Rattle.std.proofs.lemmas.List.Elements.{All-push}

@@ -1,4 +1,4 @@
--- The whole of an operation that loads: for the contracts of `load_in_place` and `fetch_number`.
+-- All of an operation that loads: for the contracts of `load_in_place` and `fetch_number`.
 use Rattle.std.proofs.Common.{◌≡◌, ℕ, Bool, Result, Ok, Err, OnOk, IfErr, refl, sym, subst}
 use Rattle.cs_types.specs.declared.data_model.DataModel.{DataModel}
 use Rattle.cs_types.specs.declared.int_type.IntType.{IntType}

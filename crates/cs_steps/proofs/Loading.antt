@@ -1,4 +1,4 @@
--- Loads from integer variables, in states of locals alone: for the contracts of `load` and `load_scalar`.
+-- Loads from integer variables, in states with pointers to locals only: for the contracts of `load` and `load_scalar`.
 use Rattle.std.proofs.Common.{◌≡◌, ℕ, ℤ, pos, Bool, List, Option, None, Some, slice_get, if◌then◌else◌, true, Result, Ok, Err, IsErr, IsErrAnd}
 use Rattle.std.proofs.Common.{true≢false}
 use Rattle.std.proofs.Common.{refl, sym, ap, ◌∙◌, subst}

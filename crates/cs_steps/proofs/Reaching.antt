@@ -1,4 +1,4 @@
--- A variable is reached for an access: for the contracts of `locate` and `locate_variable`.
+-- Reaching a variable for an access: for the contracts of `locate` and `locate_variable`.
 use Rattle.std.proofs.Common.{◌≡◌, ◌≢◌, ℕ, ℤ, pos, Option, None, Some, refl, ap}
 use Rattle.cs_ast.specs.declared.place.Place.{Place}
 use Rattle.cs_events.specs.Objects.{Cell, PointerCell}

@@ -1,4 +1,4 @@
--- Stores to integer variables, in states of locals alone: for the contracts of `locate_for_store`, `write` and `store`.
+-- Stores to integer variables, in states with pointers to locals only: for the contracts of `locate_for_store`, `write` and `store`.
 use Rattle.std.proofs.Common.{◌≡◌, ◌≢◌, ◌⊎◌, ℕ, ℤ, pos, Bool, true, false, true≢false, List, Option, None, Some, slice_get}
 use Rattle.std.proofs.Common.{if◌then◌else◌}
 use Rattle.std.proofs.Common.{Result, Ok, Err, IsErr, IsErrAnd, OnOk, IfErr, refl, sym, ap, ◌∙◌, subst}

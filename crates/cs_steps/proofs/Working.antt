@@ -1,4 +1,4 @@
--- The whole of an operation that writes to memory: for the contracts of operations that store.
+-- All of an operation that writes to memory: for the contracts of operations that store.
 use Rattle.std.proofs.Common.{◌≡◌, ℕ, Bool, Result, Ok, Err, IsErr, IsErrAnd, OnOk, IfErr, true≢false, sym, ap, ◌∙◌, subst}
 use Rattle.cs_ast.specs.TypedProgram.{TypedProgram}
 use Rattle.cs_terms.specs.Term.{Valuation}

@@ -1,4 +1,4 @@
--- What was loaded for an update, and its number in the type of the operator.
+-- The value that an update loads, and its number in the type of the operator.
 use Rattle.std.specs.Prelude.{◌≡◌, ◌++◌, [], ◌∷◌, Result, OnOk, IfErr}
 use Rattle.cs_types.specs.declared.data_model.DataModel.{DataModel}
 use Rattle.cs_types.specs.declared.int_type.IntType.{IntType}
@@ -28,23 +28,23 @@ use Rattle.cs_progress.specs.declared.progress.Progress.{Progress}
 use Rattle.cs_progress.specs.Acting.{Leads, WaitsFor}
 use Rattle.cs_progress.specs.Answering.{answers_left}
 
--- two temporaries more, and nothing else has changed
+-- two temporaries are pushed, and nothing else changes
 abbrev pub ArePushed : Temporary → Temporary → State → State → Type 0
 ArePushed first second before after = after ≡ with_temporaries (before.frame.temporaries ++ first ∷ [] ++ second ∷ []) before
 
--- under each valuation, the state of the code's run has two operands more
+-- under each valuation, the represented state of the code's run has two more operands
 abbrev pub MeanPushed : Temporary → Temporary → State → State → Type 0
 MeanPushed first second before after = (code : Code) (names : Naming) (program : TypedProgram) (valuation : Valuation) →
     meaning code names program after valuation
     ≡ push (operand_of names.bases before.blocks valuation second)
     (push (operand_of names.bases before.blocks valuation first) (meaning code names program before valuation))
 
--- the number of an operand is converted, and is one more operand beside it
+-- the number of an operand is converted, and is pushed after the operand
 abbrev pub converts_beside : DataModel → Place → Shape → IntType → Operand → CodeState → Act CodeState
 converts_beside model at from to operand m =
     convert_number model at from to (number_in (cell_of operand)) (λ number. Goes (push_cell (NumberCell number) (push operand m)))
 
--- under each valuation that fits, so much of an operation is done, which goes on with the state that is left; or it waits
+-- under each valuation that fits, this part of an operation is done, and it continues with the resulting state; or it waits
 pub record Fetches {T : Type 0} (code : Code) (names : Naming) (program : TypedProgram) (before after : State) (earlier later : Progress)
     (answer : Result T Pause) (rest : Valuation → CodeState → Act CodeState) : Type 0 where
   pub done : OnOk answer ((todo : Point) (cells : Path → InputKind → Cell) (valuation : Valuation) → Fits valuation before.constraints

@@ -1,4 +1,4 @@
--- Loads from integer variables, in states of locals alone.
+-- Loads from integer variables, in states with pointers to locals only.
 use Rattle.std.specs.Prelude.{◌≡◌, Result, OnOk, IfOk}
 use Rattle.cs_ast.specs.declared.place.Place.{Place}
 use Rattle.cs_ast.specs.TypedProgram.{TypedProgram}
@@ -23,7 +23,7 @@ use Rattle.cs_cells.specs.InMemory.{memory_in}
 use Rattle.cs_steps.specs.declared.access.Reached.{Reached}
 use Rattle.cs_steps.specs.Reaching.{cell_reached}
 
--- a part of an act that gives memory and an operand
+-- a part of an act that yields memory and an operand
 abbrev pub Part : Type 0
 Part = Valuation → (Memory × Operand → Act CodeState) → Act CodeState
 
@@ -34,17 +34,17 @@ module _ (program : TypedProgram) (names : Naming) (state : State) where
       load_object program (memory_in program names state valuation) state.frame.number access (cell_in names.bases state place valuation)
       (λ memory operand. onward (memory, operand))
 
-  -- the scalar that was reached is read, and was set
+  -- the scalar of the reached object is read, and was set
   abbrev pub scalar_part : Place → Reached → Part
   scalar_part at reached valuation onward =
       direct at (cell_reached names.bases reached valuation) (λ object offset.
       read program (memory_in program names state valuation) object offset (λ memory cell. set_then at cell (onward (memory, Scalar cell))))
 
-  -- memory as it is, and what was loaded
+  -- memory as it is, and the loaded operand
   abbrev pub loaded_in : Temporary → Valuation → Memory × Operand
   loaded_in loaded valuation = (memory_in program names state valuation, operand_of names.bases state.blocks valuation loaded)
 
--- a part of an act that loads is carried out: it gives what may be in the frame, and nothing has changed then or where it waits
+-- a part of an act that loads is carried out: it yields an operand that may be in the frame, and nothing changes, also if it waits
 pub record Loads (program : TypedProgram) (names : Naming) (before after : State) (earlier later : Progress) (answer : Result Temporary Pause)
     (part : Part) : Type 0 where
   pub act : CarriesOut names.bases before earlier later answer part (loaded_in program names before)

@@ -11,11 +11,11 @@ use Rattle.cs_regions.specs.declared.base.Base.{Base}
 use Rattle.cs_state.specs.Cells.{pointer_to}
 use Rattle.cs_steps.specs.declared.access.Reached.{Reached}
 
--- a variable is reached, or a member of one: a part of an act, which gives the pointer to it
+-- a part of an act that reaches a variable, or a member of one: it yields the pointer to it
 abbrev pub reaches : Place → Cell → (Cell → Act CodeState) → Act CodeState
 reaches at cell onward = direct at cell (λ object n. onward (PointerCell object (pos n)))
 
--- the pointer to what was reached
+-- the pointer to the reached object
 abbrev pub cell_reached : List Base → Reached → Valuation → Cell
 cell_reached bases reached valuation = pointer_to (slice_get bases reached.base) (pos reached.offset)
 

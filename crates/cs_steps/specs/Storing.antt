@@ -1,4 +1,4 @@
--- Stores to integer variables, in states of locals alone.
+-- Stores to integer variables, in states with pointers to locals only.
 use Rattle.std.specs.Prelude.{◌≡◌, ℕ, pos, Bool, Some, slice_get, Result, OnOk}
 use Rattle.cs_types.specs.Shape.{Shape}
 use Rattle.cs_ast.specs.declared.place.Place.{Place}
@@ -25,11 +25,11 @@ use Rattle.cs_operators.specs.Pointing.{cell_in}
 use Rattle.cs_cells.specs.InMemory.{memory_in}
 use Rattle.cs_steps.specs.declared.access.Reached.{Reached}
 
--- a variable is reached, or a member of one, which may be stored to: a part of an act, which gives the pointer to it
+-- a part of an act that reaches a variable, or a member of one, to which a store is permitted: it yields the pointer to it
 abbrev pub reaches_for_store : TypedProgram → Place → Cell → (Cell → Act CodeState) → Act CodeState
 reaches_for_store program at cell onward = direct at cell (λ object n. writable program at object (onward (PointerCell object (pos n))))
 
--- a store of a temporary at a place, to the object whose place has this value: a part of an act, which gives memory
+-- a part of an act that stores a temporary in the object whose place has this value: it yields memory
 abbrev pub store_part : TypedProgram → Naming → State → Place → Access → Value → Temporary → Valuation → (Memory → Act CodeState)
     → Act CodeState
 store_part program names state at access place stored valuation onward =
@@ -37,7 +37,7 @@ store_part program names state at access place stored valuation onward =
     (operand_of names.bases state.blocks valuation stored) onward
 
 module _ (program : TypedProgram) (names : Naming) (known : ℕ → Bool) (before after : State) where
-  -- a temporary was written where memory was reached: memory has it, and nothing else has changed
+  -- a temporary was written to the reached object: memory has it, and nothing else changes
   pub record IsWritten (ty : Shape) (reached : Reached) (stored : Temporary) : Type 0 where
     pub memory : (region : Base) → slice_get names.bases reached.base ≡ Some region → (valuation : Valuation)
         → memory_in program names after valuation
@@ -46,8 +46,8 @@ module _ (program : TypedProgram) (names : Naming) (known : ℕ → Bool) (befor
     pub rest : after ≡ with_memory after.store after.read before
     pub locals : HasLocalsAlone program names.bases known after
 
-  -- a part of an act that stores is carried out: it gives the memory that the state has then, and nothing else has changed; nothing has
-  -- where it waits
+  -- a part of an act that stores is carried out: it yields the memory of the resulting state, and nothing else changes; nothing at all
+  -- if it waits
   pub record Stores {T : Type 0} (earlier later : Progress) (answer : Result T Pause) (part : Valuation → (Memory → Act CodeState) → Act CodeState)
       : Type 0 where
     pub act : CarriesOut names.bases before earlier later answer part (λ done valuation. memory_in program names after valuation)

@@ -20,14 +20,14 @@ use Rattle.cs_state.specs.Cells.{operand_of}
 use Rattle.cs_state.specs.Meaning.{meaning}
 use Rattle.cs_state.specs.Naming.{Naming}
 
--- the number that an update stores in an object of an integer type: a part of an act
+-- a part of an act: the number that an update stores in an object of an integer type
 abbrev pub update_part : DataModel → Place → BinOp → IntType → IntType → (Valuation → CodeState) → Valuation → (ℤ → Act CodeState)
     → Act CodeState
 update_part model at operator works_in object state valuation onward =
     operate model at operator works_in (number_at (state valuation) 1) (number_at (state valuation) 0) (λ number.
     convert_number model at (integer works_in) object number onward)
 
--- a temporary is what an update gives: the operand of this age, or what was stored
+-- a temporary is the result of an update: the operand of this age, or the stored one
 abbrev pub IsGiven : State → Gives → ℕ → Temporary → Temporary → Type 0
 IsGiven state gives age stored left = (code : Code) (names : Naming) (program : TypedProgram) (valuation : Valuation)
     → operand_of names.bases state.blocks valuation left

@@ -41,7 +41,7 @@ pub struct Reached {
     pub offset: u64,
 }
 
-/// The object that is accessed, whose place has this value.
+/// Returns the object to access, whose place has this value.
 pub fn locate(
     context: &Context,
     state: &State,
@@ -68,7 +68,7 @@ pub fn locate(
     locate_through(context, state, tables, attempt, access, place)
 }
 
-// A variable, or a member of one. No value but a place is that of one.
+// The variable, or the member of one, whose place this value is. No other kind of value is the place of a variable.
 fn locate_variable(state: &State, place: Value) -> Result<Reached, Pause>
     ensures act { (bases : List Base) → IsNamed bases place → (at : Place) (progress : Progress)
         → CarriesOut bases state.now progress progress result
@@ -86,7 +86,7 @@ fn locate_variable(state: &State, place: Value) -> Result<Reached, Pause>
     Ok(Reached { base, offset })
 }
 
-// An object that a pointer points to.
+// The object that a pointer points to.
 fn locate_through(
     context: &Context,
     state: &State,
@@ -105,8 +105,8 @@ fn locate_through(
     reach(context, state, tables, attempt, access, (base, offset))
 }
 
-// An object of a type is reached in another: that one stands, the type's bytes lie within it, the offset shows, and such an object begins
-// there.
+// Checks an access to an object of a type in a base region: the region is live, the type's bytes are within it, the offset shows in an event,
+// and an object of the type begins there.
 fn reach(
     context: &Context,
     state: &State,
@@ -134,7 +134,7 @@ fn reach(
     Ok(Reached { base, offset })
 }
 
-// An offset that isn't below 0, and is a constant.
+// The value of an offset that isn't below 0 and is a constant.
 fn byte(offset: Lin) -> Result<u64, Pause>
     ensures value { IfOk result (IsByte offset) }
     ensures memory { IfErr result (λ why. why ≡ pause.Memory) }
@@ -145,7 +145,7 @@ fn byte(offset: Lin) -> Result<u64, Pause>
     u64::try_from(offset.value).map_err(|_| Pause::Memory)
 }
 
-/// What a load gives: a scalar, which was set, or the scalars of a struct, set or not.
+/// Returns the loaded operand: a scalar, which is checked to be set, or the scalars of a struct, set or not.
 pub fn load(
     context: &Context,
     state: &mut State,
@@ -176,7 +176,7 @@ pub fn load(
     load_scalar(context, state, tables, attempt, access.place, reached)
 }
 
-// The scalar that was reached, which was set.
+// Loads the scalar at an object, which is checked to be set.
 fn load_scalar(
     context: &Context,
     state: &mut State,
@@ -205,7 +205,7 @@ fn load_scalar(
     Ok(Temporary::Scalar(value))
 }
 
-// The scalars of a struct.
+// Loads the scalars of a struct.
 fn read_all(
     context: &Context,
     state: &mut State,
@@ -220,7 +220,7 @@ fn read_all(
     Ok(Scalars::of(values)?)
 }
 
-/// What is stored may be stored there.
+/// Returns the object to store to, which is checked not to be constant.
 pub fn locate_for_store(
     context: &Context,
     state: &State,
@@ -250,7 +250,7 @@ pub fn locate_for_store(
     Ok(reached)
 }
 
-/// A value of a type is written at an offset.
+/// Writes an operand of a type to an object.
 pub fn write(
     context: &Context,
     state: &mut State,
@@ -275,7 +275,7 @@ pub fn write(
     }
 }
 
-// The scalars of a struct are written.
+// Writes the scalars of a struct.
 fn write_all(
     context: &Context,
     state: &mut State,
@@ -296,7 +296,7 @@ fn write_all(
     Ok(())
 }
 
-/// A store of an operand at a place (C11 6.5.16.1).
+/// Stores an operand at a place (C11 6.5.16.1).
 pub fn store(
     context: &Context,
     state: &mut State,
@@ -324,7 +324,7 @@ pub fn store(
     write(context, state, &access.ty, reached, operand)
 }
 
-/// Bytes of a text are written from an offset on, each in the scalar that begins there (C11 6.7.9, paragraph 14).
+/// Writes the bytes of a text from an offset on, each to the scalar that begins there (C11 6.7.9, paragraph 14).
 pub fn spell(
     context: &Context,
     state: &mut State,

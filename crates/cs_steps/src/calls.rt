@@ -21,7 +21,7 @@ use cs_store::{Fill, Value};
 use cs_values::paths::root_path;
 use std::alloc::AllocError;
 
-/// A call with so many arguments, after which the caller goes on.
+/// Calls a function with `called.1` arguments; afterwards the caller is at its next operation.
 pub fn call(
     context: &Context,
     state: &mut State,
@@ -46,7 +46,7 @@ pub fn call(
     }
 }
 
-// A call of a function with a body shows, unless there are as many frames as there may be.
+// A call of a function with a body: an event shows the function, unless the budget of depth is used up.
 fn enter_checked(
     context: &Context,
     state: &State,
@@ -64,7 +64,7 @@ fn enter_checked(
     Ok(())
 }
 
-// The call's frame runs: its locals are unset, but for the parameters.
+// Pushes the frame of the call: its locals are unset, except the parameters.
 fn enter(
     context: &Context,
     state: &mut State,
@@ -92,7 +92,7 @@ fn enter(
     Ok(())
 }
 
-// A frame that begins.
+// The frame of a call at its beginning.
 fn begun(context: &Context, flow: &Flow, function: u32, number: u64) -> Result<Frame, Pause>
     requires { IsReady context.now.setting.now }
 {
@@ -109,7 +109,7 @@ fn begun(context: &Context, flow: &Flow, function: u32, number: u64) -> Result<F
     })
 }
 
-// A parameter holds its argument.
+// Binds a parameter to its argument.
 fn receive(
     state: &mut State,
     tables: &mut Tables,
@@ -141,7 +141,7 @@ fn newest(context: &Context, state: &State, count: u32) -> Result<Vec<Value>, Al
     Ok(values)
 }
 
-// A call of a function without a body: it shows, its result is an input, and it writes what its arguments name.
+// A call of a function without a body: an event shows the function, the result is an input, and the objects that arguments point to are overwritten.
 fn outside(
     context: &Context,
     state: &mut State,
@@ -171,8 +171,8 @@ fn outside(
     replace(state, count as usize, result)
 }
 
-// The base regions that such a call writes, each with the number of its argument: each pointer that may be written through shows whether
-// it is null.
+// The base regions that such a call writes, each with the number of its argument. Each pointer through which it may write is inspected
+// for null.
 fn written(
     context: &Context,
     state: &State,
@@ -195,7 +195,7 @@ fn written(
     Ok(written)
 }
 
-// What such a call gives.
+// The result of such a call.
 fn result(
     context: &Context,
     state: &mut State,
@@ -215,7 +215,7 @@ fn result(
     Ok(Temporary::Scalar(value))
 }
 
-// An object as such a call leaves it, if it may be written.
+// Overwrites an object as such a call does, if it is live and not constant.
 fn overwrite(
     context: &Context,
     state: &mut State,

@@ -1,4 +1,4 @@
-//! What the end of a block does, and what a loop head or a label does.
+//! The ends of blocks, and the visits of loop heads and labels.
 ghost use Rattle.cs_objects.specs.Prepared.{IsReady};
 ghost use Rattle.std.specs.Prelude.{◌≡◌, ℕ, map, OnOk, IfOk, IfErr};
 ghost use Rattle.cs_state.specs.Naming.{Naming, naming, Extends};
@@ -20,7 +20,7 @@ use cs_state::{State, Tables, Temporary};
 use cs_store::Value;
 use cs_terms::Lin;
 
-/// What the end of a block does.
+/// Executes the end of a block.
 pub fn end(
     context: &Context,
     state: &mut State,
@@ -55,7 +55,7 @@ pub fn end(
     }
 }
 
-// The frame goes on with one block or the other, as a test says.
+// Continues the frame with one of two blocks, as the test shows.
 fn branch(
     context: &Context,
     state: &mut State,
@@ -74,7 +74,7 @@ fn branch(
     go(context, state, if holds { one } else { other })
 }
 
-// The frame goes on with the block of the first case that has the number, else with another one.
+// Continues the frame with the block of the first case that has the number, else with the default one.
 fn switch(
     context: &Context,
     state: &mut State,
@@ -98,7 +98,7 @@ fn switch(
     go(context, state, block)
 }
 
-// The block to which a number leads, whose case is known.
+// The block for the number of a `switch`. For each case, it is known whether the number is the case's.
 fn way(state: &State, term: Lin, cases: &[SwitchCase], otherwise: u32) -> Result<u32, Pause>
     ensures leads { IfOk result
         (LeadsTo state.now term (map view.switch_case cases.now) otherwise) }
@@ -114,7 +114,7 @@ fn way(state: &State, term: Lin, cases: &[SwitchCase], otherwise: u32) -> Result
     Ok(otherwise)
 }
 
-// The frame goes on with a block of its function.
+// Continues the frame at the beginning of a block of its function.
 fn go(context: &Context, state: &mut State, block: u32) -> Result<(), Pause>
     ensures goes { OnOk result (GoesTo (view.code context.now.code.now) block state.old state.new) }
     ensures memory { IfErr result (λ why. why ≡ pause.Memory) }
@@ -128,7 +128,7 @@ fn go(context: &Context, state: &mut State, block: u32) -> Result<(), Pause>
     Ok(())
 }
 
-/// The frame goes on after what stands at its spot.
+/// Continues the frame after the instruction at its spot.
 pub fn go_on(context: &Context, state: &mut State) -> Result<(), Pause>
     ensures moved_on { OnOk result
         (IsMovedOn (view.code context.now.code.now) state.old state.new) }
@@ -139,7 +139,7 @@ pub fn go_on(context: &Context, state: &mut State) -> Result<(), Pause>
     Ok(())
 }
 
-/// A loop head or a label is reached, unless it was as often as it may be.
+/// Counts a visit of a loop head or a label, unless the budget of visits is used up.
 pub fn reach_counted_point(
     context: &Context,
     state: &mut State,

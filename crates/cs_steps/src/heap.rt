@@ -24,7 +24,7 @@ use cs_terms::{Lin, Sym, SymName};
 use cs_types::{CType, size_type};
 use cs_values::paths::root_path;
 
-/// A call of `malloc` or `calloc`, whose block has elements of a type.
+/// Executes a call of `malloc` or `calloc`, whose block has elements of a type.
 pub fn allocate(
     context: &Context,
     state: &mut State,
@@ -54,7 +54,7 @@ pub fn allocate(
     }
 }
 
-// A block of so many elements of so many bytes: null where these are too many (C11 7.22.3.2).
+// A block for the given number of elements, all zero; null if the product is too great (C11 7.22.3.2).
 fn zeros(
     context: &Context,
     state: &mut State,
@@ -84,7 +84,7 @@ fn zeros(
     allocated(context, state, tables, progress, at, element, made)
 }
 
-// A block of so many bytes with a fill, or null.
+// A block of the given number of bytes with a fill, or null.
 fn allocated(
     context: &Context,
     state: &mut State,
@@ -120,7 +120,7 @@ fn allocated(
     Ok(Value::At(base, constant(0)))
 }
 
-// A new block.
+// The data of a new block.
 fn heap_block(
     state: &State,
     tables: &mut Tables,
@@ -139,7 +139,7 @@ fn heap_block(
     })
 }
 
-// One more allocation.
+// Counts one more allocation.
 fn next_allocation(state: &mut State) -> Result<(), Pause> {
     let allocations = state
         .counters
@@ -153,7 +153,7 @@ fn next_allocation(state: &mut State) -> Result<(), Pause> {
     Ok(())
 }
 
-/// A call of `free`.
+/// Executes a call of `free`.
 pub fn release(
     context: &Context,
     state: &mut State,

@@ -1,4 +1,4 @@
-//! What the operation in progress of a state does next.
+//! The next step of the operation in progress of a state.
 #![tactic(auto)]
 
 mod access;

@@ -1,4 +1,4 @@
-//! What stands first in what is left of an operation.
+//! The next step of an operation.
 ghost use Rattle.cs_objects.specs.Prepared.{IsReady};
 ghost use Rattle.cs_operators.specs.Asking.{KeepKinds, HasEveryKind};
 ghost use Rattle.std.specs.Prelude.{◌≡◌, ◌+◌, OnOk, IfOk, IfErr};
@@ -18,11 +18,11 @@ use cs_progress::{Context, Pause, Progress};
 use cs_state::{State, Tables};
 use std::alloc::AllocError;
 
-/// What the operation in progress does next, after its answers so far: true where it is done; else what stands first is left in the
-/// attempt. The checkers are asked about each thing that it does after the last of its answers, until one is a fault.
+/// Executes the operation in progress after its answers so far. Returns true if it is done; else the attempt has what comes next.
+/// The checkers are queried about each thing that it does after the last of its answers, until one of them is a fault.
 ///
-/// The cells that it reads become known to the state, and names and numbers to the tables; else a state changes only where the operation
-/// is done.
+/// The cells that it reads become known to the state, and names and numbers to the tables; apart from that, a state changes only if the
+/// operation is done.
 pub fn proceed(
     context: &Context,
     state: &mut State,
@@ -50,7 +50,7 @@ pub fn proceed(
     }
 }
 
-// What stands at the spot of the frame that runs.
+// Executes the instruction at the spot of the current frame.
 fn step(
     context: &Context,
     state: &mut State,
@@ -82,7 +82,7 @@ fn step(
     }
 }
 
-// A loop head or a label stands at the spot. It needs no temporaries.
+// Executes a loop head or a label, which needs no temporaries.
 fn reach(
     context: &Context,
     state: &mut State,
@@ -99,7 +99,7 @@ fn reach(
     reach_counted_point(context, state, progress, point)
 }
 
-// An operation stands at the spot.
+// Executes an operation.
 fn do_operation(
     context: &Context,
     state: &mut State,
@@ -123,7 +123,7 @@ fn do_operation(
     work(context, state, tables, attempt, operation)
 }
 
-// The end of a block stands at the spot.
+// Executes the end of a block.
 fn end_block(
     context: &Context,
     state: &mut State,

@@ -37,7 +37,7 @@ use cs_types::{CType, DataModel, IntType};
 use cs_values::constants::integer_of;
 use std::alloc::AllocError;
 
-/// The load of an update of a number, which is converted to the type of the operator.
+/// Loads the number that an update changes, and converts it to the type of the operator.
 pub fn fetch_number(
     context: &Context,
     state: &mut State,
@@ -71,7 +71,7 @@ pub fn fetch_number(
     )
 }
 
-// What was loaded is one more operand, and its number in another type the newest.
+// Pushes what was loaded, and then its number in another type.
 fn push_converted(
     model: DataModel,
     state: &mut State,
@@ -95,7 +95,7 @@ fn push_converted(
     push_both(state, loaded, Value::Number(after))
 }
 
-// Two more operands.
+// Pushes two operands.
 fn push_both(state: &mut State, first: Temporary, second: Value) -> Result<(), Pause>
     ensures pushed { OnOk result (ArePushed first (Scalar second) state.old state.new) }
     ensures means { OnOk result (MeanPushed first (Scalar second) state.old state.new) }
@@ -106,7 +106,7 @@ fn push_both(state: &mut State, first: Temporary, second: Value) -> Result<(), P
     Ok(())
 }
 
-/// An update of a number: the operands are the place, the value before, the same in the type of the operator, and the right operand.
+/// Updates a number: the operands are the place, the value before, the same in the type of the operator, and the right operand.
 pub fn update(
     context: &Context,
     state: &mut State,
@@ -144,7 +144,7 @@ pub fn update(
     replace(state, 4, left)
 }
 
-// The number that an update stores in an object of a type: that of the operator, which is converted.
+// The number that an update stores in an object of a type: the result of the operator, converted.
 fn updated(
     context: &Context,
     state: &State,
@@ -173,7 +173,7 @@ fn updated(
     convert_number(model, state, &mut attempt.progress, at, types, result)
 }
 
-/// A pointer that has moved is stored: the operands are the place, the value before, and the amount of elements of so many bytes.
+/// Stores a moved pointer: the operands are the place, the value before, and the number of elements, each of `how.0` bytes.
 pub fn move_pointer(
     context: &Context,
     state: &mut State,
@@ -206,7 +206,7 @@ pub fn move_pointer(
     replace(state, 3, left)
 }
 
-// What an update gives: the operand of this age, which is the value before, or the value after it.
+// The result of an update: the operand of this age, which is the value before, or the value after it.
 fn given(state: &State, gives: Gives, age: usize, after: Value) -> Result<Temporary, AllocError>
     ensures operand { IfOk result (IsGiven state.now gives age (Scalar after)) }
     ensures inside { IfOk result (λ left. MayBeIn state.now after → MayAllBeIn state.now left) }

@@ -1,4 +1,4 @@
-//! What each operation of the code does.
+//! The operations of the code.
 ghost use Rattle.cs_objects.specs.Prepared.{IsReady};
 ghost use Rattle.cs_operators.specs.Asking.{KeepKinds, HasEveryKind};
 ghost use Rattle.std.specs.Prelude.{◌≡◌, Bool, OnOk, IfErr};
@@ -35,7 +35,7 @@ use cs_state::{State, Tables, Temporary};
 use cs_store::{Fill, Value};
 use cs_types::CType;
 
-/// What an operation does, after which the frame goes on.
+/// Executes an operation, after which the frame is at its next instruction.
 pub fn work(
     context: &Context,
     state: &mut State,
@@ -69,7 +69,7 @@ pub fn work(
     go_on(context, state)
 }
 
-// The same of any operation but a call, before the frame goes on.
+// Executes any operation but a call; the frame stays at its spot.
 fn do_work(
     context: &Context,
     state: &mut State,
@@ -104,7 +104,7 @@ fn do_work(
     }
 }
 
-// The same of an operation that computes, or accesses memory.
+// Executes an operation that computes, or accesses memory.
 fn compute(
     context: &Context,
     state: &mut State,
@@ -140,7 +140,7 @@ fn compute(
     }
 }
 
-// The same of an operation that accesses memory.
+// Executes an operation that accesses memory.
 fn access(
     context: &Context,
     state: &mut State,
@@ -182,7 +182,7 @@ fn access(
     }
 }
 
-// The same of an operation that sets a part of a local.
+// Executes an operation that sets a part of a local.
 fn set_local(
     context: &Context,
     state: &mut State,
@@ -207,7 +207,7 @@ fn set_local(
     }
 }
 
-// The object at a place, in the place's stead.
+// Replaces a place by the value of the object there.
 fn load_in_place(
     context: &Context,
     state: &mut State,
@@ -230,7 +230,7 @@ fn load_in_place(
     replace(state, 1, loaded)
 }
 
-// The object at a place, beside the place.
+// Pushes the value of the object at a place, and keeps the place.
 fn fetch(
     context: &Context,
     state: &mut State,
@@ -249,7 +249,7 @@ fn fetch(
     Ok(())
 }
 
-// An object is assigned, which is the result too.
+// Assigns to an object; the value assigned is also the result.
 fn assign(
     context: &Context,
     state: &mut State,
@@ -275,7 +275,7 @@ fn assign(
     replace(state, 2, left)
 }
 
-// A part of a local is initialized.
+// Initializes a part of a local.
 fn initialize(
     context: &Context,
     state: &mut State,
@@ -297,7 +297,7 @@ fn initialize(
     drop_newest(state, 1)
 }
 
-// A number is one more operand.
+// Pushes a number.
 fn push_number(state: &mut State, number: i128) -> Result<(), Pause>
     ensures { (model : DataModel) (given : Naming) (at : Place) (progress : Progress)
         → DoesWork model given state.old state.new progress progress result at
@@ -306,7 +306,7 @@ fn push_number(state: &mut State, number: i128) -> Result<(), Pause>
     push(state, Value::Number(constant(number)))
 }
 
-// One more operand is no value.
+// Pushes an operand without a value.
 fn push_nothing(state: &mut State) -> Result<(), Pause>
     ensures { (model : DataModel) (given : Naming) (at : Place) (progress : Progress)
         → DoesWork model given state.old state.new progress progress result at graph.Nothing }
@@ -314,7 +314,7 @@ fn push_nothing(state: &mut State) -> Result<(), Pause>
     push_operand(state, Temporary::Nothing)
 }
 
-// The newest operand is dropped.
+// Drops the newest operand.
 fn drop_operand(state: &mut State) -> Result<(), Pause>
     ensures { (model : DataModel) (given : Naming) (at : Place) (progress : Progress)
         → DoesWork model given state.old state.new progress progress result at graph.Drop }
@@ -322,7 +322,7 @@ fn drop_operand(state: &mut State) -> Result<(), Pause>
     drop_newest(state, 1)
 }
 
-// The end of a function's body gives nothing, or a value that was never set (C11 6.9.1, paragraph 12).
+// The end of a function's body returns no value, or a value that was never set (C11 6.9.1, paragraph 12).
 fn close(state: &mut State, nothing: bool) -> Result<(), Pause>
     ensures { (model : DataModel) (given : Naming) (at : Place) (progress : Progress)
         → DoesWork model given state.old state.new progress progress result at
@@ -335,7 +335,7 @@ fn close(state: &mut State, nothing: bool) -> Result<(), Pause>
     }
 }
 
-// One more operand that is a scalar.
+// Pushes a scalar.
 fn push(state: &mut State, value: Value) -> Result<(), Pause>
     ensures pushed { OnOk result (IsPushed (Scalar value) state.old state.new) }
     ensures means { OnOk result (MeansPushed (Scalar value) state.old state.new) }
@@ -344,7 +344,7 @@ fn push(state: &mut State, value: Value) -> Result<(), Pause>
     push_operand(state, Temporary::Scalar(value))
 }
 
-// One more operand.
+// Pushes an operand.
 fn push_operand(state: &mut State, operand: Temporary) -> Result<(), Pause>
     ensures pushed { OnOk result (IsPushed operand state.old state.new) }
     ensures means { OnOk result (MeansPushed operand state.old state.new) }
@@ -354,7 +354,7 @@ fn push_operand(state: &mut State, operand: Temporary) -> Result<(), Pause>
     Ok(())
 }
 
-// The place of an object.
+// Pushes the place of an object.
 fn name(state: &mut State, tables: &mut Tables, base: Base) -> Result<(), Pause>
     ensures extends { Extends (naming tables.old) (naming tables.new) }
     ensures pushed { OnOk result
@@ -365,7 +365,7 @@ fn name(state: &mut State, tables: &mut Tables, base: Base) -> Result<(), Pause>
     push(state, Value::At(base, constant(0)))
 }
 
-// The place of a local of the frame that runs.
+// Pushes the place of a local of the current frame.
 fn name_local(state: &mut State, tables: &mut Tables, decl: u32) -> Result<(), Pause>
     ensures extends { Extends (naming tables.old) (naming tables.new) }
     ensures work { (model : DataModel) (at : Place) (progress : Progress)
@@ -376,7 +376,7 @@ fn name_local(state: &mut State, tables: &mut Tables, decl: u32) -> Result<(), P
     name(state, tables, base)
 }
 
-// A local of the frame that runs.
+// The base region of a local of the current frame.
 fn local(state: &State, decl: u32) -> Base
     ensures { result ≡ Base.Local state.now.frame.number decl }
 {
@@ -386,7 +386,7 @@ fn local(state: &State, decl: u32) -> Base
     }
 }
 
-// A local becomes unset.
+// Makes a local unset.
 fn clear(state: &mut State, tables: &mut Tables, decl: u32) -> Result<(), Pause>
     ensures extends { Extends (naming tables.old) (naming tables.new) }
     ensures work { (model : DataModel) (at : Place) (scalar : Bool) (progress : Progress)
@@ -398,7 +398,7 @@ fn clear(state: &mut State, tables: &mut Tables, decl: u32) -> Result<(), Pause>
     Ok(())
 }
 
-// A local becomes zero.
+// Makes a local zero.
 fn zero(state: &mut State, tables: &mut Tables, decl: u32) -> Result<(), Pause>
     ensures { Extends (naming tables.old) (naming tables.new) }
 {

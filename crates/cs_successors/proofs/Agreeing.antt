@@ -1,4 +1,4 @@
--- A state of locals alone means the same under valuations that agree on the symbols that it mentions: for what comes of a state.
+-- A state with pointers to locals only means the same under valuations that agree on the symbols that it mentions: for the successors of a state.
 use Rattle.std.proofs.Common.{◌≡◌, ℕ, ℤ, Bool, true, List, [], ◌∷◌, Option, None, Some, All, map, refl, sym, ap, ◌∙◌}
 use Rattle.std.proofs.lemmas.List.Elements.{All-head, All-tail}
 use Rattle.std.specs.Prelude.{option_map, slice_get, reverse, if◌then◌else◌}

@@ -1,4 +1,4 @@
--- Runs go on in one way: what comes directly after an event, and that nothing comes after the end. For `back` of `IsChildOf`, and for the coverage of runs.
+-- Runs are deterministic: what follows directly after an event, and nothing after the end. For `back` of `IsChildOf`, and for the coverage of runs.
 use Rattle.std.proofs.Common.{◌≡◌, ◌⊎◌, inl, inr, List, [], ◌∷◌, refl, sym, ◌∙◌, subst}
 use Rattle.cs_events.specs.declared.outcome.Outcome.{Outcome}
 use Rattle.cs_events.specs.Acts.{Act}

@@ -1,4 +1,4 @@
--- Ways of a run: one after another, and ways on which nothing shows. For the contract of `find`.
+-- Parts of a run: one after another, and parts without an event. For the contract of `find`.
 use Rattle.std.proofs.Common.{◌≡◌, ◌≤◌, List, [], ◌∷◌, ◌++◌, length, sym, ap, ◌∙◌, subst, arith}
 use Rattle.std.proofs.lemmas.List.{length-append}
 use Rattle.cs_events.specs.Acts.{Act}

@@ -1,4 +1,4 @@
--- What comes of a state: the states directly after its next events, and its ends, beside the runs that have come to the state.
+-- The successors of a state, compared with the runs that have reached it: the states directly after its next events, and its ends.
 use Rattle.std.specs.Prelude.{◌≡◌, ◌≢◌, ◌⊎◌, ◌≤◌, ℕ, suc, ℤ, pos, ◌≤ℤ◌, ◌<ℤ◌, Bool, true, List, [], ◌∷◌, All, length, Option, None}
 use Rattle.std.specs.Prelude.{Some, option_map, unwrap_or}
 use Rattle.std.specs.Prelude.{is_some, IsSome, slice_get, Contains}
@@ -51,8 +51,8 @@ use Rattle.cs_successors.specs.EntryRuns.{LeavesAfter, Proceeds}
 abbrev pub is_declared : Sets → ℕ → Bool
 is_declared sets symbol = is_some (set_of sets symbol)
 
--- a state of a function that works with integers alone, in which each valuation that fits has come to where the state stands; and some fits. It
--- mentions no symbol but those that are declared, and has no block
+-- a state of an integer function, whose operation in progress uses all answers under each valuation that fits; and some valuation fits. It mentions only
+-- declared symbols, and has no block
 pub record IsIntegerState (code : Code) (program : TypedProgram) (budgets : RunBudgets) (names : Naming) (state : State) : Type 0 where
   pub model : state.model ≡ program.model
   pub integers : HasIntegerCode code program state.frame.spot.function
@@ -63,50 +63,50 @@ pub record IsIntegerState (code : Code) (program : TypedProgram) (budgets : RunB
   pub possible : (valuation : Valuation) × Fits valuation state.constraints
   pub guessed : (asked : Asked) → Contains (finite.values state.asked) asked → asked.event ≤ state.counters.events
 
--- the guesses before an event with a number and directly after it, where the symbol stands for what was guessed there, or nothing was guessed
+-- the guesses before the event with this number and directly after it, if the symbol represents the number guessed there, or if nothing was guessed
 abbrev pub AreGuessesAfter : ℕ → Option Sym → Guesses → Guesses → Type 0
 AreGuessesAfter event None before after = after ≡ before
 AreGuessesAfter event (Some symbol) before after =
     (one : Asked) × (one.event ≡ event) × (one.guess ≡ symbol) × (after ≡ finite.insert before (event, 0) one)
 
--- what shows is a truth, as that of a comparison or of an order test
+-- the label is a truth, as that of a comparison or of an order test
 abbrev pub IsTruth : Label → Type 0
 IsTruth (Truth holds) = Unit {0}
 IsTruth other = ⊥
 
--- 0 or 1 is listed for an event
+-- the guesses have 0 or 1 for an event
 abbrev pub ListsTruth : List Guess → ℕ → Type 0
 ListsTruth guesses event = (guess_at guesses event ≡ Some (pos 0)) ⊎ (guess_at guesses event ≡ Some (pos 1))
 
--- a run lists no guess at the event of a child; or the child has guessed a truth there, so that of a comparison or of an order test, and the run lists 0 or 1
+-- a run has no guess at the event of a child; or the child guesses a truth there, of a comparison or of an order test, and the run's guess is 0 or 1
 abbrev pub ListsNoneOrTruth : Setting → Child → Type 0
 ListsNoneOrTruth setting child =
     (guess_at setting.guesses child.state.value.counters.events ≡ None)
     ⊎ (IsSome child.guess × IsTruth child.event.label × ListsTruth setting.guesses child.state.value.counters.events)
 
--- a valuation gives the symbol of a child's guess the number that a run lists there, or where it lists none the operation's own result, which leads on
+-- a valuation gives the symbol of a child's guess the number that the run guesses there, or if it guesses none, the operation's own result
 abbrev pub GivesOwn : Setting → Child → ℤ → Valuation → Type 0
 GivesOwn setting child answer valuation = (symbol : Sym) → child.guess ≡ Some symbol
     → valuation symbol.0 ≡ unwrap_or (guess_at setting.guesses child.state.value.counters.events) answer
 
--- an end of runs, with the state that stands for them
+-- an end of runs, with the state that represents them
 abbrev pub StateEnd : Type 0
 StateEnd = Outcome × Box State
 
--- no two ends have one outcome
+-- no two ends have the same outcome
 abbrev pub OutcomesDiffer : List StateEnd → Type 0
 OutcomesDiffer ends = (one other : ℕ) (first second : StateEnd) → slice_get ends one ≡ Some first → slice_get ends other ≡ Some second
     → first.0 ≡ second.0 → one ≡ other
 
--- all symbols that are known stay so
+-- all symbols that are known in one set are known in the other
 abbrev pub Includes : (ℕ → Bool) → (ℕ → Bool) → Type 0
 Includes known more = (symbol : ℕ) → known symbol ≡ true → more symbol ≡ true
 
--- a number is shifted by fewer than 64 bits
+-- a number of bits by which a value of 64 bits may be shifted
 abbrev pub IsCountOfBits : ℤ → Type 0
 IsCountOfBits count = (pos 0 ≤ℤ count) × (count <ℤ pos 64)
 
--- what is so of a right operand that was checked: a divisor isn't 0, and a number isn't shifted by 64 bits or more
+-- what holds for a checked right operand: a divisor isn't 0, and the number of bits to shift by is from 0 to 63
 abbrev pub IsCheckedRight : BinOp → ℤ → Type 0
 IsCheckedRight Div right = right ≢ pos 0
 IsCheckedRight Rem right = right ≢ pos 0
@@ -114,7 +114,7 @@ IsCheckedRight Shl right = IsCountOfBits right
 IsCheckedRight Shr right = IsCountOfBits right
 IsCheckedRight op right = Unit {0}
 
--- what integer code asks for: its right operand is checked. It is no order test and no operation on offsets
+-- the operations in events of integer code: the right operand is checked, and it is no order test and no operation on offsets
 abbrev pub IsAskedByIntegers : Operation → Type 0
 IsAskedByIntegers (operation.Binary op ty left right) = IsCheckedRight op right
 IsAskedByIntegers (operation.Order first second) = ⊥
@@ -124,34 +124,34 @@ IsAskedByIntegers (operation.Difference left right size) = ⊥
 IsAskedByIntegers other = Unit {0}
 
 module _ (code : Code) (program : TypedProgram) (budgets : RunBudgets) (names : Naming) where
-  -- a state after another one mentions no symbols but those that this one mentions
+  -- a state after another one mentions only symbols that the state before mentions
   abbrev pub MentionsNoOthers : State → State → Type 0
   MentionsNoOthers before after = (known : ℕ → Bool) → HasLocalsAlone program names.bases known before → HasLocalsAlone program names.bases known after
 
-  -- a child's state mentions those of the state before it and that of its guess
+  -- a child's state mentions only symbols that the state before mentions, and that of its guess
   abbrev pub MentionsGuess : State → Child → Type 0
   MentionsGuess before child = (known more : ℕ → Bool) → HasLocalsAlone program names.bases known before → Includes known more
       → ((symbol : Sym) → child.guess ≡ Some symbol → more symbol.0 ≡ true) → HasLocalsAlone program names.bases more child.state.value
 
-  -- a run goes by the program's model and by the budgets
+  -- a run has the program's model and these budgets
   pub record GoesBy (setting : Setting) : Type 0 where
     pub model : setting.model ≡ program.model
     pub limits : setting.budgets ≡ budgets
 
-  -- a run has come to where a state stands under a valuation that fits: so much is left for it to do, with this log
+  -- a run has reached a state under a valuation that fits: this act remains for it to do, with this log
   pub record IsAt (state : State) (setting : Setting) (valuation : Valuation) (left : Act CodeState) (log : Log) : Type 0 where
     pub fits : Fits valuation state.constraints
     pub same : left_of (read_cell setting) [] left ≡ next_left code names program budgets (read_cell setting) state valuation
     pub passed : length log.events ≡ state.counters.events
 
-  -- with so much left to do and this log, a run comes to where a state stands, and nothing shows on the way
+  -- with this remaining act and this log, a run reaches a state without an event on the way
   pub record ComesSilently (state : State) (setting : Setting) (valuation : Valuation) (left : Act CodeState) (log : Log) : Type 0 where
     pub rest : Act CodeState
     pub later : Log
     pub proceeds : Proceeds (code_step code program budgets) setting left log [] rest later
     pub comes : IsAt state setting valuation rest later
 
-  -- with so much left to do and this log, a run passes one event and has come, directly after it, to where a state stands
+  -- with this remaining act and this log, a run passes one event, and directly after it has reached a state
   pub record PassesTo (state : State) (setting : Setting) (valuation : Valuation) (left : Act CodeState) (log : Log) : Type 0 where
     pub one : Step
     pub rest : Act CodeState
@@ -159,7 +159,7 @@ module _ (code : Code) (program : TypedProgram) (budgets : RunBudgets) (names : 
     pub leaves : LeavesAfter (code_step code program budgets) setting (first_of setting log left) (one ∷ []) rest later
     pub comes : IsAt state setting valuation rest later
 
-  -- with so much left to do and this log, a run passes no event and ends so, where a state stands
+  -- with this remaining act and this log, a run passes no event and ends with this outcome at a state
   pub record EndsIn (outcome : Outcome) (state : State) (setting : Setting) (valuation : Valuation) (left : Act CodeState) (log : Log) : Type 0 where
     pub last : Act CodeState
     pub before : Log
@@ -171,14 +171,15 @@ module _ (code : Code) (program : TypedProgram) (budgets : RunBudgets) (names : 
     pub same : outcome ≡ end_of ended
     pub returned : HasReturned ended (result_in names.bases state.blocks valuation state.result)
 
-  -- with so much left to do and this log, a run comes to its next event, where this is pending
+  -- with this remaining act and this log, a run reaches its next event, and this operation is pending there
   pub record ComesToAsk (setting : Setting) (left : Act CodeState) (log : Log) (pending : Pending) : Type 0 where
     pub one : Step
     pub shows : ShowsAfter (code_step code program budgets) setting (first_of setting log left) [] one
     pub pends : one.pending ≡ pending
 
-  -- what is noted of a child's guess. The question was asked under these sets: valuations of the state whose runs come to it, among them those of the child,
-  -- under which it isn't followed and the number of the guess symbol may be guessed, and those of all runs that pass an event
+  -- what is noted about a child's guess. The question was asked under these sets of numbers. Their valuations fit the state, and runs under them reach
+  -- the question; the child's valuations are among them, for which the operation isn't followed and the number of the guess symbol may be guessed; and each
+  -- run that passes an event is under one of them
   pub record IsNotedAt (before : State) (child : Child) (asked : Asked) : Type 0 where
     pub sets : Sets
     pub inhabited : AreInhabited sets
@@ -196,13 +197,13 @@ module _ (code : Code) (program : TypedProgram) (budgets : RunBudgets) (names : 
         → IsAt before setting valuation left log
         → LeavesAfter (code_step code program budgets) setting (first_of setting log left) (one ∷ []) rest later → Fits valuation sets
 
-  -- the number that is guessed on the way to a child is the one that a valuation gives the symbol
+  -- the number that is guessed at the event of a child is the one that the valuation gives the symbol
   abbrev pub GuessesAs : Setting → Child → Valuation → Type 0
   GuessesAs setting child valuation =
       guess_at setting.guesses child.state.value.counters.events ≡ option_map (λ (symbol : Sym). valuation symbol.0) child.guess
 
-  -- a child of a state: its valuations are some of the state's, and runs that have come to the state under one of them pass its event to the child. A run
-  -- without a guess there that passes the child's event has come to the child, and so has one that lists a truth for the child's guess
+  -- a child of a state: its valuations are among the state's, and runs that have reached the state under one of them pass its event and reach the child.
+  -- A run without a guess there that passes the child's event has reached the child, and so has one whose guess is a truth, if the child guesses a truth there
   pub record IsChildOf (rules : List Rule) (before : State) (child : Child) : Type 0 where
     pub integer : IsIntegerState code program budgets names child.state.value
     pub number : child.state.value.counters.events ≡ suc before.counters.events
@@ -224,7 +225,7 @@ module _ (code : Code) (program : TypedProgram) (budgets : RunBudgets) (names : 
         → IsAt child.state.value setting valuation rest later
     pub mentions : MentionsGuess before child
 
-  -- an end of a state: runs that have come to the state under one of its valuations end so
+  -- an end of a state: runs that have reached the state under one of the end's valuations end with its outcome
   pub record IsEndOf (before : State) (end : StateEnd) : Type 0 where
     pub model : end.1.value.model ≡ program.model
     pub possible : (valuation : Valuation) × Fits valuation end.1.value.constraints
@@ -239,8 +240,8 @@ module _ (code : Code) (program : TypedProgram) (budgets : RunBudgets) (names : 
         → IsAt before setting valuation left log → Fits valuation end.1.value.constraints
         → EndsIn end.0 end.1.value setting valuation left log
 
-  -- a run passes its next event to a child, under a valuation that gives all symbols but that of the child's guess the same numbers, and that one
-  -- the number with which the run goes on
+  -- a run passes its next event and reaches a child, under a valuation that differs only for the symbol of the child's guess, which has the number with
+  -- which the run continues
   pub record ComesToChild (made : List Child) (setting : Setting) (valuation : Valuation) (left : Act CodeState) (log : Log) : Type 0 where
     pub place : ℕ
     pub child : Child
@@ -252,7 +253,7 @@ module _ (code : Code) (program : TypedProgram) (budgets : RunBudgets) (names : 
     pub shown : child.guess ≡ None → to.one.event ≡ child.event
     pub phases : (rules : List Rule) (phase next : ℕ) → IsPhaseAfter rules phase child.event next → IsPhaseAfter rules phase to.one.event next
 
-  -- a run ends as one of the ends
+  -- a run ends with the outcome of one of the ends
   pub record ComesToEnd (ends : List StateEnd) (setting : Setting) (valuation : Valuation) (left : Act CodeState) (log : Log)
       : Type 0 where
     pub place : ℕ
@@ -260,7 +261,7 @@ module _ (code : Code) (program : TypedProgram) (budgets : RunBudgets) (names : 
     pub there : slice_get ends place ≡ Some end
     pub ending : EndsIn end.0 end.1.value setting valuation left log
 
-  -- all that comes of a state: its children and its ends, one of which each run without a guess at its next event comes to
+  -- all successors of a state: its children and its ends; each run without a guess at its next event reaches one of them
   pub record ComesOfState (rules : List Rule) (before : State) (made : List Child) (ends : List StateEnd) : Type 0 where
     pub children : All (IsChildOf rules before) made
     pub endings : All (IsEndOf before) ends
@@ -271,7 +272,7 @@ module _ (code : Code) (program : TypedProgram) (budgets : RunBudgets) (names : 
         → first.event.label ≡ second.event.label → one ≡ other
     pub outcomes_differ : OutcomesDiffer ends
 
-  -- a state to which runs come silently from another one, where its valuations fit. They are some of that one's: under the others, runs have come to ends
+  -- a state that runs reach silently from another one, under its valuations. These are among that one's: under the others, runs have reached ends
   pub record IsReachedFrom (before state : State) (ends : List StateEnd) : Type 0 where
     pub integer : IsIntegerState code program budgets names state
     pub events : state.counters.events ≡ before.counters.events

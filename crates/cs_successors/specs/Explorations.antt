@@ -1,4 +1,4 @@
--- An exploration: what it goes by, as plain data.
+-- The parts of an exploration as plain data.
 use Rattle.std.specs.Prelude.{◌≡◌}
 use Rattle.cs_types.specs.declared.data_model.DataModel.{DataModel}
 use Rattle.cs_ast.specs.TypedProgram.{TypedProgram}
@@ -9,7 +9,7 @@ use Rattle.cs_regions.specs.Numbering.{IsNumbered}
 use Rattle.cs_state.specs.Naming.{Naming, Extends}
 use Rattle.cs_successors.specs.declared.exploration.Exploration.{Exploration}
 
--- the code that is explored, its data model, the budgets of its runs, and how many events an exploration lets pass
+-- the code that is explored, its data model, the budgets of its runs
 abbrev pub code_of : Exploration → Code
 code_of exploration = view.code exploration.context.now.code.now
 
@@ -19,7 +19,7 @@ model_of exploration = exploration.context.now.setting.now.program.now.model
 abbrev pub limits_of : Exploration → RunBudgets
 limits_of exploration = exploration.context.now.setting.now.budgets
 
--- an exploration is of a program, whose base regions have these names, and lets as many events pass as a run
+-- an exploration is of this program, with these names of base regions, and its budget of events is that of a run
 pub record Explores (exploration : Exploration) (given names : Naming) (program : TypedProgram) : Type 0 where
   pub model : program.model ≡ model_of exploration
   pub limit : exploration.budgets.events ≡ (limits_of exploration).events

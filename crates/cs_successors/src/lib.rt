@@ -1,4 +1,5 @@
-//! What comes of a state, beside the runs that have come to it: the states directly after their next events, and their ends. Definitions.
+//! Definitions of the successors of a state, compared with the runs that have reached it: the states directly after its next events, and
+//! its ends.
 #![tactic(auto)]
 
 mod exploration;
