@@ -1,6 +1,6 @@
 //! Times analyses, and counts what they drop: takes the words of `csa analyze` with a C file, or those of `csa generate`, and prints how
-//! many functions were explored, how many rows their graphs have, how many findings are shown, and how many suspects were dropped, since
-//! their runs don't end as the exploration said.
+//! many functions were explored, how many rows their graphs have, how many findings are shown, and how many suspects were dropped because
+//! their runs don't have the suspected outcome.
 
 ghost use Rattle.cs_analysis.specs.Integers.{KeepsToIntegers};
 ghost use Rattle.cs_ast.specs.TypedProgram.{HasLayouts, typed_program};
@@ -40,7 +40,7 @@ const BUDGETS: Budgets = Budgets {
     splits: 64,
 };
 
-/// Does what the words of `csa` ask for.
+/// Does what the words of `csa` request.
 pub fn run(rt: &HostRuntime, words: &[String]) -> io::Result<()> {
     match words_of(rt.alloc(), words) {
         Ok(Command::Analyze(words)) => analyzed(rt, &words),
@@ -95,7 +95,7 @@ fn counted(alloc: Global, budgets: Budgets, program: &Program) -> Result<Counts,
     }
 }
 
-// Does so with the eleven checkers, in the order of their kinds.
+// The same with the eleven checkers, in the order of their kinds.
 fn checked(
     alloc: Global,
     budgets: Budgets,

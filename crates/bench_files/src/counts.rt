@@ -1,9 +1,9 @@
-//! What is counted of analyses.
+//! The counts of analyses.
 
 use cs_analysis::Analysis;
 use std::io;
 
-/// Counts over the functions of a program, each as far as a `u64` counts.
+/// Counts over the functions of a program. They don't exceed the greatest `u64`.
 #[derive(Default, Drop)]
 pub struct Counts {
     functions: u64,
@@ -13,7 +13,7 @@ pub struct Counts {
 }
 
 impl Counts {
-    /// Counts one function more.
+    /// Counts one more function.
     pub fn add(&mut self, analysis: &Analysis) {
         let shown = analysis.witnessed.result.reports.len() as u64;
         self.functions = self.functions.saturating_add(1);

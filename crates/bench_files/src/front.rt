@@ -1,5 +1,5 @@
-//! Times the front end: cuts a file into tokens, parses them, types the tree and lowers the program, and prints how many there were of each.
-//! The word `parse` or `type` ends it after that stage.
+//! Times the front end: splits a file into tokens, parses them, types the tree and lowers the program, and prints how many there were of
+//! each. With the word `parse` or `type` it stops after that stage.
 
 ghost use Rattle.std.specs.Prelude.{◌≤◌, length};
 ghost use Rattle.cs_ast.specs.TypedProgram.{HasLayouts};
@@ -25,7 +25,7 @@ pub enum Stage {
     Lower,
 }
 
-// The stage that the first word names; all of them where there is none.
+// Returns the stage that the first word names, or the last one if it names none.
 fn last_stage(words: &[String]) -> Stage {
     match words.first() {
         Some(word) if word.as_str() == "parse" => Stage::Parse,
@@ -43,7 +43,7 @@ pub fn run(rt: &HostRuntime, words: &[String]) -> io::Result<()> {
     }
 }
 
-/// Cuts a file into tokens, and parses them.
+/// Splits a file into tokens, and parses them.
 pub fn cut(rt: &HostRuntime, file: &[u8], last: Stage) -> io::Result<()>
     requires { length file.now ≤ MOST_BYTES }
 {

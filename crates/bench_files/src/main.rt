@@ -1,5 +1,5 @@
-//! Times the crates that work on whole files from outside: the first word names a benchmark, and the words after it are its own. The word
-//! `all` reads one file, and prints what the three benchmarks print of it without words of their own.
+//! Times the crates that work on whole files: the first word names a benchmark, and the words after it are its arguments. The word `all`
+//! reads one file, and prints what the three benchmarks print for it without arguments.
 #![tactic(auto)]
 
 ghost use Rattle.std.specs.Prelude.{◌≤◌, length};

@@ -1,4 +1,4 @@
-//! Times replays: lowers a C file and prepares its runs once, and replays its last function as many times as the first word says, 10 times
+//! Times replays: lowers a C file and prepares its runs once, and replays its last function as many times as the first word states, 10 times
 //! without a word. Prints how many events the replays passed.
 
 ghost use Rattle.cs_ast.specs.TypedProgram.{HasLayouts, typed_program};
@@ -21,7 +21,7 @@ use cs_types::DataModel;
 use std::alloc::Global;
 use std::io;
 
-// How far each replay goes.
+// The budgets of each replay.
 const BUDGETS: RunBudgets = RunBudgets {
     visits: 100_000,
     depth: 1_000,
@@ -31,7 +31,7 @@ const BUDGETS: RunBudgets = RunBudgets {
 /// How many replays there are without a word.
 pub const REPLAYS: u64 = 10;
 
-/// Replays the last function of standard input, as many times as the first word says.
+/// Replays the last function of standard input, as many times as the first word states.
 pub fn run(rt: &HostRuntime, words: &[String]) -> io::Result<()> {
     let mut source = StdSource::new(rt.stdin());
     let Ok(file) = read_all(rt.alloc(), &mut source) else {
@@ -40,7 +40,7 @@ pub fn run(rt: &HostRuntime, words: &[String]) -> io::Result<()> {
     timed(rt, file.as_slice(), count_of(words))
 }
 
-// The count that the first word names.
+// Returns the count that the first word states.
 fn count_of(words: &[String]) -> u64 {
     match words.first() {
         Some(word) => word.as_str().parse().unwrap_or(REPLAYS),
@@ -69,7 +69,7 @@ fn lowered(rt: &HostRuntime, program: &Program, count: u64) -> io::Result<()>
     }
 }
 
-// How many events so many replays of a program's last function pass. Nothing where it has no body or memory is short.
+// Returns how many events this many replays of a program's last function pass. None if it has no body or memory runs out.
 fn events(alloc: Global, program: &Program, code: &Code, count: u64) -> Option<u64>
     requires well_formed { IsWellFormed (typed_program program.now) }
     requires lowered { IsLowered (view.code code.now) (typed_program program.now) }
@@ -82,7 +82,7 @@ fn events(alloc: Global, program: &Program, code: &Code, count: u64) -> Option<u
     }
 }
 
-// The same of a function, with what the program's runs share.
+// The same for a function, with the data that the program's runs share.
 fn with_prepared(
     alloc: Global,
     program: &Program,
@@ -106,7 +106,7 @@ fn with_prepared(
     replayed(alloc, &setting, code, entry, count)
 }
 
-// The same of a function with a setting.
+// The same for a function with a setting.
 fn replayed(alloc: Global, setting: &Setting, code: &Code, entry: u32, count: u64) -> Option<u64>
     requires ready { IsReady setting.now }
     requires lowered { IsLowered (view.code code.now) (typed_program setting.now.program.now) }

@@ -12,6 +12,6 @@ IsDigit x = (pos 0 ≤ℤ x) × (x ≤ℤ pos 9)
 abbrev pub AreDigits : List Interval → Type 0
 AreDigits set = (x : ℤ) → IsTrue (contains set x) → IsDigit x
 
--- the term's values at digits are at most 2^33 in size
+-- the term's values at digits have absolute values of at most 2^33
 abbrev pub HasSmallValues : Lin → Type 0
 HasSmallValues term = (x : ℤ) → IsDigit x → unsigned_abs (value_at term x) ≤ 2 ^ 33

@@ -1,4 +1,4 @@
-//! Times the judge: a line has how many guesses the first run of a pool has, and how many events come before each.
+//! Times the judge: a line has how many guesses the first run of a pool has, and how many events there are for each.
 
 use cs_ast::Place;
 use cs_ast::typed::operator::CmpOp;
@@ -23,7 +23,7 @@ fn test(pair: (i128, i128)) -> Kept {
     Kept::Operates(place(), operation)
 }
 
-// A run that guesses so many comparisons of 0 with 0, one after every so many events, and then comes to one with these operands.
+// Returns a run that guesses this many comparisons of 0 with 0, `apart` events apart, and then reaches one with these operands.
 // The corners of the guess with number n are the runs 2*n+1 and 2*n+2.
 fn replay(
     alloc: Global,
@@ -94,7 +94,7 @@ fn pool(alloc: Global, guesses: u64, apart: u64) -> Result<Vec<Replay>, AllocErr
     Ok(pool)
 }
 
-/// Makes the pool that the words ask for, and prints how many runs it has and whether the judge accepts it.
+/// Makes the pool that the words request, and prints how many runs it has and whether the judge accepts it.
 pub fn run(rt: &HostRuntime, words: &str) -> io::Result<()> {
     let alloc = rt.alloc();
     let Some((guesses, apart)) = words.split_once(' ') else {

@@ -1,5 +1,5 @@
-//! Times maps, terms, states and the judge from outside: each line of standard input begins with the name of one of these parts, and the
-//! rest of the line says what is called how often. With the argument `timed` the time of one call follows each answer of terms and states.
+//! Times maps, terms, states and the judge: each line of standard input begins with the name of one of these parts, and the rest of the line
+//! states which call is made how often. With the argument `timed` the time of one call follows each result of terms and states.
 #![tactic(auto)]
 
 mod judge;
@@ -10,7 +10,7 @@ mod terms;
 use cs_pmap::PMap;
 use std::{env, io};
 
-// Whether the program is asked for times.
+// Whether the program has to print times.
 fn is_timed(rt: &HostRuntime) -> bool {
     match env::args(rt) {
         Ok(mut arguments) => match arguments.nth(1) {

@@ -4,7 +4,7 @@ use cs_pmap::PMap;
 use std::alloc::AllocError;
 use std::io;
 
-// Different keys for different numbers, in no order.
+// Returns different keys for different numbers, in no particular order.
 fn key(number: u64) -> (u64, u64) {
     let mixed = number.wrapping_mul(0x9e37_79b9_7f4a_7c15);
     (mixed >> 32, mixed & 0xffff_ffff)
@@ -17,7 +17,7 @@ fn insert(map: &mut PMap<u64>, count: u64) -> Result<u64, AllocError> {
     Ok(count)
 }
 
-// The sum of the values that are found.
+// Returns the sum of the values that are found.
 fn get(map: &PMap<u64>, count: u64) -> u64 {
     let mut sum = 0u64;
     for number in 0..count {
@@ -28,7 +28,7 @@ fn get(map: &PMap<u64>, count: u64) -> u64 {
     sum
 }
 
-// The sum of what the copies have under the first key.
+// Returns the sum of the values of the first key in copies.
 fn copy(map: &PMap<u64>, count: u64) -> Result<u64, AllocError> {
     let mut sum = 0u64;
     for _ in 0..count {
@@ -37,7 +37,7 @@ fn copy(map: &PMap<u64>, count: u64) -> Result<u64, AllocError> {
     Ok(sum)
 }
 
-/// Makes the calls that the words ask for, and prints what they give. Each line works on the map that the last one left.
+/// Makes the calls that the words request, and prints their results. Each line works on the map as the previous line left it.
 pub fn run(rt: &HostRuntime, map: &mut PMap<u64>, words: &str) -> io::Result<()> {
     let Some((call, count)) = words.split_once(' ') else {
         return Ok(());

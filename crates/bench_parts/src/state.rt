@@ -27,7 +27,7 @@ fn first_frame(alloc: Global) -> Result<Frame, AllocError> {
     })
 }
 
-// A state in which nothing is known.
+// Returns a state in which nothing is known.
 fn fresh(alloc: Global) -> Result<State, AllocError> {
     let frame = first_frame(alloc)?;
     Ok(State {
@@ -51,7 +51,7 @@ fn fresh(alloc: Global) -> Result<State, AllocError> {
     })
 }
 
-// A number in the cell of that number.
+// Returns the number of a cell, as its offset and its value.
 fn numbered(number: u32) -> (u64, Value) {
     let value = Lin {
         sym: None,
@@ -62,7 +62,7 @@ fn numbered(number: u32) -> (u64, Value) {
     (u64::from(number), Value::Number(value))
 }
 
-// A state with a table in which so many cells are bound to numbers.
+// Returns a state with a table in which this many cells are bound to numbers.
 fn with_table(alloc: Global, cells: u32) -> Result<State, AllocError> {
     let mut state = fresh(alloc)?;
     for number in 0..cells {
@@ -72,7 +72,7 @@ fn with_table(alloc: Global, cells: u32) -> Result<State, AllocError> {
     Ok(state)
 }
 
-// So many keys.
+// Makes this many keys, and returns how many.
 fn keys(alloc: Global, state: &State, count: u32) -> Result<usize, AllocError> {
     let mut made = 0usize;
     for _ in 0..count {
@@ -82,7 +82,7 @@ fn keys(alloc: Global, state: &State, count: u32) -> Result<usize, AllocError> {
     Ok(made)
 }
 
-// The frames of so many copies.
+// Makes this many copies, and returns how many visit counts their frames have.
 fn copies(state: &State, count: u32) -> Result<usize, AllocError> {
     let mut visits = 0usize;
     for _ in 0..count {
@@ -91,7 +91,7 @@ fn copies(state: &State, count: u32) -> Result<usize, AllocError> {
     Ok(visits)
 }
 
-// The scalars of so many cells, with their offsets.
+// Returns the scalars of this many cells, with their offsets.
 fn leaves(alloc: Global, cells: u32) -> Result<Vec<(u64, Value)>, AllocError> {
     let mut leaves = Vec::with_capacity(alloc, cells as usize)?;
     for number in 0..cells {
@@ -100,7 +100,7 @@ fn leaves(alloc: Global, cells: u32) -> Result<Vec<(u64, Value)>, AllocError> {
     Ok(leaves)
 }
 
-// The cells of the table bound once more in another base region, of so many copies of the state.
+// Binds the cells of the table in another base region, in this many copies of the state.
 fn bindings(alloc: Global, state: &State, cells: u32, count: u32) -> Result<usize, AllocError> {
     let leaves = leaves(alloc, cells)?;
     let mut bound = 0usize;
@@ -112,7 +112,7 @@ fn bindings(alloc: Global, state: &State, cells: u32, count: u32) -> Result<usiz
     Ok(bound)
 }
 
-// Cells read from inputs by a copy of the state.
+// Reads cells from inputs in a copy of the state.
 fn read_by_copy(
     alloc: Global,
     state: &State,
@@ -125,7 +125,7 @@ fn read_by_copy(
     copy.read_cells(2, read)
 }
 
-// As many cells read from inputs as the table has, by so many copies of the state.
+// Reads as many cells from inputs as the table has, in this many copies of the state.
 fn reads(alloc: Global, state: &State, cells: u32, count: u32) -> Result<usize, AllocError> {
     let mut syms = Vec::with_capacity(alloc, cells as usize)?;
     let mut read = Vec::with_capacity(alloc, cells as usize)?;
@@ -142,7 +142,7 @@ fn reads(alloc: Global, state: &State, cells: u32, count: u32) -> Result<usize, 
     Ok(declared)
 }
 
-// Nanoseconds for each of so many calls.
+// Returns the nanoseconds for each of this many calls.
 fn each(nanoseconds: u128, count: u32) -> u128 {
     if count == 0 {
         return 0;
@@ -166,7 +166,7 @@ fn answer(
     }
 }
 
-/// Makes the calls that the words ask for, and prints what they give, and the time of one where it is asked for.
+/// Makes the calls that the words request, and prints their results, and the time of one call if `timed`.
 pub fn run(rt: &HostRuntime, words: &str, timed: bool) -> io::Result<()> {
     let Some((call, numbers)) = words.split_once(' ') else {
         return Ok(());

@@ -13,7 +13,7 @@ use std::time::Instant;
 
 const MODEL: DataModel = DataModel::Lp64;
 
-// A term over a digit: another one for each number, so that the compiler can't know its parts.
+// Returns a term over a digit: a different one for each number, so that the compiler can't know its parts.
 fn term_of(number: u32) -> Lin
     ensures term { IsTerm result }
     ensures values { HasSmallValues result }
@@ -27,7 +27,7 @@ fn term_of(number: u32) -> Lin
     }
 }
 
-// How many of the terms stay within `int`.
+// Returns how many of the terms stay within `int`.
 fn stays(digits: &RangeSet, count: u32) -> u64
     requires { AreDigits digits.now }
 {
@@ -40,7 +40,7 @@ fn stays(digits: &RangeSet, count: u32) -> u64
     within
 }
 
-// How many of the sums of a term with itself stay within `int`, as `+` of C asks.
+// Returns how many of the sums of a term with itself stay within `int`, as for `+` of C.
 fn sums(digits: &RangeSet, count: u32) -> u64
     requires { AreDigits digits.now }
 {
@@ -56,7 +56,7 @@ fn sums(digits: &RangeSet, count: u32) -> u64
     within
 }
 
-// How many of the terms are cut into pieces of which none is outside `int`.
+// Returns how many of the terms are cut into pieces of which none is outside `int`.
 fn pieces(alloc: Global, digits: &RangeSet, count: u32) -> Result<u64, AllocError>
     requires { AreDigits digits.now }
 {
@@ -70,7 +70,7 @@ fn pieces(alloc: Global, digits: &RangeSet, count: u32) -> Result<u64, AllocErro
     Ok(within)
 }
 
-// Tenths of nanoseconds for each of so many calls.
+// Returns tenths of nanoseconds for each of this many calls.
 fn tenths_each(nanoseconds: u128, count: u32) -> u128 {
     if count == 0 {
         return 0;
@@ -88,7 +88,7 @@ fn answer(alloc: Global, call: &str, count: u32) -> Result<u64, AllocError> {
     }
 }
 
-/// Makes the calls that the words ask for, and prints what they give, and the time of one where it is asked for.
+/// Makes the calls that the words request, and prints their results, and the time of one call if `timed`.
 pub fn run(rt: &HostRuntime, words: &str, timed: bool) -> io::Result<()> {
     let Some((call, count)) = words.split_once(' ') else {
         return Ok(());

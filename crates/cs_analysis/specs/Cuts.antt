@@ -1,4 +1,4 @@
--- Why an exploration of an entry that works with integers alone was cut.
+-- Why the exploration of an integer function was cut.
 use Rattle.std.specs.Prelude.{ℕ, [], All}
 use Rattle.cs_ast.specs.TypedProgram.{TypedProgram}
 use Rattle.cs_cfg.specs.Graph.{Code}
@@ -9,7 +9,7 @@ use Rattle.cs_explored.specs.declared.explored.Explored.{Explored}
 use Rattle.cs_coverage.specs.IntegerEntries.{IsIntegerEntry}
 use Rattle.cs_guesses.specs.Cuts.{IsCutForNodes}
 
--- each cut is one for want of nodes: one more row was refused, which is as exact as the others
+-- each cut is one of the budget of nodes: one more row was refused, which is as exact as the others
 abbrev pub AreCutForNodes : Code → TypedProgram → ℕ → Budgets → Explored → Type 0
 AreCutForNodes code program entry budgets explored =
     IsIntegerEntry code program entry

@@ -25,7 +25,7 @@ use cs_suspects::{listed, suspects};
 use cs_witness::{Entry, Witnessed, result};
 use std::alloc::{AllocError, Global};
 
-/// What an analysis makes of an entry.
+/// The analysis of an entry.
 #[derive(Drop)]
 pub struct Analysis {
     pub witnessed: Witnessed,
@@ -33,11 +33,11 @@ pub struct Analysis {
     pub rows: u64,
 }
 
-/// Explores the runs of an entry, and gives what is shown of its ends: each end that the exploration finds is replayed and judged, so
-/// nothing has to be known of it for the findings to be true.
+/// Explores the runs of an entry, and returns what is shown of their ends. Each end that the exploration finds is replayed and judged,
+/// so the findings are true whatever the exploration does.
 ///
-/// Of an entry that works with integers alone, no run is missed. The exploration covers its runs, since its code works with integers alone
-/// too, and each end that is a fault or a budget is shown, since the corners of its guesses show that these are real.
+/// For an integer function, no run is missed. The exploration covers its runs, since its code is integer code, and each end that is a
+/// fault or a met budget is shown, since the corners of its guesses show that these are real.
 pub fn analyze(
     alloc: Global,
     entry: &Entry,
@@ -70,7 +70,7 @@ pub fn analyze(
     Ok(Analysis { witnessed, rows })
 }
 
-// What an exploration of the entry finds, with nothing known of its inputs.
+// Returns what an exploration of the entry finds. No inputs are given, so all of them are unknown.
 fn explored(
     alloc: Global,
     entry: &Entry,

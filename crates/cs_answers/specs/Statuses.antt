@@ -1,4 +1,4 @@
--- The exit statuses: their numbers, and which one a run ends with.
+-- The exit statuses: their numbers, and with which one a run ends.
 use Rattle.std.specs.Prelude.{ℕ, Result, Ok, Err}
 use Rattle.cs_io.specs.declared.write.WriteRefusal.{WriteRefusal}
 use Rattle.cs_answers.specs.declared.answer.Failure.{Failure}
@@ -17,12 +17,12 @@ status_code WriteFault = 5
 status_code Memory = 6
 status_code NoEntry = 7
 
--- how a run ends by how its text was written: with the answer's status where all of it was
+-- how a run ends, given how its text was written: with the answer's status if all of it was
 abbrev pub ended_with : Status → Result (Unit {0}) WriteRefusal → Status
 ended_with status (Ok done) = status
 ended_with status (Err refusal) = WriteFault
 
--- how a run ends that answers nothing
+-- how a run without an answer ends
 abbrev pub ended_by : Failure → Status
 ended_by failures.Read = ReadFault
 ended_by failures.Memory = Memory

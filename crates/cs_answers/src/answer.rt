@@ -1,4 +1,4 @@
-//! What a run of the program answers, or why it answers nothing.
+//! The answer of a run of the program, or why there is none.
 ghost use Rattle.std.specs.Prelude.{◌≡◌};
 ghost use Rattle.cs_answers.specs.Statuses.{ended_by, ended_with};
 
@@ -6,7 +6,7 @@ use crate::status::Status;
 use cs_io::WriteRefusal;
 use std::alloc::AllocError;
 
-/// The text of a run, and the status that it has where the text is written whole.
+/// The text of a run, and its status if the text is written completely.
 #[derive(Drop)]
 pub struct Answer {
     pub status: Status,
@@ -14,7 +14,7 @@ pub struct Answer {
 }
 
 impl Answer {
-    /// How the run ends, by how its text was written.
+    /// Returns how the run ends, given how its text was written.
     pub fn ended(&self, text: Result<(), WriteRefusal>) -> Status
         ensures { result ≡ ended_with self.now.status text }
     {
@@ -30,12 +30,12 @@ impl Answer {
 pub enum Failure {
     /// The source failed.
     Read,
-    /// There was no memory left.
+    /// Memory ran out.
     Memory,
 }
 
 impl Failure {
-    /// How the run ends.
+    /// Returns how the run ends.
     pub fn ended(self) -> Status
         ensures { result ≡ ended_by self }
     {

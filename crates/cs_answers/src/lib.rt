@@ -1,4 +1,4 @@
-//! What a run of the program writes, and how the run ends.
+//! The output of a run of the program, and how the run ends.
 #![tactic(auto)]
 
 mod answer;

@@ -1,4 +1,4 @@
--- What is accepted has no other whole text than that of an answer: for the clause of the top call that says which files are
+-- The only whole text for an accepted file is that of an answer: for the clause of the top call that states which files are
 -- answered.
 use Rattle.std.proofs.Common.{◌≡◌, ℕ, List, [], ◌∷◌, Option, Some, None, inl, inr, sym, ap, ◌∙◌, subst, arith}
 use Rattle.std.specs.Prelude.{option_map}

@@ -1,4 +1,4 @@
--- Which text belongs to a status: for the functions that make an answer.
+-- The text for a status: for the functions that make an answer.
 use Rattle.std.proofs.Common.{◌≡◌, ℕ, ◌+◌, ◌<◌, Bool, true, false, cond, List, ◌++◌, length, Option, Some, None, inl, inr, refl}
 use Rattle.std.proofs.Common.{sym, subst, arith}
 use Rattle.std.specs.Prelude.{◌⊎◌, Result, Ok, Err, IfOk, IfSome, codes, replicate}

@@ -1,4 +1,4 @@
--- How a run ends whose answer was written so: for the clauses of the top call.
+-- How a run ends, given how its answer was written: for the clauses of the top call.
 use Rattle.std.proofs.Common.{◌≡◌, ℕ, List, Option, sym, ◌∙◌, subst}
 use Rattle.std.specs.Prelude.{Result, Ok, Err, OnOk, OnErr}
 use Rattle.std.specs.Io.KnownBytes.{Appends}

@@ -1,4 +1,4 @@
--- What a run of the program answers.
+-- The answers of the program.
 use Rattle.std.specs.Prelude.{◌≡◌, ◌⊎◌, ℕ, List, [], ◌++◌, length, Option, Some, None, codes}
 use Rattle.std.specs.Fmt.{decimal}
 use Rattle.std.specs.Io.KnownBytes.{Appends}
@@ -26,14 +26,14 @@ use Rattle.cs_app.specs.Analyses.{IsAnalysisAnswer, IsSummary, entries_named}
 use Rattle.cs_answers.specs.declared.status.Status.{Status}
 use Rattle.cs_answers.specs.declared.status.Status.TheVariants.{Clean, Found, BadWords, BadFile, NoEntry}
 
--- the data model that a command speaks of
+-- the data model of a command
 abbrev pub model_of : Command → DataModel
 model_of (Analyze words) = words.model
 model_of (Flow words) = words.model
 model_of (Replay words) = words.model
 model_of (Generate words) = Lp64
 
--- the file of a command: what the source has left, or the generated one
+-- the file of a command: what remains in the source, or the generated file
 abbrev pub file_of : Command → Option (List ℕ) → Option (List ℕ)
 file_of (Analyze words) left = left
 file_of (Flow words) left = left
@@ -54,12 +54,12 @@ Reads (Flow words) = Unit {0}
 Reads (Replay words) = Unit {0}
 Reads (Generate words) = ⊥
 
--- what a source has left is this file, where that is known
+-- what remains in a source is this file, if it is known
 abbrev pub IsLeft : Option (List ℕ) → List ℕ → Type 0
 IsLeft (Some left) file = file ≡ left
 IsLeft None file = Unit {0}
 
--- the whole file was read, and is a program
+-- the whole file was read, and type-checks
 abbrev pub IsRead : Status → Type 0
 IsRead Clean = Unit {0}
 IsRead Found = Unit {0}
@@ -81,16 +81,16 @@ IsDone BadFile = Unit {0}
 IsDone NoEntry = Unit {0}
 IsDone _ = ⊥
 
--- what commands answer with checkers of these kinds
+-- the answers of commands with checkers of these kinds
 module _ (checked : List Kind) where
-  -- the answer of a command to a program, whose places are in these files
+  -- the answer of a command to a program, whose positions are in these files
   abbrev pub IsProgramAnswer : Command → List (List ℕ) → TypedProgram → Status → List ℕ → Type 0
   IsProgramAnswer (Analyze words) files program status text = IsAnalysisAnswer checked words program status text
   IsProgramAnswer (Flow words) files program status text = IsFlowAnswer program status text
   IsProgramAnswer (Replay words) files program status text = IsReplayAnswer files program words status text
   IsProgramAnswer (Generate words) files program status text = IsSummary checked (length (generated_file words.seed words.size)) program status text
 
-  -- the file is a program, and the command answers it so
+  -- the file type-checks, and this is the command's answer
   pub record Accepts (command : Command) (file : List ℕ) (status : Status) (text : List ℕ) : Type 0 where
     pub lexed : Lexed
     pub tree : List RawExternal
@@ -98,16 +98,16 @@ module _ (checked : List Kind) where
     pub accepted : HasProgram (model_of command) file lexed tree program
     pub answer : IsProgramAnswer command lexed.files.items program status text
 
-  -- the status and the whole text that a command has for a file
+  -- the status and the whole text of a command's answer to a file
   abbrev pub IsAnswer : Command → List ℕ → Status → List ℕ → Type 0
   IsAnswer command file BadFile text = IsRefusal (model_of command) file text ⊎ Accepts command file BadFile text
   IsAnswer command file status text = Accepts command file status text
 
-  -- the same of the command's file
+  -- the same for the command's file
   abbrev pub IsFileAnswer : Command → Option (List ℕ) → Status → List ℕ → Type 0
   IsFileAnswer command left status text = (file : List ℕ) × IsLeft (file_of command left) file × IsAnswer command file status text
 
-  -- the whole text that belongs to a status, for these words and this file
+  -- the whole text for a status, with this command line and this file
   abbrev pub IsWhole : List (List ℕ) → Option (List ℕ) → Status → List ℕ → Type 0
   IsWhole words file BadWords text = (n : ℕ) × AreRefusedAt words n × (text ≡ codes "refused words " ++ (decimal n ++ codes "\n"))
   IsWhole words file status text = (command : Command) × WordsMean words command × IsFileAnswer command file status text
@@ -116,23 +116,23 @@ module _ (checked : List Kind) where
   abbrev pub IsWritten : List (List ℕ) → Option (List ℕ) → Status → Option (List ℕ) → Option (List ℕ) → Type 0
   IsWritten words file status before now = (text : List ℕ) × IsWhole words file status text × Appends before now text
 
-  -- the sink took a part, and not all, of the text of some status
+  -- the sink took a part, but not all, of the text of some status
   abbrev pub IsPartWritten : List (List ℕ) → Option (List ℕ) → Option (List ℕ) → Option (List ℕ) → Type 0
   IsPartWritten words file before now =
       (status : Status) × (text : List ℕ) × IsWhole words file status text × AppendsPart before now text
 
--- one of the two counts of a sink rose
+-- one of the two counts of a sink increased
 abbrev pub SinkRose : (faults faults' empty_takes empty_takes' : ℕ) → Type 0
 SinkRose faults faults' empty_takes empty_takes' = Rose faults faults' ⊎ Rose empty_takes empty_takes'
 
--- what a command asks of a program: that it has the function that the words name, if they name one
+-- what a command requires of a program: that it has the named function, if one is named
 abbrev pub Suits : Command → TypedProgram → Type 0
 Suits (Analyze words) program = (entries : List ℕ) × (entries_named words.entry program ≡ Some entries)
 Suits (Flow words) program = Unit {0}
 Suits (Generate words) program = Unit {0}
 Suits (Replay words) program = (entry : ℕ) × (entry_of words.entry program ≡ Some entry)
 
--- the words mean one command, and the file has a tree that is a program which suits it
+-- the command line is valid, and the file is a program with what the command requires
 pub record IsAcceptable (words : List (List ℕ)) (file : Option (List ℕ)) : Type 0 where
   pub command : Command
   pub meant : WordsMean words command
@@ -144,7 +144,7 @@ pub record IsAcceptable (words : List (List ℕ)) (file : Option (List ℕ)) : T
   pub accepted : HasProgram (model_of command) bytes lexed tree program
   pub suits : Suits command program
 
--- the words mean one command, and the file has a tree that typing refuses
+-- the command line is valid, and the file's syntax tree has a type error
 pub record IsTypeRefused (words : List (List ℕ)) (file : Option (List ℕ)) : Type 0 where
   pub command : Command
   pub meant : WordsMean words command
@@ -157,7 +157,7 @@ pub record IsTypeRefused (words : List (List ℕ)) (file : Option (List ℕ)) : 
   pub place : Place
   pub refused : typed_tree (model_of command) lexed tree ≡ Fault code place
 
--- the line of such a refusal
+-- the line of this refusal
 abbrev pub refused_line : {words : List (List ℕ)} {file : Option (List ℕ)} → IsTypeRefused words file → List ℕ
 refused_line r = type_line r.lexed.files.items r.code r.place
 

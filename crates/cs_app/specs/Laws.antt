@@ -1,4 +1,4 @@
--- A file is refused or accepted, and not both; where its tokens are a tree, it is refused just as typing says of that tree.
+-- A file isn't both refused and accepted; if its tokens are a tree, it can only be refused for a type error of that tree.
 use Rattle.std.specs.Prelude.{◌≡◌, ℕ, List}
 use Rattle.cs_types.specs.declared.data_model.DataModel.{DataModel}
 use Rattle.cs_model.specs.declared.kind.Kind.{Kind}
@@ -13,13 +13,13 @@ use Rattle.cs_program.specs.Trees.{Parses, typed_tree}
 use Rattle.cs_commands.specs.Refusals.{IsRefusal, type_line}
 use Rattle.cs_app.specs.Answers.{Accepts, model_of}
 
--- no file is both
+-- no file is both refused and accepted
 abbrev pub RefusedIsNotAccepted : Type 0
 RefusedIsNotAccepted =
     (checked : List Kind) (command : Command) (file : List ℕ) (status : Status) (text other : List ℕ) → IsRefusal (model_of command) file text
     → Accepts checked command file status other → ⊥
 
--- the refusal of a file whose tokens are a tree is that of its types
+-- the refusal of a file whose tokens are a tree is that of a type error
 abbrev pub TreesAreRefusedByTypes : Type 0
 TreesAreRefusedByTypes =
     (model : DataModel) (file : List ℕ) (lexed : Lexed) (tree : List RawExternal) (text : List ℕ) → Parses file lexed tree → IsRefusal model file text

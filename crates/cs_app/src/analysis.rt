@@ -26,10 +26,10 @@ use cs_words::{AnalyzeWords, GenerateWords};
 use std::alloc::{AllocError, Global};
 use std::mem::forget;
 
-/// How many states an exploration can number. The words allow no more.
+/// The most states that an exploration can number. The command line allows no more nodes.
 const MOST_NODES: u64 = 200_000;
 
-/// The analysis of the function that the words name, or of each that has a body.
+/// Returns the analysis of the function that the command line names, or of each function with a body.
 pub fn analysis(
     alloc: Global,
     words: &AnalyzeWords,
@@ -60,7 +60,7 @@ pub fn analysis(
     }
 }
 
-/// The analysis of these functions, as the words ask for it.
+/// Returns the analysis of these functions, with the settings of the command line.
 fn analysis_of(
     alloc: Global,
     words: &AnalyzeWords,
@@ -81,8 +81,8 @@ fn analysis_of(
     results_answer(alloc, program, &results, kinds, words.json)
 }
 
-/// The summary of the analysis of each function that has a body, under the budgets that hold where none are named. The program is that
-/// of the file, which these words generate.
+/// Returns the summary of the analysis of each function with a body, under the default budgets. The program is that of the file, which the
+/// command line generates.
 pub fn summarized(
     alloc: Global,
     words: &GenerateWords,
@@ -115,7 +115,7 @@ pub fn summarized(
     })
 }
 
-/// The functions of a program that have a body, by number.
+/// Returns the numbers of the functions of a program that have a body.
 #[tactic(auto, using(crate::proofs::AnalysisLemmas::all_bodies))]
 fn bodies(alloc: Global, program: &Program) -> Result<Vec<usize>, AllocError>
     ensures { IfOk result (λ list. list.items ≡ analyses.bodies (typed_program program.now)) }
@@ -138,7 +138,7 @@ fn add_body(list: &mut Vec<usize>, number: usize, function: &Function) -> Result
     Ok(())
 }
 
-/// The results of these functions, in order.
+/// Returns the results of these functions, in order.
 fn results_of(
     alloc: Global,
     program: &Program,
@@ -162,7 +162,7 @@ fn results_of(
             let results = results_with(
                 alloc, program, &prepared, &code, budgets, entries, checkers,
             )?;
-            // The program ends after this: the code isn't given back piece by piece.
+            // The program ends after this, so the code needn't be freed piece by piece.
             forget(code);
             Ok(results)
         }
@@ -170,7 +170,7 @@ fn results_of(
     }
 }
 
-/// The same where the program is lowered, and what its runs share is prepared.
+/// The same for a program that is lowered already, and for whose runs the shared data is prepared.
 fn results_with(
     alloc: Global,
     program: &Program,

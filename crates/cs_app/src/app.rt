@@ -1,4 +1,4 @@
-//! The top call.
+//! The top call of the program.
 ghost use Rattle.std.specs.Prelude.{◌≡◌, ℕ, map};
 ghost use Rattle.std.specs.Io.KnownBytes.{IsAtEnd, Keeps};
 ghost use Rattle.cs_io.specs.Count.{Rose};
@@ -14,13 +14,12 @@ use cs_checker::Checker;
 use cs_io::{Sink, Source, write_all_of};
 use std::alloc::Global;
 
-/// Runs the program: these words, the file that the source has left, and the text into the sink.
-/// The checkers are asked about each operation that the analysis comes to. With one of each kind, an analysis of a function that works with
-/// integers alone leaves no fault out, unless it says that it was cut.
+/// Runs the program: given the command line, it reads the file from the source, writes the answer to the sink, and returns the status. The
+/// checkers are queried for each operation that the analysis reaches. With one of each kind, the analysis of an integer function misses no
+/// fault, unless it states that it was cut.
 ///
-/// The checks come in this order: words, reading, length, lexing, syntax, types, entry, analysis
-/// or run, writing. The whole text is made before the first write, so that nothing is
-/// written where the source fails or memory is short.
+/// The checks come in this order: command line, reading, length, lexing, syntax, types, entry, analysis or run, writing. The whole text is
+/// made before the first write, so nothing is written if the source fails or memory runs out.
 pub fn csa<S: Source, K: Sink>(
     alloc: Global,
     words: &[String],
@@ -28,7 +27,7 @@ pub fn csa<S: Source, K: Sink>(
     sink: &mut K,
     checkers: &mut Vec<Box<dyn Checker>>,
 ) -> Status
-    // The whole text is written that belongs to the words, the file and the status.
+    // The whole text for the command line, the file and the status is written.
     ensures written { IsDone result
         → IsWritten (map (λ b. kind_of b) checkers.old.items) (words_text words.now)
         (S.left source.old) result (K.written sink.old) (K.written sink.new) }
@@ -39,7 +38,7 @@ pub fn csa<S: Source, K: Sink>(
     ensures generated { (generation : GenerateWords)
         → WordsMean (words_text words.now) (Generate generation) → source.new ≡ source.old }
 
-    // Every other status has its cause, and leaves the sink as it was or with a part of such a text.
+    // Every other status has its cause, and the sink is unchanged or took a part of such a text.
     ensures read_fault { result ≡ Status.ReadFault
         → Rose (S.faults source.old) (S.faults source.new) }
     ensures read_fault_writes_nothing { result ≡ Status.ReadFault
@@ -57,14 +56,14 @@ pub fn csa<S: Source, K: Sink>(
     ensures kinds { map (λ b. kind_of b) checkers.new.items
         ≡ map (λ b. kind_of b) checkers.old.items }
 
-    // What is accepted is answered, where no count rises and there is memory.
+    // An accepted file is answered, unless a count increases or memory runs out.
     ensures complete { IsAcceptable (words_text words.now) (S.left source.old)
         → (Rose (S.faults source.old) (S.faults source.new) → ⊥)
         → (SinkRose (K.faults sink.old) (K.faults sink.new) (K.empty_takes sink.old)
         (K.empty_takes sink.new) → ⊥)
         → (result ≡ Status.Memory → ⊥) → IsAnswered result }
 
-    // Where typing refuses the file's tree, its refusal is the answer, with the same exceptions.
+    // If the file's tree has a type error, that is the answer, with the same exceptions.
     ensures refused_by_types { (r : IsTypeRefused (words_text words.now) (S.left source.old))
         → (Rose (S.faults source.old) (S.faults source.new) → ⊥)
         → (SinkRose (K.faults sink.old) (K.faults sink.new) (K.empty_takes sink.old)

@@ -1,4 +1,4 @@
-//! The answer to the words of the command line.
+//! The answer to a command line.
 ghost use Rattle.std.specs.Prelude.{◌≡◌, ℕ, ◌++◌, Err, codes, map, IfOk};
 ghost use Rattle.std.specs.Io.KnownBytes.{IsAtEnd};
 ghost use Rattle.std.specs.Fmt.{decimal};
@@ -18,8 +18,7 @@ use cs_io::{ReadRefusal, Source, read_all};
 use cs_words::{Command, WordsRefusal, words_of};
 use std::alloc::{AllocError, Global};
 
-/// The answer to these words, for the file that the source has left. It reads nothing where the words
-/// are no command.
+/// Returns the answer to a command line, for the file that remains in the source. It reads nothing if the command line isn't valid.
 pub fn answer_for<S: Source>(
     alloc: Global,
     words: &[String],
@@ -55,7 +54,7 @@ pub fn answer_for<S: Source>(
     }
 }
 
-/// The answer to refused words: the number of the first word that fits no command.
+/// Returns the answer to a refused command line: the number of the first word that can't continue a command.
 fn refused_words(alloc: Global, number: u64) -> Result<Answer, AllocError>
     ensures status { IfOk result (λ answer. answer.status ≡ Status.BadWords) }
     ensures text { IfOk result (λ answer.
@@ -68,7 +67,7 @@ fn refused_words(alloc: Global, number: u64) -> Result<Answer, AllocError>
     })
 }
 
-/// The answer of a command to its file: what the source has left, or a generated one, for which nothing is read.
+/// Returns the answer of a command to its file: what remains in the source, or a generated file, for which nothing is read.
 fn answer_of<S: Source>(
     alloc: Global,
     command: &Command,
@@ -97,7 +96,7 @@ fn answer_of<S: Source>(
     }
 }
 
-/// The answer of a command to the file that the source has left.
+/// Returns the answer of a command to the file that remains in the source.
 fn answer_from<S: Source>(
     alloc: Global,
     command: &Command,

@@ -16,7 +16,7 @@ use cs_words::Command;
 use std::alloc::{AllocError, Global};
 use std::mem::forget;
 
-/// The answer of a command to a file.
+/// Returns the answer of a command to a file.
 pub fn answer_to(
     alloc: Global,
     command: &Command,
@@ -33,7 +33,7 @@ pub fn answer_to(
     match program_of(alloc, model_of(command), file) {
         Ok(found) => {
             let answer = answer_of(alloc, command, file, &found.files, &found.program, checkers)?;
-            // The program ends after this answer: what the file became isn't given back piece by piece.
+            // The program ends after this answer, so the program of the file needn't be freed piece by piece.
             forget(found);
             Ok(answer)
         }
@@ -44,7 +44,7 @@ pub fn answer_to(
     }
 }
 
-/// The data model that a command speaks of.
+/// Returns the data model of a command.
 fn model_of(command: &Command) -> DataModel
     ensures { result ≡ model_of command.now }
 {
@@ -56,7 +56,7 @@ fn model_of(command: &Command) -> DataModel
     }
 }
 
-/// The answer to a file that is a program, whose places are in files of these names.
+/// Returns the answer to a file that type-checks. The positions of its program are in files with these names.
 fn answer_of(
     alloc: Global,
     command: &Command,

@@ -11,7 +11,7 @@ use cs_generate::generate_text;
 use cs_words::{Command, GenerateWords};
 use std::alloc::{AllocError, Global};
 
-/// The answer of a command to the file that its words generate.
+/// Returns the answer of a command to the file that its command line generates.
 pub fn generated(
     alloc: Global,
     command: &Command,

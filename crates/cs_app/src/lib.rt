@@ -1,4 +1,4 @@
-//! The analyzer as one call: words and bytes in, a text and a status out.
+//! The analyzer as one call: from a command line and bytes to a text and a status.
 #![tactic(auto)]
 
 mod analysis;

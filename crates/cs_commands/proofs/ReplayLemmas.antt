@@ -1,4 +1,4 @@
--- The entry of a replay, and which texts belong to a status of its run: for the functions that answer a replay.
+-- The entry of a replay, and the texts for a status of its run: for the functions that answer a replay.
 use Rattle.std.proofs.Common.{◌≡◌, ℕ, suc, Bool, true, false, List, [], ◌∷◌, ◌++◌, map, length, Some, None, refl, sym, ap, ◌∙◌}
 use Rattle.std.proofs.Common.{subst, rules}
 use Rattle.std.specs.Prelude.{is_some, codes, nat_eq, ◌&&◌}

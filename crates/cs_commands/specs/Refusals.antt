@@ -1,4 +1,4 @@
--- Why a file is refused, and the line that says so.
+-- Why a file is refused, and the line that states this.
 use Rattle.std.specs.Prelude.{◌≡◌, ◌≤◌, ◌<◌, ℕ, List, [], ◌++◌, length, codes, slice_index_or}
 use Rattle.std.specs.Fmt.{decimal}
 use Rattle.cs_limits.specs.declared.TheConstants.{MOST_BYTES}
@@ -21,7 +21,7 @@ use Rattle.cs_program.specs.declared.refusal.FileRefusal.{FileRefusal}
 use Rattle.cs_program.specs.declared.refusal.FileRefusal.TheVariants as file_refusal
 use Rattle.cs_program.specs.Trees.{Parses, typed_tree}
 
--- the line for a text that has no tokens; want of memory has none
+-- the line for a file that can't be split into tokens; there is none if memory runs out
 abbrev pub IsLexLine : LexRefusal → List ℕ → Type 0
 IsLexLine (BadByte place file) text = text ≡ refusal_line (codes "refused lex 1 ") file place
 IsLexLine (Unclosed place file) text = text ≡ refusal_line (codes "refused lex 2 ") file place
@@ -30,18 +30,18 @@ IsLexLine (BadLine place file) text = text ≡ refusal_line (codes "refused lex 
 IsLexLine TooManyTokens text = text ≡ codes "refused too-many-tokens 400001\n"
 IsLexLine Memory text = ⊥
 
--- the line of a refusal at a place of one of these files
+-- the line of a refusal at a position in one of these files
 abbrev pub line_in : List (List ℕ) → List ℕ → Place → List ℕ
 line_in files words place = refusal_line words (slice_index_or files place.file []) place
 
--- the line for tokens that are no file, the files by their numbers; want of memory has none
+-- the line for tokens that aren't a file, where positions name files by number; there is none if memory runs out
 abbrev pub IsSyntaxLine : List (List ℕ) → SyntaxRefusal → List ℕ → Type 0
 IsSyntaxLine files (syntax.Syntax place) text = text ≡ line_in files (codes "refused syntax ") place
 IsSyntaxLine files (syntax.Unsupported place word) text = text ≡ line_in files (codes "refused left-out " ++ word ++ codes " ") place
 IsSyntaxLine files (syntax.TooDeep place) text = text ≡ line_in files (codes "refused too-deep ") place
 IsSyntaxLine files syntax.Memory text = ⊥
 
--- the line for a tree that is no program; want of memory has none
+-- the line for a tree that doesn't type-check; there is none if memory runs out
 abbrev pub type_line : List (List ℕ) → TypeCode → Place → List ℕ
 type_line files code place = line_in files (codes "refused type " ++ (decimal (number_of code) ++ codes " ")) place
 
@@ -56,8 +56,8 @@ IsFileLine (file_refusal.Tokens refusal) text = IsLexLine refusal text
 IsFileLine (file_refusal.Syntax refusal files) text = IsSyntaxLine files.items refusal text
 IsFileLine (file_refusal.Types refusal files) text = IsTypeLine files.items refusal text
 
--- the first check that a file doesn't pass, with the line that says so: it is too long; it has no tokens; they are no file; its
--- tree is no program
+-- the first check that a file fails, with the line that states this: it is too long; it can't be split into tokens; the tokens aren't a
+-- file; the tree doesn't type-check
 pub data IsRefusal (model : DataModel) (file text : List ℕ) : Type 0 where
   too_long : MOST_BYTES < length file → text ≡ codes "refused too-long 4194305\n" → IsRefusal model file text
   by_lexing : length file ≤ MOST_BYTES → (refusal : LexRefusal) → IsRefused file refusal → IsLexLine refusal text → IsRefusal model file text

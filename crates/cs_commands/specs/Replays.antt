@@ -1,4 +1,4 @@
--- The answer to a replay: the line of the outcome in which the run ends.
+-- The answer to a replay: the line of the run's outcome.
 use Rattle.std.specs.Prelude.{◌≡◌, ℕ, List, [], ◌++◌, Some, None, codes}
 use Rattle.cs_ast.specs.TypedProgram.{TypedProgram}
 use Rattle.cs_events.specs.declared.outcome.Outcome.{Outcome}
@@ -11,13 +11,13 @@ use Rattle.cs_entries.specs.Named.{entry_of}
 use Rattle.cs_answers.specs.declared.status.Status.{Status}
 use Rattle.cs_answers.specs.declared.status.Status.TheVariants.{Clean, Found, NoEntry}
 
--- found where a run ends in a fault
+-- `Found` if a run ends in a fault
 abbrev pub outcome_status : Outcome → Status
 outcome_status (Fault kind place) = Found
 outcome_status (Done returned) = Clean
 outcome_status (Over budget place) = Clean
 
--- the text is the line of the outcome in which the reference machine's run of the entry ends, with these inputs and without guesses
+-- the text is the line of the outcome that the reference semantics gives the run of the entry with these inputs and without guesses
 pub record IsReplayOf (files : List (List ℕ)) (program : TypedProgram) (words : ReplayWords) (entry : ℕ) (status : Status) (text : List ℕ) : Type 0 where
   pub outcome : Outcome
   pub log : Log
@@ -25,7 +25,7 @@ pub record IsReplayOf (files : List (List ℕ)) (program : TypedProgram) (words 
   pub says : text ≡ replay_line files outcome
   pub yields : status ≡ outcome_status outcome
 
--- the replay of the entry that the words name, or the line that says that there is none
+-- the replay of the entry that the command line names, or the line for a missing entry
 abbrev pub IsReplayAnswer : List (List ℕ) → TypedProgram → ReplayWords → Status → List ℕ → Type 0
 IsReplayAnswer files program words NoEntry text = (entry_of words.entry program ≡ None) × (text ≡ codes "refused entry " ++ (words.entry ++ codes "\n"))
 IsReplayAnswer files program words status text = (entry : ℕ) × (entry_of words.entry program ≡ Some entry)

@@ -1,4 +1,4 @@
--- The answer to the results of an analysis, whatever found them.
+-- The answer to the results of an analysis, wherever they come from.
 use Rattle.std.specs.Prelude.{◌≡◌, ℕ, Bool, List, if◌then◌else◌}
 use Rattle.cs_model.specs.declared.kind.Kind.{Kind}
 use Rattle.cs_ast.specs.TypedProgram.{TypedProgram}
@@ -13,11 +13,11 @@ use Rattle.cs_answers.specs.declared.status.Status.TheVariants.{Clean, Found}
 abbrev pub results_text : (json : Bool) → TypedProgram → List Kind → List EntryResult → List ℕ
 results_text json program kinds results = if json then analysis_json_text program kinds results else analysis_text program kinds results
 
--- found where a report of these kinds is listed
+-- `Found` if a report of these kinds is listed
 abbrev pub results_status : List Kind → List EntryResult → Status
 results_status kinds results = if lists_report kinds results then Found else Clean
 
--- the answer to the results of an analysis: other kinds are neither printed nor counted for the status
+-- the answer to the results of an analysis: other kinds aren't printed and don't count for the status
 pub record IsResultsAnswer (json : Bool) (program : TypedProgram) (kinds : List Kind) (results : List EntryResult) (status : Status) (text : List ℕ)
     : Type 0 where
   pub says : text ≡ results_text json program kinds results

@@ -8,7 +8,7 @@ use cs_ast::typed::program::Program;
 use cs_flow::append_flow;
 use std::alloc::{AllocError, Global};
 
-/// The flow of a program.
+/// Returns the flow of a program.
 pub fn flow(alloc: Global, program: &Program) -> Result<Answer, AllocError>
     ensures { IfOk result (λ answer.
         IsFlowAnswer (typed_program program.now) answer.status answer.text.items) }

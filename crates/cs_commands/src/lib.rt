@@ -1,4 +1,4 @@
-//! What the commands answer: the flow of a program, the outcome of a replay, the results of an analysis, the line of a refusal.
+//! The answers of the commands: the flow of a program, the outcome of a replay, the results of an analysis, the line of a refusal.
 #![tactic(auto)]
 
 mod flow;

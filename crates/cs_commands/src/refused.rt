@@ -13,7 +13,7 @@ use cs_report::append_refusal;
 use cs_scopes::TypeRefusal;
 use std::alloc::{AllocError, Global};
 
-/// The answer to a file that is too long.
+/// Returns the answer to a file that is too long.
 pub fn refused_length(alloc: Global) -> Result<Answer, AllocError>
     ensures status { IfOk result (λ answer. answer.status ≡ Status.BadFile) }
     ensures text { IfOk result (λ answer.
@@ -22,7 +22,7 @@ pub fn refused_length(alloc: Global) -> Result<Answer, AllocError>
     refused_line(alloc, b"refused too-long 4194305\n")
 }
 
-/// The answer to a file that is refused.
+/// Returns the answer to a refused file.
 pub fn refused(alloc: Global, refusal: FileRefusal) -> Result<Answer, AllocError>
     ensures status { IfOk result (λ answer. answer.status ≡ Status.BadFile) }
     ensures text { IfOk result (λ answer. IsFileLine refusal answer.text.items) }
@@ -35,7 +35,7 @@ pub fn refused(alloc: Global, refusal: FileRefusal) -> Result<Answer, AllocError
     }
 }
 
-/// The answer to a file that has no tokens.
+/// Returns the answer to a file that can't be split into tokens.
 fn refused_tokens(alloc: Global, refusal: LexRefusal) -> Result<Answer, AllocError>
     ensures status { IfOk result (λ answer. answer.status ≡ Status.BadFile) }
     ensures text { IfOk result (λ answer. IsLexLine refusal answer.text.items) }
@@ -50,7 +50,7 @@ fn refused_tokens(alloc: Global, refusal: LexRefusal) -> Result<Answer, AllocErr
     }
 }
 
-/// The answer to a file whose tokens are no tree that is low enough. Its places are in these files.
+/// Returns the answer to a file whose tokens aren't a tree that is low enough. The positions are in these files.
 fn refused_syntax(
     alloc: Global,
     files: &[Name],
@@ -67,7 +67,7 @@ fn refused_syntax(
     }
 }
 
-/// The answer to a file whose tree is no program. Its places are in these files.
+/// Returns the answer to a file whose tree doesn't type-check. The positions are in these files.
 fn refused_type(alloc: Global, files: &[Name], refusal: TypeRefusal) -> Result<Answer, AllocError>
     ensures status { IfOk result (λ answer. answer.status ≡ Status.BadFile) }
     ensures text { IfOk result (λ answer. IsTypeLine files.now refusal answer.text.items) }
@@ -81,7 +81,7 @@ fn refused_type(alloc: Global, files: &[Name], refusal: TypeRefusal) -> Result<A
     }
 }
 
-/// The answer to a file in which this word or punctuator is unsupported at a place of one of these files.
+/// Returns the answer to a file with this unsupported word or punctuator at a position in one of these files.
 fn refused_word(
     alloc: Global,
     word: &Name,
@@ -99,8 +99,8 @@ fn refused_word(
     refused_in(alloc, &words, files, place)
 }
 
-/// The answer to a file that is refused at a place of one of these files, with these words. A file without a name leaves out
-/// its name.
+/// Returns the answer to a file that is refused at a position in one of these files, with these words. The name of a file without one is
+/// omitted.
 fn refused_in(
     alloc: Global,
     words: &[u8],
@@ -120,7 +120,7 @@ fn refused_in(
     }
 }
 
-/// The answer to a file that is refused at a place of the file with this name, with these words.
+/// Returns the answer to a file that is refused at a position in the file with this name, with these words.
 fn refused_at(alloc: Global, words: &[u8], file: &Name, place: Place) -> Result<Answer, AllocError>
     ensures status { IfOk result (λ answer. answer.status ≡ Status.BadFile) }
     ensures text { IfOk result (λ answer.
@@ -134,7 +134,7 @@ fn refused_at(alloc: Global, words: &[u8], file: &Name, place: Place) -> Result<
     })
 }
 
-/// The answer to a refused file: this line.
+/// Returns the answer to a refused file that consists of this line.
 fn refused_line(alloc: Global, line: &[u8]) -> Result<Answer, AllocError>
     ensures status { IfOk result (λ answer. answer.status ≡ Status.BadFile) }
     ensures text { IfOk result (λ answer. answer.text.items ≡ line.now) }

@@ -1,4 +1,4 @@
-//! The answer to a replay: how the run of a function ends with these inputs. The run goes over the function's flow graph.
+//! The answer to a replay: how the run of a function ends with given inputs. The run follows the function's flow graph.
 ghost use Rattle.std.specs.Prelude.{◌≡◌, ◌++◌, Some, codes, IfOk};
 ghost use Rattle.cs_ast.specs.TypedProgram.{routine, typed_program};
 ghost use Rattle.cs_well_formed.specs.Programs.{IsWellFormed};
@@ -23,7 +23,7 @@ use cs_report::append_replayed;
 use cs_words::ReplayWords;
 use std::alloc::{AllocError, Global};
 
-/// Found where a run ends in a fault.
+/// Returns `Found` if a run ends in a fault.
 fn outcome_status(outcome: Outcome) -> Status
     ensures { result ≡ outcome_status outcome }
 {
@@ -33,7 +33,7 @@ fn outcome_status(outcome: Outcome) -> Status
     }
 }
 
-/// The answer to the run of a function of the program, whose places are in these files.
+/// Returns the answer to the run of a function of the program, whose positions are in these files.
 pub fn replayed(
     alloc: Global,
     files: &[Name],
@@ -57,7 +57,7 @@ pub fn replayed(
     }
 }
 
-/// The line of the outcome in which the run of the function with this number, the words' entry, ends.
+/// Returns the line of the outcome of the run that begins in the function with this number, the entry of the command line.
 fn run_of(
     alloc: Global,
     files: &[Name],
@@ -82,7 +82,7 @@ fn run_of(
     }
 }
 
-/// The same where the program is lowered, and what its runs share is prepared.
+/// The same for a program that is lowered already, and for whose runs the shared data is prepared.
 fn run_prepared(
     alloc: Global,
     files: &[Name],
@@ -121,7 +121,7 @@ fn run_prepared(
     }
 }
 
-/// The line of an outcome.
+/// Returns the line of an outcome.
 fn outcome_of(alloc: Global, files: &[Name], outcome: Outcome) -> Result<Answer, AllocError>
     ensures status { IfOk result (λ answer. answer.status ≡ outcome_status outcome) }
     ensures text { IfOk result (λ answer. answer.text.items ≡ replay_line files.now outcome) }
@@ -134,7 +134,7 @@ fn outcome_of(alloc: Global, files: &[Name], outcome: Outcome) -> Result<Answer,
     })
 }
 
-/// The answer where the program has no function with this name and a body.
+/// Returns the answer if the program has no function with this name and a body.
 pub fn refused_entry(alloc: Global, name: &Name) -> Result<Answer, AllocError>
     ensures status { IfOk result (λ answer. answer.status ≡ Status.NoEntry) }
     ensures text { IfOk result (λ answer.

@@ -1,4 +1,4 @@
-//! The answers to the results of an analysis, whatever found them.
+//! The answers to the results of an analysis, wherever they come from.
 ghost use Rattle.std.specs.Prelude.{◌≡◌, IfOk};
 ghost use Rattle.cs_ast.specs.TypedProgram.{typed_program};
 ghost use Rattle.cs_commands.specs.Results.{results_text, results_status, IsResultsAnswer};
@@ -10,7 +10,7 @@ use cs_report::{json, text};
 use cs_results::{EntryResult, lists_report};
 use std::alloc::{AllocError, Global};
 
-/// The answer to results of a program's functions, with the reports of these kinds, as JSON or as lines.
+/// Returns the answer to results of a program's functions, with the reports of these kinds, as JSON or as lines.
 pub fn results_answer(
     alloc: Global,
     program: &Program,
@@ -28,7 +28,7 @@ pub fn results_answer(
     })
 }
 
-/// The text of results, as JSON or as lines.
+/// Returns the text of results, as JSON or as lines.
 fn results_text(
     alloc: Global,
     program: &Program,
@@ -46,7 +46,7 @@ fn results_text(
     }
 }
 
-/// Found where a report of these kinds is listed.
+/// Returns `Found` if a report of these kinds is listed.
 pub fn results_status(results: &[EntryResult], kinds: &[Kind]) -> Status
     ensures { result ≡ results_status kinds.now results.now }
 {

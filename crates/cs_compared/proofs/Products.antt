@@ -1,4 +1,4 @@
--- Products that are put together of parts: for the test of lines.
+-- Products that are computed from parts: for the test of lines.
 use Rattle.std.proofs.Common.{◌≡◌, ℕ, zero, suc, ◌*◌, ◌^◌, ◌≤◌, arith, sym, ap, ◌∙◌}
 use Rattle.std.specs.Prelude.{ℤ, pos, negsuc, ◌+ℤ◌, ◌-ℤ◌, ◌*ℤ◌, unsigned_abs, FitsSigned}
 use Rattle.std.specs.Int.{w128}

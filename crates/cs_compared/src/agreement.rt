@@ -5,7 +5,7 @@ ghost use Rattle.cs_compared.specs.Agreement.{AgreeTo};
 use crate::same::same_event;
 use cs_events::Event;
 
-/// Whether two runs pass so many events alike, where it is known of some first ones.
+/// Whether two runs have the same first events, as many as `count`, if the first `known` are known to be the same.
 pub fn agree(one: &[Event], other: &[Event], known: usize, count: usize) -> bool
     requires known { AgreeTo known one.now other.now }
     requires one { count ≤ length one.now }
@@ -20,7 +20,7 @@ pub fn agree(one: &[Event], other: &[Event], known: usize, count: usize) -> bool
     true
 }
 
-/// How many events two runs pass alike first.
+/// Returns how many first events two runs share.
 pub fn common(one: &[Event], other: &[Event]) -> usize
     ensures { AgreeTo result one.now other.now }
 {
@@ -33,7 +33,7 @@ pub fn common(one: &[Event], other: &[Event]) -> usize
     most
 }
 
-// Whether two runs have the same event at a place.
+// Whether two runs have the same event at an index.
 fn same_at(one: &[Event], other: &[Event], index: usize) -> bool
     requires one { index < length one.now }
     requires other { index < length other.now }

@@ -1,4 +1,4 @@
-//! In what the operands of two or three runs differ.
+//! Differences between the operands of two or three runs.
 ghost use Rattle.std.specs.Prelude.{◌≡◌, ◌≤◌, ◌^◌, ℤ, pos, ◌+ℤ◌, not, int_le, unsigned_abs};
 ghost use Rattle.std.specs.Ordering.{int_eq};
 ghost use Rattle.cs_events.specs.Operations as operations;
@@ -9,7 +9,7 @@ use crate::lines::off_line;
 use cs_ast::typed::operator::CmpOp;
 use cs_findings::Others;
 
-/// Whether some two of the runs differ in the left operand.
+/// Whether the left operand differs between two of the runs.
 pub fn left_differs(mine: (i128, i128), others: Others<(i128, i128)>) -> bool
     ensures { result ≡ grounds.left_differs mine others }
 {
@@ -19,7 +19,7 @@ pub fn left_differs(mine: (i128, i128), others: Others<(i128, i128)>) -> bool
     }
 }
 
-/// Whether some two of the runs differ in the right operand.
+/// Whether the right operand differs between two of the runs.
 pub fn right_differs(mine: (i128, i128), others: Others<(i128, i128)>) -> bool
     ensures { result ≡ grounds.right_differs mine others }
 {
@@ -29,7 +29,7 @@ pub fn right_differs(mine: (i128, i128), others: Others<(i128, i128)>) -> bool
     }
 }
 
-/// Whether both operands differ in some two of the runs, and their pairs don't lie on one line.
+/// Whether each operand differs between two of the runs, and their pairs don't lie on one line.
 pub fn are_spread(mine: (i128, i128), others: Others<(i128, i128)>) -> bool
     requires mine { IsSmall mine }
     requires others { AreSmall others }
@@ -49,7 +49,7 @@ fn are_off_line(mine: (i128, i128), others: Others<(i128, i128)>) -> bool
     }
 }
 
-/// Whether the results of a comparison differ in some two of the runs.
+/// Whether the result of a comparison differs between two of the runs.
 pub fn comparisons_differ(operator: CmpOp, mine: (i128, i128), others: Others<(i128, i128)>) -> bool
     ensures { result ≡ grounds.truth_differs
         (λ pair. operations.compares operator pair.0 pair.1) mine others }
@@ -64,7 +64,7 @@ pub fn comparisons_differ(operator: CmpOp, mine: (i128, i128), others: Others<(i
     }
 }
 
-/// Whether the results of an order test differ in some two of the runs.
+/// Whether the result of an order test differs between two of the runs.
 pub fn tests_differ(mine: (i128, i128), others: Others<(i128, i128)>) -> bool
     requires mine { IsSmall mine }
     requires others { AreSmall others }
@@ -80,7 +80,7 @@ pub fn tests_differ(mine: (i128, i128), others: Others<(i128, i128)>) -> bool
     }
 }
 
-// Whether an order test is met.
+// Whether an order test holds.
 fn is_met(pair: (i128, i128)) -> bool
     requires { IsSmall pair }
     ensures { result ≡ int_le (pos 0) (pair.0 +ℤ pair.1) }

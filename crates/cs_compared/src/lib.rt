@@ -1,4 +1,4 @@
-//! Runs that come to one guess: what they have in common, and in what they differ.
+//! Runs that reach the same guess: what they have in common, and how they differ.
 #![tactic(auto)]
 
 mod agreement;

@@ -5,7 +5,7 @@ ghost use Rattle.cs_results.specs.declared.run.Others.TheVariants.{Two};
 ghost use Rattle.cs_findings.specs.Grounds as grounds;
 ghost use Rattle.cs_compared.specs.Wide.{IsSmall, IsSplit};
 
-/// A number: so many times 2^32, and a rest below that.
+/// A number, as a multiple of 2^32 (`high`) and a remainder below that (`low`).
 #[derive(Clone, Copy)]
 pub struct Wide {
     high: i128,
@@ -35,7 +35,7 @@ pub fn is_small(pair: (i128, i128)) -> bool
     pair.0.unsigned_abs() <= 1 << 66 && pair.1.unsigned_abs() <= 1 << 87
 }
 
-// Whether the product of two numbers is that of two others.
+// Whether the product of two numbers equals that of two others.
 fn same_products(left: i128, right: i128, other_left: i128, other_right: i128) -> bool
     requires left { unsigned_abs left ≤ 2 ^ 67 }
     requires right { unsigned_abs right ≤ 2 ^ 88 }
@@ -59,7 +59,7 @@ pub fn product_at_most(left: i128, right: i128, bound: u64) -> bool
     is_at_most(&this, &that)
 }
 
-/// Whether the product of two numbers is above a bound.
+/// Whether the product of two numbers is greater than a bound.
 pub fn product_above(left: i128, right: i128, bound: u64) -> bool
     requires left { unsigned_abs left ≤ 2 ^ 67 }
     requires right { unsigned_abs right ≤ 2 ^ 88 }
@@ -78,7 +78,7 @@ fn is_at_most(this: &Wide, that: &Wide) -> bool
     this.high < that.high || (this.high == that.high && this.low <= that.low)
 }
 
-// Whether a split number is below another.
+// Whether a split number is less than another.
 fn is_below(this: &Wide, that: &Wide) -> bool
     ensures { (one other : ℤ) → IsSplit this.now one → IsSplit that.now other
         → result ≡ int_lt one other }
@@ -86,7 +86,7 @@ fn is_below(this: &Wide, that: &Wide) -> bool
     this.high < that.high || (this.high == that.high && this.low < that.low)
 }
 
-// Whether two split numbers are one.
+// Whether two split numbers are equal.
 fn is_same(this: &Wide, that: &Wide) -> bool
     ensures { (one other : ℤ) → IsSplit this.now one → IsSplit that.now other
         → result ≡ int_eq one other }
@@ -94,7 +94,7 @@ fn is_same(this: &Wide, that: &Wide) -> bool
     this.high == that.high && this.low == that.low
 }
 
-// A product of numbers whose parts don't overflow.
+// Returns a product of numbers so small that its parts don't overflow.
 fn product(left: i128, right: i128) -> Wide
     requires left { unsigned_abs left ≤ 2 ^ 67 }
     requires right { unsigned_abs right ≤ 2 ^ 88 }
@@ -109,7 +109,7 @@ fn product(left: i128, right: i128) -> Wide
     }
 }
 
-// A product within 128 bits.
+// Returns a product that fits into 128 bits.
 fn times(left: i128, right: i128) -> i128
     requires left { unsigned_abs left ≤ 2 ^ 36 }
     requires right { unsigned_abs right ≤ 2 ^ 88 }
@@ -119,7 +119,7 @@ fn times(left: i128, right: i128) -> i128
     left * right
 }
 
-// A number split at 2^32, rounded down.
+// Splits a number at 2^32, rounding down.
 fn split(number: i128) -> Wide
     ensures split { IsSplit result number }
     ensures small { unsigned_abs result.high ≤ 2 ^ 96 }

@@ -6,7 +6,7 @@ use cs_ast::typed::operator::BinOp;
 use cs_events::{Operation, guess_range, lies_in};
 use cs_types::DataModel;
 
-/// Whether a run would use the number in place of the operation's own result.
+/// Whether a run may use the number in place of the operation's own result.
 pub fn may_be_used(model: DataModel, operation: &Operation, number: i128) -> bool
     ensures { result ≡ narrower.may_be_used model operation.now number }
 {
@@ -55,7 +55,7 @@ fn fits_right_of(operator: BinOp, right: i128, number: i128) -> bool
     }
 }
 
-// Whether a number has only bits of a mask that isn't negative, as far as sizes tell.
+// Whether a mask that isn't negative allows the number as a result: it is between 0 and the mask.
 fn fits_mask(mask: i128, number: i128) -> bool
     ensures { result ≡ narrower.fits_mask mask number }
 {

@@ -8,7 +8,7 @@ use cs_ast::typed::operator::{BinOp, CmpOp};
 use cs_events::Operation;
 use cs_types::IntType;
 
-/// The two operands of an operation; of an operation with one operand that and 0.
+/// Returns the two operands of an operation; the second is 0 if it has only one.
 pub fn operands(operation: &Operation) -> (i128, i128)
     ensures { result ≡ specs.operands operation.now }
 {
@@ -25,7 +25,7 @@ pub fn operands(operation: &Operation) -> (i128, i128)
     }
 }
 
-/// The operands of another operation, if it is the same operation but for them, and one whose result may be guessed.
+/// Returns the operands of another operation, if it differs only in them and its result may be guessed.
 pub fn operands_of_same(operation: &Operation, other: &Operation) -> Option<(i128, i128)>
     ensures same { IfSome result (λ pair. other.now ≡ specs.with_operands operation.now pair) }
     ensures operands { IfSome result (λ pair. specs.operands other.now ≡ pair) }

@@ -1,17 +1,17 @@
-//! Equal events and places.
+//! Equal events and positions.
 ghost use Rattle.std.specs.Prelude.{◌≡◌, ◌↔◌, IsTrue};
 
 use cs_ast::Place;
 use cs_events::{Event, Label};
 
-/// Whether two events are one.
+/// Whether two events are equal.
 pub fn same_event(one: &Event, other: &Event) -> bool
     ensures { IsTrue result ↔ (one.now ≡ other.now) }
 {
     same_place(one.place, other.place) && same_label(one.label, other.label)
 }
 
-/// Whether two places are one.
+/// Whether two positions are equal.
 pub fn same_place(one: Place, other: Place) -> bool
     ensures { IsTrue result ↔ (one ≡ other) }
 {

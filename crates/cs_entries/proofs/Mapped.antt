@@ -1,4 +1,4 @@
--- Whether something is there of which there is a view: for whether a function has a body.
+-- Whether an optional value with a view is present: for whether a function has a body.
 use Rattle.std.proofs.Common.{◌≡◌, Option, Some, None, refl}
 use Rattle.std.specs.Prelude.{is_some, option_map}
 

@@ -16,7 +16,7 @@ fn is_entry(function: &Function, name: &Name) -> bool
     function.name == *name && function.body.is_some()
 }
 
-/// The index of the first function with this name and a body, if there is one.
+/// Returns the index of the first function with this name and a body, if there is one.
 pub fn entry_of(functions: &[Function], name: &Name) -> Option<usize>
     ensures { result ≡ position (λ f. is_entry name.now (routine f)) functions.now }
 {
@@ -25,7 +25,7 @@ pub fn entry_of(functions: &[Function], name: &Name) -> Option<usize>
         .position(|function| is_entry(function, name))
 }
 
-/// The number of a function, by its index. More functions than there are numbers are want of memory.
+/// Returns the number of the function with an index. If there are more functions than numbers, it fails as if memory had run out.
 pub fn number_of(index: usize) -> Result<u32, AllocError>
     ensures { IfOk result (λ number. number ≡ index) }
 {

@@ -1,4 +1,4 @@
-//! The function that the words of a command name.
+//! The function that a command line names.
 #![tactic(auto)]
 
 mod entry;

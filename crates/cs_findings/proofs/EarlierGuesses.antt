@@ -1,4 +1,4 @@
--- A run comes to an event alike without its guesses at that event and later.
+-- A run reaches an event in the same way without its guesses at that event and later.
 use Rattle.std.proofs.Common.{◌≡◌, ℕ, suc, ◌<◌, ◌==◌, nat_lt, Bool, true, false, List, [], ◌∷◌, filter, length, if◌then◌else◌}
 use Rattle.std.proofs.Common.{Some, refl, sym, ap, ◌∙◌, subst, arith}
 use Rattle.std.proofs.lemmas.Bool.Decides.{nat_tests}

@@ -1,4 +1,4 @@
--- What a run's log keeps: the run comes to each event with what was pending there.
+-- What a run's log keeps: the run reaches each event with what was pending there.
 use Rattle.std.proofs.Common.{◌≡◌, ℕ, suc, ◌≤◌, length, take, drop, Some, slice_get, inr, sym, ◌∙◌, subst, arith}
 use Rattle.std.proofs.lemmas.List.{length-take, take-append-drop}
 use Rattle.cs_ast.specs.TypedProgram.{TypedProgram}

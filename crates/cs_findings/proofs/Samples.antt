@@ -1,4 +1,4 @@
--- Samples: grounds that there are, and some that there aren't, computed.
+-- Samples of runs that are grounds, and of some that aren't, computed.
 use Rattle.std.proofs.Common.{◌≡◌, ℤ, pos, negsuc, true, false, refl}
 use Rattle.cs_types.specs.declared.data_model.DataModel.TheVariants.{Lp64}
 use Rattle.cs_types.specs.declared.int_type.IntType.TheVariants.{Int, ULong}

@@ -1,4 +1,4 @@
--- Results of entries that leave no run out.
+-- Results of entries that miss no run.
 use Rattle.std.specs.Prelude.{◌≡◌, ℤ, List, [], map, Contains}
 use Rattle.cs_inputs.specs.declared.path.Path.{Path}
 use Rattle.cs_ast.specs.TypedProgram.{TypedProgram}
@@ -15,17 +15,17 @@ use Rattle.cs_findings.specs.Runs.{run_budgets}
 abbrev pub outcomes_of : List Finding → List Outcome
 outcomes_of findings = map (λ (f : Finding). f.what) findings
 
--- a fault has a report, and a budget that was met is listed
+-- a fault has a report, and a met budget is listed
 abbrev pub HasFinding : EntryResult → Outcome → Type 0
 HasFinding given (Fault kind at) = Contains (outcomes_of given.reports.items) (Fault kind at)
 HasFinding given (Over budget at) = Contains (outcomes_of given.overs.items) (Over budget at)
 HasFinding given (Done returned) = Unit {0}
 
--- where nothing is cut, each run of the entry has a finding of how it ends: from all inputs, without guesses, within the budgets
+-- if nothing is cut, each run of the entry has a finding with its outcome: from any inputs, without guesses, within the budgets
 abbrev pub ReportsEveryRun : TypedProgram → Budgets → EntryResult → Type 0
 ReportsEveryRun program budgets given = given.cuts.items ≡ [] → (inputs : List (Path × ℤ)) (outcome : Outcome) (log : Log)
     → RunGives program given.entry (record { inputs = inputs; guesses = [] }) (run_budgets budgets) outcome log → HasFinding given outcome
 
--- if the entry works with integers alone, no run is missed
+-- if the entry is an integer function, no run is missed
 abbrev pub MissesNothing : TypedProgram → Budgets → EntryResult → Type 0
 MissesNothing program budgets given = IsIntegerFunction program given.entry → ReportsEveryRun program budgets given

@@ -20,7 +20,7 @@ use Rattle.cs_findings.specs.Runs.{run_budgets}
 pub use Rattle.cs_results.specs.Selected.{is_kind, is_selected}
 use Rattle.cs_findings.specs.GoodFindings.{IsGoodFinding}
 
--- places by file, line and column
+-- positions are ordered by file, line and column
 abbrev pub place_order : Place → Place → Ordering
 place_order one other = ordering_then (nat_cmp one.file other.file) (ordering_then (nat_cmp one.line other.line) (nat_cmp one.column other.column))
 
@@ -35,7 +35,7 @@ IsOver (Over budget at) = Unit {0}
 IsOver (Done returned) = ⊥
 IsOver (Fault kind at) = ⊥
 
--- faults and budgets are listed by place, then by the number of the kind or of the budget
+-- faults and budgets are listed by position, then by the number of the kind or of the budget
 abbrev pub outcome_key : Outcome → Place × ℕ
 outcome_key (Fault kind at) = (at, kind_number kind)
 outcome_key (Over budget at) = (at, budget_number budget)
@@ -48,7 +48,7 @@ key_order one other = ordering_then (place_order one.0 other.0) (nat_cmp one.1 o
 abbrev pub AreListed : List Finding → Type 0
 AreListed findings = IsStrictlySortedBy key_order (map (λ f. outcome_key f.what) findings)
 
--- a cut of the nodes comes first, then each access that was cut, by place
+-- a cut of the nodes comes first, then each access that was cut, by position
 abbrev pub cut_key : Cut → ℕ × Place
 cut_key (Nodes nodes) = (0, record { file = 0; line = 0; column = 0 })
 cut_key (Splits at offsets) = (1, at)
@@ -59,13 +59,13 @@ cut_order one other = ordering_then (nat_cmp one.0 other.0) (place_order one.1 o
 abbrev pub AreCutsListed : List Cut → Type 0
 AreCutsListed cuts = IsStrictlySortedBy cut_order (map cut_key cuts)
 
--- cut where anything was cut, else bounded where a budget was met, else complete
+-- `Cut` if anything was cut, else `Bounded` if a budget was met, else `Complete`
 abbrev pub verdict_of : List Cut → List Finding → verdicts.Verdict
 verdict_of (cut ∷ cuts) overs = verdict.Cut
 verdict_of [] (over ∷ overs) = verdict.Bounded
 verdict_of [] [] = verdict.Complete
 
--- a good result of an entry, as far as findings go. What cuts owe, and that no outcome is missing, belongs to the exploration
+-- a good result of an entry, as to its findings. `OutOfNodes` and `EveryRun` define why cuts are listed, and that no outcome is missing
 pub record IsGoodEntry (program : TypedProgram) (budgets : Budgets) (given : EntryResult) : Type 0 where
   pub reports : All (IsGoodFinding program given.entry (run_budgets budgets)) given.reports.items
   pub overs : All (IsGoodFinding program given.entry (run_budgets budgets)) given.overs.items

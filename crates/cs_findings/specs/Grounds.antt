@@ -1,5 +1,5 @@
--- Grounds: two or three runs come to one operation, and their operands show that its result can't be followed there with terms over
--- one symbol and ranges. The first of the runs is the one that guesses.
+-- Grounds: two or three runs reach the same operation, and their operands show that terms over one symbol and ranges can't represent its
+-- result there. The first of the runs is the one that guesses.
 use Rattle.std.specs.Prelude.{ℤ, pos, ◌-ℤ◌, ◌*ℤ◌, ◌+ℤ◌, int_le, int_lt, Bool, true, false, not, ◌&&◌, ◌||◌, is_none}
 use Rattle.std.specs.Prelude.{if◌then◌else◌}
 use Rattle.std.specs.Ordering.{int_eq}
@@ -21,25 +21,25 @@ use Rattle.cs_findings.specs.Runs.{some_other}
 abbrev pub Pair : Type 0
 Pair = ℤ × ℤ
 
--- whether some two of the runs differ in the left operand; if so, some other one differs from the first
+-- whether the left operand differs between two of the runs; then it differs between the first run and another
 abbrev pub left_differs : Pair → Others Pair → Bool
 left_differs mine others = some_other (λ pair. not (int_eq pair.0 mine.0)) others
 
--- whether some two of the runs differ in the right operand
+-- whether the right operand differs between two of the runs
 abbrev pub right_differs : Pair → Others Pair → Bool
 right_differs mine others = some_other (λ pair. not (int_eq pair.1 mine.1)) others
 
--- whether some two of the runs differ in an operand
+-- whether an operand differs between two of the runs
 abbrev pub either_differs : Pair → Others Pair → Bool
 either_differs mine others = left_differs mine others || right_differs mine others
 
--- three runs whose pairs of operands don't lie on one line: so the operands aren't terms over one symbol
+-- the pairs of operands of three runs don't lie on one line, so the operands aren't terms over one symbol
 abbrev pub off_line : Pair → Others Pair → Bool
 off_line mine (One first) = false
 off_line mine (Two first second) =
     not (int_eq ((first.0 -ℤ mine.0) *ℤ (second.1 -ℤ mine.1)) ((second.0 -ℤ mine.0) *ℤ (first.1 -ℤ mine.1)))
 
--- both operands differ in some two, and the pairs don't lie on one line
+-- each operand differs between two of the runs, and the pairs don't lie on one line
 abbrev pub are_spread : Pair → Others Pair → Bool
 are_spread mine others = (left_differs mine others && right_differs mine others) && off_line mine others
 
@@ -58,7 +58,7 @@ abbrev pub greatest : (Pair → ℤ) → Pair → Others Pair → ℤ
 greatest f mine (One first) = greater (f mine) (f first)
 greatest f mine (Two first second) = greater (f mine) (greater (f first) (f second))
 
--- whether a truth differs in some two of the runs
+-- whether a truth value differs between two of the runs
 abbrev pub disagrees : Bool → Bool → Bool
 disagrees true other = not other
 disagrees false other = other
@@ -66,7 +66,7 @@ disagrees false other = other
 abbrev pub truth_differs : (Pair → Bool) → Pair → Others Pair → Bool
 truth_differs test mine others = some_other (λ pair. disagrees (test pair) (test mine)) others
 
--- left minus right differs in some two of the runs, at most 0 in one of these and at least 0 in the other
+-- the difference left minus right differs between two of the runs, is at most 0 in one of these and at least 0 in the other
 abbrev pub gap : Pair → ℤ
 gap pair = pair.0 -ℤ pair.1
 
@@ -74,7 +74,7 @@ abbrev pub meets_zero : Pair → Others Pair → Bool
 meets_zero mine others = (int_le (least gap mine others) (pos 0) && int_le (pos 0) (greatest gap mine others))
     && int_lt (least gap mine others) (greatest gap mine others)
 
--- a wrap quotient that is none of -1, 0 and 1
+-- a wrap quotient other than -1, 0 and 1
 abbrev pub is_far : ℤ → Bool
 is_far quotient = is_none (near_quotient quotient)
 
@@ -92,7 +92,7 @@ binary_ground And far mine others = either_differs mine others
 binary_ground Xor far mine others = either_differs mine others
 binary_ground Or far mine others = either_differs mine others
 
--- the ground of a comparison: its results differ, or for an equality the two sides lie on both sides of being equal
+-- the ground of a comparison: its results differ, or for an equality, left minus right is at most 0 in one run and at least 0 in another
 abbrev pub comparison_ground : CmpOp → Pair → Others Pair → Bool
 comparison_ground Equal mine others = are_spread mine others && meets_zero mine others
 comparison_ground Differs mine others = are_spread mine others && meets_zero mine others
@@ -107,7 +107,7 @@ product_ground model mine others = (left_differs mine others && right_differs mi
     && (int_le (least (λ pair. pair.0) mine others *ℤ least (λ pair. pair.1) mine others) (pos (product_bound_of model))
     && int_lt (pos (product_bound_of model)) (greatest (λ pair. pair.0) mine others *ℤ greatest (λ pair. pair.1) mine others))
 
--- whether the runs give a ground to guess an operation's result. The operands of the order tests are the two parts of their sum
+-- whether the runs are a ground to guess an operation's result. The operands of the order tests are the two parts of their sum
 abbrev pub has_ground : DataModel → Operation → Others Pair → Bool
 has_ground model (Binary operator ty left right) others =
     binary_ground operator (is_far (wrap_quotient model ty (exact model operator ty left right))) (left, right) others

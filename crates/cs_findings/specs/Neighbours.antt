@@ -8,6 +8,6 @@ use Rattle.cs_inputs.specs.PathOrder.{path_order}
 abbrev pub replaced : List ℤ → List (Path × ℤ) → Path → List (List (Path × ℤ))
 replaced constants inputs path = map (λ (number : ℤ). insert_entry path_order inputs path number) constants
 
--- the first 64, the inputs themselves among them: for each path in order, with each constant in order
+-- the first 64: the inputs themselves, then for each path in order the inputs with each constant in order
 abbrev pub neighbours : List ℤ → List (Path × ℤ) → List (List (Path × ℤ))
 neighbours constants inputs = take 64 (inputs ∷ flat_map (λ (entry : Path × ℤ). replaced constants inputs entry.0) inputs)

@@ -1,9 +1,9 @@
--- The operands of operations, and operations that differ in nothing else.
+-- The operands of operations, and operations that differ only in their operands.
 use Rattle.std.specs.Prelude.{ℤ, pos}
 use Rattle.cs_events.specs.declared.operation.Operation.{Operation}
 use Rattle.cs_events.specs.declared.operation.Operation.TheVariants.{Binary, Unary, Convert, Compare, Order, Product, Sum, Difference, Show}
 
--- the two operands of an operation; of an operation with one operand that and 0
+-- the two operands of an operation; the second is 0 if it has only one
 abbrev pub operands : Operation → ℤ × ℤ
 operands (Binary operator ty left right) = (left, right)
 operands (Unary operator ty operand) = (operand, pos 0)

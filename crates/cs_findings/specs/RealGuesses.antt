@@ -1,4 +1,4 @@
--- Real guesses: other runs come to the guessed operation through the same events, and with these runs there is a ground to guess.
+-- Real guesses: other runs reach the guessed operation through the same events, and with these runs there is a ground to guess.
 use Rattle.std.specs.Prelude.{◌≡◌, ◌≢◌, ℕ, zero, suc, ◌&&◌, nat_lt, IsTrue, List, length, Contains, ◌⊎◌}
 use Rattle.cs_ast.specs.declared.place.Place.{Place}
 use Rattle.cs_ast.specs.TypedProgram.{TypedProgram}
@@ -20,16 +20,16 @@ module _ (program : TypedProgram) (entry : ℕ) (budgets : RunBudgets) where
     pub passes : RunPasses program entry run budgets events
     pub pends : RunIsPending program entry run budgets (suc (length events)) pending
 
-  -- what is said of guesses before an event is known
+  -- given: what holds of runs whose guesses are before this one (`Earlier`)
   module _ (Earlier : ProgramRun → Type 0) (run : ProgramRun) (guess : Guess) (events : List Event) (at : Place) (operation : Operation) where
-    -- another run lists guesses at just the events before the guess's at which the run does, all real, and comes to the same operation
+    -- another run has guesses at exactly the events before this guess at which the run has some, all real, and reaches the same operation
     -- through the same events, with these operands
     pub record ComesToo (other : ProgramRun) (pair : Pair) : Type 0 where
       pub listed : (event : ℕ) → lists other event ≡ (lists run event && nat_lt event guess.event)
       pub earlier : Earlier other
       pub comes : Comes other events (Operates at (with_operands operation pair))
 
-    -- some such run has another left operand, or another right one
+    -- in some such run the left operand differs, or the right one
     pub record LeftDiffers : Type 0 where
       pub other : ProgramRun
       pub pair : Pair
@@ -42,8 +42,8 @@ module _ (program : TypedProgram) (entry : ℕ) (budgets : RunBudgets) where
       pub comes : ComesToo other pair
       pub differs : pair.1 ≢ (operands operation).1
 
-  -- a guess of a run is real with these other runs: they come to the guessed operation as the run does, there is a ground among them,
-  -- and the number is one that the operation may have, also with an operand that is the same in all such runs
+  -- a guess of a run is real with these other runs: they reach the guessed operation as the run does, there is a ground among them, and the
+  -- operation may have the number as its result, also if an operand is the same in all such runs
   pub record IsRealAmong (Earlier : ProgramRun → Type 0) (run : ProgramRun) (guess : Guess) (at : Place) (others : Others ProgramRun) : Type 0 where
     pub events : List Event
     pub number : guess.event ≡ suc (length events)

@@ -7,11 +7,11 @@ use Rattle.cs_results.specs.declared.run.Run.{Run}
 use Rattle.cs_results.specs.declared.run.Others.{Others}
 use Rattle.cs_results.specs.declared.run.Others.TheVariants.{One, Two}
 
--- what a run begins with
+-- the inputs and guesses that a run begins with
 abbrev pub run_of : Run → ProgramRun
 run_of run = record { inputs = run.inputs; guesses = run.guesses.items }
 
--- the run with those of its guesses that stand before an event
+-- the run with only those of its guesses that are before an event
 abbrev pub before : ℕ → ProgramRun → ProgramRun
 before event run = record run { guesses = filter (λ g. nat_lt g.event event) run.guesses }
 
@@ -30,7 +30,7 @@ module _ {A B : Type 0} where
   each_other f (One first) = One (f first)
   each_other f (Two first second) = Two (f first) (f second)
 
-  -- as many of one kind as of another, each related to its like
+  -- there are equally many of both kinds, and they are related one by one
   abbrev pub AllRelated : (A → B → Type 0) → Others A → Others B → Type 0
   AllRelated R (One first) (One first') = R first first'
   AllRelated R (Two first second) (Two first' second') = R first first' × R second second'

@@ -1,4 +1,4 @@
--- Numbers from 0 on, one more at a time: for the loop of `generate_text`.
+-- Ranges of numbers from 0, extended by one number: for the loop of `generate_text`.
 use Rattle.std.proofs.Common.{◌≡◌, ℕ, zero, suc, ◌+◌, List, [], ◌∷◌, ◌++◌, ap, ◌∙◌, refl, append_assoc, append-nil, arith}
 use Rattle.std.specs.List.{flat_map, range_with_len}
 

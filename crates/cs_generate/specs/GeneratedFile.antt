@@ -30,6 +30,6 @@ body_of FreedBlock c = codes "(void){int *p=malloc(sizeof(int));if(!p)return 0;*
 abbrev pub line_of : ℕ → ℕ → List ℕ
 line_of seed number = codes "int f" ++ decimal number ++ body_of (template_of seed number) (constant_of seed number) ++ codes "\n"
 
--- the file: the functions from 0 on, so many of them
+-- the file: this many functions, numbered from 0
 abbrev pub generated_file : ℕ → ℕ → List ℕ
 generated_file seed size = flat_map (line_of seed) (range_with_len 0 size)

@@ -6,8 +6,8 @@ ghost use Rattle.cs_generate.specs.GeneratedFile.{line_of, generated_file};
 use crate::template::Template;
 use std::alloc::{AllocError, Global};
 
-/// The file of these two numbers: so many functions, numbered from 0, each by one of six templates. The seed with the function's
-/// number says which template, and which constant is in it.
+/// Returns the file of these two numbers: `size` functions, numbered from 0, each made from one of six templates. The seed and the
+/// function's number determine the template, and the constant in it.
 pub fn generate_text(alloc: Global, seed: u64, size: u64) -> Result<Vec<u8>, AllocError>
     ensures { IfOk result (λ text. text.items ≡ generated_file seed size) }
 {
@@ -30,7 +30,7 @@ fn append_line(text: &mut Vec<u8>, seed: u64, number: u64) -> Result<(), AllocEr
     text.extend_from_slice(b"\n")
 }
 
-/// The constant of a function, from 2 to 98.
+/// Returns the constant of a function, from 2 to 98.
 fn constant_of(seed: u64, number: u64) -> u8
     ensures { result ≡ generated.constant_of seed number }
 {

@@ -1,4 +1,4 @@
-//! Files of C that are made from two numbers, to try the analysis on.
+//! Files of C that are generated from two numbers, to test the analysis with.
 #![tactic(auto)]
 
 mod file;

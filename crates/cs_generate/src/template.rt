@@ -9,11 +9,11 @@ use std::alloc::{AllocError, Global};
 pub enum Template {
     /// A constant divided by the parameter.
     Division,
-    /// The same where the parameter isn't 0.
+    /// A constant divided by the parameter, if that isn't 0.
     GuardedDivision,
     /// A load through the parameter, which may be null.
     Load,
-    /// The difference of the parameters, where it isn't negative.
+    /// The difference of the parameters, if it isn't negative.
     Difference,
     /// A sum in a loop.
     Sum,
@@ -22,7 +22,7 @@ pub enum Template {
 }
 
 impl Template {
-    /// The template of the function with this number, in the file of this seed.
+    /// Returns the template of the function with this number, in the file of this seed.
     pub fn of(seed: u64, number: u64) -> Template
         ensures { result ≡ generated.template_of seed number }
     {
@@ -36,7 +36,7 @@ impl Template {
         }
     }
 
-    /// What follows the name of a function with this constant.
+    /// Returns the text after the name of a function with this constant.
     pub fn body(self, alloc: Global, c: u8) -> Result<String, AllocError>
         ensures { IfOk result (λ text. string_bytes text ≡ generated.body_of self c) }
     {

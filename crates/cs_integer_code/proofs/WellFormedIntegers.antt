@@ -1,5 +1,5 @@
--- In a well-formed program a function that works with integers alone is one of integers, as lowering sees it: its variables are there, and
--- what it loads from and stores to is one of them. A recursion over the typed tree.
+-- In a well-formed program an integer function has integers only, as lowering sees it: its variables exist, and what it loads from and
+-- stores to is one of them. By recursion over the typed tree.
 use Rattle.std.proofs.Common.{◌≡◌, ℕ, zero, suc, true, ◌&&◌, List, [], ◌∷◌, length, Option, Some, None, refl, sym, subst}
 use Rattle.std.specs.Prelude.{IfSome, slice_get, unwrap_or}
 use Rattle.std.specs.List.{AllByRecursion}

@@ -1,9 +1,9 @@
-//! A law about well-formed programs: the code of a function that works with integers alone does so, too.
+//! A law about well-formed programs: an integer function has integer code.
 #![tactic(auto)]
 
 ghost use Rattle.cs_integer_code.specs.IntegerCode.{IntegerFunctionsHaveIntegerCode};
 
-/// In a well-formed program, the function that works with integers alone has code that does so, as lowering makes it.
+/// Shows that in a well-formed program an integer function has integer code, if lowering keeps integers.
 pub fn integer_functions_have_integer_code()
     ensures { IntegerFunctionsHaveIntegerCode }
 {}

@@ -1,4 +1,4 @@
--- Statements that have others in a row: for `is_integer_statement`.
+-- Statements that contain lists of statements: for `is_integer_statement`.
 use Rattle.std.proofs.Common.{◌≡◌, Bool, true, false, Option, Vec, Global, refl, sym, ap, ◌∙◌, ◌&&◌}
 use Rattle.cs_ast.specs.declared.typed.expression.Expr.{Expr}
 use Rattle.cs_ast.specs.declared.typed.statement.Case.{Case}

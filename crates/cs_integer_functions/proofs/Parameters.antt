@@ -1,4 +1,4 @@
--- The parameters and the body of a function that works with integers alone: for what an exploration of it asks.
+-- The parameters and the body of an integer function: for what an exploration of it requires.
 use Rattle.std.proofs.Common.{◌≡◌, ℕ, zero, suc, Bool, true, false, Option, None, Some, List, [], ◌∷◌, take, refl, sym, ap, ◌∙◌, subst}
 use Rattle.std.specs.Prelude.{slice_get, IsTrue, ◌&&◌}
 use Rattle.cs_types.specs.declared.int_type.IntType.{IntType}

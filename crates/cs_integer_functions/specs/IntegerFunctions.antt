@@ -1,5 +1,5 @@
--- Functions that work with integers alone: their parameters and locals are integers, and their expressions are numbers, loads and stores of these, conversions
--- and operators of integers. They use no pointer, no struct and no file-scope object, and they call nothing. Every statement may occur.
+-- Integer functions: their parameters and locals are integers, and their expressions are numbers, loads and stores of locals, conversions and operators
+-- of integers. They use no pointer, no struct and no file-scope object, and call nothing. Every kind of statement may occur.
 use Rattle.std.specs.Prelude.{◌≡◌, ℕ, Bool, true, false, ◌&&◌, List, [], ◌∷◌, Option, None, Some}
 use Rattle.cs_types.specs.Shape.{Shape, integer}
 use Rattle.cs_ast.specs.TypedTree.{Typed, Of, Form, Number, Local, Load, Convert, Unary, Not, Binary, Compare, And, Or, Choice, Comma, Assign, Update}
@@ -9,7 +9,7 @@ use Rattle.cs_ast.specs.TypedProgram.{TypedProgram, Routine, Variable}
 use Rattle.cs_meaning.specs.Machine.{routine_of}
 
 abbrev mutual
-  -- an expression and all its parts are of these forms
+  -- an expression and all its parts have these forms
   pub is_integer : Typed → Bool
   is_integer (Of at ty form) = is_integer_form form
 
@@ -30,19 +30,19 @@ abbrev mutual
   is_integer_form (Update operator object value works_in gives) = is_integer object && is_integer value
   is_integer_form other = false
 
--- an expression that isn't there has no other form
+-- a missing expression has no other form
 abbrev pub is_integer_if_any : Option Typed → Bool
 is_integer_if_any None = true
 is_integer_if_any (Some e) = is_integer e
 
--- a local begins unset, or with such a value
+-- a local is unset at first, or its initializer is such an expression
 abbrev pub is_integer_initial : Option Initial → Bool
 is_integer_initial None = true
 is_integer_initial (Some (Value e)) = is_integer e
 is_integer_initial (Some other) = false
 
 abbrev mutual
-  -- a statement has such expressions alone
+  -- a statement has only such expressions
   pub is_integer_statement : Statement → Bool
   is_integer_statement (Block at statements) = are_integer_statements statements
   is_integer_statement (Declare at declaration initial) = is_integer_initial initial
@@ -76,10 +76,10 @@ abbrev pub is_integer_body : Option Statement → Bool
 is_integer_body None = false
 is_integer_body (Some body) = is_integer_statement body
 
--- a function with a body that works with integers alone
+-- a function with a body that is an integer function
 abbrev pub is_integer_routine : Routine → Bool
 is_integer_routine routine = are_integer_variables routine.variables && is_integer_body routine.body
 
--- the function of a program with a number is one
+-- the function of a program with this number is an integer function
 abbrev pub IsIntegerFunction : TypedProgram → ℕ → Type 0
 IsIntegerFunction program function = is_integer_routine (routine_of program function) ≡ true

@@ -1,4 +1,4 @@
-//! Expressions of functions that work with integers alone.
+//! Expressions of integer functions.
 ghost use Rattle.std.specs.Prelude.{◌≡◌};
 ghost use Rattle.cs_ast.specs.TypedView.{typed, some_typed};
 ghost use Rattle.cs_integer_functions.specs.IntegerFunctions as definition;
@@ -28,7 +28,7 @@ pub fn is_integer(e: &Expr) -> bool
     }
 }
 
-/// The same of an expression that may be missing.
+/// The same for an expression that may be missing.
 pub fn is_integer_if_any(e: &Option<Expr>) -> bool
     ensures { result ≡ definition.is_integer_if_any (some_typed e.now) }
 {

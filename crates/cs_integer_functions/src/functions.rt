@@ -1,4 +1,4 @@
-//! Functions that work with integers alone.
+//! Integer functions.
 ghost use Rattle.std.specs.Prelude.{◌≡◌, map};
 ghost use Rattle.cs_ast.specs.TypedProgram.{routine, typed_program, variable};
 ghost use Rattle.cs_integer_functions.specs.IntegerFunctions as definition;
@@ -9,7 +9,7 @@ use crate::statements::is_integer_statement;
 use cs_ast::typed::program::{Function, Local, Program};
 use cs_types::CType;
 
-/// Whether the function with a number is one that has a body and works with integers alone.
+/// Whether the function with a number has a body and is an integer function.
 pub fn is_integer_function(program: &Program, number: u32) -> bool
     ensures { result ≡ definition.is_integer_routine
         (routine_of (typed_program program.now) number) }
@@ -29,7 +29,7 @@ fn is_integer_routine(function: &Function) -> bool
     }
 }
 
-// Whether all of these are integers.
+// Whether all these locals are integers.
 fn are_integers(locals: &[Local]) -> bool
     ensures { result ≡ definition.are_integer_variables (map variable locals.now) }
 {

@@ -1,4 +1,4 @@
-//! Functions that work with integers alone: no pointers, no structs, no file-scope objects, no calls.
+//! Integer functions: they work with integers only, without pointers, structs, file-scope objects and calls.
 #![tactic(auto)]
 
 mod expressions;

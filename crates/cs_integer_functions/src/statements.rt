@@ -1,4 +1,4 @@
-//! Statements of functions that work with integers alone.
+//! Statements of integer functions.
 ghost use Rattle.std.specs.Prelude.{◌≡◌, ◌&&◌, option_map};
 ghost use Rattle.cs_ast.specs.TypedView.{initial, some_typed, statement, statement_list};
 ghost use Rattle.cs_integer_functions.specs.IntegerFunctions as definition;
@@ -7,7 +7,7 @@ use crate::expressions::{is_integer, is_integer_if_any};
 use cs_ast::typed::expression::Expr;
 use cs_ast::typed::statement::{Initial, Stmt, StmtKind};
 
-/// Whether a statement has only expressions of such functions.
+/// Whether a statement has only expressions of integer functions.
 #[cycle(statements)]
 pub fn is_integer_statement(s: &Stmt) -> bool
     ensures { result ≡ definition.is_integer_statement (statement s.now) }
@@ -38,7 +38,7 @@ pub fn is_integer_statement(s: &Stmt) -> bool
     }
 }
 
-// The same of statements one after another.
+// The same for a list of statements.
 #[cycle(statements)]
 fn are_integer_statements(statements: &[Stmt]) -> bool
     ensures { result ≡ definition.are_integer_statements (statement_list statements.now) }
@@ -51,7 +51,7 @@ fn are_integer_statements(statements: &[Stmt]) -> bool
     true
 }
 
-// The same of the test and the last part of a `for`.
+// The same for the test and the last part of a `for`.
 fn are_integers(test: &Option<Expr>, last: &Option<Expr>) -> bool
     ensures { result ≡ (definition.is_integer_if_any (some_typed test.now)
         && definition.is_integer_if_any (some_typed last.now)) }
@@ -65,7 +65,7 @@ fn all_hold(one: bool, other: bool, third: bool) -> bool
     one && other && third
 }
 
-// The same of what a local holds at first: nothing, or a value.
+// The same for what a local holds at first: nothing, or a value.
 fn is_integer_initial(first: &Option<Initial>) -> bool
     ensures { result ≡ definition.is_integer_initial (option_map initial first.now) }
 {

@@ -1,4 +1,4 @@
--- Serves the contract of `write_all_of`: piece after piece, the front of a text that was written grows.
+-- For the contract of `write_all_of`: with each piece, the prefix of the text that was written grows.
 use Rattle.std.proofs.Common.{ℕ, ◌+◌, List, take, drop, append_assoc}
 use Rattle.std.proofs.Math.Seq.{take-add}
 use Rattle.std.specs.Prelude.{Option, Some, None}

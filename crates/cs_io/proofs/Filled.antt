@@ -1,4 +1,4 @@
--- Serves the contract of `MemSource::read`: what lies after the places that were filled stays as it was.
+-- For the contract of `MemSource::read`: the bytes after those that were filled are unchanged.
 use Rattle.std.proofs.Common.{◌≡◌, ℕ, ◌≤◌, List, ◌++◌, length, take, drop, sym, ap, ◌∙◌}
 use Rattle.std.proofs.lemmas.List.{drop-append-le, take-append-drop}
 

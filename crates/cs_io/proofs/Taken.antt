@@ -1,4 +1,4 @@
--- Serves the contract of `read_all`: what was taken in one call and what went in a later one were both at the front.
+-- For the contract of `read_all`: what was taken in one call and then in a later one was together at the front.
 use Rattle.std.proofs.Common.{List, ℕ, ◌++◌, refl, append_assoc}
 use Rattle.std.specs.Prelude.{Option, Some, None}
 use Rattle.std.specs.Io.KnownBytes.{Consumes}

@@ -2,13 +2,13 @@
 use Rattle.std.specs.Prelude.{ℕ, ◌+◌, List, Contains}
 use Rattle.cs_io.specs.Count.{next_count}
 
--- the numbers from 1 of the calls that fail, and how many calls and faults there were
+-- the numbers of the calls that fail, counted from 1, and how many calls and faults there were
 pub record Plan : Type 0 where
   pub fails : List ℕ
   pub calls : ℕ
   pub faults : ℕ
 
--- the number of the next call is listed
+-- the next call is among those that fail
 abbrev pub FailsNext : Plan → Type 0
 FailsNext plan = Contains plan.fails (plan.calls + 1)
 

@@ -1,8 +1,8 @@
--- What contracts see of a source over memory.
+-- A source over memory, as contracts see it.
 use Rattle.std.specs.Prelude.{ℕ, List}
 use Rattle.cs_io.specs.FaultPlan.{Plan}
 
--- the bytes that are left, the most that one call gives, and the calls that fail
+-- the remaining bytes, the most that one call returns, and the calls that fail
 pub record MemSourceState : Type 0 where
   pub left : List ℕ
   pub most : ℕ

@@ -1,4 +1,4 @@
--- What contracts see of a sink over a writer of std.
+-- A sink over a writer of std, as contracts see it.
 use Rattle.std.specs.Prelude.{ℕ}
 
 -- the count of faults, and that of empty takes

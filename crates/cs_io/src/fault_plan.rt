@@ -5,7 +5,7 @@ ghost use Rattle.cs_io.specs.FaultPlan.{FailsNext, after_call, after_fault};
 use crate::traits::Failed;
 use std::marker::Model;
 
-/// The numbers from 1 of the calls that fail, with how many calls and faults there were.
+/// The numbers of the calls that fail, counted from 1, with how many calls and faults there were.
 #[derive(Drop)]
 pub struct FaultPlan {
     fails: Vec<u64>,
@@ -35,8 +35,8 @@ impl FaultPlan {
         }
     }
 
-    /// Counts a call, which fails exactly where its number is listed. The list names no call past the
-    /// 2^64 - 1 that are counted, so these don't fail.
+    /// Counts a call, which fails exactly if its number is listed. No call after the first 2^64 - 1 is counted or listed, so later calls don't
+    /// fail.
     pub fn call(&mut self) -> Result<(), Failed>
         ensures listed { IsErr result ↔ FailsNext self.old }
         ensures ok { OnOk result (self.new ≡ after_call self.old) }

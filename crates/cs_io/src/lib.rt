@@ -1,4 +1,4 @@
-//! Bytes in and out: a source that is read to its end, a sink that takes a whole text, and what stands for them.
+//! Input and output of bytes: a source that is read to its end, a sink that takes a whole text, and what represents them in tests.
 #![tactic(auto)]
 
 mod fault_plan;

@@ -1,4 +1,4 @@
-//! A sink over memory whose calls can be short and can fail.
+//! A sink over memory whose calls can take less than they are given, and can fail.
 ghost use Rattle.std.specs.Prelude.{◌≡◌, ◌-◌, ◌<◌, ◌↔◌, ◌++◌, [], length, take, min, IsErr, IfOk, OnErr, Some};
 ghost use Rattle.cs_io.specs.Count.{CountsUp, empty_takes_after};
 ghost use Rattle.cs_io.specs.FaultPlan.{FailsNext, after_call, after_fault};
@@ -9,8 +9,7 @@ use crate::traits::{Failed, Sink};
 use std::alloc::{AllocError, Global};
 use std::marker::Model;
 
-/// Takes at most `most` bytes a call until it is full, and fails at the calls
-/// that are listed.
+/// Takes at most `most` bytes in each call until it is full, and fails at the listed calls.
 #[derive(Drop)]
 pub struct MemSink {
     inner: SureSink,
@@ -36,7 +35,7 @@ impl Model for MemSink {
 }
 
 impl MemSink {
-    /// Reserves the memory for `capacity` bytes. No later call takes any. The calls whose number from 1 is in
+    /// Makes a sink, and reserves the memory for `capacity` bytes; later calls allocate none. The calls whose numbers, counted from 1, are in
     /// `fails` fail.
     pub fn new(
         alloc: Global,
@@ -60,7 +59,7 @@ impl MemSink {
         })
     }
 
-    /// The bytes written, in order.
+    /// Returns the bytes written, in order.
     pub fn written(&self) -> &[u8]
         ensures { result.now ≡ self.now.written }
     {

@@ -1,4 +1,4 @@
-//! A source over memory whose calls can be short and can fail.
+//! A source over memory whose calls can return less than they could, and can fail.
 ghost use Rattle.std.specs.Prelude.{◌≡◌, ◌<◌, ◌↔◌, ◌++◌, [], length, take, drop, min, IsErr, IfOk, OnErr, Some};
 ghost use Rattle.cs_io.specs.Count.{CountsUp};
 ghost use Rattle.cs_io.specs.FaultPlan.{FailsNext, after_call, after_fault};
@@ -8,7 +8,7 @@ use crate::sure_source::SureSource;
 use crate::traits::{Failed, Source};
 use std::marker::Model;
 
-/// Gives the bytes of a list, at most `most` a call, and fails at the calls that are listed.
+/// Returns the bytes of a list, at most `most` in each call, and fails at the listed calls.
 #[derive(Drop)]
 pub struct MemSource {
     inner: SureSource,
@@ -28,7 +28,7 @@ impl Model for MemSource {
 }
 
 impl MemSource {
-    /// The calls whose number from 1 is in `fails` fail.
+    /// Makes a source. The calls whose numbers, counted from 1, are in `fails` fail.
     pub fn new(bytes: Vec<u8>, most: usize, fails: Vec<u64>) -> Self
         requires { 0 < most }
         ensures { result ≡ record {

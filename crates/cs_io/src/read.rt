@@ -1,4 +1,4 @@
-//! All bytes of a source.
+//! Reads all bytes of a source.
 ghost use Rattle.std.specs.Prelude.{◌≡◌, ◌+◌, ◌<◌, ◌≤◌, ◌++◌, length, take, vec_len, IfOk, OnOk, OnErr, IfSome};
 ghost use Rattle.std.specs.Io.KnownBytes.{Consumes, IsAtEnd};
 ghost use Rattle.cs_io.specs.Count.{Rose};
@@ -11,7 +11,7 @@ use std::alloc::{AllocError, Global};
 use std::error::Error;
 use std::fmt;
 
-/// How many bytes one call of a source is asked for.
+/// The size of the buffer: the most bytes that one call of a source can return.
 const BUFFER: usize = 4096;
 
 /// Why a source wasn't read to its end.
@@ -19,9 +19,9 @@ const BUFFER: usize = 4096;
 pub enum ReadRefusal {
     /// A read failed.
     ReadFault,
-    /// More than `MOST_BYTES` bytes came.
+    /// There are more than `MOST_BYTES` bytes.
     TooLong,
-    /// No memory was left.
+    /// Memory ran out.
     Memory,
 }
 
@@ -53,7 +53,7 @@ impl From<AllocError> for ReadRefusal {
     }
 }
 
-/// Reads once into `buffer`, and adds what came to `bytes`. An answer of 0 is the end.
+/// Reads once into `buffer`, and appends what was read to `bytes`. A result of 0 is the end.
 fn read_more<S: Source>(
     source: &mut S,
     buffer: &mut [u8],
@@ -83,7 +83,7 @@ fn read_more<S: Source>(
     Ok(count)
 }
 
-/// All bytes that the source has left, in order, where they are at most `MOST_BYTES`.
+/// Returns all remaining bytes of the source, in order, if they are at most `MOST_BYTES`.
 pub fn read_all<S: Source>(alloc: Global, source: &mut S) -> Result<Vec<u8>, ReadRefusal>
     ensures all { IfOk result (λ bytes.
         IfSome (S.left source.old) (λ left. bytes.items ≡ left)) }
@@ -91,8 +91,7 @@ pub fn read_all<S: Source>(alloc: Global, source: &mut S) -> Result<Vec<u8>, Rea
     ensures limit { IfOk result (λ bytes. vec_len bytes ≤ MOST_BYTES) }
     ensures err { OnErr result (LosesFront (S.left source.old) (S.left source.new)) }
 
-    // A source is refused as too long only where more than the limit were left, and as faulty only
-    // where its count rose.
+    // A source is refused as too long only if more than the limit remained, and as faulty only if its count increased.
     ensures too_long { result ≡ Err ReadRefusal.TooLong
         → IfSome (S.left source.old) (λ left. MOST_BYTES < length left) }
     ensures fault { result ≡ Err ReadRefusal.ReadFault

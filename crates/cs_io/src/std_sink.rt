@@ -1,4 +1,4 @@
-//! A sink over a writer of std, of whose bytes nothing is claimed.
+//! A sink over a writer of std; nothing is proved about its bytes.
 ghost use Rattle.std.specs.Prelude.{◌≡◌, ◌<◌, ◌≤◌, length, IfOk, OnErr, None};
 ghost use Rattle.cs_io.specs.Count.{CountsUp, empty_takes_after, next_count};
 
@@ -6,8 +6,7 @@ use crate::traits::{Failed, Sink};
 use std::io::Write;
 use std::marker::Model;
 
-/// Writes to `inner`, and counts its errors and the calls that took no byte. Contracts see these counts
-/// alone.
+/// Writes to `inner`, and counts its errors and the calls that took no byte. Contracts see only these counts.
 #[derive(Drop)]
 pub struct StdSink<W: Write> {
     inner: W,

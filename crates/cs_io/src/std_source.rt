@@ -1,4 +1,4 @@
-//! A source over a reader of std, of whose bytes nothing is claimed.
+//! A source over a reader of std; nothing is proved about its bytes.
 ghost use Rattle.std.specs.Prelude.{◌≡◌, ◌<◌, ◌≤◌, length, IfOk, OnOk, OnErr, None};
 ghost use Rattle.cs_io.specs.Count.{CountsUp, next_count};
 
@@ -6,7 +6,7 @@ use crate::traits::{Failed, Source};
 use std::io::Read;
 use std::marker::Model;
 
-/// Reads from `inner`, and counts its errors. Contracts see that count alone.
+/// Reads from `inner`, and counts its errors. Contracts see only that count.
 #[derive(Drop)]
 pub struct StdSource<R: Read> {
     inner: R,

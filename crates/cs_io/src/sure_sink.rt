@@ -26,7 +26,7 @@ impl Model for SureSink {
 }
 
 impl SureSink {
-    /// Reserves the memory for `capacity` bytes. No later call takes any.
+    /// Makes a sink, and reserves the memory for `capacity` bytes; later calls allocate none.
     pub fn new(alloc: Global, capacity: usize) -> Result<Self, AllocError>
         ensures { IfOk result (λ sink.
             sink ≡ record { written = []; capacity = capacity; empty_takes = 0 }) }
@@ -38,7 +38,7 @@ impl SureSink {
         })
     }
 
-    /// The bytes written, in order.
+    /// Returns the bytes written, in order.
     pub fn written(&self) -> &[u8]
         ensures { result.now ≡ self.now.written }
     {

@@ -4,7 +4,7 @@ ghost use Rattle.std.specs.Prelude.{◌≡◌, ◌<◌, ◌++◌, length, take, 
 use crate::traits::{Failed, Source};
 use std::marker::Model;
 
-/// Gives the bytes of a list, as many a call as it is asked for. Contracts see the bytes that are left.
+/// Returns the bytes of a list, as many in each call as fit. Contracts see the remaining bytes.
 #[derive(Drop)]
 pub struct SureSource {
     bytes: Vec<u8>,

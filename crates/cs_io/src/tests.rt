@@ -1,4 +1,4 @@
-//! What no clause says: that calls succeed with ample memory, the counts of calls, and the edge to std.
+//! Tests of what no clause states: that calls succeed with enough memory, the counts of calls, and sources and sinks over std.
 ghost use Rattle.std.specs.Prelude.{◌≡◌, ◌≢◌, [], IfOk};
 
 use crate::{
@@ -11,7 +11,7 @@ use std::io;
 use std::io::{Cursor, ErrorKind, Read, Write};
 use std::test::Fail;
 
-/// A reader and a writer that always fails.
+/// A reader and writer that always fails.
 #[derive(Drop)]
 struct Broken;
 
@@ -31,7 +31,7 @@ impl Write for Broken {
     }
 }
 
-/// What callers learn of a source that never fails.
+/// What callers know of a source that never fails.
 fn read_surely(alloc: Global, bytes: Vec<u8>) -> Result<Vec<u8>, ReadRefusal>
     ensures same { IfOk result (λ read. read.items ≡ bytes.items) }
     ensures no_fault { result ≢ Err ReadRefusal.ReadFault }
@@ -39,7 +39,7 @@ fn read_surely(alloc: Global, bytes: Vec<u8>) -> Result<Vec<u8>, ReadRefusal>
     read_all(alloc, &mut SureSource::new(bytes))
 }
 
-/// What callers learn of a source over memory with no call that fails.
+/// What callers know of a source over memory if none of its calls fails.
 fn read_once(source: &mut MemSource, into: &mut [u8; 8]) -> usize
     requires { source.old.plan.fails ≡ [] }
 {
@@ -50,7 +50,7 @@ fn read_once(source: &mut MemSource, into: &mut [u8; 8]) -> usize
 fn reads_through_short_calls_up_to_a_fault(rt: HostRuntime) -> Result<(), Fail> {
     let alloc = rt.alloc();
     let text = b"hello".as_slice();
-    // The most that a call gives, the number of the call that fails, and whether all is read.
+    // The most that a call returns, the number of the call that fails, and whether everything is read.
     for (most, fail, whole) in [
         (1, 0, true),
         (2, 1, false),

@@ -1,4 +1,4 @@
-//! Where bytes come from and where they go.
+//! Sources and sinks of bytes.
 ghost use Rattle.std.specs.Prelude.{◌≡◌, ℕ, ◌<◌, ◌≤◌, List, length, take, Option, IfOk, OnErr};
 ghost use Rattle.std.specs.Io.KnownBytes.{Appends, Consumes, IsAtEnd, Keeps};
 ghost use Rattle.cs_io.specs.Count.{CountsUp, Rose};
@@ -18,15 +18,15 @@ impl fmt::Display for Failed {
 
 impl Error for Failed {}
 
-/// Gives bytes, in order, until none is left.
+/// Returns bytes, in order, until none remains.
 pub trait Source {
-    // The bytes that are left, or `None` where the source doesn't tell them: nothing is claimed of it then.
+    // The remaining bytes, or `None` if the source doesn't state them; then nothing is claimed of them.
     ghost left: { Self → Option (List ℕ) };
 
-    // How many calls failed. The count stays at its last value, 2^64 - 1.
+    // How many calls failed. The count doesn't exceed its last value, 2^64 - 1.
     ghost faults: { Self → ℕ };
 
-    /// Fills the first places of `into`, and answers how many. An answer of 0 is the end.
+    /// Fills the first bytes of `into`, and returns how many. A result of 0 is the end.
     fn read(&mut self, into: &mut [u8]) -> Result<usize, Failed>
         requires nonempty { 0 < length into.old }
         ensures within { IfOk result (λ k. k ≤ length into.new) }
@@ -35,23 +35,23 @@ pub trait Source {
         ensures end { result ≡ Ok 0 → IsAtEnd (left self.new) }
         ensures takes_nothing { OnErr result (Keeps (left self.old) (left self.new)) }
 
-        // A call fails only where the count rose.
+        // A call fails only if the count increases.
         ensures fault { OnErr result (Rose (faults self.old) (faults self.new)) }
         ensures faults { CountsUp (faults self.old) (faults self.new) };
 }
 
 /// Takes bytes, in order.
 pub trait Sink {
-    // The bytes written, or `None` where the sink doesn't tell them: nothing is claimed of it then.
+    // The bytes written, or `None` if the sink doesn't state them; then nothing is claimed of them.
     ghost written: { Self → Option (List ℕ) };
 
-    // How many calls failed. The count stays at its last value, 2^64 - 1.
+    // How many calls failed. The count doesn't exceed its last value, 2^64 - 1.
     ghost faults: { Self → ℕ };
 
-    // How many calls took no byte and didn't fail. The count stays at its last value, 2^64 - 1.
+    // How many calls took no byte and didn't fail. The count doesn't exceed its last value, 2^64 - 1.
     ghost empty_takes: { Self → ℕ };
 
-    /// Takes the first bytes of `piece`, and answers how many.
+    /// Takes the first bytes of `piece`, and returns how many.
     fn write(&mut self, piece: &[u8]) -> Result<usize, Failed>
         requires nonempty { 0 < length piece.now }
         ensures within { IfOk result (λ k. k ≤ length piece.now) }
@@ -59,7 +59,7 @@ pub trait Sink {
             Appends (written self.old) (written self.new) (take k piece.now)) }
         ensures appends_nothing { OnErr result (Keeps (written self.old) (written self.new)) }
 
-        // A call fails, or takes no byte, only where that count rose.
+        // A call fails, or takes no byte, only if that count increases.
         ensures fault { OnErr result (Rose (faults self.old) (faults self.new)) }
         ensures empty_take { result ≡ Ok 0
             → Rose (empty_takes self.old) (empty_takes self.new) }

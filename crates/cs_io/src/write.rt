@@ -1,4 +1,4 @@
-//! A whole text into a sink.
+//! Writes a whole text into a sink.
 ghost use Rattle.std.specs.Prelude.{◌≤◌, ◌⊎◌, OnOk, OnErr};
 ghost use Rattle.std.specs.Io.KnownBytes.{Appends};
 ghost use Rattle.cs_io.specs.Count.{Rose};
@@ -8,7 +8,7 @@ use crate::traits::{Failed, Sink};
 use std::error::Error;
 use std::fmt;
 
-/// Why a text wasn't written whole.
+/// Why a text wasn't written completely.
 #[derive(Clone, Copy, Debug, PartialEq, Eq)]
 pub enum WriteRefusal {
     /// A write failed, or took no byte.
@@ -31,12 +31,12 @@ impl From<Failed> for WriteRefusal {
     }
 }
 
-/// Writes the whole text, in as many calls as the sink wants. It takes no memory.
+/// Writes the whole text, in as many calls as the sink needs. It allocates no memory.
 pub fn write_all_of<K: Sink>(sink: &mut K, text: &[u8]) -> Result<(), WriteRefusal>
     ensures all { OnOk result (Appends (K.written sink.old) (K.written sink.new) text.now) }
     ensures part { OnErr result (AppendsPart (K.written sink.old) (K.written sink.new) text.now) }
 
-    // It gives up only where a call failed or took nothing.
+    // It gives up only if a call failed or took nothing.
     ensures fault { OnErr result (Rose (K.faults sink.old) (K.faults sink.new) ⊎
         Rose (K.empty_takes sink.old) (K.empty_takes sink.new)) }
     ensures never_fall { (K.faults sink.old ≤ K.faults sink.new)

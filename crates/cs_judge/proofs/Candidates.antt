@@ -1,4 +1,4 @@
--- Candidates by their places, and what holds of each of them.
+-- Candidates by their indices, and what holds of each of them.
 use Rattle.std.proofs.Common.{◌≡◌, ◌≢◌, ℕ, zero, suc, ◌+◌, ◌<◌, ◌≤◌, ℤ, false, IsTrue, List, [], ◌∷◌, length, Option, Some, None, IfSome, is_some, slice_get}
 use Rattle.std.proofs.Common.{slice_index_or, refl, subst, below_more}
 use Rattle.std.proofs.Common.{arith}

@@ -1,4 +1,4 @@
--- What the judge finds at another run makes it a partner.
+-- What the judge finds in another run makes it a partner.
 use Rattle.std.proofs.Common.{◌≡◌, ℕ, zero, suc, ◌<◌, List, [], ◌∷◌, length, Option, Some, None, IfSome, slice_get, sym, arith}
 use Rattle.cs_findings.specs.Operands.{with_operands}
 use Rattle.cs_findings.specs.Grounds.{Pair}

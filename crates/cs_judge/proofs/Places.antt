@@ -1,4 +1,4 @@
--- Items of lists by their place.
+-- Items of lists by their index.
 use Rattle.std.proofs.Common.{◌≡◌, ℕ, zero, suc, ◌<◌, List, [], ◌∷◌, ◌++◌, length, take, Some, slice_get, slice_index_or, ◌⊎◌, inl}
 use Rattle.std.proofs.Common.{inr, refl, sym, ap, ◌∙◌, subst, arith}
 use Rattle.cs_events.specs.declared.event.Event.{Event}

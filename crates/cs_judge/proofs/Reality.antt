@@ -1,4 +1,4 @@
--- A pool that passes the judge has real guesses alone: by induction on the event.
+-- A pool that passes the judge has only real guesses: by induction on the event.
 use Rattle.std.proofs.Common.{◌≡◌, ℕ, zero, suc, IsTrue, List, length, take, Some, slice_get}
 use Rattle.std.proofs.Common.{◌⊎◌, inl, inr, refl, sym, ap, ◌∙◌, subst, arith}
 use Rattle.std.proofs.lemmas.List.{length-take}

@@ -1,4 +1,4 @@
--- The judge's notes of a guess, and what proves it.
+-- The judge's notes about a guess, and what proves it.
 use Rattle.std.proofs.Common.{◌≡◌, ◌≢◌, ◌⊎◌, inl, inr, ℕ, suc, ◌<◌, ◌≤◌, ℤ, IsTrue, List, length, map, Option, None, Some, option_map, slice_get, refl, sym, ap}
 use Rattle.std.proofs.Common.{◌∙◌, subst}
 use Rattle.std.proofs.lemmas.Option.{slice_get-map, slice_get_within}

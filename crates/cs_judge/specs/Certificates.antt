@@ -18,14 +18,14 @@ use Rattle.cs_judge.specs.declared.pool.Partners.{Partners}
 use Rattle.cs_judge.specs.declared.pool.Replay.{Replay}
 use Rattle.cs_judge.specs.declared.pool.Kept.TheVariants.{Operates}
 
--- a replay comes to a guessed operation
+-- a replay reaches a guessed operation
 pub record IsSpot (mine : Replay) (guess : Guess) (passed : ℕ) (at : Place) (operation : Operation) : Type 0 where
   pub number : guess.event ≡ suc passed
   pub enough : passed ≤ length mine.events.items
   pub kept : slice_get mine.kept.items passed ≡ Some (Operates at operation)
 
 module _ (pool : List Replay) (mine : Replay) (guess : Guess) (passed : ℕ) (at : Place) (operation : Operation) where
-  -- the replay with this number comes to the same operation through the same events, with these operands
+  -- the replay with this number reaches the same operation through the same events, with these operands
   pub record IsMet (number : ℕ) (pair : Pair) : Type 0 where
     pub other : Replay
     pub there : slice_get pool number ≡ Some other
@@ -46,7 +46,7 @@ module _ (pool : List Replay) (mine : Replay) (guess : Guess) (passed : ℕ) (at
     pub met : IsMet number pair
     pub differs : pair.1 ≢ (operands operation).1
 
--- the guess with this number among those of a replay passes the judge
+-- the guess at this place among those of a replay passes the judge
 pub record IsJudged (model : DataModel) (pool : List Replay) (mine : Replay) (place : ℕ) (guess : Guess) : Type 0 where
   pub passed : ℕ
   pub at : Place
@@ -61,7 +61,7 @@ pub record IsJudged (model : DataModel) (pool : List Replay) (mine : Replay) (pl
   pub left : IsTrue (fits_left operation guess.number) ⊎ IsLeftMet pool mine guess passed at operation
   pub right : IsTrue (fits_right operation guess.number) ⊎ IsRightMet pool mine guess passed at operation
 
--- each guess of a replay passes the judge, and of each replay
+-- each guess of a replay passes the judge, or each guess of each replay
 abbrev pub IsReplayJudged : DataModel → List Replay → Replay → Type 0
 IsReplayJudged model pool mine = (place : ℕ) (guess : Guess) → slice_get mine.run.guesses.items place ≡ Some guess
     → IsJudged model pool mine place guess
@@ -69,14 +69,14 @@ IsReplayJudged model pool mine = (place : ℕ) (guess : Guess) → slice_get min
 abbrev pub IsCertificate : DataModel → List Replay → Type 0
 IsCertificate model pool = (number : ℕ) (mine : Replay) → slice_get pool number ≡ Some mine → IsReplayJudged model pool mine
 
--- the judge's notes of a guess: its place among a replay's guesses, and the operation that it is guessed at
+-- the judge's notes about a guess: its place among a replay's guesses, and the guessed operation
 pub record IsSpotAt (mine : Replay) (place : ℕ) (spot : Spot) : Type 0 where
   pub listed : slice_get mine.run.guesses.items place ≡ Some spot.guess
   pub same : spot.place ≡ place
   pub before : AreBefore place spot.guess.event mine.run.guesses.items
   pub comes : IsSpot mine spot.guess spot.passed spot.at spot.operation
 
--- the notes are right, and it is known of so many events that the replay passes them as the shown run does
+-- the notes are right, and the replay is known to share this many first events with the shown run
 pub record IsReady (shown : List Event) (mine : Replay) (known : ℕ) (spot : Spot) : Type 0 where
   pub share : AgreeTo known mine.events.items shown
   pub notes : IsSpotAt mine spot.place spot
@@ -85,7 +85,7 @@ pub record IsReady (shown : List Event) (mine : Replay) (known : ℕ) (spot : Sp
 abbrev pub IsSeated : Judge → Type 0
 IsSeated judge = AreShares judge.shown.now judge.pool.now judge.shares.now
 
--- another replay lists guesses at just the events before the guess at which this one does, and passes the same events before it
+-- another replay has guesses at exactly the events before this guess at which this replay has some, and passes the same events before it
 pub record ComesAlong (mine : Replay) (spot : Spot) (other : Replay) : Type 0 where
   pub listed : AreAtEvents spot.place mine.run.guesses.items other.run.guesses.items
   pub enough : spot.passed ≤ length other.events.items

@@ -11,7 +11,7 @@ use Rattle.cs_compared.specs.Computable.{IsComputable}
 use Rattle.cs_compared.specs.Wide.{IsSmall, AreSmall}
 use Rattle.cs_judge.specs.declared.choosing.Candidate.{Candidate}
 
--- there is a ground, and it is computed
+-- there is a ground, and the judge can compute it
 pub record IsGround (model : DataModel) (operation : Operation) (pairs : Others Pair) : Type 0 where
   pub computable : IsComputable operation
   pub small : IsSmall (operands operation)
@@ -24,21 +24,21 @@ module _ (candidates : List Candidate) where
     pub place : ℕ
     pub there : slice_get candidates place ≡ Some (record { number = number; pair = pair })
 
-  -- the numbers are those of candidates that give a ground
+  -- the numbers are those of candidates that together are a ground
   pub record GivesGround (model : DataModel) (operation : Operation) (numbers : Others ℕ) : Type 0 where
     pub pairs : Others Pair
     pub are : AllRelated IsCandidate numbers pairs
     pub small : AreSmall pairs
     pub has_reason : IsTrue (has_ground model operation pairs)
 
-  -- the number is that of a candidate that gives a ground together with a run of these operands
+  -- the number is that of a candidate that is a ground together with a run of these operands
   pub record GivesGroundWith (model : DataModel) (operation : Operation) (first : Pair) (number : ℕ) : Type 0 where
     pub second : Pair
     pub candidate : IsCandidate number second
     pub small : AreSmall (Two first second)
     pub has_reason : IsTrue (has_ground model operation (Two first second))
 
-  -- a candidate is named that has another operand
+  -- a candidate is named whose operand differs
   pub record NamesOther (operation : Operation) (operand : Pair → ℤ) (named : Option ℕ) : Type 0 where
     pub number : ℕ
     pub is : named ≡ Some number

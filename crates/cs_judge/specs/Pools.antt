@@ -22,7 +22,7 @@ pub record IsRunAt (pool : List Replay) (number : ℕ) (run : ProgramRun) : Type
   pub same : run_of replay.run ≡ run
 
 module _ (program : TypedProgram) (entry : ℕ) (budgets : RunBudgets) where
-  -- what is kept is so: where an operation is kept, the run passes the events before it first, and then it is pending
+  -- what is kept is true: if an operation is kept at an index, the run first passes the events before it, and then this operation is pending
   abbrev pub IsKept : Replay → Type 0
   IsKept replay = (passed : ℕ) (at : Place) (operation : Operation) → slice_get replay.kept.items passed ≡ Some (kept.Operates at operation)
       → passed ≤ length replay.events.items
@@ -31,7 +31,7 @@ module _ (program : TypedProgram) (entry : ℕ) (budgets : RunBudgets) where
   abbrev pub AreKept : List Replay → Type 0
   AreKept pool = (number : ℕ) (replay : Replay) → slice_get pool number ≡ Some replay → IsKept replay
 
-  -- the guess with this number among those of a replay is real with its partners, at the place of the operation that was kept there
+  -- the guess at this place among those of a replay is real with its partners, at the position of the operation that was kept there
   pub record IsRealWithPartners (pool : List Replay) (replay : Replay) (place : ℕ) (guess : Guess) : Type 0 where
     pub at : Place
     pub passed : ℕ
@@ -49,7 +49,7 @@ module _ (program : TypedProgram) (entry : ℕ) (budgets : RunBudgets) where
     pub all : AreReal program entry budgets (run_of replay.run)
     pub each : (place : ℕ) (guess : Guess) → slice_get replay.run.guesses.items place ≡ Some guess → IsRealWithPartners pool replay place guess
 
--- all guesses of the pool are real, in whatever program of this data model the pool is kept
+-- all guesses of the pool are real, in every program of this data model for which the pool is kept
 abbrev pub ShowsReal : DataModel → List Replay → Type 0
 ShowsReal model pool = (program : TypedProgram) (entry : ℕ) (budgets : RunBudgets) → program.model ≡ model → AreKept program entry budgets pool
     → (number : ℕ) (replay : Replay) → slice_get pool number ≡ Some replay → IsReplayReal program entry budgets pool replay

@@ -1,4 +1,4 @@
--- What convinces the judge: partners in the pool that prove a guess, by what was replayed of them.
+-- What convinces the judge: partners in the pool that prove a guess, according to their replays.
 use Rattle.std.specs.Prelude.{◌≡◌, ◌≢◌, ◌⊎◌, ℕ, suc, ◌<◌, ◌≤◌, ℤ, IsTrue, List, length, map, Option, Some, slice_get, Vec}
 use Rattle.std.specs.declared.alloc.Global.{Global}
 use Rattle.cs_types.specs.declared.data_model.DataModel.{DataModel}
@@ -20,7 +20,7 @@ use Rattle.cs_judge.specs.declared.pool.Kept.TheVariants.{Operates}
 use Rattle.cs_judge.specs.declared.pool.Partners.{Partners}
 use Rattle.cs_judge.specs.declared.pool.Replay.{Replay}
 
--- a replay but for its inputs and its partners
+-- a replay without its inputs and its partners
 pub record Bare : Type 0 where
   pub guesses : List Guess
   pub events : List Event
@@ -30,7 +30,7 @@ abbrev pub bare : Replay → Bare
 bare replay = record { guesses = replay.run.guesses.items; events = replay.events.items; kept = replay.kept.items }
 
 module _ (pool : List Bare) (mine : Bare) (place : ℕ) where
-  -- the guess with this number comes after so many events, where this operation was pending
+  -- the guess at this place comes after this many events, at which this operation was pending
   pub record IsGuessedAt (guess : Guess) (passed : ℕ) (at : Place) (operation : Operation) : Type 0 where
     pub listed : slice_get mine.guesses place ≡ Some guess
     pub number : guess.event ≡ suc passed
@@ -38,8 +38,8 @@ module _ (pool : List Bare) (mine : Bare) (place : ℕ) where
     pub enough : passed ≤ length mine.events
     pub kept : slice_get mine.kept passed ≡ Some (Operates at operation)
 
-  -- the replay with a number lists guesses at just the events of those before, passes the same events, and the same operation is pending then, with these
-  -- operands
+  -- the replay with a number has guesses at exactly the events of those before this one and passes the same events, and then the same operation is pending,
+  -- with these operands
   pub record IsPartner (passed : ℕ) (at : Place) (operation : Operation) (number : ℕ) (both : Pair) : Type 0 where
     pub other : Bare
     pub there : slice_get pool number ≡ Some other
@@ -49,7 +49,7 @@ module _ (pool : List Bare) (mine : Bare) (place : ℕ) where
     pub kept : slice_get other.kept passed ≡ Some (Operates at (with_operands operation both))
     pub same : operands (with_operands operation both) ≡ both
 
-  -- a partner has another operand
+  -- a partner whose operand differs
   pub record HasOther (passed : ℕ) (at : Place) (operation : Operation) (operand : Pair → ℤ) (named : Option ℕ) : Type 0 where
     pub number : ℕ
     pub is : named ≡ Some number
@@ -74,7 +74,7 @@ module _ (pool : List Bare) (mine : Bare) (place : ℕ) where
     pub left : IsTrue (fits_left operation guess.number) ⊎ HasOther passed at operation (λ pair. pair.0) partners.left
     pub right : IsTrue (fits_right operation guess.number) ⊎ HasOther passed at operation (λ pair. pair.1) partners.right
 
-  -- some partners do
+  -- some partners prove the guess
   abbrev pub HasProof : DataModel → Type 0
   HasProof model = (partners : Partners) × ProvesGuess model partners
 
@@ -84,18 +84,18 @@ pub record IsProved (model : DataModel) (pool : List Bare) (mine : Replay) (plac
   pub named : slice_get mine.partners.items place ≡ Some partners
   pub proves : ProvesGuess pool (bare mine) place model partners
 
--- all guesses of the pool are proved so
+-- all guesses of the pool are proved by their named partners
 abbrev pub AreProved : DataModel → List Replay → Type 0
 AreProved model pool = (number : ℕ) (mine : Replay) (place : ℕ) → slice_get pool number ≡ Some mine → place < length mine.run.guesses.items
     → IsProved model (map bare pool) mine place
 
--- partners are found for each guess of a replay that the pool has a proof for
+-- partners that prove a guess are found for each guess of a replay for which the pool has some
 pub record FindsProofs (model : DataModel) (pool : List Bare) (mine : Bare) (found : List Partners) : Type 0 where
   pub count : length found ≡ length mine.guesses
   pub each : (place : ℕ) (partners : Partners) → slice_get found place ≡ Some partners → HasProof pool mine place model
       → ProvesGuess pool mine place model partners
 
--- and so for each replay of the pool
+-- the same for each replay of the pool
 pub record FindAllProofs (model : DataModel) (pool : List Replay) (found : List (Vec Partners Global)) : Type 0 where
   pub count : length found ≡ length pool
   pub each : (number : ℕ) (mine : Replay) (row : Vec Partners Global) → slice_get pool number ≡ Some mine → slice_get found number ≡ Some row

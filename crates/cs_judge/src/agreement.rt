@@ -1,4 +1,4 @@
-//! How many events the replays of a pool pass as the shown run does.
+//! How many first events the replays of a pool share with the shown run.
 ghost use Rattle.std.specs.Prelude.{IfOk};
 ghost use Rattle.cs_judge.specs.Agreement.{AreShares};
 
@@ -7,7 +7,7 @@ use cs_compared::common;
 use cs_events::Event;
 use std::alloc::{AllocError, Global};
 
-/// For each replay how many events it surely passes as the shown run does.
+/// Returns for each replay a number of first events that it shares with the shown run.
 pub fn shares(alloc: Global, pool: &[Replay], shown: &[Event]) -> Result<Vec<usize>, AllocError>
     ensures { IfOk result (λ shares. AreShares shown.now pool.now shares.items) }
 {

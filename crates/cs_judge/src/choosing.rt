@@ -1,4 +1,4 @@
-//! Partners for the guesses of a pool: some that give a ground, wherever some do.
+//! Chooses partners for the guesses of a pool: some that are a ground, if the pool has any.
 ghost use Rattle.std.specs.Prelude.{◌≡◌, ◌≢◌, ◌↔◌, ℕ, IsTrue, IfSome, is_some};
 ghost use Rattle.cs_results.specs.declared.run.Others as several;
 ghost use Rattle.cs_results.specs.declared.run.Others.TheVariants.{One, Two};
@@ -14,14 +14,15 @@ use cs_events::Operation;
 use cs_findings::Others;
 use cs_types::DataModel;
 
-/// A run of the pool that comes to a guessed operation, with its operands there.
+/// A run of the pool that reaches a guessed operation, with its operands there.
 #[derive(Clone, Copy)]
 pub struct Candidate {
     pub number: usize,
     pub pair: (i128, i128),
 }
 
-/// The first candidate that gives a ground alone, or else the first two that do together, with the first that have other operands.
+/// Returns the first candidate that is a ground by itself, or else the first two that are one together; and the first candidates with
+/// another left and another right operand.
 pub fn chosen(model: DataModel, operation: &Operation, candidates: &[Candidate]) -> Partners
     ensures others { (numbers : several.Others ℕ) (pairs : several.Others Pair)
         → AllRelated (IsCandidate candidates.now) numbers pairs
@@ -93,7 +94,7 @@ fn two_together(
     None
 }
 
-// The first candidate with which another one gives a ground. Which of the two stands first makes no difference to a ground.
+// Returns the first candidate that is a ground together with another one. The order of the two makes no difference to a ground.
 fn second_for(
     model: DataModel,
     operation: &Operation,

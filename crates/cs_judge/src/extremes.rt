@@ -1,11 +1,11 @@
-//! The least and the greatest numbers that two or three runs have.
+//! The least and the greatest operands of two or three runs.
 ghost use Rattle.std.specs.Prelude.{◌≡◌, ℕ, ◌≤◌, ◌^◌, unsigned_abs};
 ghost use Rattle.cs_findings.specs.Grounds as grounds;
 ghost use Rattle.cs_compared.specs.Wide.{IsSmall, AreSmall};
 
 use cs_findings::Others;
 
-/// Whether left minus right differs in some two of the runs, from at most 0 to at least 0.
+/// Whether left minus right differs between two of the runs, from at most 0 to at least 0.
 pub fn meets_zero(mine: (i128, i128), others: Others<(i128, i128)>) -> bool
     requires mine { IsSmall mine }
     requires others { AreSmall others }
@@ -45,7 +45,7 @@ fn gap(pair: (i128, i128)) -> i128
     pair.0 - pair.1
 }
 
-/// The least left operand.
+/// Returns the least left operand.
 pub fn least_left(mine: (i128, i128), others: Others<(i128, i128)>) -> i128
     requires mine { IsSmall mine }
     requires others { AreSmall others }
@@ -58,7 +58,7 @@ pub fn least_left(mine: (i128, i128), others: Others<(i128, i128)>) -> i128
     }
 }
 
-/// The least right operand.
+/// Returns the least right operand.
 pub fn least_right(mine: (i128, i128), others: Others<(i128, i128)>) -> i128
     requires mine { IsSmall mine }
     requires others { AreSmall others }
@@ -71,7 +71,7 @@ pub fn least_right(mine: (i128, i128), others: Others<(i128, i128)>) -> i128
     }
 }
 
-/// The greatest left operand.
+/// Returns the greatest left operand.
 pub fn greatest_left(mine: (i128, i128), others: Others<(i128, i128)>) -> i128
     requires mine { IsSmall mine }
     requires others { AreSmall others }
@@ -84,7 +84,7 @@ pub fn greatest_left(mine: (i128, i128), others: Others<(i128, i128)>) -> i128
     }
 }
 
-/// The greatest right operand.
+/// Returns the greatest right operand.
 pub fn greatest_right(mine: (i128, i128), others: Others<(i128, i128)>) -> i128
     requires mine { IsSmall mine }
     requires others { AreSmall others }

@@ -20,7 +20,7 @@ use cs_events::Operation;
 use cs_findings::Others;
 use cs_types::{DataModel, IntType, multiply, product_bound, quotient};
 
-/// Whether two or three runs give a ground to guess an operation's result. Operands that no run of a program has may be refused.
+/// Whether two or three runs are a ground to guess an operation's result. Operands that occur in no run of a program may be refused.
 pub fn has_ground(model: DataModel, operation: &Operation, others: Others<(i128, i128)>) -> bool
     ensures real { IsTrue result → IsTrue (grounds.has_ground model operation.now others) }
     ensures small { IsTrue result → AreSmall others }
@@ -147,7 +147,7 @@ fn product_ground(model: DataModel, mine: (i128, i128), others: Others<(i128, i1
         && may_be_failed(model, mine, others)
 }
 
-// Whether the product of the least numbers meets the order test of `calloc`.
+// Whether the product of the least numbers passes the order test of `calloc`.
 fn may_be_met(model: DataModel, mine: (i128, i128), others: Others<(i128, i128)>) -> bool
     requires mine { IsSmall mine }
     requires others { AreSmall others }
@@ -181,7 +181,7 @@ fn is_far_sum(model: DataModel, ty: IntType, pair: (i128, i128)) -> bool
     is_far_number(model, ty, pair.0 + pair.1)
 }
 
-// The same of a difference.
+// The same for a difference.
 fn is_far_difference(model: DataModel, ty: IntType, pair: (i128, i128)) -> bool
     requires { IsSmall pair }
     ensures { result ≡ grounds.is_far (wrap_quotient model ty
@@ -204,7 +204,7 @@ fn is_far(quotient: i128) -> bool
     quotient < -1 || 1 < quotient
 }
 
-// The same of a product of integers.
+// The same for a product of integers.
 fn is_far_product(model: DataModel, ty: IntType, left: i128, right: i128) -> bool
     ensures real { IsTrue result → IsTrue (grounds.is_far (wrap_quotient model ty
         (operations.exact model Mul ty left right))) }
@@ -220,7 +220,7 @@ fn is_integer(number: i128) -> bool
     -0x8000_0000_0000_0000 <= number && number <= 0xffff_ffff_ffff_ffff
 }
 
-// The same of a left shift.
+// The same for a left shift.
 fn is_far_shift(model: DataModel, ty: IntType, left: i128, count: i128) -> bool
     ensures real { IsTrue result → IsTrue (grounds.is_far (wrap_quotient model ty
         (operations.exact model Shl ty left count))) }
@@ -233,7 +233,7 @@ fn is_far_shift(model: DataModel, ty: IntType, left: i128, count: i128) -> bool
     }
 }
 
-// The two to the power of a number below 64.
+// Returns 2 to the power of a number from 0 to 63.
 fn power(exponent: i128) -> Option<i128>
     ensures value { IfSome result (λ two_to. two_to ≡ pos (operations.power exponent)) }
     ensures integer { IfSome result IsIntegerOfC }

@@ -32,7 +32,7 @@ use cs_findings::Others;
 use cs_types::DataModel;
 use std::alloc::{AllocError, Global};
 
-/// A guess at hand, with the operation that it is guessed at.
+/// The guess that is judged, with the operation whose result it replaces.
 #[derive(Clone, Copy)]
 pub struct Spot {
     guess: Guess,
@@ -44,19 +44,19 @@ pub struct Spot {
     operation: Operation,
 }
 
-/// A pool before the judge.
+/// A pool that is judged.
 #[derive(Clone, Copy)]
 pub struct Judge<'a> {
     model: DataModel,
     pool: &'a [Replay],
-    // The events of the first run of the pool, which most others begin with.
+    // The events of the first run of the pool, which most other runs begin with.
     shown: &'a [Event],
-    // For each run, how many of these it passes first.
+    // For each run, how many of these events it passes first.
     shares: &'a [usize],
 }
 
-/// Whether each guess of each run of the pool is real with the partners that the pool names for it. A pool of replays that keep
-/// what was pending is a certificate, and this checks it; a yes needs no trust in who chose the runs or the partners.
+/// Whether each guess of each run of the pool is real with the partners that the pool names for it. A pool of replays that keep what was
+/// pending is a certificate, which this checks; so if the result is true, whoever chose the runs and the partners needn't be trusted.
 pub fn are_real(alloc: Global, model: DataModel, pool: &[Replay]) -> Result<bool, AllocError>
     ensures real { IfOk result (λ yes. IsTrue yes → ShowsReal model pool.now) }
     ensures convinced { IfOk result (λ yes. AreProved model pool.now → IsTrue yes) }
@@ -72,7 +72,7 @@ pub fn are_real(alloc: Global, model: DataModel, pool: &[Replay]) -> Result<bool
     Ok(judge.is_certificate())
 }
 
-/// For each run of the pool, and each of its guesses, partners that prove it, where the pool has some.
+/// Returns, for each run of the pool and each of its guesses, partners that prove it, if the pool has some.
 pub fn partners(
     alloc: Global,
     model: DataModel,
@@ -91,7 +91,7 @@ pub fn partners(
     judge.all_partners(alloc)
 }
 
-// The events of the first run.
+// Returns the events of the first run.
 fn shown_events(pool: &[Replay]) -> &[Event] {
     match pool.first() {
         Some(replay) => replay.events.as_slice(),
@@ -188,7 +188,7 @@ impl<'a> Judge<'a> {
         }
     }
 
-    // Whether operands give a ground, and a run would use the number.
+    // Whether operands are a ground, and a run may use the number.
     fn has_reason(&self, spot: &Spot, pairs: Others<(i128, i128)>) -> bool
         ensures ground { IsTrue result
             → IsTrue (grounds.has_ground self.now.model spot.now.operation pairs) }
@@ -218,7 +218,7 @@ impl<'a> Judge<'a> {
             && self.right_is_free(mine, known, spot, partners.right)
     }
 
-    // The operands of the partners, if they all come to the guessed operation.
+    // Returns the operands of the partners, if they all reach the guessed operation.
     fn pairs_in(
         &self,
         mine: &Replay,
@@ -242,7 +242,7 @@ impl<'a> Judge<'a> {
         }
     }
 
-    // The operands that a run of the pool has at the guessed operation, if it comes there through the same events.
+    // Returns the operands of a run of the pool at the guessed operation, if it gets there through the same events.
     fn pair_in(
         &self,
         mine: &Replay,
@@ -265,7 +265,7 @@ impl<'a> Judge<'a> {
         }
     }
 
-    // Partners for each guess of each run.
+    // Returns partners for each guess of each run.
     fn all_partners(&self, alloc: Global) -> Result<Vec<Vec<Partners>>, AllocError>
         requires { IsSeated self.now }
         ensures { IfOk result (λ found.
@@ -278,7 +278,7 @@ impl<'a> Judge<'a> {
         Ok(all)
     }
 
-    // Partners for each guess of a run.
+    // Returns partners for each guess of a run.
     fn partners_of(&self, alloc: Global, number: usize) -> Result<Vec<Partners>, AllocError>
         requires seated { IsSeated self.now }
         requires there { number < length self.now.pool.now }
@@ -306,7 +306,7 @@ impl<'a> Judge<'a> {
         Ok(all)
     }
 
-    // Partners for one guess.
+    // Returns partners for one guess.
     fn partners_for(
         &self,
         alloc: Global,
@@ -332,7 +332,7 @@ impl<'a> Judge<'a> {
         }
     }
 
-    // The runs that come to a guessed operation through the same events.
+    // Returns the runs that reach a guessed operation through the same events.
     fn candidates(
         &self,
         alloc: Global,
@@ -354,7 +354,7 @@ impl<'a> Judge<'a> {
         Ok(found)
     }
 
-    // How many events a run surely passes as the shown run does.
+    // Returns a number of first events that a run is known to share with the shown run.
     fn known(&self, replay: &Replay, number: usize) -> usize
         requires seated { IsSeated self.now }
         requires there { slice_get self.now.pool.now number ≡ Some replay.now }
@@ -366,7 +366,7 @@ impl<'a> Judge<'a> {
         }
     }
 
-    // Whether the number could be the result with the left operand, or a run has another one.
+    // Whether the number could be the result with the left operand, or a run has another left operand.
     fn left_is_free(&self, mine: &Replay, known: usize, spot: &Spot, other: Option<usize>) -> bool
         requires seated { IsSeated self.now }
         requires ready { IsReady self.now.shown.now mine.now known spot.now }
@@ -394,7 +394,7 @@ impl<'a> Judge<'a> {
         }
     }
 
-    // The same of the right operand.
+    // The same for the right operand.
     fn right_is_free(&self, mine: &Replay, known: usize, spot: &Spot, other: Option<usize>) -> bool
         requires seated { IsSeated self.now }
         requires ready { IsReady self.now.shown.now mine.now known spot.now }
@@ -430,7 +430,7 @@ fn is_other(one: i128, other: i128) -> bool
     one != other
 }
 
-// Whether another run lists guesses at just the events of mine before the guess, and passes the same events before it.
+// Whether another run has guesses at exactly the events before the guess at which mine has some, and passes the same events before it.
 fn comes_too(mine: &Replay, other: &Replay, known: usize, spot: &Spot) -> bool
     requires known { AgreeTo known mine.now.events.items other.now.events.items }
     requires spot { IsSpotAt mine.now spot.now.place spot.now }
@@ -449,7 +449,7 @@ fn comes_too(mine: &Replay, other: &Replay, known: usize, spot: &Spot) -> bool
         )
 }
 
-// The operands of another run at the guessed operation.
+// Returns the operands of another run at the guessed operation, if it keeps the same operation there.
 fn pair_at(other: &Replay, spot: &Spot) -> Option<(i128, i128)>
     ensures kept { IfSome result (KeepsWith other.now spot.now) }
     ensures found { (pair : Pair) → IsGuessable spot.now.operation
@@ -463,7 +463,7 @@ fn pair_at(other: &Replay, spot: &Spot) -> Option<(i128, i128)>
     }
 }
 
-// What is known of the guess at a place.
+// Returns the notes about the guess at a place, if an operation is kept there and the guesses are in order.
 fn spot_of(mine: &Replay, place: usize) -> Option<Spot>
     ensures notes { IfSome result (IsSpotAt mine.now place) }
     ensures found { (pool : List Bare) (guess : guesses.Guess) (passed : ℕ) (at : places.Place)
@@ -489,7 +489,7 @@ fn spot_of(mine: &Replay, place: usize) -> Option<Spot>
     }
 }
 
-// How many events are passed before a guess.
+// Returns how many events are passed before a guess.
 fn events_before(guess: Guess) -> Option<usize>
     ensures number { IfSome result (λ passed. guess.event ≡ suc passed) }
     ensures found { (passed : ℕ) → guess.event ≡ suc passed → result ≡ Some passed }
@@ -498,7 +498,7 @@ fn events_before(guess: Guess) -> Option<usize>
     Some(passed as usize)
 }
 
-// The operation that was kept after so many events.
+// Returns the operation that was kept after this many events, with its position.
 fn operation_at(replay: &Replay, passed: usize) -> Option<(Place, Operation)>
     ensures kept { IfSome result (λ found. slice_get replay.now.kept.items passed
         ≡ Some (kept.Operates found.0 found.1)) }

@@ -4,7 +4,7 @@ ghost use Rattle.cs_judge.specs.Agreement.{AreBefore, AreAtEvents};
 
 use cs_events::Guess;
 
-/// Whether just the guesses before a place stand before an event.
+/// Whether exactly the guesses at indices below a place are before an event.
 pub fn are_before(place: usize, event: u64, guesses: &[Guess]) -> bool
     ensures { IsTrue result ↔ AreBefore place event guesses.now }
 {
@@ -16,7 +16,7 @@ pub fn are_before(place: usize, event: u64, guesses: &[Guess]) -> bool
     true
 }
 
-/// Whether other guesses stand at the events of the first of mine.
+/// Whether the other guesses are at the events of the first ones of mine, as many as this place.
 pub fn are_at_events(place: usize, mine: &[Guess], other: &[Guess]) -> bool
     ensures { IsTrue result ↔ AreAtEvents place mine.now other.now }
 {

@@ -1,4 +1,4 @@
--- Results in the JSON form have no float, so their text is the compact text: for `json`.
+-- Results as JSON have no float, so their text is the compact text: for `json`.
 use Rattle.std.proofs.Common.{◌≡◌, ℕ, ℤ, pos, negsuc, Bool, true, false, cond, Option, Some, None, List, [], ◌∷◌, ◌++◌, map, refl}
 use Rattle.std.specs.Prelude.{◌||◌}
 use Rattle.std.specs.List.{flat_map, filter}

@@ -1,4 +1,4 @@
--- The text of lines, piece by piece: for `append_finding`, `append_ground`, `append_other`, `append_result` and `text`.
+-- The text of lines, part by part: for `append_finding`, `append_ground`, `append_other`, `append_result` and `text`.
 use Rattle.std.proofs.Common.{◌≡◌, ℕ, ℤ, List, [], ◌∷◌, ◌++◌, map, length, codes, ap, ap₂, sym, ◌∙◌, refl, append_assoc, OnOk, Result, Ok, Err}
 use Rattle.std.specs.List.{flat_map, filter}
 use Rattle.std.specs.Fmt.{decimal}

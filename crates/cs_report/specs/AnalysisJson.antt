@@ -40,7 +40,7 @@ ground_json files reason = object (member (codes "at") (text (place_text files r
 abbrev pub grounds_json : List (List ℕ) → List Ground → Data
 grounds_json files grounds = list (map (ground_json files) grounds)
 
--- a step is a pair of its place and what it shows
+-- a step is a pair of its position and what it shows
 abbrev pub step_json : List (List ℕ) → Place → Option (List ℕ) → List Data
 step_json files at None = []
 step_json files at (Some step) = list (text (place_text files at) ∷ text step ∷ []) ∷ []
@@ -48,12 +48,12 @@ step_json files at (Some step) = list (text (place_text files at) ∷ text step 
 abbrev pub steps_json : TypedProgram → List Event → Data
 steps_json program events = list (flat_map (λ (event : Event). step_json program.files event.place (step_text program event.label)) events)
 
--- a finding is confirmed where its run lists no guess
+-- a finding is confirmed if its run lists no guess
 abbrev pub is_confirmed : List Guess → Bool
 is_confirmed [] = true
 is_confirmed (guess ∷ guesses) = false
 
--- a finding: a report has a kind, and what meets a budget has a budget
+-- a finding: a report has a kind, a met budget has a budget
 abbrev pub finding_of : Outcome → List (List ℕ) → (confirmed : Bool) (guesses inputs steps : Data) → Data
 finding_of (Fault kind at) files confirmed guesses inputs steps = object (member (codes "at") (text (place_text files at))
     (member (codes "confirmed") (boolean confirmed) (member (codes "guesses") guesses (member (codes "inputs") inputs
@@ -86,6 +86,6 @@ entry_json program kinds result = entry_of (list (map (cut_json program.files) r
 abbrev pub analysis_json : TypedProgram → List Kind → List EntryResult → Data
 analysis_json program kinds results = object (member (codes "entries") (list (map (entry_json program kinds) results)) no_members)
 
--- the text of an analysis in the JSON form: the compact text of its value, and a line feed
+-- the JSON text of an analysis: the compact text of its value, and a line feed
 abbrev pub analysis_json_text : TypedProgram → List Kind → List EntryResult → List ℕ
 analysis_json_text program kinds results = compact_text (analysis_json program kinds results) ++ codes "\n"

@@ -1,4 +1,4 @@
--- The lines that an analysis prints. An entry's are its verdict, its selected reports, the budgets that its runs meet, and its cuts.
+-- The lines that an analysis prints. For each entry they are its verdict, its selected reports, the budgets that its runs exceed, and its cuts.
 use Rattle.std.specs.Prelude.{ℕ, ℤ, List, [], ◌∷◌, ◌++◌, map, codes}
 use Rattle.std.specs.List.{flat_map, filter}
 use Rattle.std.specs.Fmt.{decimal}
@@ -24,7 +24,7 @@ use Rattle.cs_results.specs.Selected.{is_selected}
 use Rattle.cs_results.specs.Verdicts.{verdict_name}
 use Rattle.cs_report_parts.specs.RunLines.{text_of, input_text, guess_text, function_name, step_text, step_lines}
 
--- a finding is confirmed where its run lists no guess
+-- a finding is confirmed if its run lists no guess
 abbrev pub confidence : List Guess → List ℕ
 confidence [] = codes "confirmed"
 confidence (guess ∷ guesses) = codes "assumed"
@@ -35,7 +35,7 @@ outcome_text files (Fault kind at) = codes "report " ++ kind_name kind ++ codes 
 outcome_text files (Over budget at) = codes "over " ++ budget_name budget ++ codes " " ++ place_text files at
 outcome_text files (Done returned) = []
 
--- what another run of a ground lists, by the run's number among the others: its inputs, then its guesses
+-- the inputs of another run of a ground, then its guesses, with the run's number among the other runs
 abbrev pub other_lines : ℕ → Run → List (List ℕ)
 other_lines number run = map (λ (input : Path × ℤ). codes "    other " ++ decimal number ++ codes " " ++ input_text input) run.inputs
     ++ map (λ (guess : Guess). codes "    other " ++ decimal number ++ codes " " ++ guess_text guess) run.guesses.items
@@ -44,7 +44,7 @@ abbrev pub others_lines : Others Run → List (List ℕ)
 others_lines (One first) = other_lines 1 first
 others_lines (Two first second) = other_lines 1 first ++ other_lines 2 second
 
--- a guess, and under it the other runs that are its ground
+-- a guess, followed by the other runs that are its ground
 abbrev pub ground_lines : List (List ℕ) → Ground → List (List ℕ)
 ground_lines files reason = (codes "  " ++ guess_text reason.guess ++ codes " at " ++ place_text files reason.place) ∷ others_lines reason.others
 
@@ -61,7 +61,7 @@ abbrev pub cut_line : List (List ℕ) → Cut → List ℕ
 cut_line files (Nodes nodes) = codes "cut nodes " ++ decimal nodes
 cut_line files (Splits at offsets) = codes "cut splits " ++ place_text files at ++ codes " " ++ decimal offsets
 
--- an entry: its verdict, its reports of these kinds, the budgets that are met, the cuts
+-- an entry: its verdict, its reports of these kinds, the met budgets, the cuts
 abbrev pub entry_lines : TypedProgram → List Kind → EntryResult → List (List ℕ)
 entry_lines program kinds result = (codes "entry " ++ function_name program result.entry ++ codes " " ++ verdict_name result.verdict)
     ∷ flat_map (finding_lines program) (filter (λ (f : Finding). is_selected kinds f.what) result.reports.items)

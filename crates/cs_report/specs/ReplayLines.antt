@@ -1,4 +1,4 @@
--- The line that says how a replayed run ends.
+-- The line of a replayed run's outcome.
 use Rattle.std.specs.Prelude.{ℕ, List, [], ◌++◌, codes}
 use Rattle.std.specs.Fmt.{signed_decimal}
 use Rattle.cs_model.specs.Kinds.{kind_name}
@@ -9,7 +9,7 @@ use Rattle.cs_events.specs.declared.outcome.Outcome.TheVariants.{Done, Fault, Ov
 use Rattle.cs_events.specs.declared.outcome.Returned.{Returned}
 use Rattle.cs_events.specs.declared.outcome.Returned.TheVariants.{Nothing, Number, Null, Object, Unset}
 
--- what an entry returned, with the space before it
+-- what an entry returned, after a space
 abbrev pub returned_text : Returned → List ℕ
 returned_text Nothing = []
 returned_text (Number n) = codes " " ++ signed_decimal n
@@ -17,7 +17,7 @@ returned_text Null = codes " null"
 returned_text Object = codes " object"
 returned_text Unset = codes " unset"
 
--- `done`, `done RETURNED`, `fault KIND PLACE` or `over BUDGET PLACE`, the files by their numbers
+-- `done`, `done RETURNED`, `fault KIND PLACE` or `over BUDGET PLACE`, where positions name files by number
 abbrev pub replay_line : List (List ℕ) → Outcome → List ℕ
 replay_line files (Done returned) = codes "done" ++ returned_text returned ++ codes "\n"
 replay_line files (Fault kind at) = codes "fault " ++ kind_name kind ++ codes " " ++ place_text files at ++ codes "\n"

@@ -14,8 +14,8 @@ use cs_report_parts::append;
 use cs_results::{EntryResult, Finding, every_kind, is_kind};
 use std::alloc::{AllocError, Global};
 
-/// The summary of the results of a file with so many bytes: how many entries there are, how many of each verdict, and how many
-/// reports of each kind that has one.
+/// Returns the summary of the results of a file with this many bytes: how many entries there are, how many with each verdict, and how many
+/// reports of each kind, for kinds with a report.
 pub fn summary(alloc: Global, bytes: usize, results: &[EntryResult]) -> Result<Vec<u8>, AllocError>
     ensures { IfOk result (λ text. text.items ≡ lines.summary_text bytes results.now) }
 {
@@ -33,7 +33,7 @@ pub fn summary(alloc: Global, bytes: usize, results: &[EntryResult]) -> Result<V
     Ok(text)
 }
 
-/// How many results are complete.
+/// Returns how many results are complete.
 fn complete_of(results: &[EntryResult]) -> usize
     ensures { result
         ≡ count_by (λ (r : EntryResult). verdicts.is_complete r.verdict) results.now }
@@ -44,7 +44,7 @@ fn complete_of(results: &[EntryResult]) -> usize
         .count()
 }
 
-/// How many results are bounded.
+/// Returns how many results are bounded.
 fn bounded_of(results: &[EntryResult]) -> usize
     ensures { result
         ≡ count_by (λ (r : EntryResult). verdicts.is_bounded r.verdict) results.now }
@@ -55,7 +55,7 @@ fn bounded_of(results: &[EntryResult]) -> usize
         .count()
 }
 
-/// How many results are cut.
+/// Returns how many results are cut.
 fn cut_of(results: &[EntryResult]) -> usize
     ensures { result
         ≡ count_by (λ (r : EntryResult). verdicts.is_cut r.verdict) results.now }
@@ -93,7 +93,7 @@ fn append_kind(text: &mut Vec<u8>, kind: Kind, results: &[EntryResult]) -> Resul
     append(text, format_args!("report {} {count}\n", kind.name()))
 }
 
-/// How many reports are of a kind.
+/// Returns how many reports have a kind.
 fn reports_of(kind: Kind, results: &[EntryResult]) -> u128
     ensures { result ≡ lines.reports_of kind results.now }
 {
@@ -104,7 +104,7 @@ fn reports_of(kind: Kind, results: &[EntryResult]) -> u128
     count
 }
 
-/// How many findings are reports of a kind.
+/// Returns how many findings are reports of a kind.
 fn count_of(kind: Kind, findings: &[Finding]) -> usize
     ensures { result
         ≡ count_by (λ (f : Finding). selected.is_kind kind f.what) findings.now }

@@ -16,7 +16,7 @@ use cs_report_parts::{append, function_name};
 use cs_results::{EntryResult, Finding, is_selected};
 use std::alloc::{AllocError, Global};
 
-/// The text of results, with the reports of these kinds. Numbers of files and functions are those of the program.
+/// Returns the text of results, with the reports of these kinds. The program has the files and functions that numbers name.
 pub fn text(
     alloc: Global,
     results: &[EntryResult],
@@ -48,7 +48,7 @@ fn append_results(
     Ok(())
 }
 
-/// Appends the lines of an entry: its verdict, its reports of these kinds, the budgets that its runs meet, and its cuts.
+/// Appends the lines of an entry: its verdict, its reports of these kinds, the budgets that its runs exceed, and its cuts.
 fn append_result(
     text: &mut Vec<u8>,
     program: &Program,
@@ -85,7 +85,7 @@ fn append_reports(
     Ok(())
 }
 
-/// Appends the lines of each budget that is met.
+/// Appends the lines of each met budget.
 fn append_overs(text: &mut Vec<u8>, program: &Program, overs: &[Finding]) -> Result<(), AllocError>
     ensures { OnOk result (text.new.items ≡ text.old.items ++ flat_map
         (λ (f : Finding). text_of (finding_lines (typed_program program.now) f))

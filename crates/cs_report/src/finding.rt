@@ -32,7 +32,7 @@ pub(crate) fn append_finding(
     append_steps(text, program, &finding.events)
 }
 
-/// Appends `report KIND PLACE` or `over BUDGET PLACE`. A return has no text.
+/// Appends `report KIND PLACE` or `over BUDGET PLACE`. For a return it appends nothing.
 fn append_outcome(text: &mut Vec<u8>, files: &[Name], outcome: Outcome) -> Result<(), AllocError>
     ensures { OnOk result (text.new.items ≡ text.old.items ++ outcome_text files.now outcome) }
 {
@@ -49,7 +49,7 @@ fn append_outcome(text: &mut Vec<u8>, files: &[Name], outcome: Outcome) -> Resul
     }
 }
 
-/// The word for how sure a finding is, by the guesses that its run lists.
+/// Returns the word for the confidence in a finding, according to the guesses of its run.
 fn confidence(guesses: &[Guess]) -> &'static str
     ensures { result.now ≡ lines.confidence guesses.now }
 {

@@ -30,7 +30,7 @@ pub(crate) fn append_grounds(
     Ok(())
 }
 
-/// Appends `  guess E = N at PLACE`, and under it what the other runs list.
+/// Appends `  guess E = N at PLACE`, and after it the inputs and guesses of the other runs.
 fn append_ground(text: &mut Vec<u8>, files: &[Name], reason: &Ground) -> Result<(), AllocError>
     ensures { OnOk result (text.new.items
         ≡ text.old.items ++ text_of (ground_lines files.now reason.now)) }
@@ -43,7 +43,7 @@ fn append_ground(text: &mut Vec<u8>, files: &[Name], reason: &Ground) -> Result<
     append_others(text, &reason.others)
 }
 
-/// Appends what the other runs list, the first by the number 1.
+/// Appends the inputs and guesses of the other runs, which are numbered from 1.
 fn append_others(text: &mut Vec<u8>, others: &Others<Run>) -> Result<(), AllocError>
     ensures { OnOk result (text.new.items
         ≡ text.old.items ++ text_of (others_lines others.now)) }
@@ -57,7 +57,7 @@ fn append_others(text: &mut Vec<u8>, others: &Others<Run>) -> Result<(), AllocEr
     }
 }
 
-/// Appends what another run lists: its inputs, then its guesses.
+/// Appends the inputs of another run, then its guesses.
 fn append_other(text: &mut Vec<u8>, number: u32, run: &Run) -> Result<(), AllocError>
     ensures { OnOk result (text.new.items
         ≡ text.old.items ++ text_of (other_lines number run.now)) }

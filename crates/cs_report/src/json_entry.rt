@@ -17,7 +17,7 @@ use cs_results::{Cut, EntryResult, Finding, is_selected};
 use serde_json::{Value, json};
 use std::alloc::{AllocError, Global};
 
-/// The results as one JSON object on a line, with the reports of these kinds. Numbers of files and functions are those of the program.
+/// Returns the results as one JSON object on a line, with the reports of these kinds. The program has the files and functions that numbers name.
 pub fn json(
     alloc: Global,
     results: &[EntryResult],
@@ -33,7 +33,7 @@ pub fn json(
     Ok(text)
 }
 
-/// The object of all results.
+/// Returns the object of all results.
 fn analysis_value(
     alloc: Global,
     results: &[EntryResult],
@@ -51,7 +51,7 @@ fn analysis_value(
     json!(in alloc; {"entries": entries})
 }
 
-/// An entry: its cuts, its name, the budgets that its runs meet, its reports of these kinds, and its verdict.
+/// Returns the object of an entry: its cuts, its name, the budgets that its runs exceed, its reports of these kinds, and its verdict.
 fn entry_value(
     alloc: Global,
     program: &Program,
@@ -68,7 +68,7 @@ fn entry_value(
     object_of(alloc, cuts, name, overs, reports, entry.verdict.name())
 }
 
-/// The object of an entry with these parts.
+/// Returns the object of an entry with these parts.
 fn object_of(
     alloc: Global,
     cuts: Value,
@@ -85,7 +85,7 @@ fn object_of(
     })
 }
 
-/// The cuts.
+/// Returns the list of the cuts.
 fn cuts_value(alloc: Global, files: &[Name], cuts: &[Cut]) -> Result<Value, AllocError>
     ensures { IfOk result (λ value.
         view value ≡ list (map (form.cut_json files.now) cuts.now)) }
@@ -97,7 +97,7 @@ fn cuts_value(alloc: Global, files: &[Name], cuts: &[Cut]) -> Result<Value, Allo
     Ok(Value::Array(list))
 }
 
-/// The reports of these kinds.
+/// Returns the list of the reports of these kinds.
 fn reports_value(
     alloc: Global,
     program: &Program,
@@ -117,7 +117,7 @@ fn reports_value(
     Ok(Value::Array(list))
 }
 
-/// The budgets that are met.
+/// Returns the list of the met budgets.
 fn overs_value(alloc: Global, program: &Program, overs: &[Finding]) -> Result<Value, AllocError>
     ensures { IfOk result (λ value. view value
         ≡ list (map (form.finding_json (typed_program program.now)) overs.now)) }

@@ -13,7 +13,7 @@ use cs_results::{Cut, Finding};
 use serde_json::{Value, json};
 use std::alloc::{AllocError, Global};
 
-/// The parts of a finding that reports and met budgets both have.
+/// The parts that reports and met budgets have in common.
 #[derive(Drop)]
 struct Parts {
     confirmed: bool,
@@ -22,7 +22,7 @@ struct Parts {
     steps: Value,
 }
 
-/// A finding: where it is, whether it is confirmed, its guesses, inputs and steps, and its kind or budget.
+/// Returns the object of a finding: its position, whether it is confirmed, its guesses, inputs and steps, and its kind or budget.
 pub(crate) fn finding_value(
     alloc: Global,
     program: &Program,
@@ -40,7 +40,7 @@ pub(crate) fn finding_value(
     value_of(alloc, &program.files, finding.what, parts)
 }
 
-/// The value of a finding with these parts.
+/// Returns the object of a finding with these parts.
 fn value_of(alloc: Global, files: &[Name], what: Outcome, parts: Parts) -> Result<Value, AllocError>
     ensures { IfOk result (λ value. view value ≡ form.finding_of what files.now parts.confirmed
         (view parts.guesses) (view parts.inputs) (view parts.steps)) }
@@ -70,7 +70,7 @@ fn value_of(alloc: Global, files: &[Name], what: Outcome, parts: Parts) -> Resul
     }
 }
 
-/// The steps of a run, each a pair of its place and what it shows.
+/// Returns the steps of a run, each a pair of its position and what it shows.
 fn steps_value(alloc: Global, program: &Program, events: &[Event]) -> Result<Value, AllocError>
     ensures { IfOk result (λ value.
         view value ≡ form.steps_json (typed_program program.now) events.now) }
@@ -86,7 +86,7 @@ fn steps_value(alloc: Global, program: &Program, events: &[Event]) -> Result<Val
     Ok(Value::Array(list))
 }
 
-/// A cut.
+/// Returns the value of a cut.
 pub(crate) fn cut_value(alloc: Global, files: &[Name], cut: Cut) -> Result<Value, AllocError>
     ensures { IfOk result (λ value. view value ≡ form.cut_json files.now cut) }
 {

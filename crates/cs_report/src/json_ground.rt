@@ -9,7 +9,7 @@ use cs_results::{Ground, Others, Run};
 use serde_json::{Value, json};
 use std::alloc::{AllocError, Global};
 
-/// The guesses of a finding, each with the other runs that are its ground.
+/// Returns the guesses of a finding, each with the other runs that are its ground.
 pub(crate) fn grounds_value(
     alloc: Global,
     files: &[Name],
@@ -24,7 +24,7 @@ pub(crate) fn grounds_value(
     Ok(Value::Array(list))
 }
 
-/// A guess with the other runs that are its ground.
+/// Returns the object of a guess with the other runs that are its ground.
 fn ground_value(alloc: Global, files: &[Name], reason: &Ground) -> Result<Value, AllocError>
     ensures { IfOk result (λ value. view value ≡ form.ground_json files.now reason.now) }
 {
@@ -35,7 +35,7 @@ fn ground_value(alloc: Global, files: &[Name], reason: &Ground) -> Result<Value,
     json!(in alloc; {"at": at, "event": event, "number": number, "others": others})
 }
 
-/// The other runs of a ground.
+/// Returns the list of the other runs of a ground.
 fn others_value(alloc: Global, others: &Others<Run>) -> Result<Value, AllocError>
     ensures { IfOk result (λ value. view value ≡ form.others_json others.now) }
 {

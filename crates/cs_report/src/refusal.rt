@@ -7,7 +7,7 @@ use cs_names::Name;
 use cs_report_parts::{append, append_located};
 use std::alloc::AllocError;
 
-/// Appends `WORDS FILE:LINE:COLUMN`, the line that refuses a file at a place. The words have the space after them.
+/// Appends `WORDS FILE:LINE:COLUMN`, the line that refuses a file at a position. The words end with a space.
 pub fn append_refusal(
     text: &mut Vec<u8>,
     words: &str,

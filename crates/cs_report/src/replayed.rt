@@ -1,4 +1,4 @@
-//! How a replayed run ends, as text.
+//! The outcome of a replayed run, as text.
 ghost use Rattle.std.specs.Prelude.{◌≡◌, ◌++◌, OnOk};
 ghost use Rattle.cs_report.specs.ReplayLines.{returned_text, replay_line};
 
@@ -32,7 +32,7 @@ pub fn append_replayed(
     append(text, "\n")
 }
 
-/// Appends what an entry returned, with the space before it.
+/// Appends a space and what an entry returned, if it returned something.
 fn append_returned(text: &mut Vec<u8>, returned: Returned) -> Result<(), AllocError>
     ensures { OnOk result (text.new.items ≡ text.old.items ++ returned_text returned) }
 {

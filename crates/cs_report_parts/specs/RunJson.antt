@@ -1,4 +1,4 @@
--- What is printed of a run as JSON values: its inputs and its guesses, and what they are made of.
+-- What is printed of a run as JSON values: its inputs and its guesses, and the values that these consist of.
 use Rattle.std.specs.Prelude.{ℕ, ◌^◌, ℤ, pos, negsuc, nat_lt, Bool, List, [], ◌∷◌, map, codes}
 use Rattle.std.specs.Prelude.{if◌then◌else◌}
 use Rattle.std.specs.Fmt.{signed_decimal}
@@ -11,16 +11,16 @@ use Rattle.cs_inputs.specs.PathText.{path_text}
 use Rattle.cs_events.specs.declared.guess.Guess.{Guess}
 use Rattle.cs_results.specs.declared.run.Run.{Run}
 
--- a text. Names of files are UTF-8; what isn't UTF-8 would be replaced by U+FFFD
+-- a text. Names of files are UTF-8; bytes that aren't UTF-8 would be replaced by U+FFFD
 abbrev pub text : List ℕ → Data
 text bytes = string (utf8_lossy bytes)
 
--- whether 64 bits hold a number, with or without a sign
+-- whether a number fits into 64 bits, signed or unsigned
 abbrev pub fits : ℤ → Bool
 fits (pos n) = nat_lt n (2 ^ 64)
 fits (negsuc n) = nat_lt n (2 ^ 63)
 
--- a number. A wider one, which no run has, would be its digits as a text
+-- a number. A wider one, which occurs in no run, would be a text of its digits
 abbrev pub integer : ℤ → Data
 integer z = if fits z then number (of_integer z) else string (signed_decimal z)
 

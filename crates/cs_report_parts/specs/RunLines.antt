@@ -11,7 +11,7 @@ use Rattle.cs_events.specs.declared.event.Label.{Label}
 use Rattle.cs_events.specs.declared.event.Label.TheVariants.{Truth, Branch, Case, Wrap, Look, Offset, Callee, Alloc}
 use Rattle.cs_events.specs.declared.guess.Guess.{Guess}
 
--- the text of lines: a line feed after each
+-- the text of lines, with a line feed after each
 abbrev pub text_of : List (List ℕ) → List ℕ
 text_of lines = flat_map (λ (line : List ℕ). line ++ codes "\n") lines
 
@@ -35,8 +35,8 @@ abbrev pub block_text : Bool → List ℕ
 block_text true = codes "a block"
 block_text false = codes "null"
 
--- what a step shows: the way of a test, the case of a switch, the function that is called, and what an allocation gives. Other events
--- are no steps
+-- what a step shows: the branch of a test, the case of a switch, the called function, or the result of an allocation. Other events aren't
+-- steps
 abbrev pub step_text : TypedProgram → Label → Option (List ℕ)
 step_text program (Branch way) = Some (codes "branch " ++ truth_text way)
 step_text program (Case number) = Some (codes "case " ++ decimal number)
@@ -47,7 +47,7 @@ step_text program (Wrap quotient) = None
 step_text program (Look block) = None
 step_text program (Offset offset) = None
 
--- `step PLACE TEXT`, where there is a text
+-- `step PLACE TEXT`, if there is a text
 abbrev pub step_lines : List (List ℕ) → Place → Option (List ℕ) → List (List ℕ)
 step_lines files at None = []
 step_lines files at (Some text) = (codes "  step " ++ place_text files at ++ codes " " ++ text) ∷ []

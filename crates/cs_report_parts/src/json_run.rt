@@ -13,14 +13,14 @@ use cs_results::Run;
 use serde_json::{Value, json};
 use std::alloc::{AllocError, Global};
 
-/// A text. What isn't UTF-8 in it is replaced by U+FFFD.
+/// Returns a text as a JSON string, in which bytes that aren't UTF-8 are replaced by U+FFFD.
 pub fn text_value(alloc: Global, bytes: &[u8]) -> Result<Value, AllocError>
     ensures { IfOk result (λ value. view value ≡ form.text bytes.now) }
 {
     Ok(Value::String(String::from_utf8_lossy(alloc, bytes)?))
 }
 
-/// The text of a place.
+/// Returns the text of a position.
 pub fn place_value(alloc: Global, files: &[Name], place: Place) -> Result<Value, AllocError>
     ensures { IfOk result (λ value. view value ≡ form.text (place_text files.now place)) }
 {
@@ -29,7 +29,7 @@ pub fn place_value(alloc: Global, files: &[Name], place: Place) -> Result<Value,
     text_value(alloc, &text)
 }
 
-/// A number, or its digits as a text if it is wider than 64 bits.
+/// Returns a number, or a text of its digits if it doesn't fit into 64 bits.
 pub fn number_value(alloc: Global, number: i128) -> Result<Value, AllocError>
     ensures { IfOk result (λ value. view value ≡ form.integer number) }
 {
@@ -42,7 +42,7 @@ pub fn number_value(alloc: Global, number: i128) -> Result<Value, AllocError>
     Ok(Value::String(number.to_string(alloc)?))
 }
 
-/// A list of two values.
+/// Returns a list of two values.
 pub fn pair(alloc: Global, first: Value, second: Value) -> Result<Value, AllocError>
     ensures { IfOk result (λ value.
         view value ≡ form.list (view first ∷ view second ∷ [])) }
@@ -50,7 +50,7 @@ pub fn pair(alloc: Global, first: Value, second: Value) -> Result<Value, AllocEr
     json!(in alloc; [first, second])
 }
 
-/// The inputs, each a pair of its path and its number.
+/// Returns the inputs, each a pair of its path and its number.
 pub fn inputs_value(alloc: Global, inputs: &[(Path, i128)]) -> Result<Value, AllocError>
     ensures { IfOk result (λ value. view value ≡ form.inputs_json inputs.now) }
 {
@@ -61,7 +61,7 @@ pub fn inputs_value(alloc: Global, inputs: &[(Path, i128)]) -> Result<Value, All
     Ok(Value::Array(list))
 }
 
-/// An input.
+/// Returns an input as a pair.
 fn input_value(alloc: Global, input: &(Path, i128)) -> Result<Value, AllocError>
     ensures { IfOk result (λ value. view value ≡ form.input_json input.now) }
 {
@@ -71,7 +71,7 @@ fn input_value(alloc: Global, input: &(Path, i128)) -> Result<Value, AllocError>
     pair(alloc, path, number)
 }
 
-/// Another run's guesses, each a pair of its event and its number.
+/// Returns another run's guesses, each a pair of its event and its number.
 fn guesses_value(alloc: Global, guesses: &[Guess]) -> Result<Value, AllocError>
     ensures { IfOk result (λ value.
         view value ≡ form.list (map form.guess_json guesses.now)) }
@@ -83,7 +83,7 @@ fn guesses_value(alloc: Global, guesses: &[Guess]) -> Result<Value, AllocError>
     Ok(Value::Array(list))
 }
 
-/// Another run's guess.
+/// Returns another run's guess as a pair.
 fn guess_value(alloc: Global, guess: Guess) -> Result<Value, AllocError>
     ensures { IfOk result (λ value. view value ≡ form.guess_json guess) }
 {
@@ -91,7 +91,7 @@ fn guess_value(alloc: Global, guess: Guess) -> Result<Value, AllocError>
     pair(alloc, Value::from(guess.event), number)
 }
 
-/// Another run: its guesses and its inputs.
+/// Returns another run: its guesses and its inputs.
 pub fn run_value(alloc: Global, run: &Run) -> Result<Value, AllocError>
     ensures { IfOk result (λ value. view value ≡ form.run_json run.now) }
 {

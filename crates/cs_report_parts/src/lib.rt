@@ -1,4 +1,4 @@
-//! The parts that the text of results and their JSON form are made of: printed values, places, names of functions, and what is printed of
+//! The parts of the text of results and of their JSON form: printed values, positions, names of functions, and what is printed of
 //! a run.
 #![tactic(auto)]
 

@@ -5,7 +5,7 @@ ghost use Rattle.cs_report_parts.specs.RunLines as lines;
 
 use cs_ast::typed::program::Program;
 
-/// The name of a function, by its number. A number that no function has is without a name.
+/// Returns the name of the function with a number, or an empty name if there is no such function.
 pub fn function_name(program: &Program, number: u32) -> &[u8]
     ensures { result.now ≡ lines.function_name (typed_program program.now) number }
 {

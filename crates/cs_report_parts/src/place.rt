@@ -1,4 +1,4 @@
-//! Places as text.
+//! Positions as text.
 ghost use Rattle.std.specs.Prelude.{◌≡◌, ◌++◌, OnOk};
 ghost use Rattle.cs_model.specs.Places.{located, place_text};
 
@@ -7,7 +7,7 @@ use cs_ast::Place;
 use cs_names::Name;
 use std::alloc::AllocError;
 
-/// Appends `FILE:LINE:COLUMN`, the file by its number. A file without a name leaves out its name.
+/// Appends `FILE:LINE:COLUMN`, given the file's number. The name of a file without one is omitted.
 pub fn append_place(text: &mut Vec<u8>, files: &[Name], place: Place) -> Result<(), AllocError>
     ensures { OnOk result (text.new.items ≡ text.old.items ++ place_text files.now place) }
 {
@@ -17,7 +17,7 @@ pub fn append_place(text: &mut Vec<u8>, files: &[Name], place: Place) -> Result<
     }
 }
 
-/// Appends `FILE:LINE:COLUMN`, the file by its name.
+/// Appends `FILE:LINE:COLUMN`, given the file's name.
 pub fn append_located(text: &mut Vec<u8>, file: &[u8], place: Place) -> Result<(), AllocError>
     ensures { OnOk result (text.new.items ≡ text.old.items ++ located file.now place) }
 {

@@ -1,4 +1,4 @@
-//! Printed values at the end of a text.
+//! Appends printed values to a text.
 ghost use Rattle.std.specs.Prelude.{OnOk};
 ghost use Rattle.std.specs.Fmt.{AppendsText};
 

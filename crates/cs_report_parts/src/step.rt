@@ -29,7 +29,7 @@ pub fn append_steps(
     Ok(())
 }
 
-/// Appends `  step PLACE TEXT` for an event that is a step, and nothing for others.
+/// Appends `  step PLACE TEXT` for an event that is a step, and nothing for other events.
 fn append_step(text: &mut Vec<u8>, program: &Program, event: Event) -> Result<(), AllocError>
     ensures { OnOk result (text.new.items ≡ text.old.items ++ text_of
         (step_lines (typed_program program.now).files event.place
@@ -47,7 +47,7 @@ fn append_step(text: &mut Vec<u8>, program: &Program, event: Event) -> Result<()
     }
 }
 
-/// What a step shows, and nothing of an event that is no step.
+/// Returns what a step shows, or None for an event that isn't a step.
 pub fn step_text(
     alloc: Global,
     program: &Program,

@@ -1,4 +1,4 @@
--- Which reports are selected: those of the kinds that were asked for.
+-- Which reports are selected: those of the requested kinds.
 use Rattle.std.specs.Prelude.{Bool, false, ◌==◌, List, [], ◌∷◌}
 use Rattle.std.specs.List.{list_any}
 use Rattle.cs_model.specs.declared.kind.Kind.{Kind}
@@ -19,7 +19,7 @@ is_kind kind (Fault other at) = kind_number kind == kind_number other
 is_kind kind (Done returned) = false
 is_kind kind (Over budget at) = false
 
--- a report is selected where its kind is one of those asked for
+-- a report is selected if its kind is one of the requested ones
 abbrev pub is_selected : List Kind → Outcome → Bool
 is_selected kinds what = list_any (λ kind. is_kind kind what) kinds
 

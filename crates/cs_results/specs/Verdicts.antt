@@ -1,4 +1,4 @@
--- The verdicts of entries: their words, and which verdict one is.
+-- The verdicts of entries: their words, and tests for each of them.
 use Rattle.std.specs.Prelude.{ℕ, Bool, true, false, List, codes}
 use Rattle.cs_results.specs.declared.result.Verdict.{Verdict}
 use Rattle.cs_results.specs.declared.result.Verdict.TheVariants.{Complete, Bounded, Cut}

@@ -1,15 +1,15 @@
-//! How far an analysis goes.
+//! The budgets of an analysis.
 ghost use Rattle.std.specs.Prelude.{◌≡◌};
 ghost use Rattle.cs_results.specs.RunBudgets.{run_budgets};
 
 use cs_events::RunBudgets;
 
-/// The budgets of an analysis. The first three end a run, the last two cut the analysis alone.
+/// The budgets of an analysis. The first three end a run, the last two only cut the analysis.
 #[derive(Clone, Copy, PartialEq, Eq, Debug)]
 pub struct Budgets {
-    /// How often one frame may reach a loop head or a label.
+    /// How often a frame may reach the same loop head or label.
     pub visits: u32,
-    /// How many frames there may be at a time.
+    /// How many frames there may be at the same time.
     pub depth: u32,
     /// How many events a run may pass.
     pub events: u64,
@@ -20,7 +20,7 @@ pub struct Budgets {
 }
 
 impl Budgets {
-    /// The budgets that end a run.
+    /// Returns the budgets that end a run.
     pub fn of_runs(self) -> RunBudgets
         ensures { result ≡ run_budgets self }
     {

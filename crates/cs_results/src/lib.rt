@@ -1,7 +1,7 @@
-//! Results of an analysis, as types: what is printed of each entry, with the runs that show it.
+//! Results of an analysis, as types: what is printed about each entry, with the runs that show it.
 //!
-//! A finding carries its evidence: the run that ends so, and for each number that the run guesses one or two other runs, which show
-//! that the operation's result can't be followed there. `cs_findings` says when that evidence is good.
+//! A finding carries its evidence: the run with its outcome, and for each number that the run guesses one or two other runs, which show
+//! that the operation's result can't be followed there. `cs_findings` defines when that evidence is good.
 #![tactic(auto)]
 
 pub mod budgets;

@@ -1,9 +1,9 @@
-//! Runs that are shown, and the other runs that go with a guess.
+//! Runs that are shown, and the other runs that belong to a guess.
 
 use cs_events::Guess;
 use cs_inputs::Inputs;
 
-/// What a run begins with: the numbers of inputs, and guesses.
+/// The inputs and guesses that a run begins with.
 #[derive(Drop)]
 pub struct Run {
     pub inputs: Inputs,

@@ -7,7 +7,7 @@ use crate::result::EntryResult;
 use cs_events::Outcome;
 use cs_model::Kind;
 
-/// Every kind of fault, by number.
+/// Returns every kind of fault, by number.
 pub fn every_kind() -> [Kind; 11]
     ensures { result ≡ selected.every_kind }
 {

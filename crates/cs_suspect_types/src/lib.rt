@@ -1,4 +1,4 @@
-//! Suspects, as types: the runs that an exploration suspects of an end, with what the witness needs to show them.
+//! Suspects, as types: the runs that an exploration suspects to have the outcome of an end, with what the witness needs to show them.
 #![tactic(auto)]
 
 mod suspect;

@@ -1,4 +1,4 @@
--- Ends that are chosen: for the contracts of `chosen` and of what it calls.
+-- Ends that are chosen: for the contracts of `chosen` and of the functions that it calls.
 use Rattle.std.proofs.Common.{◌≡◌, ◌<◌, ◌≤◌, ◌+◌, ℕ, zero, suc, true, false, true≢false, List, [], ◌∷◌, ◌++◌, length, take, get_or, set}
 use Rattle.std.proofs.Common.{refl, sym, ap, ◌∙◌, subst, inl, inr, below_more, arith, IsPermutation}
 use Rattle.std.specs.Prelude.{Some, slice_get, Contains}

@@ -1,4 +1,4 @@
--- Constraints under which each symbol has a number have just one solution.
+-- Constraints under which each symbol can have a number have exactly one solution.
 use Rattle.std.proofs.Common.{◌≡◌, ◌<◌, ◌≤◌, ℕ, zero, suc, ℤ, pos, negsuc, neg_ℤ, Bool, true, false, true≢false, refl, sym, ap, ◌∙◌, subst}
 use Rattle.std.proofs.Common.{inl, inr, below_more, arith}
 use Rattle.std.specs.Prelude.{◌⊎◌, ◌||◌, List, Option, None, Some, MatchOption, unwrap_or, unsigned_abs}

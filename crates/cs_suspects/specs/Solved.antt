@@ -1,4 +1,4 @@
--- The parts of a suspect: what they are under each solution, of which there is one.
+-- The parts of a suspect, stated for every solution; there is exactly one.
 use Rattle.std.specs.Prelude.{◌≡◌, ℕ, ℤ, pos, true, false, List, map}
 use Rattle.std.specs.FinMap as finite
 use Rattle.cs_inputs.specs.declared.path.Path.{Path}
@@ -16,11 +16,11 @@ use Rattle.cs_suspects.specs.Suspected.{IsSolution, suspected}
 abbrev pub IsNumberOf : Sets → ℕ → ℤ → Type 0
 IsNumberOf sets sym number = (v : Valuation) → IsSolution sets v → number ≡ v sym
 
--- inputs in which each path has the number of the one of these symbols that stands for it
+-- inputs in which each path has the number of that one of these symbols which represents it
 abbrev pub AreInputsOf : Sets → List SymName → List (Path × ℤ) → Type 0
 AreInputsOf sets syms inputs = (v : Valuation) → IsSolution sets v → (path : Path) → number_at inputs path ≡ input_of syms v path
 
--- the path of a symbol, where it stands for an input, has its number instead of 0
+-- if the symbol represents the input at a path, the path has the symbol's number instead of 0
 pub record IsPut (name : SymName) (number : ℤ) (before after : List (Path × ℤ)) : Type 0 where
   pub here : (path : Path) → is_input_at path name ≡ true → number_at before path ≡ pos 0 → number_at after path ≡ number
   pub elsewhere : (path : Path) → is_input_at path name ≡ false → number_at after path ≡ number_at before path

@@ -7,10 +7,10 @@ use cs_events::Outcome;
 use cs_explored::End;
 use std::alloc::{AllocError, Global};
 
-/// How many ends of one outcome are suspected.
+/// The most ends of one outcome that are suspected.
 const MOST_OF_ONE: u32 = 4;
 
-// By what ends are ordered: without guesses first, then by the number of events, then as they were found.
+// The order of ends: those without guesses first, then by the number of events, then as they were found.
 #[derive(Clone, Copy, PartialEq, Eq, PartialOrd, Ord)]
 struct Rank {
     guesses: bool,
@@ -18,15 +18,15 @@ struct Rank {
     number: usize,
 }
 
-// An outcome with the number of ends that are chosen of it.
+// An outcome with the number of ends of it that were chosen.
 #[derive(Clone, Copy)]
 struct Count {
     outcome: Outcome,
     chosen: u32,
 }
 
-/// The numbers of the ends that are suspected: of each fault and each budget that was met the first few, those without guesses first, and
-/// of these those with fewest events.
+/// Returns the numbers of the ends that are suspected: for each fault and each met budget the first few, where those without guesses come
+/// first, and among them those with fewest events.
 pub fn chosen(alloc: Global, ends: &[End]) -> Result<Vec<usize>, AllocError>
     ensures each { IfOk result (λ numbers. AreOfFindings ends.now numbers.items) }
     ensures all { IfOk result (λ numbers. AreAllChosen ends.now numbers.items) }
@@ -45,7 +45,7 @@ pub fn chosen(alloc: Global, ends: &[End]) -> Result<Vec<usize>, AllocError>
     Ok(numbers)
 }
 
-// The faults and met budgets in order.
+// Returns the ranks of the ends that are faults or met budgets, in order.
 fn ranked(alloc: Global, ends: &[End]) -> Result<Vec<Rank>, AllocError>
     ensures each { IfOk result (λ ranks. AreOfFindings ends.now (numbers_of ranks.items)) }
     ensures all { IfOk result (λ ranks. HaveAllFindings ends.now (numbers_of ranks.items)) }
@@ -80,7 +80,7 @@ fn has_guesses(end: &End) -> Result<bool, AllocError> {
     Ok(guesses.next().is_some())
 }
 
-// Whether one more end of an outcome is wanted, which counts it.
+// Whether one more end of an outcome is wanted; if so, counts it.
 fn is_wanted(counts: &mut Vec<Count>, outcome: Outcome) -> Result<bool, AllocError>
     ensures { IfOk result (λ wanted.
         IsWanted outcome (counted counts.old.items) wanted (counted counts.new.items)) }
@@ -100,7 +100,7 @@ fn is_wanted(counts: &mut Vec<Count>, outcome: Outcome) -> Result<bool, AllocErr
     Ok(true)
 }
 
-// Where an outcome is counted.
+// Returns the index at which an outcome is counted, if it is.
 fn place_of(counts: &[Count], outcome: Outcome) -> Option<usize>
     ensures { IfSome result (λ place. slice_get (counted counts.now) place ≡ Some outcome) }
 {

@@ -1,4 +1,4 @@
-//! The cuts of an exploration as they are listed.
+//! The list of an exploration's cuts.
 ghost use Rattle.std.specs.Prelude.{◌≡◌, ◌≢◌, ◌++◌, [], map, All, Contains, IfOk, OnOk, MatchOption};
 ghost use Rattle.std.specs.BTreeMap.{IsOrdered};
 ghost use Rattle.cs_results.specs.declared.result.Cut.TheVariants.{Nodes};
@@ -11,11 +11,11 @@ use cs_results::Cut;
 use std::alloc::{AllocError, Global};
 use std::collections::BTreeMap;
 
-// The accesses that were cut, by file, line and column, each with the most offsets that it had.
+// The positions of the accesses that were cut, by file, line and column, each with the greatest number of offsets there.
 type Splits = BTreeMap<(u32, (u32, u32)), u64>;
 
-/// The cuts in the order in which they are printed: that of the nodes first, then those of accesses by place, of each place the one with
-/// the most offsets.
+/// Returns the cuts in the order in which they are printed: first that of the nodes, then those of accesses by position, for each position
+/// the one with the most offsets.
 pub fn listed(alloc: Global, cuts: &[Cut]) -> Result<Vec<Cut>, AllocError>
     ensures sorted { IfOk result (λ listed. AreCutsListed listed.items) }
     ensures nodes { IfOk result (λ listed. HasNodesOf cuts.now listed.items) }
@@ -42,7 +42,7 @@ fn list_nodes(alloc: Global, nodes: Option<u64>) -> Result<Vec<Cut>, AllocError>
     }
 }
 
-// The nodes that there were where the graph was full.
+// Returns the number of nodes at which the graph was full, if it was cut.
 fn nodes_of(cuts: &[Cut]) -> Option<u64>
     ensures { MatchOption result (All IsSplits cuts.now)
         (λ nodes. Contains cuts.now (Nodes nodes)) }
@@ -55,7 +55,7 @@ fn nodes_of(cuts: &[Cut]) -> Option<u64>
     None
 }
 
-// The accesses that were cut.
+// Returns the accesses that were cut.
 fn splits_of(alloc: Global, cuts: &[Cut]) -> Result<Splits, AllocError>
     ensures ordered { IfOk result (λ splits. IsOrdered spot_order splits) }
     ensures some { IfOk result (λ splits. splits.entries ≡ [] → All IsNodes cuts.now) }
@@ -70,7 +70,7 @@ fn splits_of(alloc: Global, cuts: &[Cut]) -> Result<Splits, AllocError>
     Ok(splits)
 }
 
-// An access had so many offsets at least.
+// Notes that the access at a position has this many offsets, unless more are noted.
 fn raise(splits: &mut Splits, place: Place, count: u64) -> Result<(), AllocError>
     requires { IsOrdered spot_order splits.old }
     ensures ordered { IsOrdered spot_order splits.new }

@@ -1,4 +1,4 @@
-//! Suspects out of an exploration: which of its ends are shown to the witness, and which runs show them.
+//! Suspects of an exploration: which of its ends the witness is to show, and with which runs.
 #![tactic(auto)]
 
 mod choosing;

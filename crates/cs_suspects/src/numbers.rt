@@ -13,7 +13,7 @@ use cs_suspect_types::OperandRange;
 use cs_terms::{Lin, Sym, SymName};
 use std::alloc::{AllocError, Global};
 
-/// The inputs of a state: for each path the number of least absolute value that its symbol may have, the positive one of two.
+/// Returns the inputs of a state: for each path the number of least absolute value that its symbol may have, the positive one of two.
 pub(crate) fn inputs_of(alloc: Global, state: &State, tables: &Tables) -> Result<Inputs, AllocError>
     ensures { IfOk result (AreInputsOf state.now.constraints (naming tables.now).syms) }
 {
@@ -27,7 +27,7 @@ pub(crate) fn inputs_of(alloc: Global, state: &State, tables: &Tables) -> Result
     Ok(inputs)
 }
 
-// Gives the path of a symbol its number, where the symbol stands for an input. A path that isn't set has 0.
+// Sets the path of a symbol to its number, if the symbol represents an input. A path that isn't set has 0.
 fn set_input(inputs: &mut Inputs, name: &SymName, number: i128) -> Result<(), AllocError>
     ensures { OnOk result (IsPut name.now number inputs.old inputs.new) }
 {
@@ -42,14 +42,14 @@ fn set_input(inputs: &mut Inputs, name: &SymName, number: i128) -> Result<(), Al
     }
 }
 
-/// The number of least absolute value that a symbol may have, 0 where it isn't declared.
+/// Returns the number of least absolute value that a symbol may have, 0 if it isn't declared.
 pub(crate) fn number_of(state: &State, sym: Sym) -> i128
     ensures { IsNumberOf state.now.constraints sym.0 result }
 {
     state.constraints.solution(sym).unwrap_or(0)
 }
 
-/// The symbol of an operand, where it has one, with the ends of its numbers.
+/// Returns the symbol of an operand, if it has one with a name, and the ends of its range.
 pub(crate) fn operand_range(
     tables: &Tables,
     term: Lin,
@@ -70,7 +70,7 @@ pub(crate) fn operand_range(
     }))
 }
 
-/// Each declared symbol has a number. The copy is made for what it says of the constraints.
+/// Shows that each declared symbol can have a number. The copy is made for what its contract states about the constraints.
 pub(crate) fn have_numbers(constraints: &Constraints) -> Result<(), AllocError>
     ensures { OnOk result (AreInhabited constraints.now) }
 {

@@ -12,7 +12,7 @@ use cs_state::{Asked, State, Tables};
 use cs_suspect_types::{Suspect, SuspectedGuess};
 use std::alloc::{AllocError, Global};
 
-/// The suspects of an exploration.
+/// Returns the suspects of an exploration.
 pub fn suspects(alloc: Global, explored: &Explored) -> Result<Vec<Suspect>, AllocError>
     ensures each { IfOk result (λ suspects. AreSuspectsOf (naming explored.now.tables)
         explored.now.ends.items suspects.items) }
@@ -29,7 +29,7 @@ pub fn suspects(alloc: Global, explored: &Explored) -> Result<Vec<Suspect>, Allo
     Ok(suspects)
 }
 
-/// The run that is suspected to end so: the numbers of its symbols are those of least absolute value that the end allows.
+/// Returns the run that is suspected to have the outcome of an end: its symbols have the numbers of least absolute value that the end allows.
 pub fn suspect(alloc: Global, end: &End, tables: &Tables) -> Result<Suspect, AllocError>
     ensures of_end { IfOk result (λ suspect.
         IsSuspectOf (naming tables.now) end.now suspect) }
@@ -45,7 +45,7 @@ pub fn suspect(alloc: Global, end: &End, tables: &Tables) -> Result<Suspect, All
     })
 }
 
-// The guesses of a state, in the order of their events.
+// Returns the guesses of a state, in the order of their events.
 fn guesses_of(
     alloc: Global,
     state: &State,

@@ -1,4 +1,4 @@
--- The runs of corners: what is put into inputs and guesses. For the contracts of `corners`.
+-- The runs of corners: the numbers that are changed in inputs and guesses. For the contracts of `corners`.
 use Rattle.std.proofs.Common.{◌≡◌, ℕ, zero, suc, ◌+◌, ◌<◌, nat_lt, ℤ, List, [], ◌∷◌, ◌++◌, map, length, take, drop, set, get_or}
 use Rattle.std.proofs.Common.{if◌then◌else◌, refl, sym, ap, ◌∙◌, subst, arith}
 use Rattle.std.specs.Prelude.{Contains, filter, Bool, Option, Some, None, Result, Ok, Err, IfOk}

@@ -1,4 +1,4 @@
--- Grounds that are read off a pool are grounds of its first run's guesses, if the judge has shown them to be real.
+-- Grounds that are taken from a pool are grounds of its first run's guesses, if the judge has shown them to be real.
 use Rattle.std.proofs.Common.{◌≡◌, ℕ, zero, suc, ℤ, List, [], ◌∷◌, ◌++◌, length, Some, slice_get, refl, sym, ap, ◌∙◌, subst, arith}
 use Rattle.std.specs.Map.{keys_of}
 use Rattle.cs_inputs.specs.declared.path.Path.{Path}

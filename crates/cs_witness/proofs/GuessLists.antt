@@ -1,4 +1,4 @@
--- Guesses that ascend: which of them stand before an event, and at the same events as others.
+-- Guesses that ascend: which of them are before an event, and at the same events as others.
 use Rattle.std.proofs.Common.{◌≡◌, ℕ, zero, suc, ◌<◌, ◌≤◌, nat_lt, Bool, true, false, List, [], ◌∷◌, map, take, length, get_or, Some, slice_get}
 use Rattle.std.proofs.Common.{refl, sym, ap, ◌∙◌, arith, cond}
 use Rattle.std.specs.Prelude.{filter, option_map}

@@ -1,4 +1,4 @@
--- Lists in the order of a key: where an item belongs, and what an insertion keeps. For the contracts of `findings` and `cuts`.
+-- Lists in the order of a key: where an item belongs, and what an insertion preserves. For the contracts of `findings` and `cuts`.
 use Rattle.std.proofs.Common.{◌≡◌, ℕ, zero, suc, ◌+◌, ◌<◌, ◌≤◌, false, List, [], ◌∷◌, ◌++◌, length, map, take, drop, get_or}
 use Rattle.std.proofs.Common.{refl, sym, ◌∙◌, ap, subst, arith, inl, inr, ◌⊎◌}
 use Rattle.std.specs.Prelude.{All, Contains}

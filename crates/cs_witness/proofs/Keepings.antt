@@ -1,4 +1,4 @@
--- What the judge keeps of a replay is so. For the contracts of `kept` and `grounds`.
+-- What the judge keeps of a replay is true. For the contracts of `kept` and `grounds`.
 use Rattle.std.proofs.Common.{◌≡◌, ℕ, zero, suc, ◌≤◌, List, [], ◌∷◌, ◌++◌, map, take, length, Some, slice_get}
 use Rattle.std.proofs.Common.{sym, ap, ◌∙◌, arith}
 use Rattle.std.specs.Prelude.{option_map}

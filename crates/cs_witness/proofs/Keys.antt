@@ -1,4 +1,4 @@
--- The keys of inputs, once a path was set. For the contracts of `listing` and of `copies`.
+-- The keys of inputs after a path was set. For the contracts of `listing` and of `copies`.
 use Rattle.std.proofs.Common.{◌≡◌, ℕ, zero, suc, ◌+◌, ◌<◌, ℤ, List, [], ◌∷◌, ◌++◌, length, take, drop, get_or, inl, inr, ◌⊎◌}
 use Rattle.std.proofs.Common.{refl, sym, ap, ◌∙◌, subst, arith}
 use Rattle.std.specs.Prelude.{All, Contains, ◌↔◌}

@@ -1,4 +1,4 @@
--- Outcomes that are listed, and stay so. For the contracts of `witness`.
+-- Outcomes that are listed remain listed. For the contracts of `witness`.
 use Rattle.std.proofs.Common.{◌≡◌, ℕ, ◌+◌, ◌<◌, ◌⊎◌, inl, inr, List, [], ◌∷◌, ◌++◌, map, length, get_or, Some, slice_get, sym, ap, ◌∙◌, subst, arith}
 use Rattle.std.specs.Prelude.{Contains, false}
 use Rattle.std.specs.List.{insert, HoldsAt, All}

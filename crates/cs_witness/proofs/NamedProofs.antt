@@ -1,4 +1,4 @@
--- Once partners are named for all guesses of an evident suspect's pool, the judge is convinced, and grounds can be read off. For the contract of `grounds_of`.
+-- When partners are named for all guesses of an evident suspect's pool, it convinces the judge and yields grounds. For the contract of `grounds_of`.
 use Rattle.std.proofs.Common.{◌≡◌, ℕ, zero, suc, ℤ, List, [], ◌∷◌, ◌++◌, map, length, Some, slice_get, refl, sym, ap, ◌∙◌, subst, arith}
 use Rattle.std.specs.Prelude.{All, option_map, Vec}
 use Rattle.std.specs.declared.alloc.Global.{Global}

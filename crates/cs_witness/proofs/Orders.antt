@@ -1,4 +1,4 @@
--- The orders of findings and of cuts are total, and cuts that are tied have one key. For the contracts of `cuts` and `witness`.
+-- The orders of findings and of cuts are total, and cuts that compare equal have one key. For the contracts of `cuts` and `witness`.
 use Rattle.std.proofs.Common.{◌≡◌, ℕ, ◌<◌, List, [], ◌∷◌, get_or, refl, sym, ap, ◌∙◌}
 use Rattle.std.specs.Cmp.{IsTotalOrder, on_total, then_total, ranks}
 use Rattle.std.specs.Ordering.{nat_cmp, ordering_then, MatchOrdering}

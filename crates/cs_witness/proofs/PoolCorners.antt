@@ -1,4 +1,4 @@
--- The replays of corners, as they join a pool. For the contracts of `pools`.
+-- The replays of corners that are added to a pool. For the contracts of `pools`.
 use Rattle.std.proofs.Common.{◌≡◌, ℕ, zero, suc, List, [], ◌∷◌, ◌++◌, refl, sym, ap, ◌∙◌, subst, arith}
 use Rattle.std.specs.Prelude.{All, Contains, Option, Some, None}
 use Rattle.std.proofs.lemmas.List.{append-nil, append_assoc}

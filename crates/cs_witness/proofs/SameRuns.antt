@@ -1,4 +1,4 @@
--- Inputs that have the same numbers for the parameters and for all that a run reads give the same run.
+-- Inputs with the same numbers for the parameters and for all that a run reads yield the same run.
 use Rattle.std.proofs.Common.{◌≡◌, ℕ, suc, ℤ, List, [], ◌∷◌, map, inl, inr, ◌⊎◌, refl, ap, ◌∙◌, subst, arith}
 use Rattle.std.specs.Prelude.{Contains}
 use Rattle.cs_types.specs.declared.data_model.DataModel.{DataModel}

@@ -1,4 +1,4 @@
--- A run that lists just what it reads, and findings of it. For the contracts of `showing`.
+-- A run that lists exactly what it reads, and its findings. For the contracts of `showing`.
 use Rattle.std.proofs.Common.{◌≡◌, ℤ, List, [], map, inl, inr, ◌⊎◌, refl, sym, ◌∙◌, subst}
 use Rattle.std.specs.Prelude.{◌≤◌, All, Contains, ◌↔◌, length, Vec, Result, Ok, Err, Option, Some, None, IfOk, IfSome}
 use Rattle.std.specs.declared.alloc.Global.{Global}

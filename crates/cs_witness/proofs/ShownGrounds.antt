@@ -1,4 +1,4 @@
--- What the judge's yes gives to the first run of a pool. For the contract of `grounds_of`.
+-- What follows for the first run of a pool if the judge accepts the pool. For the contract of `grounds_of`.
 use Rattle.std.proofs.Common.{◌≡◌, List, [], Some, slice_get, refl, sym, ap, subst}
 use Rattle.std.specs.Prelude.{Vec, Result, Ok, Err, Option, None, IfOk, IfSome}
 use Rattle.std.specs.declared.alloc.Global.{Global}

@@ -1,4 +1,4 @@
--- What a run comes to under one budget of events, it comes to under any that lets that event pass. For the runs of corners.
+-- What a run reaches under one budget of events, it reaches under each budget that allows that event. For the runs of corners.
 use Rattle.std.proofs.Common.{◌≡◌, ℕ, suc, ◌≤◌, List, length, refl, subst, ◌∙◌, arith}
 use Rattle.std.proofs.lemmas.List.{length-map}
 use Rattle.cs_ast.specs.TypedProgram.{TypedProgram}

@@ -1,4 +1,4 @@
--- A replay passes the events before a guess and keeps the operation there, where its run comes to it.
+-- A replay passes the events before a guess and keeps the operation there, if its run reaches it.
 use Rattle.std.proofs.Common.{◌≡◌, ℕ, suc, ◌≤◌, List, length, take, drop, Some, slice_get, inr, sym, ap, ◌∙◌, subst, arith}
 use Rattle.std.proofs.lemmas.List.{length-take, take-append-drop}
 use Rattle.cs_ast.specs.declared.place.Place.{Place}

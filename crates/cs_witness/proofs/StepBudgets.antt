@@ -1,4 +1,4 @@
--- The steps of the reference machine don't depend on the budget of events.
+-- The steps of the reference semantics don't depend on the budget of events.
 use Rattle.std.proofs.Common.{◌≡◌, ℕ, List, [], ◌∷◌, Option, Some, None, slice_get, refl}
 use Rattle.cs_ast.specs.declared.place.Place.{Place}
 use Rattle.cs_ast.specs.TypedTree.{Typed, Of, Form, Statement}

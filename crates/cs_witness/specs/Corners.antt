@@ -23,7 +23,7 @@ pub record IsPutInput (path : Path) (number : ℤ) (old new : List (Path × ℤ)
 abbrev pub put_guess : ℕ → ℤ → Guess → Guess
 put_guess event number guess = record guess { number = if nat_eq guess.event event then number else guess.number }
 
--- a symbol has another number in a run, if it is an input that is listed, or a guess
+-- a symbol has another number in a run, if it is a listed input or a guess
 pub record IsPut (symbol : SymName) (number : ℤ) (old new : ProgramRun) : Type 0 where
   pub paths : keys_of new.inputs ≡ keys_of old.inputs
   pub numbers : (path : Path) → Contains (keys_of old.inputs) path

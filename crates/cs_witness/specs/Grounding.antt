@@ -1,4 +1,4 @@
--- Grounds that are read off a pool.
+-- Grounds that are taken from a pool.
 use Rattle.std.specs.Prelude.{◌≡◌, ℕ, ℤ, suc, ◌<◌, List, length, Some, slice_get}
 use Rattle.std.specs.Map.{keys_of}
 use Rattle.cs_inputs.specs.declared.path.Path.{Path}
@@ -14,7 +14,7 @@ use Rattle.cs_judge.specs.declared.pool.Kept.TheVariants as kept
 use Rattle.cs_judge.specs.declared.pool.Partners.{Partners}
 use Rattle.cs_judge.specs.declared.pool.Replay.{Replay}
 
--- the run with a number in a pool, which lists the paths of these inputs
+-- the run with a number in a pool, which lists the same paths as these inputs
 pub record IsListedRunAt (pool : List Replay) (inputs : List (Path × ℤ)) (number : ℕ) (run : Run) : Type 0 where
   pub replay : Replay
   pub there : slice_get pool number ≡ Some replay
@@ -24,14 +24,14 @@ pub record IsListedRunAt (pool : List Replay) (inputs : List (Path × ℤ)) (num
 abbrev pub AreRunsAt : List Replay → List (Path × ℤ) → Others ℕ → Others Run → Type 0
 AreRunsAt pool inputs = AllRelated (IsListedRunAt pool inputs)
 
--- at a guess an operation at this place was kept
+-- the operation that was kept at a guess is at this position
 pub record IsPlaceAt (mine : Replay) (guess : Guess) (at : Place) : Type 0 where
   pub passed : ℕ
   pub number : guess.event ≡ suc passed
   pub operation : Operation
   pub kept : slice_get mine.kept.items passed ≡ Some (kept.Operates at operation)
 
--- the ground of the guess with this number among those of a replay: its partners' runs, at the place of the operation
+-- the ground of the guess with this number among those of a replay: the runs of its partners, at the position of the operation
 pub record IsGroundIn (pool : List Replay) (mine : Replay) (inputs : List (Path × ℤ)) (number : ℕ) (ground : Ground) : Type 0 where
   pub guess : slice_get mine.run.guesses.items number ≡ Some ground.guess
   pub place : IsPlaceAt mine ground.guess ground.place
@@ -39,23 +39,23 @@ pub record IsGroundIn (pool : List Replay) (mine : Replay) (inputs : List (Path 
   pub named : slice_get mine.partners.items number ≡ Some partners
   pub others : AreRunsAt pool inputs partners.others ground.others
 
--- one for each guess of a replay, in order
+-- one ground for each guess of a replay, in order
 pub record AreGroundsIn (pool : List Replay) (mine : Replay) (inputs : List (Path × ℤ)) (grounds : List Ground) : Type 0 where
   pub count : length grounds ≡ length mine.run.guesses.items
   pub each : (number : ℕ) (ground : Ground) → slice_get grounds number ≡ Some ground → IsGroundIn pool mine inputs number ground
 
--- the run with this number lists the paths of these inputs
+-- the run with this number lists the same paths as these inputs
 pub record IsAlikeAt (pool : List Replay) (inputs : List (Path × ℤ)) (number : ℕ) : Type 0 where
   pub replay : Replay
   pub there : slice_get pool number ≡ Some replay
   pub paths : keys_of replay.run.inputs ≡ keys_of inputs
 
--- at a guess some operation was kept
+-- an operation was kept at a guess
 pub record HasPlaceAt (mine : Replay) (guess : Guess) : Type 0 where
   pub at : Place
   pub is : IsPlaceAt mine guess at
 
--- there is a ground of the guess with this number: an operation was kept there, and the partners list the paths of the inputs
+-- the guess with this number has a ground: an operation was kept there, and the partners list the same paths as the inputs
 pub record HasGroundIn (pool : List Replay) (mine : Replay) (inputs : List (Path × ℤ)) (number : ℕ) : Type 0 where
   pub guess : Guess
   pub listed : slice_get mine.run.guesses.items number ≡ Some guess
@@ -64,6 +64,6 @@ pub record HasGroundIn (pool : List Replay) (mine : Replay) (inputs : List (Path
   pub named : slice_get mine.partners.items number ≡ Some partners
   pub alike : AllOthers (IsAlikeAt pool inputs) partners.others
 
--- there is a ground of each guess
+-- each guess has a ground
 abbrev pub HasGroundsIn : List Replay → Replay → List (Path × ℤ) → Type 0
 HasGroundsIn pool mine inputs = (number : ℕ) → number < length mine.run.guesses.items → HasGroundIn pool mine inputs number

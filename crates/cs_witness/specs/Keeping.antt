@@ -11,22 +11,22 @@ use Rattle.cs_judge.specs.declared.pool.Replay.{Replay}
 use Rattle.cs_judge.specs.Pools.{AreKept}
 use Rattle.cs_witness.specs.declared.entry.Entry.{Entry}
 
--- what is kept of what was pending at an event: an operation alone
+-- what is kept of what was pending at an event: only an operation
 abbrev pub noted : pending.Pending → Kept
 noted (pending.Operates at operation) = kept.Operates at operation
 noted (pending.Tries at path) = kept.Other
 noted (pending.Accesses at object offset) = kept.Other
 
--- more runs stand after those of a pool, and what is kept of them is so
+-- a pool is extended by more runs, and what is kept of them is true
 pub record Widens (entry : Entry) (old new : List Replay) : Type 0 where
   pub more : List Replay
   pub is : new ≡ old ++ more
   pub kept : AreKept (typed_program entry.program.now) entry.function (run_budgets entry.budgets) more
 
--- a replay but for its partners
+-- a replay without its partners
 abbrev pub bare : Replay → ProgramRun × List Event × List Kept
 bare replay = (run_of replay.run, replay.events.items, replay.kept.items)
 
--- the replays of two pools differ in their partners alone
+-- the replays of two pools differ only in their partners
 abbrev pub KeepsRuns : List Replay → List Replay → Type 0
 KeepsRuns old new = map bare new ≡ map bare old

@@ -1,4 +1,4 @@
--- What a pool has: the runs of the corners of guesses, each replayed up to its guess; and what is found in it.
+-- What a pool contains: the runs of the corners of guesses, each replayed up to its guess; and the partners that are found in it.
 use Rattle.std.specs.Prelude.{◌≡◌, ℕ, ◌-◌, ◌^◌, ◌<◌, ◌≤◌, List, ◌++◌, map, length, All, Contains, Some, slice_get, Vec}
 use Rattle.std.specs.declared.alloc.Global.{Global}
 use Rattle.std.specs.Map.{keys_of}
@@ -21,7 +21,7 @@ use Rattle.cs_witness.specs.Entries.{up_to}
 use Rattle.cs_witness.specs.Evidence.{Changes, AreCorners, IsRunOf, IsParameter, IsEvident}
 use Rattle.cs_witness.specs.Keeping.{noted}
 
--- a replay has all events of its run under a budget that lets each event up to this one pass that the entry's does
+-- a replay has all events of its run under a budget of events that allows at least those events up to this one which the entry's budget allows
 pub record IsReplayUpTo (entry : Entry) (event : ℕ) (replay : Replay) : Type 0 where
   pub events : ℕ
   pub enough : (number : ℕ) → number ≤ event → number ≤ entry.budgets.events → number ≤ events
@@ -32,7 +32,7 @@ pub record IsReplayUpTo (entry : Entry) (event : ℕ) (replay : Replay) : Type 0
   pub kept : replay.kept.items ≡ map noted log.pending
 
 module _ (entry : Entry) (run : ProgramRun) where
-  -- the replay of a run, which a pool begins with
+  -- the replay of the shown run, which is the first of a pool
   pub record IsShownReplay (replay : Replay) : Type 0 where
     pub same : run_of replay.run ≡ run
     pub replayed : IsReplayUpTo entry entry.budgets.events replay
@@ -42,7 +42,7 @@ module _ (entry : Entry) (run : ProgramRun) where
     pub corner : IsCorner changes event run (run_of replay.run)
     pub replayed : IsReplayUpTo entry event replay
 
-  -- the replays of all corners of a guess join a pool, in order
+  -- the replays of all corners of a guess are added to a pool, in order
   pub record AddsCorners (guess : SuspectedGuess) (old new : List Replay) : Type 0 where
     pub more : List Replay
     pub is : new ≡ old ++ more
@@ -50,7 +50,7 @@ module _ (entry : Entry) (run : ProgramRun) where
     pub are : AreCorners guess.left guess.right all
     pub each : IsEach (IsCornerReplay guess.guess.event) all more
 
-  -- a replay of some corner of one of the guesses
+  -- a replay of a corner of one of the guesses
   pub record IsSomeCorner (guesses : List SuspectedGuess) (replay : Replay) : Type 0 where
     pub guess : SuspectedGuess
     pub among : Contains guesses guess
@@ -65,7 +65,7 @@ module _ (entry : Entry) (run : ProgramRun) where
   HasCornersOf pool guess = (all : List Changes) (changes : Changes) → AreCorners guess.left guess.right all → Contains all changes
       → (replay : Replay) × Contains pool replay × IsCornerReplay guess.guess.event changes replay
 
-  -- the replays of the corners of these guesses join a pool, and no others
+  -- the replays of the corners of these guesses are added to a pool, and no others
   pub record AddsAllCorners (guesses : List SuspectedGuess) (old new : List Replay) : Type 0 where
     pub more : List Replay
     pub is : new ≡ old ++ more
@@ -77,7 +77,7 @@ abbrev pub HaveProofs : DataModel → List Replay → Type 0
 HaveProofs model pool = (number : ℕ) (mine : Replay) (place : ℕ) → slice_get pool number ≡ Some mine → place < length mine.run.guesses.items
     → HasProof (map judged pool) (judged mine) place model
 
--- partners are numbers that a run of a pool may have: so they were found
+-- partners were found: their numbers are ones that a run of a pool may have
 abbrev pub IsFound : Partners → Type 0
 IsFound partners = AllOthers (λ (number : ℕ). number < 2 ^ 64 - 1) partners.others
 
@@ -85,7 +85,7 @@ IsFound partners = AllOthers (λ (number : ℕ). number < 2 ^ 64 - 1) partners.o
 abbrev pub AreFound : List (Vec Partners Global) → Type 0
 AreFound found = All (λ (row : Vec Partners Global). All IsFound row.items) found
 
--- those for the run with a number, if there are any
+-- the partners for the run with a number, if there are any
 abbrev pub IsRowAt : List (Vec Partners Global) → ℕ → List Partners → Type 0
 IsRowAt found number row = (there : Vec Partners Global) → slice_get found number ≡ Some there → row ≡ there.items
 

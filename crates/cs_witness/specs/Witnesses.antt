@@ -1,4 +1,4 @@
--- What the witness says of suspects.
+-- What the witness ensures of suspects.
 use Rattle.std.specs.Prelude.{◌≡◌, ℕ, ℤ, List, Result, MatchResult, Contains, All}
 use Rattle.std.specs.List.{HoldsAt}
 use Rattle.std.specs.List.Sorted.{IsPartitionPoint}
@@ -17,14 +17,14 @@ use Rattle.cs_suspect_types.specs.declared.suspect.Suspect.{Suspect}
 use Rattle.cs_witness.specs.Evidence.{IsEvident}
 use Rattle.cs_findings.specs.GoodEntries.{IsFault, IsOver, AreListed, outcome_key, key_order}
 
--- a finding of the entry that is shown, and a good one
+-- a finding of the entry that is shown, or that is good
 abbrev pub IsShownOf : Entry → Finding → Type 0
 IsShownOf entry = IsShown (typed_program entry.program.now) entry.function (run_budgets entry.budgets)
 
 abbrev pub IsGoodOf : Entry → Finding → Type 0
 IsGoodOf entry = IsGoodFinding (typed_program entry.program.now) entry.function (run_budgets entry.budgets)
 
--- a run of the entry from these inputs doesn't end so without guesses
+-- no run of the entry from these inputs without guesses has this outcome
 abbrev pub IsElsewhereOf : Entry → Outcome → List (Path × ℤ) → Type 0
 IsElsewhereOf entry = EndsElsewhere (typed_program entry.program.now) entry.function (run_budgets entry.budgets)
 
@@ -32,7 +32,7 @@ IsElsewhereOf entry = EndsElsewhere (typed_program entry.program.now) entry.func
 abbrev pub IsEvidentOf : Entry → Suspect → Type 0
 IsEvidentOf entry = IsEvident (typed_program entry.program.now) entry.function (run_budgets entry.budgets)
 
--- an outcome is that of one of these reports, or of one of these met budgets
+-- an outcome is that of one of these reports or met budgets
 abbrev pub IsIn : Outcome → List Finding → List Finding → Type 0
 IsIn (Fault kind at) reports overs = Contains (outcomes_of reports) (Fault kind at)
 IsIn (Over budget at) reports overs = Contains (outcomes_of overs) (Over budget at)
@@ -43,11 +43,11 @@ abbrev pub ListsEvident : Entry → List Suspect → EntryResult → Type 0
 ListsEvident entry suspects result = (suspect : Suspect) → Contains suspects suspect → IsFinding suspect.what → IsEvidentOf entry suspect
     → HasFinding result suspect.what
 
--- no outcome that was listed was taken out
+-- each outcome that was listed still is
 abbrev pub KeepsListed : List Finding → List Finding → Type 0
 KeepsListed old new = (what : Outcome) → Contains (outcomes_of old) what → Contains (outcomes_of new) what
 
--- good findings of outcomes of one form, as they are listed
+-- good findings whose outcomes are all faults or all met budgets, in the order of a list
 pub record AreGood (entry : Entry) (Is : Outcome → Type 0) (findings : List Finding) : Type 0 where
   pub good : All (IsGoodOf entry) findings
   pub form : All (λ f. Is f.what) findings
@@ -60,12 +60,12 @@ AreGoodReports entry = AreGood entry IsFault
 abbrev pub AreGoodOvers : Entry → List Finding → Type 0
 AreGoodOvers entry = AreGood entry IsOver
 
--- the findings before a place are of lesser outcomes, and the others of greater ones
+-- the findings before a place have lesser outcomes, the others greater ones
 abbrev pub BelongsAt : Outcome → List Finding → ℕ → Type 0
 BelongsAt what = IsPartitionPoint (λ f. key_order (outcome_key f.what) (outcome_key what) ≡ Less)
     (λ f. key_order (outcome_key f.what) (outcome_key what) ≡ Greater)
 
--- where an outcome is listed, or where it belongs
+-- the index at which an outcome is listed, or at which it has to be inserted
 abbrev pub IsPlaceIn : Outcome → List Finding → Result ℕ ℕ → Type 0
 IsPlaceIn what findings answer =
     MatchResult answer (HoldsAt (λ f. key_order (outcome_key f.what) (outcome_key what) ≡ Equal) findings) (BelongsAt what findings)

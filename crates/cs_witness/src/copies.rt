@@ -1,4 +1,4 @@
-//! Inputs and runs once more.
+//! Copies of inputs and runs.
 ghost use Rattle.std.specs.Prelude.{◌≡◌, IfOk};
 ghost use Rattle.cs_inputs.specs.Inputs.{IsInOrder};
 ghost use Rattle.cs_findings.specs.Runs.{run_of};
@@ -7,14 +7,14 @@ use cs_findings::Run;
 use cs_inputs::{Inputs, Path};
 use std::alloc::{AllocError, Global};
 
-/// The same inputs once more.
+/// Returns a copy of the inputs.
 pub fn copy_inputs(alloc: Global, inputs: &Inputs) -> Result<Inputs, AllocError>
     ensures { IfOk result (λ made. made ≡ inputs.now) }
 {
     copy_entries(alloc, inputs.list())
 }
 
-/// The same run once more.
+/// Returns a copy of the run.
 pub fn copy_run(alloc: Global, run: &Run) -> Result<Run, AllocError>
     ensures { IfOk result (λ made. run_of made ≡ run_of run.now) }
 {
@@ -23,7 +23,7 @@ pub fn copy_run(alloc: Global, run: &Run) -> Result<Run, AllocError>
     Ok(Run { inputs, guesses })
 }
 
-// Entries in path order as inputs.
+// Makes inputs of entries in path order.
 fn copy_entries(alloc: Global, entries: &[(Path, i128)]) -> Result<Inputs, AllocError>
     requires { IsInOrder entries.now }
     ensures { IfOk result (λ made. made ≡ entries.now) }

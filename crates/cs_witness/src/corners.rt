@@ -1,4 +1,4 @@
-//! The corners of a guess: runs in which the symbols of the operands have the ends of their ranges, in the specification's order.
+//! The corners of a guess: runs in which the symbols of the operands are at the ends of their ranges, in the specification's order.
 ghost use Rattle.std.specs.Prelude.{◌≡◌, ◌↔◌, [], ◌∷◌, nat_lt, map, filter, Some, IfOk, OnOk, IsTrue};
 ghost use Rattle.cs_findings.specs.Runs.{run_of};
 ghost use Rattle.cs_witness.specs.Evidence as evidence;
@@ -13,9 +13,9 @@ use cs_suspect_types::{OperandRange, SuspectedGuess};
 use cs_terms::SymName;
 use std::alloc::{AllocError, Global};
 
-/// The runs of the corners of a guess: all other symbols keep the run's numbers, and no guess at the event or later is listed. The order
-/// is: left least and right least, left least and right greatest, left greatest and right least, left greatest and right greatest; with one
-/// symbol, least, then greatest.
+/// Returns the runs of the corners of a guess: all other symbols keep the run's numbers, and no guess at the event or later is listed. The
+/// order is: left least and right least, left least and right greatest, left greatest and right least, left greatest and right greatest; with
+/// one symbol, least, then greatest.
 pub fn corners_of(alloc: Global, run: &Run, guess: &SuspectedGuess) -> Result<Vec<Run>, AllocError>
     ensures { IfOk result (λ made. AreCornersOf guess.now.left guess.now.right
         guess.now.guess.event (run_of run.now) made.items) }
@@ -30,7 +30,7 @@ pub fn corners_of(alloc: Global, run: &Run, guess: &SuspectedGuess) -> Result<Ve
     }
 }
 
-// The corners of a right range, if there is one.
+// Returns the corners of a right range, if there is one.
 fn ends_of(
     alloc: Global,
     run: &Run,
@@ -46,7 +46,7 @@ fn ends_of(
     }
 }
 
-// The corners of two ranges.
+// Returns the corners of two ranges.
 fn all_of(
     alloc: Global,
     run: &Run,
@@ -70,7 +70,7 @@ fn is_same(one: &SymName, other: &SymName) -> bool
     one == other
 }
 
-// The corners of one symbol.
+// Returns the corners of one symbol.
 fn two_of(
     alloc: Global,
     run: &Run,
@@ -86,7 +86,7 @@ fn two_of(
     Ok(corners)
 }
 
-// The corners of two symbols.
+// Returns the corners of two symbols.
 fn four_of(
     alloc: Global,
     run: &Run,
@@ -113,7 +113,7 @@ fn four_of(
     Ok(corners)
 }
 
-// The run with another number of a symbol.
+// Returns the run with another number of a symbol, and only the guesses before an event.
 fn end_of(
     alloc: Global,
     run: &Run,
@@ -129,7 +129,7 @@ fn end_of(
     Ok(corner)
 }
 
-// The run with other numbers of two symbols.
+// Returns the run with other numbers of two symbols, and only the guesses before an event.
 fn both_of(
     alloc: Global,
     run: &Run,
@@ -148,7 +148,7 @@ fn both_of(
     Ok(corner)
 }
 
-// The run with its guesses before an event.
+// Returns the run with only the guesses before an event.
 fn earlier(alloc: Global, run: &Run, event: u64) -> Result<Run, AllocError>
     ensures { IfOk result (λ made. IsCorner [] event (run_of run.now) (run_of made)) }
 {
@@ -170,7 +170,7 @@ fn guesses_before(alloc: Global, guesses: &[Guess], event: u64) -> Result<Vec<Gu
     Ok(before)
 }
 
-// Gives a symbol another number. A path that the run doesn't list stays so, since the run doesn't read it.
+// Changes the number of a symbol. A path that the run doesn't list remains unlisted, since the run doesn't read it.
 fn put(run: &mut Run, symbol: &SymName, number: i128) -> Result<(), AllocError>
     ensures { OnOk result (IsPut symbol.now number (run_of run.old) (run_of run.new)) }
 {
@@ -181,7 +181,7 @@ fn put(run: &mut Run, symbol: &SymName, number: i128) -> Result<(), AllocError>
     Ok(())
 }
 
-// Gives a path another number, if it is listed.
+// Changes the number of a path, if it is listed.
 fn put_input(inputs: &mut Inputs, path: &Path, number: i128) -> Result<(), AllocError>
     ensures { OnOk result (IsPutInput path.now number inputs.old inputs.new) }
 {
@@ -191,7 +191,7 @@ fn put_input(inputs: &mut Inputs, path: &Path, number: i128) -> Result<(), Alloc
     Ok(())
 }
 
-// Gives the guess at an event another number.
+// Changes the number of the guess at an event.
 fn put_guess(guesses: &mut [Guess], event: u64, number: i128)
     ensures { guesses.new ≡ map (put_guess event number) guesses.old }
 {
@@ -200,7 +200,7 @@ fn put_guess(guesses: &mut [Guess], event: u64, number: i128)
     }
 }
 
-// The guess, with another number if it is at an event.
+// Returns the guess, with another number if it is at the event.
 fn other_guess(guess: Guess, event: u64, number: i128) -> Guess
     ensures { result ≡ put_guess event number guess }
 {

@@ -1,15 +1,15 @@
-//! The function whose runs are looked at.
+//! The function whose runs are replayed.
 
 use cs_ast::typed::program::Program;
 use cs_cfg::Code;
 use cs_findings::Budgets;
 use cs_objects::prepared::Prepared;
 
-/// A function of a program, with what its runs go by.
+/// A function of a program, with the data that its runs need.
 #[derive(Drop)]
 pub struct Entry<'a> {
     pub program: &'a Program,
-    /// What the program's runs share.
+    /// The data that all runs of the program share.
     pub prepared: &'a Prepared<'a>,
     /// The lowering of the program.
     pub code: &'a Code,

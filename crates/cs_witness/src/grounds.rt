@@ -24,7 +24,7 @@ use cs_replay::Replayed;
 use cs_suspect_types::SuspectedGuess;
 use std::alloc::{AllocError, Global};
 
-/// The grounds of a run's guesses, if the judge is shown that all of them are real.
+/// Returns the grounds of a run's guesses, or None if the judge isn't convinced that all of them are real.
 pub fn grounds_of(
     alloc: Global,
     entry: &Entry,
@@ -64,7 +64,7 @@ pub fn guesses_nothing(run: &Run) -> bool
     run.guesses.is_empty()
 }
 
-// The run that is shown, as the judge takes it.
+// Returns the run that is shown, in the judge's form.
 fn shown_replay(
     alloc: Global,
     entry: &Entry,
@@ -88,7 +88,7 @@ fn shown_replay(
     })
 }
 
-// The grounds of the guesses of the first run of a pool, if there is one for each, of runs that list the same paths.
+// Returns the grounds of the guesses of the first run of a pool, if each guess has one, of runs that list the same paths.
 fn grounds_in(
     alloc: Global,
     pool: &[Replay],
@@ -128,7 +128,7 @@ fn grounds_for(
     Ok(Some(grounds))
 }
 
-// The ground of one guess.
+// Returns the ground of one guess, if there is one.
 fn ground_of(
     alloc: Global,
     pool: &[Replay],
@@ -159,7 +159,7 @@ fn ground_of(
     }
 }
 
-// The place of the operation that was kept at a guess.
+// Returns the position of the operation that was kept at a guess, if there is one.
 fn place_of(mine: &Replay, guess: Guess) -> Option<Place>
     ensures place { IfSome result (IsPlaceAt mine.now guess) }
     ensures found { HasPlaceAt mine.now guess → IsSome result }
@@ -174,7 +174,7 @@ fn place_of(mine: &Replay, guess: Guess) -> Option<Place>
     }
 }
 
-// The runs of a pool with these numbers once more, if they list the same paths.
+// Returns copies of the runs of a pool with these numbers, if they list the same paths.
 fn others_in(
     alloc: Global,
     pool: &[Replay],
@@ -215,7 +215,7 @@ fn two_in(
     Ok(Some(Others::Two(one, other)))
 }
 
-// The run of a pool with a number once more, if it lists the same paths.
+// Returns a copy of the run of a pool with a number, if it lists the same paths.
 fn other_in(
     alloc: Global,
     pool: &[Replay],

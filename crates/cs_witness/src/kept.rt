@@ -15,7 +15,7 @@ use cs_judge::{Kept, Replay};
 use cs_run_log::Pending;
 use std::alloc::{AllocError, Global};
 
-/// What was pending at the events of a run, as the judge keeps it.
+/// Returns what was pending at the events of a run, in the judge's form.
 pub fn kept_of(alloc: Global, pending: &[Pending]) -> Result<Vec<Kept>, AllocError>
     ensures { IfOk result (λ kept. kept.items ≡ map noted (map pending_of pending.now)) }
 {
@@ -36,7 +36,7 @@ fn kept_at(pending: &Pending) -> Kept
     }
 }
 
-/// A run up to an event, as the judge takes it, with no partners so far.
+/// Replays a run up to an event, and returns it in the judge's form, with no partners yet.
 pub fn replay_up_to(
     alloc: Global,
     entry: &Entry,

@@ -1,7 +1,7 @@
-//! The witness: from what an exploration suspects of an entry to findings that carry their evidence.
+//! The witness: from the suspects of an exploration of an entry to findings with their evidence.
 //!
-//! A suspect is a claim: this run ends so. It is replayed and its guesses are judged, and only what is shown becomes a finding, so nothing
-//! has to be trusted of who suspected it.
+//! A suspect is a claim that a run ends in a certain way. The run is replayed and its guesses are judged, and only what is shown becomes a
+//! finding. So the source of the suspects needn't be trusted.
 #![tactic(auto)]
 
 mod copies;

@@ -1,4 +1,4 @@
-//! The inputs that a run lists: those of the entry's parameters and of the paths that it reads.
+//! The inputs that a run lists: those for the entry's parameters and for the paths that it reads.
 ghost use Rattle.std.specs.Prelude.{◌≡◌, ◌↔◌, [], ◌∷◌, map, Contains, IfOk, OnOk, IsTrue};
 ghost use Rattle.std.specs.Map.{keys_of};
 ghost use Rattle.cs_inputs.specs.Inputs.{IsInOrder};
@@ -15,7 +15,7 @@ use cs_values::paths::root_path;
 use std::alloc::{AllocError, Global};
 use std::cmp::Ordering;
 
-/// The numbers that given inputs have for the entry's parameters and for the paths that were read, and for no other path.
+/// Returns the numbers that given inputs have for the entry's parameters and for the paths that were read, and for no other path.
 pub fn listed(
     alloc: Global,
     entry: &Entry,
@@ -75,7 +75,7 @@ fn same_path(one: &Path, other: &Path) -> bool
     }
 }
 
-// Adds the entry's parameters, if there is such a function.
+// Adds the entry's parameters, if the function exists.
 fn add_parameters(
     alloc: Global,
     entry: &Entry,
@@ -92,7 +92,7 @@ fn add_parameters(
     }
 }
 
-// The parameters of a function.
+// Returns the parameters of a function: its first locals.
 #[tactic(auto, using(crate::proofs::Keys::takes))]
 fn first_locals(function: &Function) -> &[Local]
     ensures { map variable result.now ≡ parameters_of (routine function.now) }
@@ -105,7 +105,7 @@ fn first_locals(function: &Function) -> &[Local]
     }
 }
 
-// Adds parameters.
+// Adds the parameters, each with the number that the given inputs have for it.
 fn add_locals(
     alloc: Global,
     inputs: &mut Inputs,
@@ -122,7 +122,7 @@ fn add_locals(
     Ok(())
 }
 
-// Adds paths that were read.
+// Adds the paths that were read, each with the number that the given inputs have there.
 fn add_read(inputs: &mut Inputs, given: &Inputs, read: &[Lookup]) -> Result<(), AllocError>
     ensures { OnOk result (Adds given.now (map path_read read.now) inputs.old inputs.new) }
 {
@@ -132,7 +132,7 @@ fn add_read(inputs: &mut Inputs, given: &Inputs, read: &[Lookup]) -> Result<(), 
     Ok(())
 }
 
-// Adds a path, with the number that given inputs have there.
+// Adds a path, with the number that the given inputs have there.
 fn add(inputs: &mut Inputs, given: &Inputs, path: Path) -> Result<(), AllocError>
     ensures { OnOk result (Adds given.now (path ∷ []) inputs.old inputs.new) }
 {

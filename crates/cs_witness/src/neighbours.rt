@@ -17,10 +17,10 @@ use cs_findings::Finding;
 use cs_inputs::{Inputs, Path};
 use std::alloc::{AllocError, Global};
 
-// How many inputs are tried.
+// The number of inputs that are tried.
 const MOST_TRIES: usize = 64;
 
-/// The finding of the first neighbour of the inputs whose run ends so without guesses, if one does.
+/// Returns the finding of the first neighbour of the inputs whose run has the same outcome without guesses, if there is one.
 pub fn confirmed(
     alloc: Global,
     entry: &Entry,
@@ -40,7 +40,7 @@ pub fn confirmed(
     first_plain(alloc, entry, tries.as_slice(), what)
 }
 
-// The finding of the first inputs whose run ends so without guesses, if one does.
+// Returns the finding of the first of these inputs whose run has the same outcome without guesses, if there is one.
 fn first_plain(
     alloc: Global,
     entry: &Entry,
@@ -65,7 +65,7 @@ fn first_plain(
     Ok(None)
 }
 
-/// The inputs, then for each path the inputs with its number replaced by each of the constants: the first 64.
+/// Returns the first 64 of: the inputs, then for each path the inputs with its number replaced by each of the constants.
 fn neighbours(alloc: Global, constants: &[i128], inputs: &Inputs) -> Result<Vec<Inputs>, AllocError>
     ensures { IfOk result (λ tries. tries.items ≡ neighbours constants.now inputs.now) }
 {
@@ -75,7 +75,7 @@ fn neighbours(alloc: Global, constants: &[i128], inputs: &Inputs) -> Result<Vec<
     Ok(tries)
 }
 
-// Adds for each listed path the inputs with its number replaced by each of the constants, up to 64 in all.
+// For each listed path, adds the inputs with its number replaced by each of the constants, up to 64 in all.
 fn add_neighbours(
     alloc: Global,
     tries: &mut Vec<Inputs>,
@@ -112,7 +112,7 @@ fn add_replaced(
     Ok(())
 }
 
-// Adds the inputs with another number of a path, if there are fewer than 64.
+// Adds the inputs with another number of a path, if there are fewer than 64 so far.
 fn add_try(
     alloc: Global,
     tries: &mut Vec<Inputs>,
@@ -138,7 +138,7 @@ fn takes_more(tries: &Vec<Inputs>) -> bool
     tries.len() < MOST_TRIES
 }
 
-// The inputs with another number of a path.
+// Returns a copy of the inputs with another number of a path.
 fn with_number(
     alloc: Global,
     inputs: &Inputs,

@@ -1,4 +1,4 @@
-//! The order of findings: by place, then by the number of the kind or of the budget.
+//! The order of findings: by position, then by the number of the kind or of the budget.
 ghost use Rattle.std.specs.Prelude.{◌≡◌, ◌↔◌, IsTrue};
 ghost use Rattle.cs_events.specs.Budgets.{budget_number};
 ghost use Rattle.cs_findings.specs.GoodEntries.{IsFault, IsOver, place_order, outcome_key, key_order};
@@ -8,14 +8,14 @@ use cs_ast::Place;
 use cs_events::{Budget, Outcome};
 use std::cmp::Ordering;
 
-/// How two faults, or two met budgets, stand to each other in a list of findings.
+/// Compares two faults, or two met budgets, by their order in a list of findings.
 pub fn order(one: Outcome, other: Outcome) -> Ordering
     ensures { result ≡ key_order (outcome_key one) (outcome_key other) }
 {
     place_order(place_of(one), place_of(other)).then(number_of(one).cmp(&number_of(other)))
 }
 
-/// Whether both are the same fault, or the same budget that was met at one place.
+/// Whether both are the same fault, or the same budget that was met at the same position.
 pub fn is_outcome(one: Outcome, other: Outcome) -> bool
     ensures { IsTrue result ↔ IsSame one other }
 {
@@ -44,7 +44,7 @@ fn is_over(what: Outcome) -> bool
     }
 }
 
-/// How two places stand to each other: by file, then line, then column.
+/// Compares two positions: by file, then line, then column.
 pub fn place_order(one: Place, other: Place) -> Ordering
     ensures { result ≡ place_order one other }
 {

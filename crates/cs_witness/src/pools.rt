@@ -15,10 +15,10 @@ use cs_judge::{Partners, Replay, partners};
 use cs_suspect_types::SuspectedGuess;
 use std::alloc::{AllocError, Global};
 
-// How many runs a pool takes beside the shown run and its corners, and how often these are looked for.
+// A pool with this many runs beside the shown run and its corners gets no more; also the most rounds in which these are looked for.
 const MOST_FURTHER_RUNS: usize = 64;
 
-/// Adds the runs of the corners of each guess of a run to a pool.
+/// Adds the runs of the corners of each of a run's guesses to a pool.
 pub fn add_all_corners(
     alloc: Global,
     entry: &Entry,
@@ -37,8 +37,8 @@ pub fn add_all_corners(
     Ok(())
 }
 
-/// Adds corners of the guesses of other runs of the pool that find no partners there, and gives the partners that are found then. Nothing
-/// is added where each guess has partners in the pool.
+/// Adds corners of those guesses of other runs of the pool that find no partners there, and returns the partners that are found then.
+/// Nothing is added if each guess has partners in the pool.
 pub fn add_further_corners(
     alloc: Global,
     entry: &Entry,
@@ -64,7 +64,7 @@ pub fn add_further_corners(
     partners(alloc, entry.program.model, pool.as_slice())
 }
 
-/// Names the partners that were found for all guesses of the pool.
+/// Writes the partners that were found for all guesses into the runs of the pool.
 pub fn name_partners(
     alloc: Global,
     pool: &mut Vec<Replay>,
@@ -79,7 +79,7 @@ pub fn name_partners(
     Ok(())
 }
 
-// The partners that were found for a run.
+// Returns the partners that were found for a run.
 fn row_at(found: &[Vec<Partners>], number: usize) -> &[Partners]
     ensures { IsRowAt found.now number result.now }
 {
@@ -89,7 +89,7 @@ fn row_at(found: &[Vec<Partners>], number: usize) -> &[Partners]
     }
 }
 
-// Names the partners of a run's guesses.
+// Writes the partners of a run's guesses into it.
 fn name(alloc: Global, replay: &mut Replay, named: &[Partners]) -> Result<(), AllocError>
     ensures same { bare replay.new ≡ bare replay.old }
     ensures named { OnOk result (replay.new.partners.items ≡ named.now) }
@@ -118,7 +118,7 @@ fn add_corners(
     Ok(())
 }
 
-// Adds the corners of each guess that found no partners, but of the shown run's, whose corners are there.
+// Adds the corners of each guess that found no partners, except for those of the shown run, whose corners are in the pool already.
 fn add_missing(
     alloc: Global,
     entry: &Entry,
@@ -146,7 +146,7 @@ fn add_missing(
     Ok(())
 }
 
-// The same of one run.
+// Does the same for one run.
 fn add_missing_of(
     alloc: Global,
     entry: &Entry,
@@ -185,7 +185,7 @@ fn add_corners_of(
     add_corners(alloc, entry, pool, &run, guess)
 }
 
-// The run with a number once more.
+// Returns a copy of the run with a number.
 fn run_at(alloc: Global, pool: &[Replay], number: usize) -> Result<Option<Run>, AllocError> {
     match pool.get(number) {
         Some(replay) => Ok(Some(copy_run(alloc, &replay.run)?)),

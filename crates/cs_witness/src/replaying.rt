@@ -13,8 +13,7 @@ use cs_objects::Setting;
 use cs_replay::{Replayed, replay};
 use std::alloc::{AllocError, Global};
 
-/// The replay of a run of an entry under a budget of so many events. The error comes where memory runs out, or where the function has no
-/// body.
+/// Replays a run of an entry under a budget of this many events. Returns an error if memory runs out or the function has no body.
 pub fn replayed(
     alloc: Global,
     entry: &Entry,

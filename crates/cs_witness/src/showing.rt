@@ -19,16 +19,16 @@ use cs_replay::Replayed;
 use cs_suspect_types::{Suspect, SuspectedGuess};
 use std::alloc::{AllocError, Global};
 
-// A run that lists just the inputs that it reads, with its replay.
+// A run that lists exactly the inputs that it reads, with its replay.
 #[derive(Drop)]
 pub struct Listed {
     pub run: Run,
     pub replayed: Replayed,
 }
 
-/// The finding of a suspect's run, whatever it ends in: with the grounds of its guesses, if all are shown to be real. None where the run
-/// doesn't end as suspected after so many events, or lists guesses out of order. Paths that a suspect lists and its run doesn't read
-/// change nothing, and the finding doesn't list them. No other inputs are tried.
+/// Returns the finding of a suspect's run, whatever its outcome, with the grounds of its guesses. Returns None if the run doesn't end as
+/// suspected after as many events, lists guesses out of order, or has a guess that isn't shown to be real. Paths that a suspect lists and
+/// its run doesn't read change nothing, and the finding doesn't list them. No other inputs are tried.
 pub fn shown(alloc: Global, entry: &Entry, suspect: &Suspect) -> Result<Option<Finding>, AllocError>
     requires { CanRun entry.now }
     ensures shown { IfOk result (λ found. IfSome found
@@ -46,7 +46,7 @@ pub fn shown(alloc: Global, entry: &Entry, suspect: &Suspect) -> Result<Option<F
     with_grounds(alloc, entry, &suspect.guesses, listed)
 }
 
-/// The finding of a run without guesses from given inputs, if it ends so.
+/// Returns the finding of the run from given inputs without guesses, if it has this outcome.
 pub fn plain(
     alloc: Global,
     entry: &Entry,
@@ -77,7 +77,7 @@ pub fn plain(
     }))
 }
 
-// The finding of a run whose guesses are in order, if they are shown to be real.
+// Returns the finding of a run, if its guesses are in order and are shown to be real.
 fn with_grounds(
     alloc: Global,
     entry: &Entry,
@@ -110,7 +110,7 @@ fn with_grounds(
     }
 }
 
-// The run from the numbers that given inputs have where it reads, with its replay.
+// Replays the run from the given inputs, and returns it with the inputs that it reads.
 fn listed_run(
     alloc: Global,
     entry: &Entry,
@@ -149,7 +149,7 @@ fn guesses_of(alloc: Global, suspected: &[SuspectedGuess]) -> Result<Vec<Guess>,
     Ok(guesses)
 }
 
-// Whether a run ends as suspected, after so many events.
+// Whether a run ends as suspected, after as many events.
 fn is_as_suspected(suspect: &Suspect, replayed: &Replayed) -> bool
     ensures so { IsTrue result → IsFinding suspect.now.what
         → replayed.now.outcome ≡ suspect.now.what }
@@ -159,7 +159,7 @@ fn is_as_suspected(suspect: &Suspect, replayed: &Replayed) -> bool
     ends_so(replayed.outcome, suspect.what) && replayed.log.events.len() as u64 == suspect.events
 }
 
-// Whether an outcome is the suspected one. What an entry returns isn't suspected.
+// Whether an outcome is the suspected one. The value that an entry returns isn't suspected.
 fn ends_so(outcome: Outcome, suspected: Outcome) -> bool
     ensures { IsFinding suspected → (IsTrue result ↔ (outcome ≡ suspected)) }
 {

@@ -21,7 +21,7 @@ use cs_findings::{Cut, EntryResult, Finding, Verdict};
 use cs_suspect_types::Suspect;
 use std::alloc::{AllocError, Global};
 
-/// What is said of an entry, and how many suspects were looked at and dropped, since they couldn't be shown.
+/// The result of an entry, and how many of the suspects were dropped because they couldn't be shown.
 #[derive(Drop)]
 pub struct Witnessed {
     pub result: EntryResult,
@@ -36,7 +36,7 @@ pub struct Findings {
     pub dropped: u64,
 }
 
-// By what the suspects of one outcome are ordered: without guesses first, then by the number of events, then as they come.
+// The order in which suspects are examined: those without guesses first, then by the number of events, then as they are given.
 #[derive(Clone, Copy, PartialEq, Eq, PartialOrd, Ord)]
 pub struct Rank {
     pub guesses: bool,
@@ -44,9 +44,9 @@ pub struct Rank {
     pub number: usize,
 }
 
-/// The result of an entry from what is suspected of it, and from where its exploration was cut: one finding for each outcome that is
-/// shown, of the suspects of one outcome the first that is shown, those without guesses first, then those with fewest events. A suspect
-/// that isn't shown is dropped, and counted. The error comes where memory runs out, or where a run is replayed of a function without a body.
+/// Returns the result of an entry, given its suspects and where its exploration was cut. It has one finding for each outcome that is shown:
+/// that of the first suspect of this outcome that is shown, where suspects without guesses come first, then those with fewest events. A
+/// suspect that isn't shown is dropped, and counted. Returns an error if memory runs out, or if the function has no body and is replayed.
 pub fn result(
     alloc: Global,
     entry: &Entry,
@@ -70,7 +70,7 @@ pub fn result(
     Ok(findings.into_result(entry, cuts))
 }
 
-// The numbers of the suspects, those first that are looked at first.
+// Returns the ranks of the suspects, in the order in which they are examined.
 fn ranked(alloc: Global, suspects: &[Suspect]) -> Result<Vec<Rank>, AllocError>
     ensures { IfOk result (λ ranks. AreRanked (length suspects.now) ranks.items) }
 {
@@ -98,7 +98,7 @@ impl Findings {
         }
     }
 
-    // The suspect with a number is looked at.
+    // Examines the suspect with a number.
     fn take_numbered(
         &mut self,
         alloc: Global,
@@ -126,7 +126,7 @@ impl Findings {
         }
     }
 
-    // A suspect is looked at, unless its outcome is listed already.
+    // Examines a suspect, unless its outcome is listed already.
     fn take_in(&mut self, alloc: Global, entry: &Entry, suspect: &Suspect) -> Result<(), AllocError>
         requires runs { CanRun entry.now }
         requires reports { AreGoodReports entry.now self.old.reports.items }
@@ -155,7 +155,7 @@ impl Findings {
         Ok(())
     }
 
-    // One more suspect was looked at.
+    // Counts a suspect that wasn't shown as dropped.
     fn count(&mut self, listed: bool)
         ensures reports { self.new.reports ≡ self.old.reports }
         ensures overs { self.new.overs ≡ self.old.overs }
@@ -190,7 +190,7 @@ impl Findings {
     }
 }
 
-// Cut where anything was cut, else bounded where a budget was met, else complete.
+// `Cut` if anything was cut, else `Bounded` if a budget was met, else `Complete`.
 fn verdict_of(cuts: &[Cut], overs: &[Finding]) -> Verdict
     ensures { result ≡ verdict_of cuts.now overs.now }
 {
@@ -203,7 +203,7 @@ fn verdict_of(cuts: &[Cut], overs: &[Finding]) -> Verdict
     }
 }
 
-// Whether a suspect's outcome is listed: it was before, or is now, since the suspect is shown.
+// Whether a suspect's outcome is listed: it was before, or the suspect is shown and listed now.
 fn list_if_shown(
     alloc: Global,
     entry: &Entry,
@@ -233,7 +233,7 @@ fn list_if_shown(
     }
 }
 
-// Whether a suspect is shown, and so listed where its outcome belongs.
+// Lists a suspect where its outcome belongs, if it is shown. Returns whether it is.
 fn list_at(
     alloc: Global,
     entry: &Entry,
@@ -264,7 +264,7 @@ fn list_at(
     }
 }
 
-// Where an outcome is listed, or where it belongs.
+// Returns the index at which an outcome is listed (Ok), or at which it has to be inserted (Err).
 fn place_in(findings: &[Finding], what: Outcome) -> Result<usize, usize>
     requires { AreListed findings.now }
     ensures within { IsSearchInRange result (length findings.now) }
@@ -273,7 +273,7 @@ fn place_in(findings: &[Finding], what: Outcome) -> Result<usize, usize>
     findings.binary_search_by(|finding| order(finding.what, what))
 }
 
-// The good finding of a suspect, if it is shown.
+// Returns the good finding of a suspect, if it is shown.
 fn finding_of(
     alloc: Global,
     entry: &Entry,
@@ -295,7 +295,7 @@ fn finding_of(
     }
 }
 
-// A shown finding, or in its place that of the first neighbour that ends so without guesses, if one does.
+// Returns a shown finding, or instead that of the first neighbour that has the same outcome without guesses, if there is one.
 fn good_finding(alloc: Global, entry: &Entry, finding: Finding) -> Result<Finding, AllocError>
     requires runs { CanRun entry.now }
     requires form { IsFinding finding.what }

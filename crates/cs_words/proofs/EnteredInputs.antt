@@ -1,4 +1,4 @@
--- Inputs are entered word after word, and in one way: for `inputs_of` and `replay_words`.
+-- Inputs are entered word by word, and in only one way: for `inputs_of` and `replay_words`.
 use Rattle.std.proofs.Common.{◌≡◌, ℕ, ◌+◌, List, [], ◌∷◌, ◌++◌, length, ap, sym, ◌∙◌, refl, subst, append_assoc}
 use Rattle.std.specs.Prelude.{ℤ}
 use Rattle.std.specs.BTreeMap.{insert_entry}

@@ -1,4 +1,4 @@
--- The fields of the options found, and what the texts given tell: for `Settings` and all that reads them.
+-- The fields of the options found, and their values according to the given texts: for `Settings` and all that reads them.
 use Rattle.std.proofs.Common.{◌≡◌, ℕ, true, false, List, Option, Some, None, ap, sym, ◌∙◌, refl, subst}
 use Rattle.std.specs.Prelude.{is_some, unwrap_or, nat_eq, codes, if◌then◌else◌}
 use Rattle.std.specs.Cmp.Lexicographic.{pointwise}

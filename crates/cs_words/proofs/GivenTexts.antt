@@ -1,4 +1,4 @@
--- Settings one after the other: which texts are given to which options, and that none is given twice.
+-- Lists of settings: which texts are given to which options, and that none is given twice.
 use Rattle.std.proofs.Common.{◌≡◌, ℕ, Bool, true, false, List, [], ◌∷◌, ◌++◌, Option, Some, None, ap, sym, ◌∙◌, refl}
 use Rattle.std.specs.Prelude.{if◌then◌else◌}
 use Rattle.cs_words.specs.Options.{Verb, OptionName, takes}

@@ -1,4 +1,4 @@
--- Texts of kinds: the kinds that a text names are the only ones, and there are some where each name is one. For `Settings`.
+-- Texts of kinds: the kinds that a text names are the only ones, and there are some if each name is one. For `Settings`.
 use Rattle.std.proofs.Common.{◌≡◌, ℕ, Bool, true, false, List, [], ◌∷◌, Option, Some, None, map, ap, sym, ◌∙◌, refl, subst, cond}
 use Rattle.std.specs.Prelude.{◌==◌, ◌&&◌, nat_eq, is_some, IsTrue}
 use Rattle.std.specs.List.{find, filter_map, cons_option, list_all, slice_split}

@@ -1,4 +1,4 @@
--- Commands and options are distinguished by their texts, and a word names one option in one way: for `option_of` and
+-- Commands and options are distinguished by their texts, and a word names an option in only one way: for `option_of` and
 -- `settings_of`.
 use Rattle.std.proofs.Common.{◌≡◌, ℕ, true, false, not, List, [], ◌∷◌, ◌++◌, Option, Some, None, drop, ap, sym, ◌∙◌, refl, append_assoc}
 use Rattle.std.proofs.Common.{eqb-true}

@@ -1,4 +1,4 @@
--- Where a command's word and some settings are read: which words go on to a command, and how the settings grow. For
+-- After a command's word and some settings are read: which words can be continued to a command, and how the settings grow. For
 -- `settings_of`, `with_option` and what reads the rest.
 use Rattle.std.proofs.Common.{◌≡◌, ℕ, Bool, true, false, List, [], ◌∷◌, ◌++◌, Option, Some, None, ap, sym, ◌∙◌, refl, subst}
 use Rattle.std.proofs.Common.{append_assoc, inl, inr, ◌≤◌, lit<, lit≤}

@@ -1,4 +1,4 @@
--- Which word is refused, and that there is one such word where no command is meant: for `words_of` and all that refuses.
+-- Which word is refused, and that there is one such word if no command is meant: for `words_of` and all that refuses.
 use Rattle.std.proofs.Common.{◌≡◌, ℕ, ◌+◌, true, false, List, [], ◌∷◌, ◌++◌, length, Option, Some, None, ap, sym, ◌∙◌, refl, subst}
 use Rattle.std.proofs.Common.{append_assoc, inl, inr, arith, length-append, lit<, lit≤}
 use Rattle.std.specs.Prelude.{◌⊎◌, codes}

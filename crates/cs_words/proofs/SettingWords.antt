@@ -1,4 +1,4 @@
--- The words of settings are read in one way, and go on with those of others: for `settings_of`.
+-- The words of settings can be read in only one way, and can be followed by those of others: for `settings_of`.
 use Rattle.std.proofs.Common.{◌≡◌, ℕ, true, false, List, [], ◌∷◌, ◌++◌, Option, Some, None, ap, sym, ◌∙◌, refl, subst, inl, inr}
 use Rattle.std.specs.List.{list_all}
 use Rattle.cs_inputs.specs.InputText.{is_digit}

@@ -1,4 +1,4 @@
--- What is read of all words of a command, and that nothing else is meant by them: for `analyze_words`, `replay_words` and
+-- All words of a command are read, and mean nothing else: for `analyze_words`, `replay_words` and
 -- `words_of`.
 use Rattle.std.proofs.Common.{◌≡◌, ℕ, ◌+◌, ◌<◌, true, false, List, [], ◌∷◌, ◌++◌, length, Result, Ok, Err, ap, sym, ◌∙◌, refl}
 use Rattle.std.proofs.Common.{subst, append_assoc, inl, inr, arith, ◌≤◌, lit<, lit≤}

@@ -1,4 +1,4 @@
--- Words as lists of bytes, and what the scan's answers are at them: for all functions that go over the words.
+-- Words as lists of bytes, and the results of reading them: for all functions that iterate over the words.
 use Rattle.std.proofs.Common.{◌≡◌, ℕ, ◌+◌, ◌<◌, true, false, List, [], ◌∷◌, length, Some, None, Result, Ok, Err, ap, sym, ◌∙◌, refl}
 use Rattle.std.proofs.Common.{subst, inl, inr, arith, ◌≤◌}
 use Rattle.std.specs.Prelude.{◌⊎◌, ℤ, MatchResult, IsErrAnd, string_bytes, codes}

@@ -1,4 +1,4 @@
--- Which command words mean, and which word is refused where they mean none.
+-- Which command a command line means, and which word is refused if it isn't valid.
 use Rattle.std.specs.Prelude.{◌≡◌, ℕ, ◌+◌, ℤ, IsTrue, List, [], ◌∷◌, ◌++◌, length, map, string_bytes}
 use Rattle.std.specs.BTreeMap.{insert_entry}
 use Rattle.std.specs.declared.string.String.{String}
@@ -26,13 +26,13 @@ Word = String Global
 abbrev pub words_text : List Word → List (List ℕ)
 words_text words = map (λ (word : Word). string_bytes word) words
 
--- the numbers of paths with those of words' texts, entered in order
+-- these inputs are the earlier ones with those of the words entered in order
 abbrev pub AreEntered : List (Path × ℤ) → List (List ℕ) → List (Path × ℤ) → Type 0
 AreEntered before [] after = after ≡ before
 AreEntered before (word ∷ words) after = (path : Path) × (number : ℤ) × SpellsInput word path number
     × AreEntered (insert_entry path_order before path number) words after
 
--- an analysis: its settings, and nothing after them
+-- an analysis: its settings, and no word after them
 pub record IsAnalysis (given : List Given) (others : List (List ℕ)) (analysis : AnalyzeWords) : Type 0 where
   pub budgets : AreAnalysisBudgets given analysis.budgets
   pub kinds : AreSelectedKinds given analysis.kinds
@@ -49,7 +49,7 @@ pub record IsGeneration (others : List (List ℕ)) (generation : GenerateWords) 
   pub is_seed : IsSeed seed generation.seed
   pub is_size : IsSize size generation.size
 
--- a run of the machine: its settings, and after them a function's name and any number of inputs
+-- a replay: its settings, and after them a function's name and any number of inputs
 pub record IsReplay (given : List Given) (others : List (List ℕ)) (replay : ReplayWords) : Type 0 where
   pub budgets : AreBudgets given replay.budgets
   pub model : IsDataModel given replay.model
@@ -58,7 +58,7 @@ pub record IsReplay (given : List Given) (others : List (List ℕ)) (replay : Re
   pub whole : others ≡ replay.entry ∷ input_words
   pub inputs : AreEntered [] input_words replay.inputs
 
--- what a command's settings and the words after them ask for
+-- the command that a verb, settings and the words after them mean
 abbrev pub AskFor : Verb → List Given → List (List ℕ) → Command → Type 0
 AskFor verbs.Analyze given others (Analyze words) = IsAnalysis given others words
 AskFor verbs.Flow given others (Flow words) = (others ≡ []) × IsDataModel given words.model
@@ -66,7 +66,7 @@ AskFor verbs.Replay given others (Replay words) = IsReplay given others words
 AskFor verbs.Generate given others (Generate words) = IsGeneration others words
 AskFor verb given others command = ⊥
 
--- words mean a command: its own word, then settings of its options, none twice, then what else it asks for
+-- words mean a command: the command's own word, then settings of its options, none twice, then the other words that it takes
 pub record WordsMean (words : List (List ℕ)) (command : Command) : Type 0 where
   pub verb : Verb
   pub given : List Given
@@ -78,16 +78,16 @@ pub record WordsMean (words : List (List ℕ)) (command : Command) : Type 0 wher
   pub different : AreDifferent given
   pub asks : AskFor verb given others command
 
--- words go on to a command: with some more words after them, or none, they mean one
+-- words can be continued to a command: with more words after them, or none, they mean one
 abbrev pub BeginsACommand : List (List ℕ) → Type 0
 BeginsACommand words = (more : List (List ℕ)) × (command : Command) × WordsMean (words ++ more) command
 
--- words that go on to a command don't with the next word; where there is no next word they mean none
+-- with the next word they can't be continued to a command; or there is no next word, and they mean none
 abbrev pub EndBefore : List (List ℕ) → List (List ℕ) → Type 0
 EndBefore before [] = (command : Command) → WordsMean before command → ⊥
 EndBefore before (word ∷ others) = BeginsACommand (before ++ word ∷ []) → ⊥
 
--- the first word, by its number from 1, at which no command goes on so; one past the last where words are missing
+-- the first word, by its number from 1, that can't continue a command; or the number after the last word, if words are missing
 pub record AreRefusedAt (words : List (List ℕ)) (number : ℕ) : Type 0 where
   pub before : List (List ℕ)
   pub following : List (List ℕ)

@@ -24,7 +24,7 @@ setting_text Entry = codes "entry"
 setting_text Format = codes "format"
 setting_text Model = codes "model"
 
--- which command has which options
+-- whether a command has an option
 abbrev pub takes : Verb → OptionName → Bool
 takes Analyze setting = true
 takes Flow Model = true

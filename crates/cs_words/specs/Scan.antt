@@ -1,4 +1,4 @@
--- What the scan's own functions give: the contracts of parts of `words_of` cite it.
+-- The results of the functions that read the settings; the contracts of parts of `words_of` cite these definitions.
 use Rattle.std.specs.Prelude.{◌≡◌, ℕ, Bool, true, false, is_some, nat_eq, ◌==◌, IsTrue, map, ℤ, List, [], ◌∷◌, ◌++◌, ◌+◌, length}
 use Rattle.std.specs.Prelude.{Option, Some, None, Result, Ok, Err}
 use Rattle.std.specs.List.{find, filter_map, list_all, slice_split}
@@ -24,7 +24,7 @@ use Rattle.cs_words.specs.Values.{DataModel, IsVisits, IsDepth, IsEvents, IsNode
 use Rattle.cs_words.specs.Settings.{Given, option_text, BeginWithSettings, is_same, text_of, AreTaken, AreDifferent}
 use Rattle.cs_words.specs.Meaning.{Command, WordsMean, AreEntered, AreRefusedAt}
 
--- the option that a word names, and the value's text in it
+-- the option that a word names, and the value's text in the word
 abbrev pub setting_in : OptionWord → OptionName
 setting_in (Alone setting) = setting
 setting_in (With setting text) = setting
@@ -33,35 +33,35 @@ abbrev pub text_in : OptionWord → Option (List ℕ)
 text_in (Alone setting) = None
 text_in (With setting text) = Some text.now
 
--- a word is that of an option
+-- a word names this option
 abbrev pub IsOption : List ℕ → OptionWord → Type 0
 IsOption word option = word ≡ option_text (setting_in option) (text_in option)
 
--- the option's word is the first, before the others
+-- the option's word is the first, followed by the others
 pub record IsFirstOption (option : OptionWord) (others words : List (List ℕ)) : Type 0 where
   pub word : List ℕ
   pub whole : words ≡ word ∷ others
   pub names : IsOption word option
 
--- a field of the settings found: nothing if the option isn't given, else the value of the text
+-- a field of the settings found: None if the option isn't given, else the value of the text
 abbrev pub IsFound : {X : Type 0} → (List ℕ → X → Type 0) → Option (List ℕ) → Option X → Type 0
 IsFound Yields None found = found ≡ None
 IsFound {X} Yields (Some text) found = (value : X) × (found ≡ Some value) × Yields text value
 
--- the kind with a name, if there is one
+-- the kind with this name, if there is one
 abbrev pub kind_of : List ℕ → Option Kind
 kind_of name = find (λ (kind : Kind). pointwise nat_eq (kind_name kind) name) every_kind
 
--- whether the pieces of a text between its commas are names of kinds
+-- whether the parts of a text between its commas are names of kinds
 abbrev pub are_kinds : List ℕ → Bool
 are_kinds text = list_all (λ (name : List ℕ). is_some (kind_of name)) (slice_split (λ b. b == 44) text)
 
--- the kinds that a text names, all of them where there is no text
+-- the kinds that a text names, or all of them if there is no text
 abbrev pub AreKindsOf : Option (Bor (List ℕ)) → List Kind → Type 0
 AreKindsOf None kinds = kinds ≡ every_kind
 AreKindsOf (Some text) kinds = kinds ≡ filter_map kind_of (slice_split (λ b. b == 44) text.now)
 
--- a field that keeps the text, which passes a test
+-- a field keeps a text, which passes a test
 abbrev pub IsKept : (List ℕ → Bool) → List ℕ → Bor (List ℕ) → Type 0
 IsKept test text kept = (kept.now ≡ text) × IsTrue (test text)
 
@@ -89,7 +89,7 @@ is_set Entry settings = is_some settings.entry
 is_set Format settings = is_some settings.json
 is_set Model settings = is_some settings.model
 
--- a text is that of some value of an option
+-- a text is that of a value of an option
 abbrev pub HasValue : OptionName → List ℕ → Type 0
 HasValue Visits text = (value : ℕ) × IsVisits text value
 HasValue Depth text = (value : ℕ) × IsDepth text value
@@ -101,13 +101,13 @@ HasValue Entry text = IsTrue (is_name text)
 HasValue Format text = (value : Bool) × IsFormat text value
 HasValue Model text = (value : DataModel) × IsModel text value
 
--- settings with one more: the option is set to the text's value, and the others are as before
+-- settings with one more: the option is set to the text's value, and the others are unchanged
 pub record IsSetBesides (setting : OptionName) (text : List ℕ) (before after : Settings) : Type 0 where
   pub here : IsSetTo setting (Some text) after
   pub elsewhere : (other : OptionName) → is_same other setting ≡ false → (reported : Option (List ℕ)) → IsSetTo other reported before
       → IsSetTo other reported after
 
--- words that are read up to the rest: a command's word, and settings of its options that the fields tell
+-- words are read up to the rest: a command's word, and settings of its options, which the fields contain
 pub record AreReadTo (verb : Verb) (words : List (List ℕ)) (settings : Settings) (rest : List (List ℕ)) : Type 0 where
   pub given : List Given
   pub done : List (List ℕ)
@@ -117,7 +117,7 @@ pub record AreReadTo (verb : Verb) (words : List (List ℕ)) (settings : Setting
   pub different : AreDifferent given
   pub fields : (setting : OptionName) → IsSetTo setting (text_of setting given) settings
 
--- the first word isn't an option's
+-- the first word doesn't name an option
 abbrev pub BeginWithNoOption : List (List ℕ) → Type 0
 BeginWithNoOption [] = Unit {0}
 BeginWithNoOption (word ∷ words) = (setting : OptionName) (text : Option (List ℕ)) → word ≡ option_text setting text → ⊥
@@ -127,30 +127,30 @@ pub record AreReadWhole (verb : Verb) (words : List (List ℕ)) (settings : Sett
   pub read : AreReadTo verb words settings rest
   pub no_more : BeginWithNoOption rest
 
--- words are refused rightly
+-- a refusal of the words is right
 abbrev pub IsRefusal : List (List ℕ) → WordsRefusal → Type 0
 IsRefusal words (Words number) = AreRefusedAt words number
 IsRefusal words Memory = Unit {0}
 
--- the refusal of a word, by its number from 1, after which and with which so many of all words are left
+-- the refusal of a word, by its number from 1: with the words after it, it is one of this many remaining words
 abbrev pub IsRefusalBefore : ℕ → ℕ → WordsRefusal → Type 0
 IsRefusalBefore total left (Words number) = number + left ≡ total + 1
 IsRefusalBefore total left Memory = ⊥
 
--- the same of a word that is no input's, unless memory ran out
+-- the same for a word that isn't an input, unless memory ran out
 abbrev pub IsRefusalFor : PathRefusal → ℕ → ℕ → WordsRefusal → Type 0
 IsRefusalFor paths.BadPath total left refusal = IsRefusalBefore total left refusal
 IsRefusalFor paths.BadNumber total left refusal = IsRefusalBefore total left refusal
 IsRefusalFor paths.TooWide total left refusal = IsRefusalBefore total left refusal
 IsRefusalFor paths.Memory total left refusal = refusal ≡ Memory
 
--- the words' one command, or a right refusal
+-- the only command that the words mean, or a right refusal
 abbrev pub IsRight : List (List ℕ) → Result Command WordsRefusal → Type 0
 IsRight words (Ok command) = WordsMean words command × ((other : Command) → WordsMean words other → other ≡ command)
 IsRight words (Err refusal) = IsRefusal words refusal
 
--- the first word that is no input's, of those after a function's name: the words after it and it are the number's
--- distance from the end
+-- the first word that isn't an input, among those after a function's name: its number plus the count of words from it to the end is the
+-- count of all words plus 1
 pub record IsNoInputAt (words : List (List ℕ)) (total number : ℕ) : Type 0 where
   pub before : List (List ℕ)
   pub word : List ℕ
@@ -161,7 +161,7 @@ pub record IsNoInputAt (words : List (List ℕ)) (total number : ℕ) : Type 0 w
   pub entered : AreEntered [] before inputs
   pub none : (path : Path) (number : ℤ) → SpellsInput word path number → ⊥
 
--- inputs that are read, or why they aren't
+-- the inputs that are read, or why they can't be
 abbrev pub AreInputsRead : List (List ℕ) → ℕ → Result (List (Path × ℤ)) WordsRefusal → Type 0
 AreInputsRead words total (Ok inputs) = AreEntered [] words inputs
 AreInputsRead words total (Err (Words number)) = IsNoInputAt words total number

@@ -1,4 +1,4 @@
--- Settings, each an option and its value's text, and the words that give them.
+-- Settings, each an option with its value's text, and the words that set them.
 use Rattle.std.specs.Prelude.{◌≡◌, ℕ, ◌⊎◌, Bool, false, nat_eq, IsTrue, List, [], ◌∷◌, ◌++◌, Option, Some, None, codes}
 use Rattle.std.specs.Prelude.{if◌then◌else◌}
 use Rattle.cs_events.specs.declared.outcome.RunBudgets.{RunBudgets}
@@ -22,18 +22,18 @@ abbrev pub option_text : OptionName → Option (List ℕ) → List ℕ
 option_text setting None = codes "--" ++ setting_text setting
 option_text setting (Some text) = codes "--" ++ setting_text setting ++ codes "=" ++ text
 
--- words begin with a setting's, as `--name value` or `--name=value`, and go on with others
+-- words begin with a setting, as `--name value` or `--name=value`, and others follow
 abbrev pub BeginWithSetting : Given → List (List ℕ) → List (List ℕ) → Type 0
 BeginWithSetting given others words = (words ≡ option_text given.setting None ∷ given.text ∷ others)
     ⊎ (words ≡ option_text given.setting (Some given.text) ∷ others)
 
--- words are those of settings, in order, and others after them
+-- words are those of settings, in order, and others follow
 abbrev pub BeginWithSettings : List Given → List (List ℕ) → List (List ℕ) → Type 0
 BeginWithSettings [] others words = words ≡ others
 BeginWithSettings (given ∷ rest) others words = (following : List (List ℕ)) × BeginWithSetting given following words
     × BeginWithSettings rest others following
 
--- the options' places in their table, which tell them apart
+-- the indices of the options in their table, which distinguish them
 abbrev pub place_of : OptionName → ℕ
 place_of Visits = 0
 place_of Depth = 1
@@ -48,7 +48,7 @@ place_of Model = 8
 abbrev pub is_same : OptionName → OptionName → Bool
 is_same one other = nat_eq (place_of one) (place_of other)
 
--- the text of an option's value, if it's given
+-- the text of an option's value, if it is given
 abbrev pub text_of : OptionName → List Given → Option (List ℕ)
 text_of setting [] = None
 text_of setting (given ∷ rest) = if is_same setting given.setting then Some given.text else text_of setting rest
@@ -63,7 +63,7 @@ abbrev pub AreDifferent : List Given → Type 0
 AreDifferent [] = Unit {0}
 AreDifferent (given ∷ rest) = (text_of given.setting rest ≡ None) × AreDifferent rest
 
--- a value: that of its text if it's given, else the default
+-- a value: that of its text if one is given, else the default
 abbrev pub IsGivenOr : {X : Type 0} → (List ℕ → X → Type 0) → X → Option (List ℕ) → X → Type 0
 IsGivenOr Yields default None value = value ≡ default
 IsGivenOr Yields default (Some text) value = Yields text value
@@ -94,7 +94,7 @@ IsNamed (Some text) entry = IsTrue (is_name text) × (entry ≡ Some text)
 abbrev pub IsEntry : List Given → Option (List ℕ) → Type 0
 IsEntry given entry = IsNamed (text_of Entry given) entry
 
--- whether the output is JSON, which it isn't by default
+-- whether the output is JSON; by default it isn't
 abbrev pub IsJson : List Given → Bool → Type 0
 IsJson given json = IsGivenOr IsFormat false (text_of Format given) json
 

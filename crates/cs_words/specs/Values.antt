@@ -8,7 +8,7 @@ use Rattle.cs_model.specs.Kinds.{kind_name}
 pub use Rattle.cs_types.specs.declared.data_model.DataModel.{DataModel}
 use Rattle.cs_types.specs.declared.data_model.DataModel.TheVariants.{Lp64, Ilp32}
 
--- one to nine digits, of which zeros may be the first, with a value in a range
+-- one to nine digits, perhaps with leading zeros, with a value in a range
 pub record IsNumberIn (least greatest : ℕ) (text : List ℕ) (number : ℕ) : Type 0 where
   pub digits : IsTrue (list_all is_digit text)
   pub some : 0 < length text
@@ -40,11 +40,11 @@ IsSeed text number = IsNumberIn 0 999999999 text number
 abbrev pub IsSize : List ℕ → ℕ → Type 0
 IsSize text number = IsNumberIn 0 4000 text number
 
--- one or more kinds: the pieces of the text between its commas are their names
+-- one or more kinds: the parts of the text between its commas are their names
 abbrev pub IsKinds : List ℕ → List Kind → Type 0
 IsKinds text kinds = slice_split (λ b. b == 44) text ≡ map kind_name kinds
 
--- the name of a form of the output
+-- the name of an output format
 abbrev pub format_text : Bool → List ℕ
 format_text true = codes "json"
 format_text false = codes "text"

@@ -1,4 +1,4 @@
-//! What the words ask for.
+//! Commands: what a command line requests.
 
 use crate::kinds::Kinds;
 use cs_events::RunBudgets;
@@ -7,27 +7,27 @@ use cs_names::Name;
 use cs_results::Budgets;
 use cs_types::DataModel;
 
-/// What the words ask for.
+/// A command.
 #[derive(Debug, Drop)]
 pub enum Command {
-    /// The analysis of the file on standard input.
+    /// Analyze the file on standard input.
     Analyze(AnalyzeWords),
-    /// The control points of the functions of the file on standard input.
+    /// Print the control points of the functions of the file on standard input.
     Flow(FlowWords),
-    /// One run of the file on standard input.
+    /// Replay one run of the file on standard input.
     Replay(ReplayWords),
-    /// The analysis of a generated file.
+    /// Analyze a generated file.
     Generate(GenerateWords),
 }
 
-/// How a file is analyzed.
+/// The settings of an analysis.
 #[derive(Debug, Drop)]
 pub struct AnalyzeWords {
-    /// How far the analysis goes.
+    /// The budgets of the analysis.
     pub budgets: Budgets,
     /// The kinds whose reports are printed.
     pub kinds: Kinds,
-    /// The function that is analyzed, or every function.
+    /// The function that is analyzed, or None for each one with a body.
     pub entry: Option<Name>,
     /// Whether the output is JSON.
     pub json: bool,
@@ -35,17 +35,17 @@ pub struct AnalyzeWords {
     pub model: DataModel,
 }
 
-/// How a file's control points are printed.
+/// The settings of the output of control points.
 #[derive(Debug, Drop)]
 pub struct FlowWords {
     /// The sizes of `long` and of pointers.
     pub model: DataModel,
 }
 
-/// Which run is made of a file.
+/// The settings of a replay.
 #[derive(Debug, Drop)]
 pub struct ReplayWords {
-    /// How far the run goes.
+    /// The budgets of the run.
     pub budgets: RunBudgets,
     /// The function that the run begins in.
     pub entry: Name,
@@ -55,10 +55,10 @@ pub struct ReplayWords {
     pub model: DataModel,
 }
 
-/// Which file is generated.
+/// The settings of a generated file.
 #[derive(Debug, Drop)]
 pub struct GenerateWords {
-    /// What the file's functions are chosen by.
+    /// The number that determines the file's functions.
     pub seed: u32,
     /// How many functions the file has.
     pub size: u32,

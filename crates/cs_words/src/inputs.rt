@@ -8,7 +8,7 @@ use crate::scan::refused;
 use cs_inputs::{Inputs, PathRefusal, parse};
 use std::alloc::Global;
 
-/// The inputs of the words after a function's name, the last of all words. The last of one path holds.
+/// Returns the inputs of the words after a function's name, which are the last words. If a path occurs twice, its last number counts.
 pub fn inputs_of(
     alloc: Global,
     words: &[String],
@@ -29,7 +29,7 @@ pub fn inputs_of(
     Ok(inputs)
 }
 
-// The refusal of the word that the rest begins with, unless memory ran out.
+// Returns the refusal of the first word of the rest, unless memory ran out.
 fn refused_for(cause: PathRefusal, words: &[String], rest: &[String]) -> WordsRefusal
     requires { length rest.now ≤ length words.now }
     ensures { IsRefusalFor cause (length words.now) (length rest.now) result }

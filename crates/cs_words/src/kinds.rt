@@ -9,7 +9,7 @@ use cs_results::every_kind;
 use std::alloc::{AllocError, Global};
 use std::marker::Model;
 
-/// Kinds of faults, of which some may be listed more than once. A contract sees them as a list.
+/// Kinds of faults, perhaps with duplicates. In contracts it is a list.
 #[derive(Debug, Drop)]
 pub struct Kinds {
     list: Vec<Kind>,
@@ -25,7 +25,7 @@ impl Model for Kinds {
 }
 
 impl Kinds {
-    /// Every kind, by number.
+    /// Returns every kind, by number.
     pub fn every(alloc: Global) -> Result<Kinds, AllocError>
         ensures { IfOk result (λ kinds. kinds ≡ selected.every_kind) }
     {
@@ -34,7 +34,7 @@ impl Kinds {
         })
     }
 
-    /// The kinds that a text names between its commas. It skips names that no kind has.
+    /// Returns the kinds that a text names between its commas. It skips names that aren't kinds.
     pub fn named(alloc: Global, text: &[u8]) -> Result<Kinds, AllocError>
         ensures { IfOk result (λ kinds.
             kinds ≡ filter_map kind_of (slice_split (λ b. b == 44) text.now)) }
@@ -44,7 +44,7 @@ impl Kinds {
         })
     }
 
-    /// The kinds in order.
+    /// Returns the kinds in order.
     pub fn as_slice(&self) -> &[Kind]
         ensures { result.now ≡ self.now }
     {
@@ -52,7 +52,7 @@ impl Kinds {
     }
 }
 
-/// Whether a text is names of kinds with commas between them.
+/// Whether a text consists of names of kinds with commas between them.
 pub fn are_kinds(text: &[u8]) -> bool
     ensures { result ≡ are_kinds text.now }
 {
@@ -60,7 +60,7 @@ pub fn are_kinds(text: &[u8]) -> bool
         .all(|name| kind_named(name).is_some())
 }
 
-// The kinds that a text names between its commas.
+// Returns the kinds that a text names between its commas.
 fn kinds_named(alloc: Global, text: &[u8]) -> Result<Vec<Kind>, AllocError>
     ensures { IfOk result (λ list.
         list.items ≡ filter_map kind_of (slice_split (λ b. b == 44) text.now)) }
@@ -70,7 +70,7 @@ fn kinds_named(alloc: Global, text: &[u8]) -> Result<Vec<Kind>, AllocError>
         .collect(alloc)
 }
 
-// The kind with this name.
+// Returns the kind with this name, if there is one.
 fn kind_named(name: &[u8]) -> Option<Kind>
     ensures { result ≡ kind_of name.now }
 {

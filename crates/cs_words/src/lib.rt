@@ -1,4 +1,4 @@
-//! The words of csa's command line: the commands, their options with ranges and defaults, and which words are refused.
+//! The command line of csa: the commands, their options with ranges and defaults, and which words are refused.
 #![tactic(auto)]
 
 mod command;

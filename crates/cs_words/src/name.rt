@@ -3,7 +3,7 @@ ghost use Rattle.std.specs.Prelude.{◌≡◌};
 ghost use Rattle.std.specs.List.{list_all};
 ghost use Rattle.cs_inputs.specs.PathText as spelling;
 
-/// Whether bytes are a name of C, which may be a keyword (C11 6.4.2.1).
+/// Whether bytes are an identifier or a keyword of C (C11 6.4.2.1).
 pub fn is_name(bytes: &[u8]) -> bool
     ensures { result ≡ spelling.is_name bytes.now }
 {

@@ -3,12 +3,12 @@ ghost use Rattle.std.specs.Prelude.{◌≡◌, ◌≢◌, MatchOption};
 ghost use Rattle.cs_words.specs.Options as options;
 ghost use Rattle.cs_words.specs.Options.{setting_text};
 
-/// The options of the commands.
+/// An option of a command.
 #[derive(Clone, Copy, PartialEq, Eq, Debug)]
 pub enum OptionName {
-    /// How often one frame may reach a loop head or a label.
+    /// How often a frame may reach the same loop head or label.
     Visits,
-    /// How many frames there may be at a time.
+    /// How many frames there may be at the same time.
     Depth,
     /// How many events a run may pass.
     Events,
@@ -20,13 +20,13 @@ pub enum OptionName {
     Kinds,
     /// The function that is analyzed.
     Entry,
-    /// The form of the output.
+    /// The output format.
     Format,
     /// The sizes of `long` and of pointers.
     Model,
 }
 
-/// The option with this name.
+/// Returns the option with this name, if there is one.
 pub fn option_named(name: &[u8]) -> Option<OptionName>
     ensures { MatchOption result ((setting : options.OptionName)
         → setting_text setting ≢ name.now) (λ setting. setting_text setting ≡ name.now) }

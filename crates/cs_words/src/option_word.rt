@@ -15,7 +15,7 @@ pub enum OptionWord<'a> {
 }
 
 impl OptionWord<'_> {
-    /// The option that the word names.
+    /// Returns the option that the word names.
     pub fn setting(self) -> OptionName
         ensures { result ≡ setting_in self.entry }
     {
@@ -25,7 +25,7 @@ impl OptionWord<'_> {
     }
 }
 
-/// The option that a word names, with the value's text in it.
+/// Returns the option that a word names, with the value's text in the word.
 pub fn option_of(word: &[u8]) -> Option<OptionWord<'_>>
     ensures { MatchOption result ((setting : given.OptionName) (text : Option (List ℕ))
         → word.now ≡ option_text setting text → ⊥) (IsOption word.now) }

@@ -1,15 +1,14 @@
-//! Why words are no command.
+//! Why a command line isn't valid.
 ghost use Rattle.std.specs.Prelude.{◌≡◌};
 ghost use Rattle.cs_words.specs.declared.refusal.WordsRefusal.TheVariants.{Memory};
 
 use std::alloc::{AllocError, AllocFailed};
 use thiserror::Error;
 
-/// Why words are no command.
+/// Why a command line isn't valid.
 #[derive(Clone, Copy, PartialEq, Eq, Debug, Error)]
 pub enum WordsRefusal {
-    /// The number, from 1, of the first word at which no command goes on so; one past the last where
-    /// words are missing.
+    /// The number, from 1, of the first word that can't continue a command; or the number after the last word, if words are missing.
     #[error("word {0} is refused")]
     Words(u64),
     /// Memory ran out.

@@ -10,14 +10,14 @@ use crate::refusal::WordsRefusal;
 use crate::settings::Settings;
 use crate::verb::{Verb, takes};
 
-/// The settings that are found, and the words that are left after them.
+/// The settings found so far, and the words that remain after them.
 #[derive(Clone, Copy, Debug)]
 pub struct ParsedOptions<'a> {
     pub settings: Settings<'a>,
     pub rest: &'a [String],
 }
 
-/// The settings of a command, from the words after its own.
+/// Returns the settings of a command, from the words after its own.
 pub fn settings_of<'a>(
     verb: Verb,
     words: &[String],
@@ -41,7 +41,7 @@ pub fn settings_of<'a>(
     Ok(found)
 }
 
-// The settings with the one whose option's word is the first of the rest, before others.
+// Returns the settings with the one whose option's word is the first of the rest, before others.
 fn with_option<'a>(
     verb: Verb,
     words: &[String],
@@ -84,8 +84,7 @@ fn with_option<'a>(
     }
 }
 
-// The settings with one more, before the words that are left. The word that `at` begins with is refused if the text is
-// no value's.
+// Returns the settings with one more, and the words that remain. The first word of `at` is refused if the text isn't that of a value.
 fn with_value<'a>(
     words: &[String],
     settings: Settings<'a>,
@@ -110,7 +109,7 @@ fn with_value<'a>(
     }
 }
 
-/// The refusal of the word that the rest begins with, by its number.
+/// Returns the refusal of the first word of the rest, by its number.
 pub fn refused(words: &[String], rest: &[String]) -> WordsRefusal
     requires { length rest.now ≤ length words.now }
     ensures { IsRefusalBefore (length words.now) (length rest.now) result }

@@ -1,4 +1,4 @@
-//! The values of the options that are found.
+//! The values of the options that were found.
 ghost use Rattle.std.specs.Prelude.{◌≡◌, true, false, MatchOption, IfOk, unwrap_or, option_map};
 ghost use Rattle.cs_inputs.specs.PathText as spelling;
 ghost use Rattle.cs_words.specs.Scan as scanned;
@@ -14,7 +14,7 @@ use cs_results::Budgets;
 use cs_types::DataModel;
 use std::alloc::{AllocError, Global};
 
-/// The values of the options that are found. Of kinds and of an entry it is the text.
+/// The values of the options that were found. For kinds and for an entry, it is the text.
 #[derive(Clone, Copy, Debug)]
 pub struct Settings<'a> {
     pub visits: Option<u32>,
@@ -29,7 +29,7 @@ pub struct Settings<'a> {
 }
 
 impl<'a> Settings<'a> {
-    /// No option is found.
+    /// Returns settings without any option.
     pub fn none() -> Settings<'a>
         ensures { (setting : scanned.OptionName) → IsSetTo setting None result }
     {
@@ -46,7 +46,7 @@ impl<'a> Settings<'a> {
         }
     }
 
-    /// Whether an option is found.
+    /// Whether an option was found.
     pub fn has(self, setting: OptionName) -> bool
         ensures { result ≡ scanned.is_set setting self.entry }
     {
@@ -63,7 +63,7 @@ impl<'a> Settings<'a> {
         }
     }
 
-    /// The settings with one more, if the text is that of a value of the option.
+    /// Returns the settings with one more, if the text is that of a value of the option.
     pub fn with(self, setting: OptionName, text: &'a [u8]) -> Option<Settings<'a>>
         ensures { MatchOption result (HasValue setting text.now
             → ⊥) (λ after. IsSetBesides setting text.now self.entry after) }
@@ -108,7 +108,7 @@ impl<'a> Settings<'a> {
         }
     }
 
-    /// The budgets of a run, with their defaults.
+    /// Returns the budgets of a run, with their defaults.
     pub fn run_budgets(&self) -> RunBudgets
         ensures visits { result.visits ≡ unwrap_or self.now.visits 4 }
         ensures depth { result.depth ≡ unwrap_or self.now.depth 5 }
@@ -121,7 +121,7 @@ impl<'a> Settings<'a> {
         }
     }
 
-    /// The budgets of an analysis, with their defaults.
+    /// Returns the budgets of an analysis, with their defaults.
     pub fn budgets(&self) -> Budgets
         ensures visits { result.visits ≡ unwrap_or self.now.visits 4 }
         ensures depth { result.depth ≡ unwrap_or self.now.depth 5 }
@@ -138,7 +138,7 @@ impl<'a> Settings<'a> {
         }
     }
 
-    /// The kinds whose reports are printed, by default all.
+    /// Returns the kinds whose reports are printed, by default all.
     pub fn kinds(&self, alloc: Global) -> Result<Kinds, AllocError>
         ensures { IfOk result (AreKindsOf self.now.kinds) }
     {
@@ -148,7 +148,7 @@ impl<'a> Settings<'a> {
         }
     }
 
-    /// The name of the function that is analyzed, if one is given.
+    /// Returns the name of the function that is analyzed, if one is given.
     pub fn entry(&self, alloc: Global) -> Result<Option<Name>, AllocError>
         ensures { IfOk result (λ entry. entry ≡ option_map (λ text. text.now) self.now.entry) }
     {
@@ -158,14 +158,14 @@ impl<'a> Settings<'a> {
         }
     }
 
-    /// The data model, by default LP64.
+    /// Returns the data model, by default LP64.
     pub fn data_model(&self) -> DataModel
         ensures { result ≡ unwrap_or self.now.model DataModel.Lp64 }
     {
         self.model.unwrap_or(DataModel::Lp64)
     }
 
-    /// Whether the output is JSON, which it isn't by default.
+    /// Whether the output is JSON; by default it isn't.
     pub fn json(&self) -> bool
         ensures { result ≡ unwrap_or self.now.json false }
     {
@@ -173,7 +173,7 @@ impl<'a> Settings<'a> {
     }
 }
 
-// The text of a list of kinds, if it is one.
+// Returns the text of a list of kinds, if it is one.
 fn kinds_text(text: &[u8]) -> Option<&[u8]>
     ensures { MatchOption result (are_kinds text.now ≡ false) (λ found.
         (found.now ≡ text.now) × (are_kinds text.now ≡ true)) }
@@ -181,7 +181,7 @@ fn kinds_text(text: &[u8]) -> Option<&[u8]>
     if are_kinds(text) { Some(text) } else { None }
 }
 
-// The text of a name, if it is one.
+// Returns the text of a name, if it is one.
 fn name_text(text: &[u8]) -> Option<&[u8]>
     ensures { MatchOption result (spelling.is_name text.now ≡ false) (λ found.
         (found.now ≡ text.now) × (spelling.is_name text.now ≡ true)) }

@@ -9,7 +9,7 @@ ghost use Rattle.cs_words.specs.Values.{IsNumberIn, format_text, model_text};
 use cs_types::DataModel;
 use std::str;
 
-/// The number of one to nine digits, where it is in the range.
+/// Returns the number that one to nine digits represent, if it is in the range.
 pub fn number_in(text: &[u8], least: u32, greatest: u32) -> Option<u32>
     ensures { MatchOption result ((number : ℕ) → IsNumberIn least greatest text.now number
         → ⊥) (IsNumberIn least greatest text.now) }
@@ -25,7 +25,7 @@ pub fn number_in(text: &[u8], least: u32, greatest: u32) -> Option<u32>
     }
 }
 
-// The value of one to nine digits in base ten.
+// Returns the value of one to nine decimal digits.
 fn value_of(digits: &[u8]) -> Option<u32>
     requires all { IsTrue (list_all is_digit digits.now) }
     requires some { 0 < length digits.now }
@@ -45,7 +45,7 @@ fn are_digits(bytes: &[u8]) -> bool
     bytes.iter().all(|byte| matches!(*byte, b'0'..=b'9'))
 }
 
-/// The data model with this name.
+/// Returns the data model with this name, if there is one.
 pub fn model_named(text: &[u8]) -> Option<DataModel>
     ensures { MatchOption result ((model : values.DataModel)
         → model_text model ≢ text.now) (λ model. model_text model ≡ text.now) }
@@ -57,7 +57,7 @@ pub fn model_named(text: &[u8]) -> Option<DataModel>
     }
 }
 
-/// Whether the form of the output with this name is JSON.
+/// Returns whether the output format with this name is JSON, if there is such a format.
 pub fn format_named(text: &[u8]) -> Option<bool>
     ensures { MatchOption result ((json : Bool)
         → format_text json ≢ text.now) (λ json. format_text json ≡ text.now) }

@@ -1,4 +1,4 @@
-//! The first word: the command's.
+//! The first word of the command line, which names the command.
 ghost use Rattle.std.specs.Prelude.{◌≡◌, ◌≢◌, MatchOption};
 ghost use Rattle.cs_words.specs.Options as options;
 ghost use Rattle.cs_words.specs.Options.{verb_text};
@@ -14,7 +14,7 @@ pub enum Verb {
     Generate,
 }
 
-/// The command with this word.
+/// Returns the command with this word, if there is one.
 pub fn verb_named(word: &[u8]) -> Option<Verb>
     ensures { MatchOption result ((verb : options.Verb)
         → verb_text verb ≢ word.now) (λ verb. verb_text verb ≡ word.now) }

@@ -1,4 +1,4 @@
-//! The words of the command line.
+//! The words of a command line.
 ghost use Rattle.std.specs.Prelude.{◌≡◌, ◌⊎◌, ◌∷◌, ℕ, IfOk, IfErr};
 ghost use Rattle.cs_words.specs.declared.verb.Verb.TheVariants as verbs;
 ghost use Rattle.cs_words.specs.Meaning as meaning;
@@ -16,9 +16,9 @@ use crate::verb::{Verb, verb_named};
 use cs_names::Name;
 use std::alloc::Global;
 
-/// The command that the words after the program's name mean.
+/// Returns the command that the words after the program's name mean.
 ///
-/// It is `Words` with the number, from 1, of the first word at which no command goes on so, one past the last where words
+/// The error is `Words` with the number, from 1, of the first word that can't continue a command, or the number after the last word if words
 /// are missing.
 pub fn words_of(alloc: Global, words: &[String]) -> Result<Command, WordsRefusal>
     ensures ok { IfOk result (λ command. WordsMean (words_text words.now) command) }
@@ -34,7 +34,7 @@ pub fn words_of(alloc: Global, words: &[String]) -> Result<Command, WordsRefusal
     }
 }
 
-// The command of words by the first of them and those after it.
+// Returns the command of words, given the first of them and those after it.
 fn command_of(
     alloc: Global,
     words: &[String],
@@ -53,7 +53,7 @@ fn command_of(
     }
 }
 
-// What `analyze` is to do, by the words after it.
+// Returns the command `analyze` with its settings, from the words after it.
 fn analyze_words(
     alloc: Global,
     words: &[String],
@@ -77,7 +77,7 @@ fn analyze_words(
     }))
 }
 
-// What `flow` is to do, by the words after it.
+// Returns the command `flow` with its settings, from the words after it.
 fn flow_words(words: &[String], following: &[String]) -> Result<Command, WordsRefusal>
     requires { words_text words.now ≡ verb_text verbs.Flow ∷ words_text following.now }
     ensures { IsRight (words_text words.now) result }
@@ -91,7 +91,7 @@ fn flow_words(words: &[String], following: &[String]) -> Result<Command, WordsRe
     }))
 }
 
-// What `replay` is to do, by the words after it.
+// Returns the command `replay` with its settings, from the words after it.
 fn replay_words(
     alloc: Global,
     words: &[String],
@@ -116,7 +116,7 @@ fn replay_words(
     }))
 }
 
-// Which file `generate` is to make, by the words after it.
+// Returns the command `generate` with its settings, from the words after it.
 fn generate_words(words: &[String], following: &[String]) -> Result<Command, WordsRefusal>
     requires { words_text words.now ≡ verb_text verbs.Generate ∷ words_text following.now }
     ensures { IsRight (words_text words.now) result }

@@ -16,7 +16,7 @@ fn main(rt: HostRuntime) -> ExitCode {
     ExitCode::from(run(&rt).code())
 }
 
-/// Analyzes standard input as the command line says, and writes to standard output.
+/// Analyzes standard input according to the command line, and writes to standard output.
 fn run(rt: &HostRuntime) -> Status {
     let Ok(arguments) = env::args(rt) else {
         return Status::Memory;
@@ -30,7 +30,7 @@ fn run(rt: &HostRuntime) -> Status {
     }
 }
 
-/// Does so with the eleven checkers, in the order of their kinds.
+/// Runs the program with the eleven checkers, in the order of their kinds.
 fn checked(rt: &HostRuntime, words: &[String]) -> Result<Status, AllocError> {
     let alloc = rt.alloc();
     let mut list: Vec<Box<dyn Checker>> = Vec::new(alloc);

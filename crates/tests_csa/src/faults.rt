@@ -1,4 +1,4 @@
-//! What csa writes, and with which status it ends, where a read or a write fails.
+//! The output and status of csa if a read or a write fails.
 
 use cs_app::{Status, csa};
 use cs_checker::add;
@@ -12,7 +12,7 @@ const DIVISION: &str = "int f(int x){return 10/x;}";
 #[test]
 fn yields_which_stream_failed(rt: HostRuntime) -> Result<(), Fail> {
     let alloc = rt.alloc();
-    // The reads and the writes that fail, the space of the sink, the status, and what is written.
+    // The numbers of the read and the write that fail, the capacity of the sink, the status, and what is written.
     for (read, write, space, status, written) in [
         (1, 0, 64, Status::ReadFault, ""),
         (2, 0, 64, Status::ReadFault, ""),

@@ -5,7 +5,7 @@ use std::cell::Cell;
 use std::process::Abort;
 use std::test::Fail;
 
-// A number whose clones are counted down, and refused where none is left.
+// A number whose clones a shared counter counts down, and refuses when it is 0.
 #[derive(Drop)]
 struct Counted<'a> {
     number: u64,
@@ -30,7 +30,7 @@ impl Clone for Counted<'_> {
     }
 }
 
-// A map of that many keys, each with its own number. From then on values may be cloned without end.
+// Returns a map of this many keys, each with its own number. From then on values may be cloned without limit.
 fn counted_map<'a>(
     alloc: Global,
     size: u64,
@@ -50,7 +50,7 @@ fn counted_map<'a>(
     Ok(map)
 }
 
-// The keys of a table of `size` entries, in an order that isn't theirs.
+// Returns the keys of a table of `size` entries, in another order than theirs.
 fn shuffled(index: u64, size: u64) -> (u64, u64) {
     let spread = index.wrapping_mul(7919) % size.max(1);
     (spread / 10, spread % 10)
@@ -101,7 +101,7 @@ fn inserts_lists_in_any_order(rt: HostRuntime) -> Result<(), Fail> {
     Ok(())
 }
 
-// The entries of every third number below `size`, in order of their keys.
+// Returns the entries of every third number below `size`, in the order of their keys.
 fn thirds<'a>(
     alloc: Global,
     size: u64,
@@ -149,7 +149,7 @@ fn copies_where_no_value_can_be_cloned(rt: HostRuntime) -> Result<(), Fail> {
     Ok(())
 }
 
-// Inserts where only so many values may be cloned.
+// Inserts a value while only this many values can be cloned.
 fn insert_with<'a>(
     map: &mut PMap<Counted<'a>>,
     key: (u64, u64),
@@ -187,7 +187,7 @@ fn a_change_clones_few_values(rt: HostRuntime) -> Result<(), Fail> {
     Ok(())
 }
 
-// How often an insertion was refused, each time leaving all keys as they were, until it had enough clones.
+// Returns how often an insertion was refused before it had enough clones. Each refusal leaves all keys unchanged.
 fn refused_insertions<'a>(
     rt: &impl Abort,
     map: &mut PMap<Counted<'a>>,
@@ -232,7 +232,7 @@ fn numbered_map(alloc: Global, size: u64) -> Result<PMap<u64>, AllocError> {
     Ok(map)
 }
 
-// Copies of the map, the n-th with `size` under the key 7 n.
+// Returns copies of the map, the n-th with `size` under the key 7 n.
 fn changed_copies(alloc: Global, map: &PMap<u64>, size: u64) -> Result<Vec<PMap<u64>>, AllocError> {
     let mut copies = Vec::new(alloc);
     for index in 0..1000u64 {
@@ -257,7 +257,7 @@ fn a_write_to_a_copy_changes_no_other(rt: HostRuntime) -> Result<(), Fail> {
     Ok(())
 }
 
-// Each number is under its key, and `size` is under the changed one.
+// Tests that each number is under its key, and `size` under the changed one.
 fn assert_one_changed(
     rt: &impl Abort,
     map: &PMap<u64>,

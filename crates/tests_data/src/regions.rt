@@ -1,4 +1,4 @@
-//! Numbers of base regions of each kind, with ample memory.
+//! Numbers of base regions of each kind, with enough memory.
 use cs_inputs::{Cells, Path, Root};
 use cs_names::Name;
 use cs_regions::{Base, BaseTable};
@@ -23,7 +23,7 @@ fn assert_number(
     Ok(())
 }
 
-// The numbers of the bases, in the order in which they are seen.
+// Tests the numbers of the bases, in the order in which they are first used.
 fn assert_numbers(rt: &impl Abort, alloc: Global, table: &mut BaseTable) -> Result<(), AllocError> {
     assert_number(rt, table, start_block(alloc, "p")?, 0)?;
     assert_number(rt, table, Base::Global(3), 1)?;

@@ -1,4 +1,4 @@
-//! Stores written and read, with ample memory.
+//! Stores written and read, with enough memory.
 use cs_store::{Binding, Fill, Store, Value, Write, replayed};
 use cs_terms::Lin;
 use std::alloc::{AllocError, Global};
@@ -14,7 +14,7 @@ fn number(value: i128) -> Value {
     })
 }
 
-// Two inputs and a null in region 1, of which one input was overwritten; two leaves in region 2.
+// Returns a store with two inputs and a null in region 1, of which one input was overwritten, and two scalars in region 2.
 fn written(alloc: Global) -> Result<Store, AllocError> {
     let mut store = Store::new(alloc);
     store.bind(1, 4, number(7))?;
@@ -45,7 +45,7 @@ fn loads_the_last_binding_or_the_fill(rt: HostRuntime) -> Result<(), Fail> {
     Ok(())
 }
 
-// The bindings of a region, each with its offset.
+// Returns the bindings of a region, each with its offset.
 fn bindings_text(alloc: Global, store: &Store, base: u64) -> Result<String, AllocError> {
     let mut text = String::new(alloc);
     for (offset, value) in store.bindings(base)? {
@@ -66,7 +66,7 @@ fn lists_the_bindings_of_a_region(rt: HostRuntime) -> Result<(), Fail> {
     Ok(())
 }
 
-// The regions, each with its fill and what it holds at 0.
+// Returns the regions, each with its fill and its contents at 0.
 fn regions_text(alloc: Global, store: &Store) -> Result<String, AllocError> {
     let mut text = String::new(alloc);
     for (base, region) in store.regions()? {

@@ -1,27 +1,27 @@
 //! Which token is refused, and why, in the beginnings of a file and in the file with one token changed. `data/chart.py` makes the
-//! tables: a chart parser that reads the grammar as it is written.
+//! tables, with a chart parser that interprets the grammar as it is written.
 
 use crate::front::{Reported, front, in_words};
 use std::alloc::{AllocError, Global};
 use std::process::Abort;
 use std::test::Fail;
 
-/// A list of two functions: its tokens, with a space after each.
+/// A linked list and two functions on it: the tokens of the file, with a space after each.
 const FILE: &str =
     "struct node { int value ; struct node * next ; } ; int keep ( int value ) ; static int value_of ( const struct \
     node * n ) { return n -> value ; } int drop_second ( struct node * head ) { struct node * gone ; gone = head \
     -> next ; if ( keep ( gone -> value ) ) return 0 ; head -> next = gone -> next ; gone -> next = 0 ; return 1 ; \
     } ";
 
-/// How many tokens it has.
+/// The number of its tokens.
 const TOKENS: usize = 87;
 
-/// How many tokens at the beginning of the file are a file themselves.
+/// The numbers of tokens at the beginning of the file that are a file themselves.
 const FILES: [usize; 5] = [0, 13, 20, 37, 87];
 
-/// Each change, for each token of the file the number of the token that is refused where that one is changed, or `A` where the whole file
-/// is accepted, and the numbers of those whose change makes an unsupported punctuator of the refused token. A token is removed, stands
-/// twice, or is replaced.
+/// For each change: the change; for each token of the file the number of the token that is refused if that one is changed, or `A` if the
+/// whole file is accepted; and the numbers of the tokens whose change makes the refused token an unsupported punctuator. A token is removed,
+/// doubled, or replaced.
 const EDITS: &str =
     "removed: 0 A 2 3 4 5 6 7 A 9 10 11 12 13 14 15 16 A 18 19 A 21 22 23 A 25 26 A 29 29 30 A 32 33 34 35 38 37 38 39 40 41 A 44 44 45 A 47 A 49 50 51 52 53 54 55 56 65 58 A 60 61 62 63 65 65 A A 68 69 70 71 72 73 74 75 76 77 78 79 80 81 82 A A 85 86: 14 22 38
 twice: 1 3 3 4 5 6 7 9 A 10 11 12 13 14 15 16 17 18 19 20 A 22 23 24 A 26 28 A 29 30 40 32 33 34 35 A 37 38 39 40 41 43 A 44 45 88 47 49 A 50 A 52 53 54 55 56 A 58 67 60 67 62 63 64 66 66 67 68 A 70 71 72 73 74 75 76 A 78 79 80 81 82 A 84 85 A 87: 
@@ -36,7 +36,7 @@ fn push_token(text: &mut String, token: &str) -> Result<(), AllocError> {
     text.push(' ')
 }
 
-/// Adds a token that is changed.
+/// Adds a changed token.
 fn push_changed(text: &mut String, token: &str, change: &str) -> Result<(), AllocError> {
     match change {
         "removed" => Ok(()),
@@ -48,7 +48,7 @@ fn push_changed(text: &mut String, token: &str, change: &str) -> Result<(), Allo
     }
 }
 
-/// The tokens of the file with the change at a number.
+/// Returns the tokens of the file, with the token with a number changed.
 fn edited(alloc: Global, change: &str, at: usize) -> Result<String, AllocError> {
     let mut text = String::new(alloc);
     for (number, token) in FILE.split_ascii_whitespace().enumerate() {
@@ -61,7 +61,7 @@ fn edited(alloc: Global, change: &str, at: usize) -> Result<String, AllocError> 
     Ok(text)
 }
 
-/// So many tokens at the beginning of the file.
+/// Returns this many tokens at the beginning of the file.
 fn beginning(alloc: Global, count: usize) -> Result<String, AllocError> {
     let mut text = String::new(alloc);
     for token in FILE.split_ascii_whitespace().take(count) {
@@ -70,7 +70,7 @@ fn beginning(alloc: Global, count: usize) -> Result<String, AllocError> {
     Ok(text)
 }
 
-/// The refusal of a line, in words; nothing where it is a file. The end of input is a token.
+/// Returns the refusal of a line, in words; nothing if it is a file. The end of input is a token.
 fn refused(alloc: Global, text: &str) -> Result<String, AllocError> {
     match front(alloc, text) {
         Reported::NoTokens => String::from_str(alloc, "no tokens"),
@@ -79,7 +79,7 @@ fn refused(alloc: Global, text: &str) -> Result<String, AllocError> {
     }
 }
 
-/// The refusal of a line at the token with a number, in words.
+/// Returns the refusal of a line at the token with a number, in words.
 fn expected(
     alloc: Global,
     line: &str,
@@ -99,7 +99,7 @@ fn expected(
     }
 }
 
-/// That a line is refused at the token with a number, or is a file where there is none.
+/// Tests that a line is refused at the token with a number, or is a file if there is no number.
 fn assert_refused(
     rt: &impl Abort,
     alloc: Global,
@@ -131,7 +131,7 @@ fn refuses_each_beginning_at_its_end(rt: HostRuntime) -> Result<(), Fail> {
     Ok(())
 }
 
-/// Whether a list of numbers has a number.
+/// Whether a list of numbers contains a number.
 fn is_listed(list: &str, number: usize) -> bool {
     for word in list.split_ascii_whitespace() {
         if word.parse::<usize>().ok() == Some(number) {
@@ -141,14 +141,14 @@ fn is_listed(list: &str, number: usize) -> bool {
     false
 }
 
-/// The token that is refused, and none for `A`.
+/// Returns the number of the refused token, None for `A`.
 fn refused_number(rt: &impl Abort, word: &str) -> Option<usize> {
     let number = word.parse::<usize>().ok();
     assert!(rt; word == "A" || number.is_some(), "{word}");
     number
 }
 
-/// A row of the table. Gives the number of tokens that it has.
+/// Tests a row of the table. Returns the number of tokens that it has.
 fn assert_edits(rt: &impl Abort, alloc: Global, row: &str) -> Result<usize, AllocError> {
     let (change, rest) = row.split_once(": ").unwrap_or(("", ""));
     let (numbers, unsupported) = rest.split_once(": ").unwrap_or(("", ""));

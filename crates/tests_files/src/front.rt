@@ -8,10 +8,10 @@ use cs_limits::{MOST_BYTES, MOST_TOKENS};
 use std::alloc::{AllocError, Global};
 use std::str::from_utf8;
 
-/// What the front end says of a text.
+/// The front end's result for a text.
 #[derive(Drop)]
 pub enum Reported {
-    /// It can't be cut into tokens, is too long or has too many of them.
+    /// It can't be split into tokens, is too long or has too many tokens.
     NoTokens,
     /// A token is refused.
     Refused(SyntaxRefusal),
@@ -19,7 +19,7 @@ pub enum Reported {
     File(Tree),
 }
 
-/// Cuts a text into tokens and parses them.
+/// Splits a text into tokens and parses them.
 pub fn front(alloc: Global, text: &str) -> Reported {
     let bytes = text.as_bytes();
     if bytes.len() > MOST_BYTES {
@@ -38,7 +38,7 @@ pub fn front(alloc: Global, text: &str) -> Reported {
     }
 }
 
-/// A refusal in words: its kind, the unsupported word, its line and its column.
+/// Returns a refusal in words: its kind, the unsupported word, its line and its column.
 pub fn in_words(alloc: Global, refusal: &SyntaxRefusal) -> Result<String, AllocError> {
     match refusal {
         SyntaxRefusal::Syntax(at) => format!(in alloc; "syntax {}:{}", at.line, at.column),

@@ -7,7 +7,7 @@ use std::alloc::{AllocError, Global};
 use std::str;
 use std::test::Fail;
 
-/// Files with the names of their functions: each stands where it is defined, or else where it is declared first.
+/// Files with the names of their functions: each is where it is defined, or else where it is first declared.
 const ORDERED: &str = "int f(int x){return x;}int g(int y){return y;} => f g
 int g(int x);int f(int x){return g(x);}int g(int y){return y;} => f g
 int g(int x);int f(int x){return g(x);} => g f
@@ -16,7 +16,7 @@ int h(int x);int a(int x);int g(int x);int f(int x){return x;}int b(int x);int g
 void*malloc(unsigned long n);int f(int x){return x;}void free(void*p); => f
 int x;typedef int t;struct s{int a;}; => ";
 
-/// The names of functions, with a space between them.
+/// Returns the names of functions, with a space between them.
 fn names_of(alloc: Global, functions: &[Function]) -> Result<String, AllocError> {
     let mut names = String::new(alloc);
     for function in functions {
@@ -28,7 +28,7 @@ fn names_of(alloc: Global, functions: &[Function]) -> Result<String, AllocError>
     Ok(names)
 }
 
-/// The names of a file's functions, or words where it is no program.
+/// Returns the names of a file's functions, or words if it is refused.
 fn names(alloc: Global, file: &str) -> Result<String, AllocError> {
     match program_of(alloc, DataModel::Lp64, file.as_bytes()) {
         Ok(found) => names_of(alloc, &found.program.functions),
@@ -36,7 +36,7 @@ fn names(alloc: Global, file: &str) -> Result<String, AllocError> {
     }
 }
 
-/// Of a table of files and names, the files whose functions are others, with those.
+/// Returns those files of a table of files and names whose functions differ, with the actual ones.
 fn ordered_otherwise(alloc: Global, table: &str) -> Result<String, AllocError> {
     let mut found = String::new(alloc);
     for row in table.lines() {

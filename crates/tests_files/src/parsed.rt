@@ -1,10 +1,10 @@
-//! What the front end says of whole files: how many parts they have, or which token is refused and why.
+//! The front end's result for whole files: how many parts they have, or which token is refused and why.
 
 use crate::front::{Reported, front, in_words};
 use std::alloc::{AllocError, Global};
 use std::test::Fail;
 
-/// Files with what the front end says of them.
+/// Files with the front end's result.
 const FILES: &str = " => 0 parts
 int f(int x){return 1/x;} => 1 parts
 typedef int T;T x; => 2 parts
@@ -59,7 +59,7 @@ int f(int x){return sizeof(int){ => left out { 1:32
 int f(int x){if(x){}else(x){ => syntax 1:28
 int x=sizeof(struct S{ => left out { 1:22";
 
-/// What the front end says of a file, in words.
+/// Returns the front end's result for a file, in words.
 fn verdict(alloc: Global, file: &str) -> Result<String, AllocError> {
     match front(alloc, file) {
         Reported::NoTokens => String::from_str(alloc, "no tokens"),
@@ -71,7 +71,7 @@ fn verdict(alloc: Global, file: &str) -> Result<String, AllocError> {
     }
 }
 
-/// Of a table of files and verdicts, the files of which the front end says something else, with that.
+/// Returns those files of a table of files and results for which the result differs, with the actual one.
 fn judged_otherwise(alloc: Global, table: &str) -> Result<String, AllocError> {
     let mut found = String::new(alloc);
     for row in table.lines() {

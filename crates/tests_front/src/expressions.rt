@@ -1,4 +1,4 @@
-//! Expressions of C, and what the grammar says of them: a table of trees, and one of refusals.
+//! Expressions of C, and how they are parsed: a table of trees, and one of refusals.
 use crate::lexed::lexed;
 use cs_ast::raw::expression::{RawExpr, RawExprKind};
 use cs_ast::raw::written_type::{TypeWord, WrittenType};
@@ -9,7 +9,7 @@ use cs_names::Name;
 use std::alloc::{AllocError, Global};
 use std::test::Fail;
 
-// The tokens of a text, if it has some; the column of a token is its number.
+// Returns the tokens of a text, if it has some; the column of a token is its number.
 fn tokens_of(alloc: Global, text: &str) -> Option<Vec<Token>> {
     let mut list = lexed(alloc, text.as_bytes()).ok()?.list;
     let mut column = 0;
@@ -63,7 +63,7 @@ fn name_of(kind: &RawExprKind) -> &'static str {
     }
 }
 
-// A node's kind and the column of its place.
+// Appends a node's kind and the column of its position.
 fn head(out: &mut String, tree: &RawExpr) -> Result<(), AllocError> {
     let name = name_of(&*tree.kind);
     let column = tree.place.column;
@@ -82,7 +82,7 @@ fn row(out: &mut String, trees: &[RawExpr]) -> Result<(), AllocError> {
     Ok(())
 }
 
-// The parts of a node.
+// Appends the parts of a node.
 fn parts(out: &mut String, kind: &RawExprKind) -> Result<(), AllocError> {
     match kind {
         RawExprKind::Name(_) | RawExprKind::Number(_) => Ok(()),
@@ -130,8 +130,7 @@ fn show_reason(reason: Reason) -> &'static str {
     }
 }
 
-// What the parser says of the words: the tree, its height, the number after it and why the token there is refused, or the
-// refusal.
+// Returns the parser's result for the words: the tree, its height, the number of the token after it and why that is refused; or the refusal.
 fn answer(alloc: Global, words: &str, limit: u32, level: ExprLevel) -> Result<String, AllocError> {
     match tokens_of(alloc, words) {
         Some(tokens) => answer_of(alloc, &tokens, limit, level),
@@ -194,7 +193,7 @@ fn level(name: &str) -> ExprLevel {
     }
 }
 
-/// Of a table of limits, levels, words and answers, the words that are answered otherwise, with the answer.
+/// Returns those words of a table of limits, levels, words and results for which the result differs, with the actual one.
 fn answered_otherwise(alloc: Global, table: &str) -> Result<String, AllocError> {
     let mut found = String::new(alloc);
     for row in table.trim().lines() {

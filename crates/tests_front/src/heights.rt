@@ -1,4 +1,4 @@
-//! Heights of small trees, counted by hand, with ample memory.
+//! Heights of small trees, counted by hand, with enough memory.
 ghost use Rattle.std.specs.Prelude.{◌≡◌, ◌≤◌, ◌+◌, max, [], ◌∷◌, IfOk};
 ghost use Rattle.cs_ast.specs.RawView.{written, written_list};
 ghost use Rattle.cs_ast.specs.RawHeight as tree;
@@ -55,7 +55,7 @@ fn call(alloc: Global, function: RawExpr, arguments: Vec<RawExpr>) -> Result<Raw
     Ok(at(alloc, RawExprKind::Call(function, arguments))?)
 }
 
-/// `'0'` between so many parentheses.
+/// `'0'` in this many parentheses
 fn enclosed(alloc: Global, parentheses: u32) -> Result<RawExpr, AllocError>
     ensures { IfOk result (λ e. tree.height (written e) ≡ 1 + parentheses) }
 {
@@ -66,7 +66,7 @@ fn enclosed(alloc: Global, parentheses: u32) -> Result<RawExpr, AllocError>
     Ok(inner)
 }
 
-/// `'0'` so many times.
+/// `'0'` this many times
 fn leaves(alloc: Global, number: u32) -> Result<Vec<RawExpr>, AllocError>
     ensures { IfOk result (λ list. tree.highest (written_list list.items) ≤ 1) }
 {
@@ -78,7 +78,7 @@ fn leaves(alloc: Global, number: u32) -> Result<Vec<RawExpr>, AllocError>
     Ok(list)
 }
 
-/// A word alone before declarators.
+/// A single word before declarators.
 fn alone(alloc: Global, word: SpecWord) -> Result<RawSpecs, AllocError>
     ensures { IfOk result
         (λ s. file.specs_height (view.specs s) ≡ file.spec_height (view.spec word)) }
@@ -115,7 +115,7 @@ fn head(alloc: Global) -> Result<RawFunction, AllocError>
     })
 }
 
-/// `int f(int x){` what stands there `}`
+/// `int f(int x){` the body `}`
 fn definition(alloc: Global, body: RawStmtKind) -> Result<RawExternal, AllocError>
     ensures { IfOk result
         (λ e. file.external_height (external e)
@@ -191,7 +191,7 @@ fn structure(alloc: Global, bound: RawExpr) -> Result<RawExternal, AllocError>
     })
 }
 
-/// The height of a call with these arguments.
+/// Returns the height of a call with these arguments.
 fn called(alloc: Global, arguments: Vec<RawExpr>) -> Result<u32, AllocError>
     requires { tree.highest (written_list arguments.items) ≤ 1000 }
 {

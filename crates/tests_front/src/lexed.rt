@@ -1,4 +1,4 @@
-//! Tokens, places and refusals of small texts, and the limit of tokens.
+//! Tokens, positions and refusals of small texts, and the limit of tokens.
 use cs_ast::{IntegerConstant, Keyword, Length, Place, Punctuator, Unsupported};
 use cs_lexer::{LexRefusal, Lexed, Token, TokenKind, tokens};
 use cs_limits::MOST_BYTES;
@@ -8,7 +8,7 @@ use std::process::Abort;
 use std::str;
 use std::test::Fail;
 
-/// The tokens of a text, whose length is tested.
+/// Returns the tokens of a text, after a test of its length.
 pub(crate) fn lexed(alloc: Global, text: &[u8]) -> Result<Lexed, LexRefusal> {
     if text.len() > MOST_BYTES {
         return Err(LexRefusal::Memory);
@@ -16,7 +16,7 @@ pub(crate) fn lexed(alloc: Global, text: &[u8]) -> Result<Lexed, LexRefusal> {
     tokens(alloc, text)
 }
 
-// What is wrong, the line and the column, the number of the file, and its name.
+// Returns a fault as text: its name, the line and the column, the number of the file, and its name.
 fn fault_text(alloc: Global, fault: &str, at: Place, file: &Name) -> Result<String, AllocError> {
     let name = str::from_utf8(file.as_bytes()).unwrap_or("?");
     format!(in alloc; "{fault} {}:{} of {} {name}", at.line, at.column, at.file)
@@ -33,7 +33,7 @@ fn refusal_text(alloc: Global, refusal: &LexRefusal) -> Result<String, AllocErro
     }
 }
 
-// The refusal of a text, or a word where it has tokens.
+// Returns the refusal of a text, or a word if it has tokens.
 fn refusal_of(alloc: Global, text: &[u8]) -> Result<String, AllocError> {
     match lexed(alloc, text) {
         Ok(_) => String::from_str(alloc, "taken"),
@@ -50,7 +50,7 @@ fn number(value: u64, decimal: bool, unsigned: bool, length: Length) -> TokenKin
     })
 }
 
-// That a text is one token of this kind.
+// Tests that a text is one token of this kind.
 fn assert_kind(rt: &impl Abort, alloc: Global, text: &str, kind: TokenKind) -> Result<(), Fail> {
     let found = lexed(alloc, text.as_bytes())?;
     let place = Place {
@@ -130,7 +130,7 @@ fn a_token_has_its_kind(rt: HostRuntime) -> Result<(), Fail> {
     assert_punctuators(&rt, rt.alloc())
 }
 
-/// Texts that have no tokens, each with its first fault, the line and the column. A line `--` stands between them.
+/// Texts that can't be split into tokens, each with its first fault, the line and the column. Lines `--` separate them.
 const FAULTS: &str = "\0 => BadByte 1:1
 --
 x # 1 => BadByte 1:3
@@ -199,7 +199,7 @@ int x = 18446744073709551616; => WideNumber 1:9
 --
 # 2147483648 \"a\" => BadLine 1:1";
 
-// Of a table of texts and faults, the texts that aren't refused so.
+// Returns those texts of a table of texts and faults that have another refusal.
 fn refused_otherwise(alloc: Global, table: &str) -> Result<String, AllocError> {
     let mut found = String::new(alloc);
     for row in table.split("\n--\n") {
@@ -256,7 +256,7 @@ int drop_second(struct node *head)
 }
 ";
 
-// The names of a text's files.
+// Returns the names of a text's files.
 fn names_text(alloc: Global, found: &Lexed) -> Result<String, AllocError> {
     let mut text = String::new(alloc);
     for name in &found.files {
@@ -266,7 +266,7 @@ fn names_text(alloc: Global, found: &Lexed) -> Result<String, AllocError> {
     Ok(text)
 }
 
-// The places of a text's arrows and of its end: the number of the file, the line and the column.
+// Returns the positions of a text's arrows and of its end: the number of the file, the line and the column.
 fn places_text(alloc: Global, found: &Lexed) -> Result<String, AllocError> {
     let mut text = String::new(alloc);
     for token in &found.list {
@@ -297,8 +297,7 @@ fn linemarkers_give_places(rt: HostRuntime) -> Result<(), Fail> {
     Ok(())
 }
 
-/// Texts with words that are dropped, how many tokens they have, and the line and the column of their ends. A line `--` stands
-/// between them.
+/// Texts with parts that are dropped, how many tokens they have, and the line and the column of their ends. Lines `--` separate them.
 const DROPPED: &str = " => 0 1:1
 --
  \t\r
@@ -328,7 +327,7 @@ __attribute__ ( __attribute__ ( x ) y => 3 1:38
 ;
 # 9 \"x\" => 1 2:8";
 
-// The number of a text's tokens, and where it ends.
+// Returns the number of a text's tokens, and where it ends.
 fn counted(alloc: Global, text: &str) -> Result<String, AllocError> {
     match lexed(alloc, text.as_bytes()) {
         Ok(Lexed { list, end, .. }) => {
@@ -338,7 +337,7 @@ fn counted(alloc: Global, text: &str) -> Result<String, AllocError> {
     }
 }
 
-// Of a table of texts, counts and ends, the texts that have others.
+// Returns those texts of a table of texts, counts and ends that have others.
 fn counted_otherwise(alloc: Global, table: &str) -> Result<String, AllocError> {
     let mut found = String::new(alloc);
     for row in table.split("\n--\n") {
@@ -359,7 +358,7 @@ fn dropped_words_leave_no_token(rt: HostRuntime) -> Result<(), Fail> {
     Ok(())
 }
 
-// The refusal of so many semicolons with more bytes after them, or a word where there is none.
+// Returns the refusal of this many semicolons followed by more bytes, or a word if they aren't refused.
 fn refused(alloc: Global, count: usize, following: &str) -> Result<String, Fail> {
     let mut text = vec![in alloc; b';'; count]?;
     text.extend_from_slice(following.as_bytes())?;

@@ -1,4 +1,4 @@
-//! Tests of single layers of the front end, with ample memory: tables of words, tokens, punctuators and expressions, and heights of small trees.
+//! Tests of single layers of the front end, with enough memory: tables of words, tokens, punctuators and expressions, and heights of small trees.
 #![tactic(auto)]
 
 #[cfg(test)]

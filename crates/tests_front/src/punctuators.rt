@@ -1,4 +1,4 @@
-//! Typedef names, punctuators and words of types with known answers.
+//! Typedef names, punctuators and words of types with known results.
 use cs_ast::raw::operator::{InfixOp, PrefixOp, Step};
 use cs_ast::raw::written_type::{IntegerWord, TypeWord};
 use cs_ast::{Punctuator, TokenKind, Unsupported};
@@ -39,7 +39,7 @@ fn punctuators_stand_for_operators(rt: HostRuntime) -> Result<(), Fail> {
     Ok(())
 }
 
-// Whether all these words of integer types make a type together.
+// Whether all these words of integer types together are a type.
 fn fit(words: &[IntegerWord]) -> bool {
     let mut so_far = TypeSoFar::Nothing;
     for word in words {

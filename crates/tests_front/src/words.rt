@@ -1,11 +1,11 @@
-//! Command lines that are valid, each with what it means, and invalid ones, with the number of the word, with ample memory.
+//! Command lines that are valid, each with what it means, and invalid ones, with the number of the refused word, with enough memory.
 use cs_types::DataModel;
 use cs_words::{AnalyzeWords, Command, ReplayWords, WordsRefusal, words_of};
 use std::alloc::{AllocError, Global};
 use std::str;
 use std::test::Fail;
 
-// The words of a line, cut at its spaces.
+// Returns the words of a line, split at its spaces.
 fn words_in(alloc: Global, line: &str) -> Result<Vec<String>, AllocError> {
     let mut words = Vec::new(alloc);
     for word in line.split(' ') {
@@ -21,7 +21,7 @@ fn model_name(model: DataModel) -> &'static str {
     }
 }
 
-// The budgets of visits, depth, events, nodes and splits, the data model, the form, the entry and the kinds.
+// Appends the budgets of visits, depth, events, nodes and splits, the data model, the format, the entry and the kinds.
 fn analysis_text(out: &mut String, read: &AnalyzeWords) -> Result<(), AllocError> {
     let budgets = read.budgets;
     let (visits, depth, events) = (budgets.visits, budgets.depth, budgets.events);
@@ -43,7 +43,7 @@ fn analysis_text(out: &mut String, read: &AnalyzeWords) -> Result<(), AllocError
     Ok(())
 }
 
-// The budgets of visits, depth and events, the data model, the entry and the numbers of the inputs, in the order of their paths.
+// Appends the budgets of visits, depth and events, the data model, the entry and the numbers of the inputs, in the order of their paths.
 fn replay_text(out: &mut String, read: &ReplayWords) -> Result<(), AllocError> {
     let budgets = read.budgets;
     let (visits, depth, events) = (budgets.visits, budgets.depth, budgets.events);
@@ -65,7 +65,7 @@ fn command_text(out: &mut String, command: &Command) -> Result<(), AllocError> {
     }
 }
 
-// What words mean, or which of them is refused.
+// Appends what words mean, or the number of the refused one.
 fn said_text(out: &mut String, words: &[String], alloc: Global) -> Result<(), AllocError> {
     match words_of(alloc, words) {
         Ok(command) => command_text(out, &command),
@@ -81,7 +81,7 @@ fn said(alloc: Global, line: &str) -> Result<String, AllocError> {
     Ok(out)
 }
 
-// Of a table of lines and what they mean, or which of their words is refused, the lines that are read otherwise, with that.
+// Returns those lines of a table of lines and what they mean, or which word is refused, for which this differs, with the actual result.
 fn read_otherwise(alloc: Global, table: &str) -> Result<String, AllocError> {
     let mut found = String::new(alloc);
     for row in table.lines() {
@@ -95,7 +95,7 @@ fn read_otherwise(alloc: Global, table: &str) -> Result<String, AllocError> {
     Ok(found)
 }
 
-/// Words of `analyze` with what they mean: the five budgets, the data model, the form of the output, the entry, and the kinds.
+/// Words of `analyze` with what they mean: the five budgets, the data model, the output format, the entry, and the kinds.
 const ANALYSES: &str =
     "analyze => analyze 4 5 20000 150000 64 lp64 text every entry null divide unset bounds double-free freed bad-free dead-local shift unrelated const-write
 analyze --model ilp32 => analyze 4 5 20000 150000 64 ilp32 text every entry null divide unset bounds double-free freed bad-free dead-local shift unrelated const-write
@@ -156,7 +156,7 @@ fn reads_words_of_replay(rt: HostRuntime) -> Result<(), Fail> {
     Ok(())
 }
 
-/// Inputs of which one is set three times.
+/// Inputs of which one is given three times.
 const REPEATED: &str = "replay f y=1 x=2 x=-3 x=007 => replay 4 5 20000 lp64 f 7 1";
 
 #[test]
@@ -166,7 +166,7 @@ fn the_last_of_one_path_holds(rt: HostRuntime) -> Result<(), Fail> {
     Ok(())
 }
 
-/// Words that begin no command, or that a command without a function doesn't take.
+/// Words that don't begin a command, or that a command doesn't take.
 const COMMANDS: &str = " => 1
 Analyze => 1
 analyze  => 2
@@ -190,7 +190,7 @@ fn refuses_commands(rt: HostRuntime) -> Result<(), Fail> {
     Ok(())
 }
 
-/// Budgets that are out of range, cut off, or said twice.
+/// Budgets that are out of range, incomplete, or given twice.
 const SETTINGS: &str = "replay --visits 0 => 3
 replay --visits 0 f => 3
 replay --visits 1001 f => 3
@@ -216,7 +216,7 @@ fn refuses_settings(rt: HostRuntime) -> Result<(), Fail> {
     Ok(())
 }
 
-/// Options of `analyze` whose values aren't any, and generated files without their numbers.
+/// Options of `analyze` with invalid values, and generated files without their numbers.
 const ANALYSES_AND_FILES: &str = "analyze --nodes 0 => 3
 analyze --nodes 200001 => 3
 analyze --nodes=200001 => 2
@@ -249,7 +249,7 @@ fn refuses_analyses_and_files(rt: HostRuntime) -> Result<(), Fail> {
     Ok(())
 }
 
-/// Runs of no function, and inputs that aren't any.
+/// Replays without a function, and invalid inputs.
 const ENTRIES: &str = "replay => 2
 replay 1f => 2
 replay f@0=1 => 2

@@ -1,9 +1,9 @@
-//! How runs end.
+//! Outcomes of runs.
 
 use crate::machines::differing;
 use std::test::Fail;
 
-/// Words and a file with the line of how the run ends: each kind of fault, the order of checks at one access, budgets, and what an
+/// Words and a file, each with the line of the run's outcome: each kind of fault, the order of checks at one access, budgets, and what an
 /// entry returns; what a function without a body writes; data models; inputs.
 const ENDS: &str = r#"
 replay f: int f(int*p){return *p;} => fault null <input>:1:21

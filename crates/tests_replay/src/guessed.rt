@@ -5,7 +5,7 @@ use cs_events::Guess;
 use std::alloc::{AllocError, Global};
 use std::test::Fail;
 
-/// An event, the number that is guessed there, words and a file, with the line of how the run ends, and a line of what was pending at each
+/// An event, the number that is guessed there, words and a file, with the line of the run's outcome, and a line of what was pending at each
 /// event. No event has the number 0.
 const GUESSED: &str = "
 1 9 replay f x=5: int f(int x){return x+1;}

@@ -1,4 +1,4 @@
-//! Paths printed and ordered, inputs set and read, with ample memory.
+//! Paths printed and ordered, inputs set and read, with enough memory.
 use cs_inputs::{Cells, Inputs, Path, Root, parse, print};
 use cs_names::Name;
 use std::alloc::{AllocError, Global};
@@ -52,7 +52,7 @@ fn prints_each_kind_of_root(rt: HostRuntime) -> Result<(), Fail> {
     Ok(())
 }
 
-// Inputs for the first path and for the third, which is set a second time.
+// Returns inputs for the first path and for the third, which is set twice.
 fn filled(alloc: Global, first: &Path, third: &Path) -> Result<Inputs, AllocError> {
     let mut inputs = Inputs::new(alloc);
     inputs.set(third.copy()?, 3)?;
@@ -115,7 +115,7 @@ fn reads_inputs_from_their_text(rt: HostRuntime) -> Result<(), Fail> {
     Ok(())
 }
 
-/// Texts that are no input, and why.
+/// Texts that aren't inputs, and why.
 const REFUSED: &str = " => BadPath
 =1 => BadPath
 p => BadPath
@@ -158,7 +158,7 @@ p=-9223372036854775809 => TooWide
 p=-18446744073709551616 => TooWide
 p=999999999999999999999999999999999999999 => TooWide";
 
-// Why a text is no input.
+// Returns why a text isn't an input.
 fn refusal(alloc: Global, text: &str) -> Result<String, AllocError> {
     match parse(alloc, text.as_bytes()) {
         Ok(_) => String::from_str(alloc, "an input"),
@@ -166,7 +166,7 @@ fn refusal(alloc: Global, text: &str) -> Result<String, AllocError> {
     }
 }
 
-// Of a table of texts and refusals, the texts that aren't refused so.
+// Returns those texts of a table of texts and refusals that aren't refused for the stated reason.
 fn refused_otherwise(alloc: Global, table: &str) -> Result<String, AllocError> {
     let mut found = String::new(alloc);
     for row in table.lines() {

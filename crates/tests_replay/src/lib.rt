@@ -1,5 +1,5 @@
-//! Inputs, operations and memory of the reference interpreter; and runs of whole programs: words and a file in, and how the run ends, by
-//! the code and by the reference machine.
+//! Inputs, operations and memory of the reference interpreter; and runs of whole programs: from words and a file to the outcome, by
+//! the code and by the reference interpreter.
 #![tactic(auto)]
 
 #[cfg(test)]

@@ -1,4 +1,4 @@
-//! The run of a program's code beside the run of the reference machine, as text.
+//! The run of a program's code beside that of the reference interpreter, as text.
 ghost use Rattle.cs_ast.specs.TypedProgram.{typed_program};
 ghost use Rattle.cs_objects.specs.Prepared.{IsPrepared, IsReady};
 ghost use Rattle.cs_well_formed.specs.Programs.{IsWellFormed};
@@ -18,7 +18,7 @@ use cs_words::{Command, ReplayWords, words_of};
 use std::alloc::{AllocError, Global};
 use std::str;
 
-/// The run of a function's code, if it has a body and memory suffices.
+/// Returns the run of a function's code, if it has a body and memory suffices.
 fn coded(alloc: Global, setting: &Setting, entry: u32) -> Option<Replayed>
     requires ready { IsReady setting.now }
     requires well_formed { IsWellFormed (typed_program setting.now.program.now) }
@@ -29,7 +29,7 @@ fn coded(alloc: Global, setting: &Setting, entry: u32) -> Option<Replayed>
     }
 }
 
-/// Whether two runs have shown, read and touched the same, and the same was pending at their events.
+/// Whether two runs showed, read and touched the same, and the same was pending at their events.
 fn same_logs(one: &Log, other: &Log) -> bool {
     one.events == other.events
         && one.touches == other.touches
@@ -37,8 +37,8 @@ fn same_logs(one: &Log, other: &Log) -> bool {
         && same_lookups(&one.read, &other.read)
 }
 
-/// The run of a function's code. Nothing where it doesn't end as the reference machine's run, or shows, reads or touches something else, or
-/// memory is short.
+/// Returns the run of a function's code; None if its outcome or what it shows, reads or touches isn't that of the reference interpreter's
+/// run, or memory runs out.
 fn run_of<'a>(alloc: Global, setting: &'a Setting<'a>, entry: u32) -> Option<Replayed>
     requires ready { IsReady setting.now }
     requires well_formed { IsWellFormed (typed_program setting.now.program.now) }
@@ -51,7 +51,7 @@ fn run_of<'a>(alloc: Global, setting: &'a Setting<'a>, entry: u32) -> Option<Rep
     None
 }
 
-/// The same of the run that the words ask for, with guesses. Nothing where the program has no such function.
+/// The same for the run that the words request, with guesses. None if the program has no such function.
 fn guessed(
     alloc: Global,
     words: &ReplayWords,
@@ -66,7 +66,7 @@ fn guessed(
     }
 }
 
-/// The same where what the program's runs share is prepared.
+/// The same if the data that the program's runs share is prepared.
 fn guessed_prepared(
     alloc: Global,
     words: &ReplayWords,
@@ -89,7 +89,7 @@ fn guessed_prepared(
     run_of(alloc, &setting, u32::try_from(entry).ok()?)
 }
 
-/// The text of a run: the line of how it ends, and, where it is asked for, a line of what was pending at each event.
+/// Returns the text of a run: the line of its outcome, and, if requested, a line of what was pending at each event.
 fn text_of(
     alloc: Global,
     program: &Program,
@@ -106,7 +106,7 @@ fn text_of(
     Ok(text)
 }
 
-/// The words of a line.
+/// Returns the words of a line.
 fn words_in(alloc: Global, line: &str) -> Result<Vec<String>, AllocError> {
     let mut words = Vec::new(alloc);
     for word in line.split_ascii_whitespace() {
@@ -115,7 +115,7 @@ fn words_in(alloc: Global, line: &str) -> Result<Vec<String>, AllocError> {
     Ok(words)
 }
 
-/// The text of the run that a command asks for of a file, with guesses. Nothing where both machines don't agree.
+/// Returns the text of the run that a command requests for a file, with guesses. None if the two runs differ.
 fn run_text(
     alloc: Global,
     command: &Command,
@@ -133,7 +133,7 @@ fn run_text(
     text_of(alloc, &found.program, &replayed, has_pending).ok()
 }
 
-/// The same of a command line: its words, a colon and the file.
+/// The same for a command line: its words, a colon and the file.
 fn row_text(alloc: Global, run: &str, guesses: &[Guess], has_pending: bool) -> Option<Vec<u8>> {
     let (line, file) = run.split_once(": ")?;
     let words = words_in(alloc, line).ok()?;
@@ -141,7 +141,7 @@ fn row_text(alloc: Global, run: &str, guesses: &[Guess], has_pending: bool) -> O
     run_text(alloc, &command, file, guesses, has_pending)
 }
 
-/// Adds a run with its text, if it has another text than this.
+/// Adds a run with its text, if that isn't the wanted text.
 pub fn add_if_otherwise(
     alloc: Global,
     found: &mut String,
@@ -159,7 +159,7 @@ pub fn add_if_otherwise(
     found.push_str(reported.as_str())
 }
 
-/// Of a table of runs and answers, the runs that end otherwise by one of the machines, with their texts.
+/// Returns those runs of a table of runs and lines whose text differs, or in which the two runs differ, with their texts.
 pub fn differing(alloc: Global, table: &str) -> Result<String, AllocError> {
     let mut found = String::new(alloc);
     for line in table.trim().lines() {

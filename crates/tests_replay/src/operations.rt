@@ -1,4 +1,4 @@
-//! What asked operations answer, and what memory holds, with ample memory.
+//! Results of operations in progress, and contents of memory, with enough memory.
 use cs_ast::Place;
 use cs_ast::typed::operator::BinOp;
 use cs_ast::typed::program::Program;
@@ -36,7 +36,7 @@ fn program(alloc: Global) -> Program {
     }
 }
 
-// What the runs of that program share.
+// Returns the data that the runs of that program share.
 fn prepared<'a>(alloc: Global) -> Prepared<'a> {
     Prepared {
         globals: Vec::new(alloc),
@@ -45,7 +45,7 @@ fn prepared<'a>(alloc: Global) -> Prepared<'a> {
     }
 }
 
-// What an operator of two `int` answers at its event, and the log after it.
+// Returns the result of an operator of two `int` at its event, and the log after it.
 fn answered(
     alloc: Global,
     guesses: &[Guess],
@@ -67,7 +67,7 @@ fn answered(
     )
 }
 
-// The same in a program, with what its runs share.
+// The same in a program, with the data that its runs share.
 fn answered_in(
     alloc: Global,
     program: &Program,
@@ -91,8 +91,8 @@ fn answered_in(
     (answer, log)
 }
 
-/// An operator of two `int`, its operands, the number of events, and a guess: the event and the number. What the operator gives, and what
-/// shows of it; or where a run ends.
+/// An operator of two `int`, its operands, the number of events, and a guess: the event and the number. Then the operator's result, and the
+/// label that its event shows; or the run's outcome.
 const OPERATIONS: &str = "+ 2147483647 1 1 => Ok(-2147483648) Wrap(Past)
 - -2147483648 1 1 => Ok(2147483647) Wrap(Under)
 * 65536 1048576 1 => Ok(0) Wrap(Far)
@@ -131,7 +131,7 @@ fn count(word: Option<&str>) -> u64 {
     word.unwrap_or("").parse::<u64>().unwrap_or(0)
 }
 
-// What an operation gives, or where the run ends.
+// Appends the result of an operation, or the run's outcome.
 fn answer_text(out: &mut String, answer: Result<i128, Stop>) -> Result<(), AllocError> {
     match answer {
         Err(Stop::Outcome(Outcome::Fault(kind, at))) => {
@@ -158,7 +158,7 @@ fn answer_text(out: &mut String, answer: Result<i128, Stop>) -> Result<(), Alloc
     }
 }
 
-// The same with what shows, each event at the place of the operation.
+// The same with the labels of the events, each of which is at the position of the operation.
 fn said(alloc: Global, answer: Result<i128, Stop>, events: &[Event]) -> Result<String, AllocError> {
     let mut out = String::new(alloc);
     answer_text(&mut out, answer)?;
@@ -190,7 +190,7 @@ fn assert_operation(rt: &impl Abort, alloc: Global, row: &str) -> Result<(), All
     Ok(())
 }
 
-/// No event has the number 0, so a row without a guess has none.
+/// No event has the number 0, so a row with this number has no guess.
 #[test]
 fn an_operator_gives_what_it_gives_in_c(rt: HostRuntime) -> Result<(), Fail> {
     for row in OPERATIONS.lines() {
@@ -199,7 +199,7 @@ fn an_operator_gives_what_it_gives_in_c(rt: HostRuntime) -> Result<(), Fail> {
     Ok(())
 }
 
-/// A block that was allocated is there, is freed for good, and its number isn't used again.
+/// An allocated block is live, once freed it remains so, and its number isn't used again.
 #[test]
 fn memory_keeps_what_was_freed(rt: HostRuntime) -> Result<(), Fail> {
     let alloc = rt.alloc();
@@ -207,7 +207,7 @@ fn memory_keeps_what_was_freed(rt: HostRuntime) -> Result<(), Fail> {
     frees_for_good(&rt, alloc, &prepared)
 }
 
-// A block of bytes with so many of them.
+// Returns a block of this many bytes.
 fn bytes<'a>(alloc: Global, extent: u64, fill: Fill<'a>) -> Block<'a> {
     Block::new(alloc, BlockType::Integer(IntType::UChar), extent, fill)
 }
@@ -230,7 +230,7 @@ fn assert_block(
     assert!(rt; found == wanted, "block {number}");
 }
 
-// The same with what the runs of a program share.
+// The same with the data that the runs of a program share.
 fn frees_for_good(rt: &impl Abort, alloc: Global, prepared: &Prepared) -> Result<(), Fail> {
     let mut memory = Memory::new(alloc, prepared);
     fill_and_free(&mut memory, alloc)?;

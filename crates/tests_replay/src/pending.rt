@@ -1,4 +1,4 @@
-//! What was pending at the events of a run: as text, and of two runs.
+//! What was pending at the events of a run: as text, and compared between two runs.
 
 use cs_events::Lookup;
 use cs_inputs::print;
@@ -8,7 +8,7 @@ use cs_run_log::Pending;
 use cs_values::Object;
 use std::alloc::AllocError;
 
-/// Appends a line of what was pending at an event: its place, and the operation with its operands, the path of the allocation, or the
+/// Appends a line of what was pending at an event: its position, and the operation with its operands, the path of the allocation, or the
 /// object with the offset of the access.
 pub fn append_pending(
     text: &mut Vec<u8>,
@@ -34,7 +34,7 @@ pub fn append_pending(
     }
 }
 
-// Appends an object with the space before it.
+// Appends a space and an object.
 fn append_object(text: &mut Vec<u8>, object: &Object) -> Result<(), AllocError> {
     match object {
         Object::Start(path) => {
@@ -80,7 +80,7 @@ fn is_same(one: &Pending, other: &Pending) -> bool {
     }
 }
 
-/// Whether two runs have looked up the same inputs.
+/// Whether two runs looked up the same inputs.
 pub fn same_lookups(one: &[Lookup], other: &[Lookup]) -> bool {
     if one.len() != other.len() {
         return false;

@@ -1,9 +1,9 @@
-//! Programs that gcc has run.
+//! Programs that were run with gcc.
 
 use crate::machines::differing;
 use std::test::Fail;
 
-/// Words and a file of which a function returns what gcc 12 (-fwrapv) says that it does (`data/gcc.py`): integer types, updates,
+/// Words and a file, whose function returns what it does with gcc 12 (-fwrapv, `data/gcc.py`): integer types, updates,
 /// arrays, pointers, structs, statements, jumps, calls, constant objects, the heap.
 const PROGRAMS: &str = r#"
 replay --visits 1000 --events 100000 --depth 60 f: int f(void){signed char c=127;c=c+1;return c;} => done -128

@@ -1,4 +1,4 @@
-//! Whole texts of results in the JSON form.
+//! Whole texts of results as JSON.
 
 use crate::made::{Made, program};
 use cs_model::Kind;

@@ -3,7 +3,7 @@
 use cs_generate::generate_text;
 use std::test::Fail;
 
-/// Each template, with the constants of its functions.
+/// Each template is generated, with the constants of its functions.
 #[test]
 fn files_are_made_of_six_templates(rt: HostRuntime) -> Result<(), Fail> {
     let alloc = rt.alloc();

@@ -11,7 +11,7 @@ use cs_types::{CType, DataModel, IntType, StructTable, Structs};
 use std::alloc::{AllocError, Global};
 use std::test::Fail;
 
-/// A place in the file on standard input.
+/// A position in the file on standard input.
 pub const fn at(line: u32, column: u32) -> Place {
     Place {
         file: 0,
@@ -62,7 +62,7 @@ fn function(alloc: Global, name: &str) -> Result<Function, AllocError> {
     })
 }
 
-/// Inputs by their texts, as `x=3`, with spaces between them.
+/// Parses inputs as `x=3`, with spaces between them.
 fn inputs(alloc: Global, texts: &str) -> Result<Inputs, Fail> {
     let mut inputs = Inputs::new(alloc);
     for text in texts.split_ascii_whitespace() {
@@ -95,7 +95,7 @@ const fn branch(column: u32, truth: bool) -> Event {
     event(column, Label::Branch(truth))
 }
 
-/// A finding of a run with grounds.
+/// Returns a finding of a run with grounds.
 fn finding(
     alloc: Global,
     what: Outcome,
@@ -111,7 +111,7 @@ fn finding(
     })
 }
 
-/// A finding of a run without guesses.
+/// Returns a finding of a run without guesses.
 fn confirmed(alloc: Global, what: Outcome, texts: &str, events: &[Event]) -> Result<Finding, Fail> {
     let run = run(alloc, texts, &[])?;
     Ok(finding(alloc, what, run, Vec::new(alloc), events)?)
@@ -144,7 +144,7 @@ fn one_report(
     Ok(reported(alloc, entry, verdict, reports))
 }
 
-/// A result that is made here.
+/// A result that is made by hand.
 #[derive(Clone, Copy)]
 pub enum Made {
     Division,
@@ -170,13 +170,13 @@ impl Made {
     }
 }
 
-/// What the analysis of `int f(int x){return 10/x;}` says.
+/// Returns the result for `int f(int x){return 10/x;}`.
 fn division(alloc: Global) -> Result<EntryResult, Fail> {
     let report = confirmed(alloc, fault(Kind::Divide, 23), "x=0", &[])?;
     Ok(one_report(alloc, 0, Verdict::Complete, report)?)
 }
 
-/// An element past the end of `int f(int n){int a[3];int i;for(i=0;i<n;i++)a[i]=0;return a[0];}`.
+/// Returns a finding of an access past the end in `int f(int n){int a[3];int i;for(i=0;i<n;i++)a[i]=0;return a[0];}`.
 fn past_the_end(alloc: Global) -> Result<Finding, Fail> {
     let events = [
         event(34, Label::Truth(true)),
@@ -189,7 +189,7 @@ fn past_the_end(alloc: Global) -> Result<Finding, Fail> {
     confirmed(alloc, fault(Kind::Bounds, 46), "n=4", &events)
 }
 
-/// What its analysis says.
+/// Returns the result for that function.
 fn short_array(alloc: Global) -> Result<EntryResult, Fail> {
     let mut reports = Vec::new(alloc);
     reports.push(past_the_end(alloc)?)?;
@@ -198,7 +198,7 @@ fn short_array(alloc: Global) -> Result<EntryResult, Fail> {
     Ok(reported(alloc, 0, Verdict::Complete, reports))
 }
 
-/// The same with nine elements, where the budget of visits is met.
+/// The same with nine elements, so that the budget of visits is exceeded.
 fn long_array(alloc: Global) -> Result<EntryResult, Fail> {
     let over = Outcome::Over(Budget::Visits, at(1, 29));
     let over = confirmed(alloc, over, "n=4", &[branch(29, true); 4])?;
@@ -214,7 +214,7 @@ fn long_array(alloc: Global) -> Result<EntryResult, Fail> {
     })
 }
 
-/// A guess with the two runs beside it, which have these inputs.
+/// Returns the ground of a guess with two other runs, which have these inputs.
 fn ground(
     alloc: Global,
     guess: Guess,
@@ -231,7 +231,7 @@ fn ground(
     })
 }
 
-/// The grounds of two guesses, whose other runs are at corners of both ranges.
+/// Returns the grounds of two guesses, whose other runs are at corners of both ranges.
 fn two_grounds(alloc: Global) -> Result<Vec<Ground>, Fail> {
     let least = "x=-2147483648 y=-2147483648";
     let upper = "x=-2147483648 y=2147483647";
@@ -242,7 +242,7 @@ fn two_grounds(alloc: Global) -> Result<Vec<Ground>, Fail> {
     Ok(grounds)
 }
 
-/// What the analysis of `int f(int x,int y){if(x<y){if(y<x)return 1/0;}return 0;}` says.
+/// Returns the result for `int f(int x,int y){if(x<y){if(y<x)return 1/0;}return 0;}`.
 fn contradiction(alloc: Global) -> Result<EntryResult, Fail> {
     let events = [
         event(24, Label::Truth(true)),
@@ -256,7 +256,7 @@ fn contradiction(alloc: Global) -> Result<EntryResult, Fail> {
     Ok(one_report(alloc, 0, Verdict::Complete, report)?)
 }
 
-/// What the analysis of `int t[1000];int f(int i){return t[i];}` says.
+/// Returns the result for `int t[1000];int f(int i){return t[i];}`.
 fn many_offsets(alloc: Global) -> Result<EntryResult, Fail> {
     let cuts = vec![in alloc; Cut::Splits(at(1, 34), 1000)]?;
     let report = confirmed(alloc, fault(Kind::Bounds, 34), "i=-1", &[])?;
@@ -269,7 +269,7 @@ fn many_offsets(alloc: Global) -> Result<EntryResult, Fail> {
     })
 }
 
-/// What an analysis says that has two nodes.
+/// Returns a result with a cut of two nodes.
 fn two_nodes(alloc: Global) -> Result<EntryResult, Fail> {
     Ok(EntryResult {
         entry: 0,
@@ -280,7 +280,7 @@ fn two_nodes(alloc: Global) -> Result<EntryResult, Fail> {
     })
 }
 
-/// A guess with one other run.
+/// Returns the ground of a guess with one other run.
 fn one_ground(alloc: Global) -> Result<Ground, Fail> {
     Ok(Ground {
         guess: guess(2, -3),
@@ -289,7 +289,7 @@ fn one_ground(alloc: Global) -> Result<Ground, Fail> {
     })
 }
 
-/// A run whose steps show a case, a call and what an allocation gives, with an input of each kind.
+/// Returns the result for a run whose steps show a case, a call and the result of an allocation, with an input of each kind.
 fn every_step(alloc: Global) -> Result<EntryResult, Fail> {
     let events = [
         event(10, Label::Case(2)),

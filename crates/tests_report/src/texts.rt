@@ -109,7 +109,7 @@ fn assert_text(
     Ok(assert_printed(rt, alloc, &results, &["f", "g"], kinds, wanted)?)
 }
 
-/// Each entry's verdict, reports, met budgets and cuts, with the evidence of each finding.
+/// The verdict, reports, met budgets and cuts of each entry are printed, with the evidence of each finding.
 #[test]
 fn results_are_printed_line_by_line(rt: HostRuntime) -> Result<(), Fail> {
     for (made, wanted) in [
@@ -136,7 +136,7 @@ const CUT: &str = "entry f cut
 cut splits <input>:1:34 1000
 ";
 
-/// Only reports of the kinds that were asked for are printed. Verdicts, met budgets and cuts always are.
+/// Only reports of the requested kinds are printed. Verdicts, met budgets and cuts always are.
 #[test]
 fn other_kinds_are_left_out(rt: HostRuntime) -> Result<(), Fail> {
     for (made, kinds, wanted) in [
@@ -167,7 +167,7 @@ report divide <input>:1:23 confirmed
   input x = 0
 ";
 
-/// Results are printed one after the other, and a function that the program doesn't have is without a name.
+/// Results are printed in order, and a function that the program doesn't have has no name.
 #[test]
 fn results_are_printed_in_order(rt: HostRuntime) -> Result<(), Fail> {
     let mut results = Vec::new(rt.alloc());

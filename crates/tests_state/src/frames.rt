@@ -1,4 +1,4 @@
-//! Frames, the cells that were read from inputs, and what copies of them share.
+//! Frames, the cells that were read from inputs, and what their copies share.
 use cs_cfg::Spot;
 use cs_state::{Callers, Frame, ReadCells, SharedFrame, Temporaries, Temporary, Visits};
 use cs_store::Value;
@@ -7,7 +7,7 @@ use std::alloc::{AllocError, Global};
 use std::process::Abort;
 use std::test::Fail;
 
-// A frame of a function with two counted points.
+// Returns a frame of a function with two counted points.
 fn frame(alloc: Global, number: u64) -> Result<Frame, AllocError> {
     let mut temporaries = Temporaries::new(alloc);
     temporaries.push(Temporary::Scalar(Value::Null))?;
@@ -30,7 +30,7 @@ fn shared(alloc: Global, number: u64) -> Result<SharedFrame, AllocError> {
     SharedFrame::new(alloc, frame)
 }
 
-// The callers 0, 1 and 2, of which 2 is the nearest.
+// Returns the callers 0, 1 and 2, of which 2 is the nearest.
 fn three_callers(alloc: Global) -> Result<Callers, AllocError> {
     let mut callers = Callers::new(alloc);
     for number in 0..3 {

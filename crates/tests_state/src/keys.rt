@@ -1,4 +1,4 @@
-//! Pairs of states: their keys are equal where their live parts are, and different elsewhere.
+//! Pairs of states: their keys are equal if their live parts are, and differ otherwise.
 ghost use Rattle.std.specs.Prelude.{IfOk};
 ghost use Rattle.cs_ranges.specs.RangeSet.{IsInhabited};
 
@@ -44,7 +44,7 @@ fn frame(alloc: Global, number: u64) -> Result<Frame, AllocError> {
     })
 }
 
-// A state in which nothing is known.
+// Returns a state in which nothing is known.
 fn fresh(alloc: Global) -> Result<State, AllocError> {
     let frame = frame(alloc, 0)?;
     Ok(State {
@@ -94,7 +94,7 @@ fn block(sym: u64, extent: i128) -> Block {
     }
 }
 
-// The numbers from one to another. There are some, and they lie inside the bounds of sets.
+// Returns the numbers from one to another. There are some, and they lie inside the bounds of sets.
 fn numbers(alloc: Global, low: i128, high: i128) -> Result<RangeSet, AllocError>
     ensures { IfOk result (λ set. IsInhabited set) }
 {
@@ -123,7 +123,7 @@ fn number(words: &mut SplitAsciiWhitespace) -> Result<i128, AllocError> {
     whole(words.next().unwrap_or(""))
 }
 
-// A constant, or `SYMBOL/SLOPE/AT/VALUE`: a function of a symbol, seen from a number at which it has a value. Without a symbol it is `-`.
+// Parses a constant, or `SYMBOL/SLOPE/AT/VALUE`: an affine function of a symbol, which has VALUE where the symbol is AT. `-` means no symbol.
 fn term(word: &str) -> Result<Lin, AllocError> {
     let Some((sym, rest)) = word.split_once('/') else {
         return Ok(constant(whole(word)?));
@@ -142,7 +142,7 @@ fn term(word: &str) -> Result<Lin, AllocError> {
     })
 }
 
-// A pair of numbers with a colon between them.
+// Parses a pair of numbers with a colon between them.
 fn pair(text: &str) -> Result<(u64, u64), AllocError> {
     let (first, second) = text.split_once(':').unwrap_or(("", ""));
     match (first.parse::<u64>(), second.parse::<u64>()) {
@@ -151,7 +151,7 @@ fn pair(text: &str) -> Result<(u64, u64), AllocError> {
     }
 }
 
-// A value: `null`, `unset`, `start:BLOCK:OFFSET`, `at:BLOCK:TERM`, or a term.
+// Parses a value: `null`, `unset`, `start:BLOCK:OFFSET`, `at:BLOCK:TERM`, or a term.
 fn value(words: &mut SplitAsciiWhitespace) -> Result<Value, AllocError> {
     let word = words.next().unwrap_or("");
     if let Some(rest) = word.strip_prefix("start:") {
@@ -181,7 +181,7 @@ fn fill(words: &mut SplitAsciiWhitespace) -> Result<Fill, AllocError> {
     }
 }
 
-// Makes a change: its name, and what it needs.
+// Makes a change of a state, given by its name and its arguments.
 fn make(state: &mut State, alloc: Global, change: &str) -> Result<(), AllocError> {
     let mut words = change.split_ascii_whitespace();
     let name = words.next().unwrap_or("");
@@ -319,7 +319,7 @@ fn are_merged(alloc: Global, row: &str) -> Result<bool, AllocError> {
     Ok(first == second)
 }
 
-// That the states of each row have one key, or that they have two. A line `#` says what the rows after it are about.
+// Tests that the states of each row have one key, or that they have two. A line `#` states what the rows after it are about.
 fn assert_rows(
     rt: &impl Abort,
     alloc: Global,
@@ -334,7 +334,7 @@ fn assert_rows(
     Ok(())
 }
 
-// What is live: each pair of states differs in one part, or in how it was written.
+// Equal live parts: the states of each pair differ in one part, or in how it was written.
 const SAME: &str = " | 
 # ranges of symbols that nothing mentions
 declare 0 0 9 | declare 0 1 9; declare 1 0 1

@@ -1,4 +1,4 @@
-//! Worked examples of the parts of states and of the rows of an exploration, with ample memory.
+//! Worked examples of the parts of states and of the rows of an exploration, with enough memory.
 #![tactic(auto)]
 
 #[cfg(test)]

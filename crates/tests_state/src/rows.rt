@@ -1,18 +1,18 @@
-//! Rows are added and given in turn.
+//! Rows that are added to a graph and returned in turn.
 use cs_graph::{Added, Graph, GraphRefusal};
 use std::process::Abort;
 use std::test::Fail;
 
-// What is done to a graph, and what comes of it.
+// A call of a graph, and its result.
 #[derive(Clone, Copy)]
 enum Step {
-    /// A row with this key and so many visits is added.
+    /// Adds a row with this key and this many visits.
     Add(u64, u64, Result<Added, GraphRefusal>),
-    /// A row is given.
+    /// Returns the next row.
     Give(Option<u32>),
 }
 
-// At most four rows.
+// Steps of a graph of at most four rows.
 const STEPS: [Step; 12] = [
     Step::Add(70, 0, Ok(Added::New(0))),
     Step::Give(Some(0)),

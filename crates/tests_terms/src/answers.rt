@@ -1,4 +1,4 @@
-//! Conditions on a term, with the intervals that they ask for.
+//! Conditions on a term, with their intervals of bad numbers.
 use cs_checker::{Answer, NO_NUMBER};
 use cs_ranges::Interval;
 use cs_terms::{Lin, Sym};

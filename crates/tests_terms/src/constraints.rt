@@ -31,7 +31,7 @@ fn assumes(rt: HostRuntime) -> Result<(), Fail> {
     Ok(())
 }
 
-// That `x` has one number left after `x + 1` was 10, and the numbers from 0 before.
+// Tests that `x` has one number after `x + 1` was 10, and had the numbers from 0 before.
 fn assert_narrowed(
     rt: &impl Abort,
     narrowed: &Constraints,

@@ -1,10 +1,10 @@
-//! Sets of integers: cut, joined, counted, and drawn back along lines. A set is written as its intervals.
+//! Sets of integers: cut, joined, counted, and mapped back along lines. A set is written as its intervals.
 use cs_ranges::{GREATEST, LEAST, RangeSet, affine_preimage};
 use std::alloc::{AllocError, Global};
 use std::process::Abort;
 use std::test::Fail;
 
-// The intervals of a set.
+// Returns the intervals of a set as text.
 fn written(alloc: Global, set: &RangeSet) -> Result<String, AllocError> {
     let mut text = String::new(alloc);
     for interval in set.intervals() {
@@ -13,7 +13,7 @@ fn written(alloc: Global, set: &RangeSet) -> Result<String, AllocError> {
     Ok(text)
 }
 
-// The numbers of an interval that is written so.
+// Returns the set of the numbers of an interval in this notation.
 fn interval(rt: &impl Abort, alloc: Global, text: &str) -> Result<RangeSet, AllocError> {
     let (low, high) = text.split_once("..").unwrap_or(("", ""));
     let low = low.parse::<i128>().unwrap_or(i128::MAX);
@@ -25,7 +25,7 @@ fn interval(rt: &impl Abort, alloc: Global, text: &str) -> Result<RangeSet, Allo
     RangeSet::of(alloc, low, high)
 }
 
-// The set of all the intervals that are written so.
+// Returns the union of all intervals in this notation.
 fn set(rt: &impl Abort, alloc: Global, text: &str) -> Result<RangeSet, AllocError> {
     let mut all = RangeSet::of(alloc, 1, 0)?;
     for word in text.split_ascii_whitespace() {
@@ -43,7 +43,7 @@ fn combined(name: &str, left: &RangeSet, right: &RangeSet) -> Result<RangeSet, A
     }
 }
 
-// That two sets make a third.
+// Tests that two sets combine to a third.
 fn assert_combined(
     rt: &impl Abort,
     alloc: Global,
@@ -72,7 +72,7 @@ fn intersects_and_cuts_out(rt: HostRuntime) -> Result<(), Fail> {
     Ok(())
 }
 
-// The number nearest to 0, the only one, the least, the greatest, how many there are, and whether -3 and 0 are there.
+// Returns the number nearest to 0, the only one, the least, the greatest, how many there are, and whether -3 and 0 are among them.
 fn numbers(alloc: Global, set: &RangeSet) -> Result<String, AllocError> {
     let (nearest, single) = (set.least_abs(), set.is_single());
     let (least, greatest) = (set.least(), set.greatest());

@@ -95,7 +95,7 @@ fn cuts_a_product(rt: HostRuntime) -> Result<(), Fail> {
     Ok(())
 }
 
-// The pieces of a product: 0 and 1 with no wrap, 2 with one, and more from 3 on.
+// Tests the pieces of a product: 0 and 1 with no wrap, 2 with one, and more from 3 on.
 fn assert_product_cut(rt: &impl Abort, pieces: &ProductPieces) {
     assert!(rt; pieces.under.is_none());
     let kept = Lin {

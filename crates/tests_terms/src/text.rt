@@ -10,7 +10,7 @@ use cs_types::DataModel;
 use std::alloc::{AllocError, Global};
 use std::process::Abort;
 
-/// A question over the symbols x and y, which stand for the numbers from the first to the second.
+/// A question over the symbols x and y, which may have the numbers from the first to the second.
 #[derive(Clone, Copy)]
 pub struct Row<'a> {
     pub question: Question,
@@ -20,7 +20,7 @@ pub struct Row<'a> {
     pub pieces: &'a str,
 }
 
-/// The number.
+/// Returns a constant term.
 pub fn number(value: i128) -> Lin {
     Lin {
         sym: None,
@@ -30,7 +30,7 @@ pub fn number(value: i128) -> Lin {
     }
 }
 
-/// The symbol x times a factor, and a number.
+/// Returns the symbol x times a factor, plus a number.
 pub fn x(slope: i128, value: i128) -> Lin {
     Lin {
         sym: Some(Sym(0)),
@@ -40,7 +40,7 @@ pub fn x(slope: i128, value: i128) -> Lin {
     }
 }
 
-/// The symbol y times a factor, and a number.
+/// Returns the symbol y times a factor, plus a number.
 pub fn y(slope: i128, value: i128) -> Lin {
     Lin {
         sym: Some(Sym(1)),
@@ -58,7 +58,7 @@ fn assert_row(rt: &impl Abort, alloc: Global, row: &Row, place: usize) -> Result
     Ok(())
 }
 
-/// Each row has the pieces that are written.
+/// Tests that each row has the stated pieces.
 pub fn assert_rows(rt: &impl Abort, alloc: Global, rows: &[Row]) -> Result<(), AllocError> {
     for (place, row) in rows.iter().enumerate() {
         assert_row(rt, alloc, row, place)?;
@@ -66,7 +66,7 @@ pub fn assert_rows(rt: &impl Abort, alloc: Global, rows: &[Row]) -> Result<(), A
     Ok(())
 }
 
-/// Each of the two symbols stands for the numbers from the first to the second.
+/// Returns constraints in which each symbol may have the numbers from the first to the second.
 pub fn constraints(
     alloc: Global,
     x: (i128, i128),
@@ -78,7 +78,7 @@ pub fn constraints(
     Ok(constraints)
 }
 
-/// The numbers from one to another. There are some, and they lie inside the bounds of sets.
+/// Returns the numbers from one to another. There are some, and they lie inside the bounds of sets.
 fn numbers(alloc: Global, low: i128, high: i128) -> Result<RangeSet, AllocError>
     ensures { IfOk result (λ set. IsInhabited set) }
 {
@@ -88,7 +88,7 @@ fn numbers(alloc: Global, low: i128, high: i128) -> Result<RangeSet, AllocError>
     RangeSet::of(alloc, low, high)
 }
 
-/// A line for each piece.
+/// Returns a line for each piece.
 pub fn text(alloc: Global, pieces: &[Piece]) -> Result<String, AllocError> {
     let mut text = String::new(alloc);
     for piece in pieces {

@@ -4,7 +4,7 @@ use cs_types::{DataModel, IntType};
 use std::process::Abort;
 use std::str::SplitAsciiWhitespace;
 
-/// The next data model of a row.
+/// Returns the next data model of a row.
 pub fn model(rt: &impl Abort, words: &mut SplitAsciiWhitespace) -> DataModel {
     match word(rt, words) {
         "Lp64" => DataModel::Lp64,
@@ -13,7 +13,7 @@ pub fn model(rt: &impl Abort, words: &mut SplitAsciiWhitespace) -> DataModel {
     }
 }
 
-/// The next integer type.
+/// Returns the next integer type.
 pub fn integer_type(rt: &impl Abort, words: &mut SplitAsciiWhitespace) -> IntType {
     match word(rt, words) {
         "Char" => IntType::Char,
@@ -31,12 +31,12 @@ pub fn integer_type(rt: &impl Abort, words: &mut SplitAsciiWhitespace) -> IntTyp
     }
 }
 
-/// The next number, or nothing for another word.
+/// Returns the next number, or None for another word.
 pub fn number_if_any(words: &mut SplitAsciiWhitespace) -> Option<i128> {
     words.next()?.parse::<i128>().ok()
 }
 
-/// The next number.
+/// Returns the next number.
 pub fn number(rt: &impl Abort, words: &mut SplitAsciiWhitespace) -> i128 {
     let word = word(rt, words);
     match word.parse::<i128>() {

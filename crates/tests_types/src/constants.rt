@@ -1,4 +1,4 @@
-//! Constant expressions with the types and values that gcc gives them (`data/gcc.py`).
+//! Constant expressions with their types and values according to gcc (`data/gcc.py`).
 
 use crate::said::{Question, said_otherwise};
 use cs_types::DataModel;
@@ -112,7 +112,7 @@ sizeof(int)-5 => unsigned long 18446744073709551615
 (1>2)+(3>2) => int 1
 "#;
 
-/// Those that `gcc -m32` gives another type or value.
+/// Those with another type or value under `gcc -m32`.
 const ILP32: &str = r#"
 2147483648 => long long 2147483648
 9223372036854775807 => long long 9223372036854775807

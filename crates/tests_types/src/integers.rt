@@ -1,4 +1,4 @@
-//! Numbers of C's arithmetic from gcc and from the ranges of its types.
+//! Results of integer arithmetic according to gcc and to the ranges of the types.
 
 use crate::columns::{integer_type, model, number, number_if_any};
 use cs_types::DataModel::{Ilp32, Lp64};
@@ -35,7 +35,7 @@ Ilp32 LLong -9223372036854775808 9223372036854775807
 Ilp32 ULLong 0 18446744073709551615
 ";
 
-// That a number wraps to another, with so many turns.
+// Tests that a number wraps to another, with this quotient.
 fn assert_wraps(
     rt: &impl Abort,
     model: DataModel,
@@ -57,7 +57,7 @@ fn assert_wraps(
     );
 }
 
-// A row of `ENDS`: the ends are numbers of the type, and the numbers next to them aren't, and wrap.
+// Tests a row of `ENDS`: the ends are numbers of the type, and the numbers next to them aren't, and wrap.
 fn assert_ends(rt: &impl Abort, row: &str) {
     let mut words = row.split_ascii_whitespace();
     let model = model(rt, &mut words);
@@ -87,7 +87,7 @@ fn wraps_past_the_ends_of_every_type(rt: HostRuntime) {
     }
 }
 
-// Two factors with their product and its quotient where that is near: the extremes of each signed type with each other, the greatest of
+// Two factors with their product and its quotient if that is near: the extremes of each signed type with each other, the greatest of
 // each unsigned one with itself, as gcc converts the products of `__int128`; then others.
 const PRODUCTS: &str = "
 Lp64 Char -128 -128 0 none

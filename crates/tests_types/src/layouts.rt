@@ -1,4 +1,4 @@
-//! Scalars of nested structs where gcc has them.
+//! The scalars of nested structs, at the offsets that gcc gives them.
 ghost use Rattle.std.specs.Prelude.{◌≡◌, ◌∷◌, [], IfOk, Some};
 ghost use Rattle.cs_types.specs.Shape.{array, struct, shape_of};
 ghost use Rattle.cs_types.specs.Layout.{Fits};
@@ -11,7 +11,7 @@ use cs_types::{CType, Member, Members, StructTable, StructType, Structs, align, 
 use std::alloc::{AllocError, Global};
 use std::test::Fail;
 
-// A struct with two members, of which the first begins at 0.
+// Returns a struct with two members, of which the first begins at 0.
 fn struct_of(
     alloc: Global,
     size: u64,
@@ -51,7 +51,7 @@ fn member_of(alloc: Global, ty: CType, offset: u64) -> Result<Member, AllocError
     Ok(Member::new(Name::from_slice(alloc, b"")?, ty, offset))
 }
 
-// As gcc lays them out under -m64 and under -m32 -malign-double: `{ int i; char c; }`, `{ char c; long long w; }`,
+// Returns structs laid out as by gcc under -m64 and under -m32 -malign-double: `{ int i; char c; }`, `{ char c; long long w; }`,
 // `{ struct 0 t[3]; unsigned char end; }` and `{ struct 2 r; struct 1 w; }`.
 fn nested_structs(alloc: Global) -> Result<StructTable, AllocError>
     ensures lp64 { IfOk result (λ table. Fits Lp64 table.list (array (struct 3) 1000)) }

@@ -1,4 +1,4 @@
-//! Worked examples of types and of the typing of expressions: numbers, layouts, and texts with the types and the values that gcc gives them.
+//! Worked examples of types and of the typing of expressions: numbers, layouts, and texts with their types and values according to gcc.
 #![tactic(auto)]
 
 #[cfg(test)]

@@ -1,10 +1,10 @@
-//! Expressions that are refused, each code with its place, and neighbours of them that are taken.
+//! Expressions that are refused, each with its code and position, and similar ones that are accepted.
 
 use crate::said::{Question, said_otherwise};
 use cs_types::DataModel;
 use std::test::Fail;
 
-/// Expressions that are typed to be run.
+/// Expressions that would be evaluated in a run.
 const TYPES: &str = r#"
 z => code 1 at 1
 i => int

@@ -1,4 +1,4 @@
-//! What is said of an expression's text, in words.
+//! The type or value of an expression's text, or its refusal, in words.
 
 use crate::scene::scene;
 use crate::words::{integer, words};
@@ -13,7 +13,7 @@ use cs_scopes::{Context, TypeRefusal};
 use cs_types::DataModel;
 use std::alloc::{AllocError, Global};
 
-// The tree of a whole text that is one expression.
+// Returns the tree of a text, if all of it is one expression.
 fn tree(alloc: Global, text: &str) -> Result<Option<RawExpr>, AllocError> {
     let bytes = text.as_bytes();
     if bytes.len() > MOST_BYTES {
@@ -44,7 +44,7 @@ fn refusal(alloc: Global, refusal: &TypeRefusal) -> Result<String, AllocError> {
     }
 }
 
-// The type and the value of a constant, or its refusal.
+// Returns the type and the value of a constant, or its refusal.
 fn constant(alloc: Global, context: &Context, tree: &RawExpr) -> Result<String, AllocError> {
     match value(alloc, context, tree) {
         Ok((ty, number)) => {
@@ -55,7 +55,7 @@ fn constant(alloc: Global, context: &Context, tree: &RawExpr) -> Result<String, 
     }
 }
 
-// The type of an expression's value, or its refusal.
+// Returns the type of an expression's value, or its refusal.
 fn type_of(alloc: Global, context: &Context, tree: &RawExpr) -> Result<String, AllocError> {
     let mut literals = Vec::new(alloc);
     match discarded(alloc, context, &mut literals, tree) {
@@ -64,7 +64,7 @@ fn type_of(alloc: Global, context: &Context, tree: &RawExpr) -> Result<String, A
     }
 }
 
-/// What is asked of an expression.
+/// What is tested of an expression.
 #[derive(Clone, Copy)]
 pub enum Question {
     /// The type and the value of a constant.
@@ -86,7 +86,7 @@ fn said_of(
     }
 }
 
-/// What is said of an expression's text.
+/// Returns the answer to a question about an expression's text.
 fn said(
     alloc: Global,
     model: DataModel,
@@ -99,7 +99,7 @@ fn said(
     }
 }
 
-/// Of a table of lines, each an expression, ` => ` and what is said of it, those of which something else is said, with that.
+/// Returns those lines of a table, each an expression, ` => ` and an answer, for which the answer differs, with the actual one.
 pub fn said_otherwise(
     alloc: Global,
     model: DataModel,

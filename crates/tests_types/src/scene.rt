@@ -1,4 +1,4 @@
-//! The declarations that the examples go by. `data/gcc.py` has the same in C.
+//! The declarations that the examples use. `data/gcc.py` has the same in C.
 
 use cs_names::Name;
 use cs_scopes::{
@@ -63,7 +63,7 @@ fn function(
     declare(alloc, all, text, Meaning::Function(function))
 }
 
-// `i`, `u`, `l`, `w`, `o`, `h`, `c`; `a`, `m`; `p`, `q`, `v`; `s`, `t`, `n`, `b`, `d`.
+// Declares `i`, `u`, `l`, `w`, `o`, `h`, `c`; `a`, `m`; `p`, `q`, `v`; `s`, `t`, `n`, `b`, `d`.
 fn objects(alloc: Global, all: &mut Declarations) -> Result<(), AllocError> {
     for (text, ty) in INTEGERS {
         object(alloc, all, text, CType::Int(ty))?;
@@ -81,7 +81,7 @@ fn objects(alloc: Global, all: &mut Declarations) -> Result<(), AllocError> {
     object(alloc, all, "d", pointer(alloc, CType::Struct(2))?)
 }
 
-// `f`, `g`, and those that stand before each file.
+// Declares `f`, `g`, and the functions that are declared before each file.
 fn functions(alloc: Global, model: DataModel, all: &mut Declarations) -> Result<(), AllocError> {
     let bytes = size_type(model);
     let int = CType::Int(IntType::Int);
@@ -166,7 +166,7 @@ fn tags(alloc: Global) -> Result<Tags, AllocError> {
     Ok(all)
 }
 
-// `T`, `K`, and the rest.
+// Declares `T`, `K`, and the rest.
 fn declare_all(alloc: Global, model: DataModel, all: &mut Declarations) -> Result<(), AllocError> {
     declare(alloc, all, "T", Meaning::Typedef(CType::Int(IntType::Int)))?;
     declare(alloc, all, "K", Meaning::Constant(5))?;
@@ -174,7 +174,7 @@ fn declare_all(alloc: Global, model: DataModel, all: &mut Declarations) -> Resul
     functions(alloc, model, all)
 }
 
-/// The declarations, of which `T` is a typedef name and `K` a constant.
+/// Returns the declarations, of which `T` is a typedef name and `K` a constant.
 pub fn scene(alloc: Global, model: DataModel) -> Result<Context, AllocError> {
     let mut declarations = Declarations::new(alloc);
     declare_all(alloc, model, &mut declarations)?;

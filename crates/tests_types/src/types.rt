@@ -1,4 +1,4 @@
-//! Expressions with the types that gcc gives their values (`data/gcc.py`).
+//! Expressions with the types of their values according to gcc (`data/gcc.py`).
 
 use crate::said::{Question, said_otherwise};
 use cs_types::DataModel;
@@ -80,7 +80,7 @@ i&&p => int
 i||u => int
 "#;
 
-/// Those that `gcc -m32` gives another type.
+/// Those with another type under `gcc -m32`.
 const ILP32: &str = r#"
 u+l => unsigned long
 w+o => long long

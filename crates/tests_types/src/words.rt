@@ -1,10 +1,10 @@
-//! Types in the words of C.
+//! Types in C's notation.
 
 use cs_types::{CType, IntType, StructTable};
 use std::alloc::{AllocError, Global};
 use std::str::from_utf8;
 
-/// The words of an integer type.
+/// Returns the words of an integer type.
 pub fn integer(ty: IntType) -> &'static str {
     match ty {
         IntType::Char => "char",
@@ -21,7 +21,7 @@ pub fn integer(ty: IntType) -> &'static str {
     }
 }
 
-// A base type in front of a declarator.
+// Returns a base type followed by a declarator.
 fn spelled(alloc: Global, base: &str, declarator: &str) -> Result<String, AllocError> {
     if declarator.is_empty() {
         String::from_str(alloc, base)
@@ -30,7 +30,7 @@ fn spelled(alloc: Global, base: &str, declarator: &str) -> Result<String, AllocE
     }
 }
 
-/// A type around a declarator without a name.
+/// Returns a type around a declarator without a name.
 pub fn words(
     alloc: Global,
     table: &StructTable,

@@ -1,4 +1,4 @@
-//! Findings whole.
+//! Whole findings.
 
 use crate::guessed::GUESSED;
 use crate::witnessed::witnessed;
@@ -7,7 +7,7 @@ use std::alloc::{AllocError, Global};
 use std::str;
 use std::test::Fail;
 
-// Adds a file with what is said of its suspects, where that is another text.
+// Adds a file with the witness's text for its suspects, if that isn't the wanted text.
 fn add_if_otherwise(
     alloc: Global,
     found: &mut String,
@@ -25,7 +25,7 @@ fn add_if_otherwise(
     found.push_str(said)
 }
 
-// Of a table of files, suspects and texts, what is said otherwise.
+// Returns those rows of a table of files, suspects and texts for which the witness's text differs, with that text.
 fn differing(alloc: Global, table: &str) -> Result<String, AllocError> {
     let mut found = String::new(alloc);
     for row in table.split("\n\n") {
@@ -105,7 +105,7 @@ fn guesses_of_each_kind_keep_their_grounds(rt: HostRuntime) -> Result<(), Fail> 
     Ok(())
 }
 
-// Of a table of files and lines of suspects, those of which something else is said than that all are dropped.
+// Returns those rows of a table of files and lines of suspects for which not all suspects are dropped, with the witness's text.
 fn taken(alloc: Global, table: &str) -> Result<String, AllocError> {
     let mut found = String::new(alloc);
     for row in table.split("\n\n") {

@@ -13,7 +13,7 @@ const GREATEST: i128 = 0x7fff_ffff;
 
 const WORD: i128 = 0xffff_ffff_ffff_ffff;
 
-// Whether two other runs give a ground, and whether the first of them alone does.
+// Tests whether two other runs are a ground, and whether the first of them is one by itself.
 fn assert_grounds(
     rt: &impl Abort,
     operation: Operation,

@@ -1,6 +1,6 @@
-//! A suspect with a guess of each kind of operation, and what is said of it.
+//! A suspect with a guess of each kind of operation, and the witness's text for it.
 
-/// Files, each with the lines of its suspects, `--`, and what is said of them. An empty line stands between them.
+/// Files, each with the lines of its suspects, `--`, and the witness's text for them, separated by empty lines.
 pub const GUESSED: &str =
     "int f(int z,unsigned long x,unsigned long y){if(z==4){if(x+y==5){if(x==11)return 1/0;}}return 0;}
 divide 1:83 9 y=11 z=4 x=11 guess 3 5 x=0..18446744073709551615 y=0..18446744073709551615

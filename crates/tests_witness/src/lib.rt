@@ -1,4 +1,4 @@
-//! Pools of runs by hand before the judge, and suspects of whole programs before the witness: what is shown, as text, and what is dropped.
+//! Pools of runs made by hand for the judge, and suspects of whole programs for the witness: what is shown, as text, and what is dropped.
 #![tactic(auto)]
 
 #[cfg(test)]

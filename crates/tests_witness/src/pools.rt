@@ -1,5 +1,5 @@
-//! The runs of `int f(int x,int y){if(x<y){if(y<x)return 1/0;}return 0;}` that both tests are guessed with, and pools in which one
-//! part is wrong.
+//! The runs of `int f(int x,int y){if(x<y){if(y<x)return 1/0;}return 0;}` with which both tests are guessed, and pools in which one part is
+//! wrong.
 use cs_ast::Place;
 use cs_ast::typed::operator::CmpOp;
 use cs_events::{Event, Guess, Label, Operation};
@@ -15,14 +15,14 @@ const LEAST: i128 = -0x8000_0000;
 
 const GREATEST: i128 = 0x7fff_ffff;
 
-// The parts of a pool that a test makes wrong.
+// The parts of a pool of which a test makes one wrong.
 #[derive(Clone, Copy)]
 struct Parts {
-    // The number that the shown run guesses first, the event of its second guess, and the partners of the first.
+    // Of the shown run: the number of its first guess, the event of its second guess, and the partners of the first.
     number: i128,
     event: u64,
     others: Others<usize>,
-    // Of the first partner of the second guess: what its second event shows, the event and the partners of its own guess.
+    // Of the first partner of the second guess: the branch that its second event shows, the event and the partners of its own guess.
     branch: bool,
     listed: u64,
     partners: Others<usize>,
@@ -56,7 +56,7 @@ fn test(column: u32, operator: CmpOp, left: i128, right: i128) -> Kept {
     Kept::Operates(at(column), Operation::Compare(operator, left, right))
 }
 
-// The events of the shown run: both tests are met.
+// The events of the shown run, in which both tests hold.
 fn events(branch: bool) -> [Event; 4] {
     [
         Event {
@@ -86,7 +86,7 @@ fn named(others: Others<usize>) -> Partners {
     }
 }
 
-// A replay with so many guesses, which keeps the events before the next guess.
+// Returns a replay with these parts and without inputs.
 fn replay(
     alloc: Global,
     guesses: &[Guess],
@@ -105,7 +105,7 @@ fn replay(
     })
 }
 
-// A run of a corner of both ranges at the first test.
+// Returns a replay of a corner of both ranges, up to the first test.
 fn corner(alloc: Global, x: i128, y: i128) -> Result<Replay, AllocError> {
     replay(alloc, &[], &[], &[test(24, CmpOp::Less, x, y)], &[])
 }
@@ -133,7 +133,7 @@ fn shown(alloc: Global, parts: &Parts) -> Result<Replay, AllocError> {
     )
 }
 
-// The corners at the second test.
+// Returns a replay of a corner up to the second test.
 fn least(alloc: Global, parts: &Parts) -> Result<Replay, AllocError> {
     let guess = Guess {
         event: parts.listed,

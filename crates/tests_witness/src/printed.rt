@@ -8,7 +8,7 @@ use cs_report_parts::{append, append_place};
 use cs_witness::Witnessed;
 use std::alloc::AllocError;
 
-/// Appends what is said of an entry, and how many suspects were dropped.
+/// Appends the result of an entry, and how many suspects were dropped.
 pub fn append_witnessed(
     text: &mut Vec<u8>,
     files: &[Name],

@@ -1,7 +1,7 @@
-//! Suspects as lines of text: a kind or a budget, a place, how many events are passed, inputs, and guesses.
+//! Suspects as lines of text: a kind or a budget, a position, how many events are passed, inputs, and guesses.
 //!
 //! A guess is `guess EVENT NUMBER LEFT RIGHT`. Each side is `SYMBOL=LEAST..GREATEST`, where the symbol is a path, or `#EVENT` for the guess
-//! at an event; or `-` where the operand is a constant.
+//! at an event; or `-` if the operand is a constant.
 
 use cs_ast::Place;
 use cs_events::{Budget, Guess, Outcome};
@@ -28,7 +28,7 @@ const KINDS: [Kind; 11] = [
 
 const BUDGETS: [Budget; 3] = [Budget::Visits, Budget::Depth, Budget::Events];
 
-/// The suspect that a line writes down, if it does.
+/// Returns the suspect that a line describes, if it describes one.
 pub fn suspect(alloc: Global, line: &str) -> Result<Option<Suspect>, AllocError> {
     let mut parts = line.split(" guess ");
     let mut words = parts.next().unwrap_or("").split_ascii_whitespace();

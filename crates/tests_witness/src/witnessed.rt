@@ -1,4 +1,4 @@
-//! What the witness says of suspects of a function of a file.
+//! The witness's text for suspects of a function of a file.
 ghost use Rattle.cs_ast.specs.TypedProgram.{HasLayouts, typed_program};
 ghost use Rattle.cs_cfg.specs.GraphView as view;
 ghost use Rattle.cs_cfg.specs.Lowered.{IsLowered};
@@ -27,7 +27,7 @@ const BUDGETS: Budgets = Budgets {
     splits: 64,
 };
 
-/// What is said of the suspects of the last function of a file, one on each line.
+/// Returns the witness's text for the suspects of the last function of a file, one on each line.
 pub fn witnessed(alloc: Global, file: &str, lines: &str) -> Result<Vec<u8>, AllocError> {
     match program_of(alloc, DataModel::Lp64, file.as_bytes()) {
         Ok(found) => of_program(alloc, &found.program, lines),

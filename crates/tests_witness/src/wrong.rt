@@ -1,8 +1,8 @@
-//! Suspects with one wrong part each. Those of a file are right but for one part: another input, an input before, another guess, another
-//! event, a ground that doesn't hold, none, a partner that disagrees earlier, another place, kind, or number of events, guesses out of
+//! Suspects with one wrong part each. Those of a file are right except for one part: another input, an input before, another guess, another
+//! event, a ground that doesn't hold, none, a partner that disagrees earlier, another position, kind, or number of events, guesses out of
 //! order, a guess twice, a guess after the end.
 
-/// Files, and for each the lines of wrong suspects. An empty line stands between them.
+/// Files, each with the lines of wrong suspects, separated by empty lines.
 pub const WRONG: &str =
     "int f(int z,unsigned long x,unsigned long y){if(z==4){if(x+y==5){if(x==11)return 1/0;}}return 0;}
 divide 1:83 9 y=11 z=4 x=12 guess 3 5 x=0..18446744073709551615 y=0..18446744073709551615

@@ -1,4 +1,4 @@
--- The statements before the index are such ones.
+-- The statements before the index have only expressions of integer functions.
 use Rattle.std.proofs.Common.{◌≡◌, drop}
 use Rattle.cs_ast.specs.TypedView.{statement_list}
 use Rattle.cs_integer_functions.specs.IntegerFunctions.{are_integer_statements}

@@ -1,4 +1,4 @@
--- What the last call lost stood after the bytes that were gathered before.
+-- What the last call consumed came after the bytes that were gathered before.
 use Rattle.std.proofs.Common.{rules}
 use Rattle.cs_io.proofs.Taken.{LosesFront-from_both}
 use Rattle.cs_io.proofs.read.read_all.Goals as goal

@@ -1,4 +1,4 @@
--- The bytes gathered so far are those that the source had left first.
+-- The bytes gathered so far are the first ones that remained in the source.
 use Rattle.std.proofs.Common.{◌≤◌, ◌-◌, vec_len}
 use Rattle.std.specs.Io.KnownBytes.{Consumes}
 use Rattle.cs_limits.specs.declared.TheConstants.{MOST_BYTES}

@@ -1,4 +1,4 @@
--- The piece that was taken stands after the front that was written before.
+-- The piece that was taken comes after the prefix that was written before.
 use Rattle.std.proofs.Common.{rules}
 use Rattle.std.proofs.lemmas.List.{take_rest}
 use Rattle.cs_io.proofs.Appended.{Appends-take_add}

@@ -1,4 +1,4 @@
--- The first bytes of the text were written, and the counts didn't fall.
+-- The first bytes of the text were written, and the counts didn't decrease.
 use Rattle.std.proofs.Common.{◌≤◌, ◌-◌, length, take}
 use Rattle.std.specs.Io.KnownBytes.{Appends}
 use Rattle.cs_io.proofs.write.write_all_of.Given as goal

@@ -1,4 +1,4 @@
--- The guesses before the index were taken, if they stand before the event.
+-- The guesses before the index were taken, if they are before the event.
 use Rattle.std.proofs.Common.{◌≡◌, take, nat_lt}
 use Rattle.std.specs.Prelude.{filter}
 use Rattle.cs_events.specs.declared.guess.Guess.{Guess}

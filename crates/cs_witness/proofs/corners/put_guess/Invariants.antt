@@ -1,4 +1,4 @@
--- The guesses before the index were put.
+-- The guesses before the index were changed.
 use Rattle.std.proofs.Common.{◌≡◌, ◌++◌, map, take, drop}
 use Rattle.cs_witness.specs.Corners.{put_guess}
 use Rattle.cs_witness.proofs.corners.put_guess.Given as goal

@@ -1,4 +1,4 @@
--- No path before the index is the one.
+-- No path before the index is this path.
 use Rattle.std.proofs.Common.{take}
 use Rattle.std.specs.Prelude.{Contains}
 use Rattle.std.specs.Map.{keys_of}

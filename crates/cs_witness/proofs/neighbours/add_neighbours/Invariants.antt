@@ -1,4 +1,4 @@
--- The neighbours by the paths before the index joined the tries, as far as the limit of tries allows.
+-- The neighbours for the paths before the index were added to the tries, up to the limit of tries.
 use Rattle.std.proofs.Common.{◌≡◌, ℤ, ◌++◌, take}
 use Rattle.std.specs.Prelude.{flat_map}
 use Rattle.cs_inputs.specs.declared.path.Path.{Path}

@@ -1,4 +1,4 @@
--- The inputs with the constants before the index joined the tries, as far as the limit of tries allows.
+-- The inputs with the constants before the index were added to the tries, up to the limit of tries.
 use Rattle.std.proofs.Common.{◌≡◌, ◌++◌, take}
 use Rattle.cs_findings.specs.Neighbours.{replaced}
 use Rattle.cs_witness.proofs.neighbours.add_replaced.Given as goal

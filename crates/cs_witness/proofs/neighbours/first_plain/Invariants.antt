@@ -1,4 +1,4 @@
--- No run of the tries before the index ends so.
+-- No run of the tries before the index has this outcome.
 use Rattle.std.proofs.Common.{take}
 use Rattle.std.specs.Prelude.{All}
 use Rattle.cs_witness.specs.Witnesses.{IsElsewhereOf}

@@ -1,4 +1,4 @@
--- The pool was widened so far, by the corners of the guesses before the index.
+-- The pool was extended so far by the corners of the guesses before the index.
 use Rattle.std.proofs.Common.{take}
 use Rattle.cs_findings.specs.Runs.{run_of}
 use Rattle.cs_witness.specs.Keeping.{Widens}

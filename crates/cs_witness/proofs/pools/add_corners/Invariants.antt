@@ -1,4 +1,4 @@
--- The pool was widened so far, by replays of the corners so far.
+-- The pool was extended so far by replays of the corners before the index.
 use Rattle.cs_witness.specs.Keeping.{Widens}
 use Rattle.cs_witness.proofs.PoolCorners.{Joined}
 use Rattle.cs_witness.proofs.pools.add_corners.Given as goal

@@ -1,4 +1,4 @@
--- The pool was widened so far, by nothing where all guesses have proofs.
+-- The pool was extended so far, by nothing if all guesses have proofs.
 use Rattle.std.proofs.Common.{◌≡◌}
 use Rattle.cs_witness.specs.Keeping.{Widens}
 use Rattle.cs_witness.specs.Pooling.{HaveProofs}

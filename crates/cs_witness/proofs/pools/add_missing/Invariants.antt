@@ -1,4 +1,4 @@
--- The pool was widened so far, by nothing where all partners were found.
+-- The pool was extended so far, by nothing if all partners were found.
 use Rattle.std.proofs.Common.{◌≡◌}
 use Rattle.cs_witness.specs.Keeping.{Widens}
 use Rattle.cs_witness.specs.Pooling.{AreFound}

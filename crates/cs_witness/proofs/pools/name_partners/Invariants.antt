@@ -1,4 +1,4 @@
--- The replays are the same but for their partners, and those before the index name what was found for them.
+-- The replays are unchanged except for their partners, and those before the index name what was found for them.
 use Rattle.std.proofs.Common.{◌≡◌, length}
 use Rattle.cs_witness.specs.Keeping.{KeepsRuns}
 use Rattle.cs_witness.proofs.Namings.{AreNamedBelow}

@@ -1,4 +1,4 @@
--- The guesses from the index on ascend from the last event just if all do; and if these stand at events of the run, all do.
+-- The guesses from the index on ascend from the last event exactly if all do; and if these are at events of the run, all are.
 use Rattle.std.proofs.Common.{◌≤◌, drop}
 use Rattle.std.specs.Prelude.{All}
 use Rattle.cs_events.specs.declared.guess.Guess.{Guess}

@@ -1,4 +1,4 @@
--- The findings so far are good, and those of the evident suspects that were looked at are listed.
+-- The findings so far are good, and those of the evident suspects that were examined are listed.
 use Rattle.std.proofs.Common.{take}
 use Rattle.cs_witness.specs.Witnesses.{AreGoodReports, AreGoodOvers}
 use Rattle.cs_witness.proofs.ListedOutcomes.{ListRanked}

@@ -1,4 +1,4 @@
--- After the places that were filled the buffer is as it was.
+-- After the bytes that were filled, the buffer is unchanged.
 use Rattle.std.proofs.Common.{arith}
 use Rattle.std.proofs.lemmas.Grind.{common_steps}
 use Rattle.cs_io.proofs.Filled.{drop-take_append-drop}
