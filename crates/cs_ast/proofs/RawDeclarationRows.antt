@@ -1,5 +1,5 @@
--- The words, members and items within written declarations as lists: for the heights, and for every crate that goes over
--- written trees.
+-- The words, members and items within written declarations as lists: for the heights, and for every crate that walks written
+-- trees.
 use Rattle.std.proofs.Common.{◌≡◌, Bool, map, refl, sym, ap, ◌∙◌, Vec, Global, Option}
 use mathlib.Core.Former.{Count}
 use Rattle.cs_ast.specs.declared.raw.declaration.RawMember.{RawMember}

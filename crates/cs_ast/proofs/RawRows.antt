@@ -1,5 +1,5 @@
--- The expressions, words, members and items within written trees as lists: for the heights, and for every crate that goes
--- over written trees.
+-- The expressions, words, members and items within written trees as lists: for the heights, and for every crate that walks
+-- written trees.
 use Rattle.std.proofs.Common.{◌≡◌, refl, sym, ap, ◌∙◌, Vec, Global}
 use mathlib.Core.Former.{Count}
 use Rattle.cs_ast.specs.declared.raw.written_type.WrittenType.{WrittenType}

@@ -1,4 +1,4 @@
--- The items of blocks and of `switch` as lists: for the heights, and for every crate that goes over written trees.
+-- The items of blocks and of `switch` as lists: for the heights, and for every crate that walks written trees.
 use Rattle.std.proofs.Common.{◌≡◌, refl, sym, ap, ◌∙◌, Vec, Global}
 use mathlib.Core.Former.{Count}
 use Rattle.cs_ast.specs.declared.raw.expression.RawExpr.{RawExpr}

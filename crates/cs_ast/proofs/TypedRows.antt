@@ -1,4 +1,4 @@
--- The arguments, initializers and statements within typed trees as lists: for every crate that goes over typed trees.
+-- The arguments, initializers and statements within typed trees as lists: for every crate that walks typed trees.
 use Rattle.std.proofs.Common.{◌≡◌, Option, refl, sym, ap, ◌∙◌, Vec, Global}
 use mathlib.Core.Former.{Count}
 use Rattle.cs_types.specs.declared.ctype.CType.{CType}

@@ -1,4 +1,4 @@
--- Written declarations of the program seen as plain data.
+-- The program's trees of written declarations as plain data.
 use Rattle.std.specs.Prelude.{List, [], ◌∷◌, map, Option}
 use Rattle.std.specs.Option.{option_map}
 use Rattle.cs_ast.specs.declared.raw.expression.RawExpr.{RawExpr}
@@ -33,24 +33,24 @@ abbrev pub constant : RawEnumerator → Constant
 constant e = record { name = e.name; value = option_map written e.value }
 
 abbrev mutual
-  -- a word before declarators
+  -- a word before the declarators
   pub spec : SpecWord → Spec
   spec words.TheVariants.Static = Static
   spec (words.TheVariants.Plain w) = Plain w
   spec (words.TheVariants.Struct' tag shape row) = StructBody tag (members row)
   spec (words.TheVariants.Enum tag constants comma) = EnumBody tag (map constant constants.items) comma
 
-  -- words in a row
+  -- the words of a `Vec` inside a tree
   pub specs_row : {n : _} → words.Row_of-SpecWord n → Specs
   specs_row words.end_of-SpecWord = NoSpec
   specs_row (words.more_of-SpecWord first others) = MoreSpecs (spec first) (specs_row others)
 
-  -- members in a row
+  -- the members of a `Vec` inside a tree
   pub members : {n : _} → words.Row_of-RawMember n → Members
   members words.end_of-RawMember = NoMember
   members (words.more_of-RawMember shape row tag declarators others) = MoreMembers (specs_row row) (map declarator declarators.items) (members others)
 
--- words of a list
+-- the words of a list
 abbrev pub specs_list : List SpecWord → Specs
 specs_list [] = NoSpec
 specs_list (first ∷ others) = MoreSpecs (spec first) (specs_list others)
@@ -58,23 +58,23 @@ specs_list (first ∷ others) = MoreSpecs (spec first) (specs_list others)
 abbrev pub specs : RawSpecs → Specs
 specs s = specs_list s.words.items
 
--- members of a list
+-- the members of a list
 abbrev pub members_list : List RawMember → Members
 members_list [] = NoMember
 members_list (m ∷ others) = MoreMembers (specs m.specs) (map declarator m.declarators.items) (members_list others)
 
 abbrev mutual
-  -- what an object holds at first
+  -- an initializer
   pub initial : RawInitial → Initial
   initial (first_value.TheVariants.Value e) = Single (written e)
   initial (first_value.TheVariants.List' shape row comma) = Listed (initials row) comma
 
-  -- items in a row
+  -- the items of a `Vec` inside a tree
   pub initials : {n : _} → first_value.Row_of-RawInitial n → Initials
   initials first_value.end_of-RawInitial = NoItem
   initials (first_value.more_of-RawInitial first others) = MoreItems (initial first) (initials others)
 
--- items of a list
+-- the items of a list
 abbrev pub initials_list : List RawInitial → Initials
 initials_list [] = NoItem
 initials_list (first ∷ others) = MoreItems (initial first) (initials_list others)

@@ -1,6 +1,6 @@
--- The height of the parts of a file: a leaf has height 1, any other node one more than its highest part. What stands before
--- declarators is no node and is as high as its type; a declarator, a constant and a statement of one token are leaves, if they
--- have no expression; an initializer list, a parameter list and what stands between the braces of a `switch` are nodes.
+-- The height of external declarations: a leaf has height 1, any other node one more than its highest child. Specifiers are no
+-- node: they are as high as their highest word. A declarator, a constant and a statement of one token are leaves, if they have no
+-- expression; an initializer list, a parameter list and the body of a `switch` are nodes.
 use Rattle.std.specs.Prelude.{ℕ, ◌+◌, max, List, [], ◌∷◌, Option, None, Some}
 use Rattle.cs_ast.specs.RawTree.{Written}
 use Rattle.cs_ast.specs.RawHeight.{height}
@@ -16,7 +16,7 @@ abbrev pub height_of_some : Option Written → ℕ
 height_of_some None = 0
 height_of_some (Some e) = height e
 
--- the height of the highest of a list, 0 where there is none
+-- the height of the highest item of a list, 0 if there is none
 abbrev pub highest_by : {A : Type 0} → (A → ℕ) → List A → ℕ
 highest_by height_by [] = 0
 highest_by height_by (a ∷ all) = max (height_by a) (highest_by height_by all)
@@ -52,7 +52,7 @@ abbrev mutual
   initials_height NoInitial = 0
   initials_height (MoreInitials first others) = max (initial_height first) (initials_height others)
 
--- a declarator with an `=` is a node, without one it is no more than its declarator
+-- a declarator with an `=` is a node; without one only the declarator counts
 abbrev pub declared_height_with : ℕ → Option Initial → ℕ
 declared_height_with declarator None = declarator
 declared_height_with declarator (Some initial) = 1 + max declarator (initial_height initial)
@@ -115,7 +115,7 @@ abbrev mutual
   switch_height NoSwitchItem = 0
   switch_height (MoreSwitchItems first others) = max (switch_item_height first) (switch_height others)
 
--- the height of a part of a file; the body of a function is a block
+-- the height of an external declaration; the body of a function is a block
 abbrev pub external_height : External → ℕ
 external_height (TypeAlone specs) = 1 + specs_height specs
 external_height (Typedef specs names) = 1 + max (specs_height specs) (highest_by declarator_height names)

@@ -1,5 +1,5 @@
--- The height of a written expression: a leaf has height 1, any other node one more than its highest part. An argument list is
--- a node of its own; a type between parentheses is none, and its words are a part of height 1.
+-- The height of a written expression: a leaf has height 1, any other node one more than its highest child. An argument list is a
+-- node of its own. A type between parentheses is no node, but its words are a part of height 1.
 use Rattle.std.specs.Prelude.{ℕ, ◌+◌, max}
 use Rattle.cs_ast.specs.RawTree.{Written, WrittenList, Named, Numeral, Character, Literal, Enclosed, Index, Call, Member, Arrow, StepAfter, StepBefore, Prefix}
 use Rattle.cs_ast.specs.RawTree.{SizeOf, SizeOfType, Cast, Infix, Choice, Assign, Comma, End, More}
@@ -27,7 +27,7 @@ abbrev mutual
   height (Assign operator object value) = 1 + max (height object) (height value)
   height (Comma first second) = 1 + max (height first) (height second)
 
-  -- the height of the highest in a row, 0 where there is none
+  -- the height of the highest expression of a list, 0 if there is none
   pub highest : WrittenList → ℕ
   highest End = 0
   highest (More first others) = max (height first) (highest others)

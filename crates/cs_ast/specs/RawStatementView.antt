@@ -1,4 +1,4 @@
--- Written statements and files of the program seen as plain data.
+-- The program's trees of written statements and files as plain data.
 use Rattle.std.specs.Prelude.{List, [], ◌∷◌, map}
 use Rattle.std.specs.Option.{option_map}
 use Rattle.cs_ast.specs.declared.raw.statement.RawStmt.{RawStmt}
@@ -42,22 +42,22 @@ abbrev mutual
   sentence (kind.Return value) = Return (option_map written value)
   sentence (kind.Label' name place p body) = Label name (sentence body)
 
-  -- what stands in a block
+  -- an item of a block
   pub item : RawItem → Item
   item (items.TheVariants.Declare s objects) = Declares (specs s) (map declared objects.items)
   item (items.TheVariants.Run' place p body) = Does (sentence body)
 
-  -- the same in a row
+  -- the items of a `Vec` inside a tree
   pub items_row : {n : _} → kinds.Row_of-RawItem n → Items
   items_row kinds.end_of-RawItem = NoItem
   items_row (kinds.more_of-RawItem first others) = MoreItems (item first) (items_row others)
 
-  -- what stands in a `switch`, in a row
+  -- the items of a `switch`, in a `Vec` inside a tree
   pub switch_row : {n : _} → kinds.Row_of-RawSwitchItem n → SwitchItems
   switch_row kinds.end_of-RawSwitchItem = NoSwitchItem
   switch_row (kinds.more_of-RawSwitchItem first others) = MoreSwitchItems (switch_item first) (switch_row others)
 
-  -- what stands in a `switch`
+  -- an item of a `switch`
   pub switch_item : switches.RawSwitchItem → SwitchItem
   switch_item (switches.TheVariants.Case at value) = Case (written value)
   switch_item (switches.TheVariants.Default at) = Default
@@ -71,12 +71,12 @@ abbrev pub items_list : List RawItem → Items
 items_list [] = NoItem
 items_list (first ∷ others) = MoreItems (item first) (items_list others)
 
--- what stands in a `switch`, as a list
+-- the items of a `switch`, as a list
 abbrev pub switch_list : List switches.RawSwitchItem → SwitchItems
 switch_list [] = NoSwitchItem
 switch_list (first ∷ others) = MoreSwitchItems (switch_item first) (switch_list others)
 
--- a part of a file
+-- an external declaration
 abbrev pub external_of : RawExternalKind → External
 external_of (external_kind.Type s) = TypeAlone (specs s)
 external_of (external_kind.Typedef s names) = Typedef (specs s) (map declarator names.items)

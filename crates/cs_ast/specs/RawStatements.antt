@@ -1,4 +1,4 @@
--- Written statements and files as plain data, without their places.
+-- Written statements and files as plain data, without positions.
 use Rattle.std.specs.Prelude.{ℕ, List, Option}
 use Rattle.cs_ast.specs.RawTree.{Written}
 use Rattle.cs_ast.specs.RawDeclarations.{Specs, Declarator, Declared, Head}
@@ -27,7 +27,7 @@ mutual
     Return : (value : Option Written) → Sentence
     Label : (name : List ℕ) (body : Sentence) → Sentence
 
-  -- what stands in a block
+  -- an item of a block
   pub data Item : Type 0 where
     Declares : (specs : Specs) (objects : List Declared) → Item
     Does : (statement : Sentence) → Item
@@ -36,7 +36,7 @@ mutual
     NoItem : Items
     MoreItems : (first : Item) (others : Items) → Items
 
-  -- what stands in a `switch`: labels, and what stands in a block
+  -- an item of a `switch`: a label, or an item that any block may have
   pub data SwitchItem : Type 0 where
     Case : (value : Written) → SwitchItem
     Default : SwitchItem
@@ -46,7 +46,7 @@ mutual
     NoSwitchItem : SwitchItems
     MoreSwitchItems : (first : SwitchItem) (others : SwitchItems) → SwitchItems
 
--- a part of a file
+-- an external declaration
 pub data External : Type 0 where
   TypeAlone : (specs : Specs) → External
   Typedef : (specs : Specs) (names : List Declarator) → External

@@ -1,4 +1,4 @@
--- Written expressions as plain data, without their places: what the grammar is stated over.
+-- Written expressions as plain data, without positions: the grammar is stated over them.
 use Rattle.std.specs.Prelude.{ℕ, ℤ, List}
 use Rattle.cs_ast.specs.declared.token.IntegerConstant.{IntegerConstant}
 use Rattle.cs_ast.specs.declared.raw.operator.Step.{Step}
@@ -9,7 +9,7 @@ use Rattle.cs_ast.specs.declared.raw.written_type.TypeWord.{TypeWord}
 use Rattle.cs_ast.specs.declared.raw.written_type.PointerWord.{PointerWord}
 
 mutual
-  -- a written expression; a type between parentheses is its words, its pointers and its bounds
+  -- a written expression; a type between parentheses has words, pointers and array bounds
   pub data Written : Type 0 where
     Named : (name : List ℕ) → Written
     Numeral : (constant : IntegerConstant) → Written
@@ -31,7 +31,7 @@ mutual
     Assign : (operator : AssignOp) (object value : Written) → Written
     Comma : (first second : Written) → Written
 
-  -- written expressions in a row
+  -- a list of written expressions
   pub data WrittenList : Type 0 where
     End : WrittenList
     More : (first : Written) (others : WrittenList) → WrittenList

@@ -1,4 +1,4 @@
--- Written expressions of the program seen as plain data.
+-- The program's trees of written expressions as plain data.
 use Rattle.std.specs.Prelude.{List, [], ◌∷◌}
 use Rattle.cs_ast.specs.declared.raw.expression.RawExpr.{RawExpr}
 use Rattle.cs_ast.specs.declared.raw.expression.RawExprKind.{RawExprKind, Row_of-RawExpr, end_of-RawExpr, more_of-RawExpr}
@@ -29,7 +29,7 @@ abbrev mutual
   written_kind (kind.Assign' operator place p object place' q value) = Assign operator (written_kind object) (written_kind value)
   written_kind (kind.Comma' place p first place' q second) = Comma (written_kind first) (written_kind second)
 
-  -- written expressions in a row
+  -- the expressions of a `Vec` inside a tree
   pub written_row : {n : _} → Row_of-RawExpr n → WrittenList
   written_row end_of-RawExpr = End
   written_row (more_of-RawExpr place p kind rest) = More (written_kind kind) (written_row rest)

@@ -1,4 +1,4 @@
--- Typed programs as plain data: what the meaning of a program is stated over.
+-- Typed programs as plain data: the meaning of a program is stated over them.
 use Rattle.std.specs.Prelude.{ℕ, ℤ, Bool, List, Option, map, option_map}
 use Rattle.cs_types.specs.declared.data_model.DataModel.{DataModel}
 use Rattle.cs_types.specs.declared.structs.StructType.{StructType}
@@ -12,13 +12,14 @@ use Rattle.cs_ast.specs.declared.typed.program.Local.{Local}
 use Rattle.cs_ast.specs.TypedTree.{Initial, Statement}
 use Rattle.cs_ast.specs.TypedView.{initial, statement}
 
--- a parameter or a local of a function; the block after a parameter that was written with a bound has so many elements
+-- a parameter or a local of a function; if a parameter is declared with an array bound, `block` is the number of elements that it
+-- points to
 pub record Variable : Type 0 where
   pub name : List ℕ
   pub ty : Shape
   pub block : Option ℕ
 
--- a file-scope object, which is declared first at a place
+-- a file-scope object, with the position of its first declaration
 pub record FileObject : Type 0 where
   pub name : List ℕ
   pub at : Place
@@ -26,7 +27,7 @@ pub record FileObject : Type 0 where
   pub constant : Bool
   pub initial : Option Initial
 
--- a function, with a body or without one; so many of its variables are parameters, through some of which it may write
+-- a function, with or without a body; its first variables are its parameters, and it may write through those that are `written`
 pub record Routine : Type 0 where
   pub name : List ℕ
   pub at : Place
@@ -65,7 +66,7 @@ routine f = record {
   written = f.written.items;
 }
 
--- the program as plain data
+-- the program's typed program as plain data
 abbrev pub typed_program : Program → TypedProgram
 typed_program p = record {
   model = p.model;
@@ -77,6 +78,6 @@ typed_program p = record {
   constants = p.constants.items;
 }
 
--- each layout of the program's structs is that of the data model
+-- the layouts of the program's structs are those of its data model
 abbrev pub HasLayouts : Program → Type 0
 HasLayouts p = IsLaidOut p.model p.table.list

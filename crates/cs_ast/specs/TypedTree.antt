@@ -1,4 +1,4 @@
--- Typed expressions and statements as plain data, with their places and types: what the meaning of a program is stated over.
+-- Typed expressions and statements as plain data, with positions and types: the meaning of a program is stated over them.
 use Rattle.std.specs.Prelude.{ℕ, ℤ, suc, List, Option}
 use Rattle.cs_types.specs.declared.int_type.IntType.{IntType}
 use Rattle.cs_types.specs.Shape.{Shape}
@@ -13,11 +13,11 @@ use Rattle.cs_ast.specs.declared.typed.operator.Allocator.{Allocator}
 use Rattle.cs_ast.specs.declared.typed.statement.Case.{Case}
 
 mutual
-  -- an expression with its place and its type
+  -- an expression with its position and its type
   pub data Typed : Type 0 where
     Of : (at : Place) (ty : Shape) (form : Form) → Typed
 
-  -- what an expression is
+  -- the form of an expression
   pub data Form : Type 0 where
     Number : (value : ℤ) → Form
     Null : Form
@@ -49,13 +49,13 @@ mutual
     Allocate : (allocator : Allocator) (arguments : TypedList) (element : Shape) → Form
     Free : (pointer : Typed) → Form
 
-  -- expressions in a row
+  -- a list of expressions
   pub data TypedList : Type 0 where
     NoMore : TypedList
     Further : (first : Typed) (others : TypedList) → TypedList
 
 mutual
-  -- what an object holds at first: a value, the initializers of its parts, or a text
+  -- an initializer: a value, the initializers of its parts, or the bytes of a string literal
   pub data Initial : Type 0 where
     Value : (value : Typed) → Initial
     Parts : (parts : Initials) → Initial
@@ -66,7 +66,7 @@ mutual
     Part : (first : Initial) (others : Initials) → Initials
 
 mutual
-  -- a statement with its place
+  -- a statement with its position
   pub data Statement : Type 0 where
     Block : (at : Place) (statements : Statements) → Statement
     Declare : (at : Place) (declaration : ℕ) (initial : Option Initial) → Statement
@@ -83,12 +83,12 @@ mutual
     Continue : (at : Place) → Statement
     Return : (at : Place) (value : Option Typed) → Statement
 
-  -- statements one after another
+  -- a sequence of statements
   pub data Statements : Type 0 where
     Empty : Statements
     Then : (first : Statement) (others : Statements) → Statements
 
--- how many statements stand in a row
+-- the number of statements of a sequence
 abbrev pub count_of : Statements → ℕ
 count_of Empty = 0
 count_of (Then first others) = suc (count_of others)

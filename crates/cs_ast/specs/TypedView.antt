@@ -1,4 +1,4 @@
--- Typed expressions and statements of the program seen as plain data.
+-- The program's typed expressions and statements as plain data.
 use Rattle.std.specs.Prelude.{List, [], ◌∷◌, Option}
 use Rattle.std.specs.Option.{option_map}
 use Rattle.cs_types.specs.Shape.{shape_of}
@@ -16,7 +16,7 @@ use Rattle.cs_ast.specs.TypedTree.{Further, Initial, Value, Parts, Bytes, Initia
 use Rattle.cs_ast.specs.TypedTree.{Switch, Goto, Label, Break, Continue, Return, Statements, Empty, Then}
 
 abbrev mutual
-  -- what an expression of a kind is
+  -- the form of an expression
   pub form : ExprKind → Form
   form (kind.Number n) = Number n
   form kind.Null = Null
@@ -49,7 +49,7 @@ abbrev mutual
   form (kind.Allocate' allocator shape row element) = Allocate allocator (typed_row row) (shape_of element)
   form (kind.Free' at ty p e) = Free (Of at (shape_of ty) (form e))
 
-  -- expressions in a row
+  -- the expressions of a `Vec` inside a tree
   pub typed_row : {n : _} → Row_of-Expr n → TypedList
   typed_row end_of-Expr = NoMore
   typed_row (more_of-Expr at ty p k others) = Further (Of at (shape_of ty) (form k)) (typed_row others)
@@ -61,19 +61,19 @@ abbrev pub some_typed : Option Expr → Option Typed
 some_typed e = option_map typed e
 
 abbrev mutual
-  -- what an object holds at first
+  -- an initializer
   pub initial : initials.Initial → Initial
   initial (initials.TheVariants.Value e) = Value (typed e)
   initial (initials.TheVariants.List' shape row) = Parts (initial_row row)
   initial (initials.TheVariants.Text bytes) = Bytes bytes
 
-  -- initializers in a row
+  -- the initializers of a `Vec` inside a tree
   pub initial_row : {n : _} → initials.Row_of-Initial n → Initials
   initial_row initials.end_of-Initial = NoPart
   initial_row (initials.more_of-Initial first others) = Part (initial first) (initial_row others)
 
 abbrev mutual
-  -- a statement of a kind at a place
+  -- the statement of a kind at a position
   pub statement_at : Place → StmtKind → Statement
   statement_at at (statement_kind.Block' shape row) = Block at (statements_row row)
   statement_at at (statement_kind.Declare declaration first) = Declare at declaration (option_map initial first)
@@ -91,7 +91,7 @@ abbrev mutual
   statement_at at statement_kind.Continue = Continue at
   statement_at at (statement_kind.Return value) = Return at (some_typed value)
 
-  -- statements in a row
+  -- the statements of a `Vec` inside a tree
   pub statements_row : {n : _} → Row_of-Stmt n → Statements
   statements_row end_of-Stmt = Empty
   statements_row (more_of-Stmt place p k others) = Then (statement_at place k) (statements_row others)

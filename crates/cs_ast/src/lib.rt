@@ -1,4 +1,4 @@
-//! The syntax of an analyzed program: places in its text and its typed trees.
+//! The syntax of an analyzed program: source positions, tokens, syntax trees and typed trees.
 #![tactic(auto)]
 
 pub mod place;

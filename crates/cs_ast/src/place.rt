@@ -1,8 +1,8 @@
-//! Places in the text of a program.
+//! Source positions.
 
-/// The place of a token's first byte.
+/// The source position of a token: that of its first byte.
 ///
-/// Files are numbered in order of first sight, the file that was read from standard input being 0.
+/// Files are numbered in the order in which the text first names them; the file that was read from standard input is 0.
 /// Lines and columns count from 1, and a column counts bytes.
 #[derive(Clone, Copy, PartialEq, Eq, PartialOrd, Ord, Debug)]
 pub struct Place {

@@ -1,5 +1,5 @@
-//! The tree of a file as it is written, before anything is known of its types: a variant for each production of the grammar,
-//! with its parts and its place.
+//! The syntax tree of a file, before anything is known of its types: a variant for each production of the grammar, with
+//! its parts and its position.
 
 pub mod declaration;
 pub mod declaration_height;

@@ -3,35 +3,35 @@
 use crate::place::Place;
 use cs_names::{Bytes, Name};
 
-/// A token at the place of its first byte.
+/// A token with its position.
 #[derive(Clone, Drop, PartialEq, Eq)]
 pub struct Token {
     pub kind: TokenKind,
     pub place: Place,
 }
 
-/// What a token is.
+/// The kind of a token.
 #[derive(Clone, Drop, PartialEq, Eq)]
 pub enum TokenKind {
-    /// A keyword that the grammar takes.
+    /// A keyword that the grammar uses.
     Keyword(Keyword),
-    /// A word of C that isn't supported: no production takes it.
+    /// A word of C that isn't supported: no production accepts it.
     Unsupported(Unsupported),
-    /// The word `__attribute__` without a closed parenthesis after it: no production takes it.
+    /// The word `__attribute__` without a closed parenthesis after it: no production accepts it.
     Attribute,
     /// An identifier (C11 6.4.2).
     Name(Name),
     /// An integer constant (C11 6.4.4.1).
     Number(IntegerConstant),
-    /// A character constant (C11 6.4.4.4), by its value, which is a byte's as a signed char.
+    /// A character constant (C11 6.4.4.4): its value, which is that of a byte as a signed char.
     Character(i32),
-    /// A string literal (C11 6.4.5), by its bytes without the zero byte.
+    /// A string literal (C11 6.4.5): its bytes without the terminating zero byte.
     Text(Bytes),
     /// A punctuator (C11 6.4.6).
     Punctuator(Punctuator),
 }
 
-/// An integer constant: its value, and what its type depends on beside the value.
+/// An integer constant: its value, and what else determines its type.
 #[derive(Clone, Copy, PartialEq, Eq)]
 pub struct IntegerConstant {
     pub value: u64,
@@ -42,7 +42,7 @@ pub struct IntegerConstant {
     pub length: Length,
 }
 
-/// The `l`s of a suffix.
+/// The `l`s of an integer constant's suffix.
 #[derive(Clone, Copy, PartialEq, Eq)]
 pub enum Length {
     Plain,
@@ -50,7 +50,7 @@ pub enum Length {
     LongLong,
 }
 
-/// The keywords that the grammar takes (C11 6.4.1).
+/// The keywords that the grammar uses (C11 6.4.1).
 #[derive(Clone, Copy, PartialEq, Eq)]
 pub enum Keyword {
     Break,

@@ -1,4 +1,4 @@
-//! The typed program: what typing gives, and everything above reads.
+//! The typed program: the result of type checking, which all later passes use.
 
 pub mod expression;
 pub mod operator;

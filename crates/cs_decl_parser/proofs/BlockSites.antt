@@ -1,4 +1,4 @@
--- Each return of the parts that read blocks and `switch`, over tokens by their numbers.
+-- Each return of the parts that parse blocks and `switch`, over indices of tokens.
 use Rattle.std.proofs.Common.{◌≡◌, ℕ, ◌+◌, ◌-◌, ◌≤◌, max, inl, inr, true, false, List, [], ◌∷◌, ◌++◌, length, refl, sym, ap}
 use Rattle.std.proofs.Common.{◌∙◌, subst, arith, Vec, Global}
 use Rattle.cs_ast.specs.declared.token.Token.{Token}

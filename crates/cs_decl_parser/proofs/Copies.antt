@@ -1,4 +1,4 @@
--- A clone of a token is the token: for the contract of `file_goes_on`.
+-- A clone of a token equals the token: for the contract of `file_goes_on`.
 use Rattle.std.proofs.Common.{◌≡◌, ap, ◌∙◌, refl}
 use Rattle.cs_ast.specs.declared.place.Place.{Place}
 use Rattle.cs_ast.specs.declared.token.Token.{Token}

@@ -1,4 +1,4 @@
--- Each return of the parts that read parts of files, over tokens by their numbers.
+-- Each return of the parts that parse external declarations, over indices of tokens.
 use Rattle.std.proofs.Common.{◌≡◌, ℕ, Err, ◌+◌, ◌<◌, ◌≤◌, max, inl, inr, Bool, false, IsTrue, List, [], ◌∷◌, ◌++◌, map, None}
 use Rattle.std.proofs.Common.{length, drop, refl, sym, ap, ◌∙◌, subst, arith, append_assoc, Vec, Global}
 use Rattle.std.proofs.lemmas.Bool.{false≢true, cases_lt}

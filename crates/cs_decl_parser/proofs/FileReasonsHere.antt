@@ -1,4 +1,4 @@
--- Why a token of a file is refused, as far as the parser says: for the contract of the parser of files.
+-- Why a token of a file is refused, as far as the parser reports it: for the contract of the parser of files.
 use Rattle.std.proofs.Common.{◌≡◌, true, false, [], ◌∷◌, ◌++◌, Some, refl, sym}
 use Rattle.std.proofs.lemmas.Bool.{false≢true}
 use Rattle.cs_ast.specs.declared.token.TokenKind.{TokenKind}

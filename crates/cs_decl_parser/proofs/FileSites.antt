@@ -1,4 +1,4 @@
--- Each return of the parser of files, over tokens by their numbers.
+-- Each return of the parser of files, over indices of tokens.
 use Rattle.std.specs.Option.{option_map}
 use Rattle.std.proofs.Common.{◌≡◌, ℕ, suc, get_or, Option, ◌<◌, ◌≤◌, inl, inr, Bool, false, List, [], ◌∷◌, ◌++◌, map, length, drop}
 use Rattle.std.proofs.Common.{take, refl, sym, ap, ◌∙◌, subst, arith, append_assoc, append-nil, length-append, length-drop, drop_at, Some, None}

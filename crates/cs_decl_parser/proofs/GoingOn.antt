@@ -1,5 +1,5 @@
--- Whether a file continues with a token, by what the parser answers of the tokens with that one after them: for the contract of
--- `file_goes_on`.
+-- Whether a file continues with a token, from the result of the parser for the tokens with that one after them: for the contract
+-- of `file_goes_on`.
 use Rattle.std.proofs.Common.{◌≡◌, ℕ, zero, suc, ◌+◌, ◌<◌, ◌≤◌, ◌↔◌, Bool, true, false, IsTrue, ◌⊎◌, inl, inr, List, []}
 use Rattle.std.proofs.Common.{◌∷◌, ◌++◌, length, drop, refl, sym, ap, ◌∙◌, subst, arith, append_assoc, append-nil, length-drop}
 use Rattle.std.proofs.lemmas.Bool.{cases_lt}

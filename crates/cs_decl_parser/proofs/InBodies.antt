@@ -1,4 +1,4 @@
--- No body of a function is begun where a token is refused before one: for the contracts of the parts of files.
+-- If a token is refused before the body of a function, no body has begun: for the contracts of the parts of files.
 use Rattle.std.proofs.Common.{◌≡◌, ℕ, ◌+◌, inl, inr, IsTrue, List, [], ◌∷◌, ◌++◌, Err, length, drop, refl, sym, ap, ◌∙◌, subst}
 use Rattle.std.proofs.Common.{arith, append-nil}
 use Rattle.std.proofs.lemmas.Bool.{false≢true}

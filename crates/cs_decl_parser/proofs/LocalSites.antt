@@ -1,4 +1,4 @@
--- Each return of the parts that read declarations inside blocks and what stands in a block, over tokens by their numbers.
+-- Each return of the parts that parse declarations inside blocks and items of blocks, over indices of tokens.
 use Rattle.std.proofs.Common.{◌≡◌, ℕ, ◌+◌, ◌-◌, ◌<◌, ◌≤◌, max, ◌⊎◌, inl, inr, Bool, true, false, ◌||◌, List, [], ◌∷◌}
 use Rattle.std.proofs.Common.{◌++◌, map, length, refl, sym, ap, ◌∙◌, subst, arith, Vec, Global}
 use Rattle.std.proofs.lemmas.Bool.{false≢true}

@@ -1,4 +1,4 @@
--- Phrases of one class that are phrases of another, and rows: for the contracts of the parts that read blocks.
+-- Phrases of one class that are phrases of another, and lists of phrases: for the contracts of the parts that parse blocks.
 use Rattle.std.proofs.Common.{◌≡◌, ℕ, ◌≤◌, max, inl, inr, Bool, false, List, [], ◌∷◌, ◌++◌, length, drop, refl, sym, ap, ◌∙◌}
 use Rattle.std.proofs.Common.{arith}
 use Rattle.std.proofs.lemmas.Bool.{false≢true}

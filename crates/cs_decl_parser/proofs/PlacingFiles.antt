@@ -1,4 +1,4 @@
--- The places of parts of files, over tokens by their numbers: for the clauses on places of the parts that read them.
+-- The positions of external declarations, over indices of tokens: for the clauses on positions of the parts that parse them.
 use Rattle.std.proofs.Common.{◌≡◌, ℕ, ◌+◌, List, [], ◌∷◌, ◌++◌, drop, sym, ap, ◌∙◌, subst}
 use Rattle.std.proofs.lemmas.List.{drop-drop}
 use Rattle.cs_ast.specs.declared.token.Token.{Token}

@@ -1,4 +1,5 @@
--- The places of statements, over tokens by their numbers and over plain variables: for the clauses on places of the parts that read them.
+-- The positions of statements, over indices of tokens and over plain variables: for the clauses on positions of the parts that
+-- parse them.
 use Rattle.std.proofs.Common.{◌≡◌, ℕ, ◌+◌, ◌⊎◌, inl, inr, List, [], ◌∷◌, ◌++◌, Option, length, drop, refl, sym, ap, ◌∙◌}
 use Rattle.std.proofs.Common.{subst, arith, Vec, Global}
 use Rattle.std.proofs.lemmas.List.{drop-drop, length-append}

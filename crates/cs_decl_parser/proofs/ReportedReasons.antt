@@ -1,4 +1,4 @@
--- A token is unsupported, or a fault of syntax, as the tokens before it say: for the contract of the parser of files.
+-- The tokens before a token decide whether it is unsupported or a syntax error: for the contract of the parser of files.
 use Rattle.std.proofs.Common.{◌≡◌, ℕ, ◌↔◌, Bool, true, false, IsTrue, List, [], ◌∷◌, ◌++◌, Some, drop, take, refl, sym, ap, ◌∙◌}
 use Rattle.std.proofs.Common.{subst}
 use Rattle.std.proofs.lemmas.Bool.{false≢true}

@@ -1,4 +1,4 @@
--- Each return of the parts that read expression statements and jumps, over tokens by their numbers.
+-- Each return of the parts that parse expression statements and jumps, over indices of tokens.
 use Rattle.std.proofs.Common.{◌≡◌, ℕ, ◌+◌, ◌-◌, ◌<◌, ◌≤◌, ◌⊎◌, inl, inr, Bool, true, false, List, [], ◌∷◌, ◌++◌}
 use Rattle.std.proofs.Common.{length, refl, sym, ap, ◌∙◌, subst, arith}
 use Rattle.std.proofs.lemmas.Bool.{false≢true, cases_lt, not_from_false}

@@ -1,4 +1,4 @@
--- What stands after the first of some tokens: for the contracts of the parts of statements.
+-- What follows the first of some tokens: for the contracts of the parts of statements.
 use Rattle.std.proofs.Common.{◌≡◌, ℕ, ◌+◌, List, ◌∷◌, ◌++◌, drop, sym, ◌∙◌, arith}
 use Rattle.cs_ast.specs.declared.token.Token.{Token}
 use Rattle.cs_ast.specs.declared.token.TokenKind.{TokenKind}

@@ -1,4 +1,4 @@
--- The forms of statements by their first tokens: for the contracts of `form_at` and `statement`.
+-- The forms of statements, determined by their first tokens: for the contracts of `form_at` and `statement`.
 use Rattle.std.proofs.Common.{◌≡◌, ℕ, ◌<◌, ◌≤◌, Bool, true, false, List, [], refl, sym, ap, ◌∙◌, arith}
 use Rattle.std.proofs.lemmas.Bool.{false≢true}
 use Rattle.cs_ast.specs.declared.token.TokenKind.{TokenKind}

@@ -1,4 +1,4 @@
--- Tokens that are a file are refused for want of memory alone: for `files_are_not_refused`, and for programs above.
+-- Tokens that are a file are refused only if memory runs out: for `files_are_not_refused`, and for programs above.
 use Rattle.std.specs.Option.{option_map}
 use Rattle.std.proofs.Common.{◌≡◌, ℕ, ◌≤◌, List, [], ◌∷◌, ◌++◌, Option, Some, None, length, drop, slice_get, refl, sym, ap, ◌∙◌}
 use Rattle.std.proofs.Common.{subst, arith}

@@ -1,4 +1,4 @@
--- What the parts that read blocks answer, and the classes of their phrases that the grammar has no name for.
+-- The results of the parts that parse blocks, and the classes of their phrases for which the grammar has no name.
 use Rattle.std.specs.Prelude.{◌≡◌, ℕ, List, map, Option, Some, None, Result, Ok, Err, Vec}
 use Rattle.std.specs.declared.alloc.Global.{Global}
 use Rattle.std.specs.Option.{option_map}
@@ -41,7 +41,7 @@ Locals names = record {
 abbrev pub local_of : DeclaredObjects → Specs × List Declared
 local_of d = (specs d.specs, map declared d.objects.items)
 
--- what stands between the parentheses of a `for`, with both
+-- the parts between the parentheses of a `for`, with both parentheses
 abbrev pub Controls : Names → Class
 Controls names =
     Following (token.Punctuator punctuator.OpenParenthesis)
@@ -51,7 +51,7 @@ Controls names =
 abbrev pub control_of : ForParts → First × (Option Written × Option Written)
 control_of parts = (first_of parts.first, (option_map written parts.test, option_map written parts.last))
 
--- the first part of a `for` that declares nothing
+-- the first part of a `for` without a declaration
 abbrev pub first_if_any : Option Written → First
 first_if_any None = NoFirst
 first_if_any (Some e) = FirstRuns e
@@ -63,14 +63,14 @@ items_of items = items_list items.items
 abbrev pub switch_items_of : Vec RawSwitchItem Global → SwitchItems
 switch_items_of items = switch_list items.items
 
--- what stands in a block was taken, up to the closing brace
+-- the items of a block were taken, up to the closing brace
 pub record AreTaken (names : Names) (limit : ℕ) (tokens : List Token) (from : ℕ) (taken : Taken (Vec RawItem Global)) : Type 0 where
   pub height_is : taken.height ≡ items_height (items_of taken.tree)
   pub spelled : Spells tokens from taken.next (items_text (items_of taken.tree))
   pub closing : kind_or_end tokens taken.next ≡ token.Punctuator punctuator.CloseBrace
   pub exactly : Exactly (BlockRows names) limit (items_of taken.tree)
 
--- what stands in a block, up to the closing brace, or a token is refused
+-- the items of a block, up to the closing brace, or a token is refused
 abbrev pub ItemsAnswers : Names → ℕ → List Token → ℕ → Result (Taken (Vec RawItem Global)) Stop → Type 0
 ItemsAnswers names limit tokens from (Ok taken) = AreTaken names limit tokens from taken
 ItemsAnswers names limit tokens from (Err stop) = Stops (BlockRows names) limit tokens from stop

@@ -1,4 +1,4 @@
--- That parts of a file have the places of their tokens, as they are taken one by one.
+-- External declarations are placed, as they are taken part by part.
 use Rattle.std.specs.Prelude.{ℕ, List, drop}
 use Rattle.cs_ast.specs.declared.token.Token.{Token}
 use Rattle.cs_ast.specs.declared.raw.declaration.RawSpecs.{RawSpecs}
@@ -15,16 +15,16 @@ use Rattle.cs_decl_parser.specs.FileAnswers.{IsTypeTaken}
 use Rattle.cs_declarator_parser.specs.DeclarationPlaces.{past, HasSpecPlaces, AreParametersPlaced}
 use Rattle.cs_decl_parser.specs.FilePlaces.{IsHeadPlaced}
 
--- the type of a part of a file was taken, and has its places
+-- the specifiers of an external declaration were taken, and are placed
 abbrev pub IsTypePlaced : Names → List Token → ℕ → Taken RawSpecs → Type 0
 IsTypePlaced names tokens from type = IsTypeTaken names tokens from type × HasSpecPlaces type.tree (drop from tokens)
 
--- a name with the pointers before it was taken, and has its place
+-- a name with the pointers before it was taken, and is placed
 abbrev pub IsPointedPlaced : Names → List Token → ℕ → Taken Pointed → Type 0
 IsPointedPlaced names tokens at pointed =
     IsPointed declaring.Names names tokens at pointed × StandsAt pointed.tree.name.place (past (pointers_text pointed.tree.pointers.items) (drop at tokens))
 
--- the head of a function has its places where its name and its parameters have
+-- the declarator of a function is placed if its name and its parameters are
 abbrev pub IsHeadBuilt : Pointed → RawParameters → RawFunction → Type 0
 IsHeadBuilt pointed parameters f =
     (list : List Token) → StandsAt pointed.name.place (past (pointers_text pointed.pointers.items) list)

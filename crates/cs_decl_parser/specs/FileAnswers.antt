@@ -1,4 +1,4 @@
--- What the parts that read parts of files answer.
+-- The results of the parts that parse external declarations.
 use Rattle.std.specs.Prelude.{◌≡◌, ℕ, false, List, ◌∷◌, ◌++◌, Result, Ok, Err}
 use Rattle.cs_ast.specs.declared.token.Token.{Token}
 use Rattle.cs_ast.specs.declared.token.TokenKind.TheVariants as token
@@ -22,16 +22,16 @@ use Rattle.cs_declarator_parser.specs.declared.declarator.Pointed.{Pointed}
 use Rattle.cs_declarator_parser.specs.declared.stop.Taken.{Taken}
 use Rattle.cs_declarator_parser.specs.Answers.{IsTaken}
 
--- the type of a part of a file was taken, which is no typedef
+-- the specifiers of an external declaration that is no typedef were taken
 pub record IsTypeTaken (names : Names) (tokens : List Token) (from : ℕ) (type : Taken RawSpecs) : Type 0 where
   pub taken : IsTaken (FileSpecs names) specs 199 tokens from false type
   pub no_typedef : kind_or_end tokens from ≡ token.Keyword keyword.Typedef → ⊥
 
--- the head of a function is made of its pointers, its name and its parameters
+-- the declarator of a function has these pointers, this name and these parameters
 abbrev pub IsHeadOf : Pointed → Parameters → Head → Type 0
 IsHeadOf pointed parameters head = head ≡ record { pointers = pointed.pointers.items; name = pointed.name.name; parameters = parameters }
 
--- the tokens from one number to another begin the definition of a function, and the brace that opens its body stands among them
+-- the tokens from one index to another begin the definition of a function, and contain the brace that opens its body
 pub record BeginsBody (names : Names) (tokens : List Token) (from at : ℕ) : Type 0 where
   pub type : Specs
   pub head : Head
@@ -40,7 +40,7 @@ pub record BeginsBody (names : Names) (tokens : List Token) (from at : ℕ) : Ty
   pub is_head : IsHead names head
   pub spelled : Spells tokens from at (λ rest. specs_text type (head_text head (token.Punctuator punctuator.OpenBrace ∷ (inside ++ rest))))
 
--- a token that is refused in the body of a function is refused for a reason that it may have in blocks
+-- if a token is refused in the body of a function, the reason is possible in blocks
 abbrev pub IsStopInBody : Names → List Token → ℕ → Stop → Type 0
 IsStopInBody names tokens from (stop.Refused at reason) = BeginsBody names tokens from at → IsApt Block (kind_or_end tokens at) reason
 IsStopInBody names tokens from other = Unit {0}

@@ -1,5 +1,5 @@
--- That statements and the parts of a file have the places of their tokens. Each definition takes the tokens that begin with what it
--- speaks of.
+-- Statements and external declarations are placed: their nodes have the positions of their tokens. The tokens of each definition
+-- begin with those of the tree.
 use Rattle.std.specs.Prelude.{List, drop, Option}
 use Rattle.std.specs.Option.{option_map}
 use Rattle.cs_ast.specs.declared.place.Place.{Place}
@@ -28,7 +28,7 @@ use Rattle.cs_grammar.specs.Places.{HasPlaces, StandsAt}
 use Rattle.cs_declarator_parser.specs.DeclarationPlaces.{past, AreSideBySide, IsSomePlaced, AreDeclaratorsPlaced, HasSpecPlaces, IsDeclarationPlaced}
 use Rattle.cs_declarator_parser.specs.DeclarationPlaces.{AreParametersPlaced}
 
--- the head of a function is at its name
+-- a function's declarator has the position of its name
 abbrev pub IsHeadPlaced : RawFunction → List Token → Type 0
 IsHeadPlaced f tokens =
     StandsAt f.place (past (pointers_text f.pointers.items) tokens) × AreParametersPlaced f.parameters (drop 2 (past (pointers_text f.pointers.items) tokens))
@@ -78,7 +78,7 @@ abbrev mutual
   ArePartsPlaced (kind.Return value) tokens = IsSomePlaced value (drop 1 tokens)
   ArePartsPlaced (kind.Label' name place p body) tokens = (StandsAt place (drop 2 tokens) × ArePartsPlaced body (drop 2 tokens))
 
-  -- what stands in a block
+  -- an item of a block
   pub IsItemPlaced : RawItem → List Token → Type 0
   IsItemPlaced (items.TheVariants.Declare s objects) tokens = IsDeclarationPlaced s objects.items tokens
   IsItemPlaced (items.TheVariants.Run' place p body) tokens = (StandsAt place tokens × ArePartsPlaced body tokens)
@@ -87,7 +87,7 @@ abbrev mutual
   AreItemsPlaced kinds.end_of-RawItem tokens = Unit {0}
   AreItemsPlaced (kinds.more_of-RawItem first others) tokens = IsItemPlaced first tokens × AreItemsPlaced others (past (item_text (item first)) tokens)
 
-  -- what stands in a `switch`
+  -- an item of a `switch`
   pub IsSwitchItemPlaced : switches.RawSwitchItem → List Token → Type 0
   IsSwitchItemPlaced (switches.TheVariants.Case at value) tokens = StandsAt at tokens × HasPlaces value (drop 1 tokens)
   IsSwitchItemPlaced (switches.TheVariants.Default at) tokens = StandsAt at tokens
@@ -98,17 +98,17 @@ abbrev mutual
   AreSwitchItemsPlaced (kinds.more_of-RawSwitchItem first others) tokens =
       IsSwitchItemPlaced first tokens × AreSwitchItemsPlaced others (past (switch_item_text (switch_item first)) tokens)
 
--- a statement is at its first token
+-- a statement has the position of its first token
 abbrev pub IsStatementPlaced : Place → RawStmtKind → List Token → Type 0
 IsStatementPlaced at statement tokens = StandsAt at tokens × ArePartsPlaced statement tokens
 
--- the body of a function has both its braces
+-- the body of a function has the positions of both braces
 pub record IsBodyPlaced (body : RawBody) (tokens : List Token) : Type 0 where
   pub opening : StandsAt body.opening tokens
   pub inside : AreSideBySide IsItemPlaced (λ i. item_text (item i)) body.items.items (drop 1 tokens)
   pub closing : StandsAt body.closing (past (items_text (items_list body.items.items)) (drop 1 tokens))
 
--- a part of a file, but for the place that it stands at
+-- an external declaration, except for its own position
 abbrev pub IsExternalInside : RawExternalKind → List Token → Type 0
 IsExternalInside (external_kind.Type s) tokens = HasSpecPlaces s tokens
 IsExternalInside (external_kind.Typedef s names) tokens =
@@ -119,10 +119,10 @@ IsExternalInside (external_kind.Definition s f body) tokens =
     HasSpecPlaces s tokens × IsHeadPlaced f (past (specs_text (specs s)) tokens)
     × IsBodyPlaced body (past (head_text (head f)) (past (specs_text (specs s)) tokens))
 
--- a part of a file is at its first token
+-- an external declaration has the position of its first token
 abbrev pub IsExternalPlaced : RawExternal → List Token → Type 0
 IsExternalPlaced e tokens = StandsAt e.place tokens × IsExternalInside e.kind tokens
 
--- the parts of a file have the places of its tokens
+-- the external declarations of a file are placed
 abbrev pub AreFilePlaced : List RawExternal → List Token → Type 0
 AreFilePlaced = AreSideBySide IsExternalPlaced (λ e. external_text (external e))

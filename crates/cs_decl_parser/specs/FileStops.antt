@@ -1,4 +1,4 @@
--- What the parts of the parser of files answer to one another.
+-- The results that the parts of the parser of files return to one another.
 use Rattle.std.specs.Prelude.{◌≡◌, ℕ, ◌<◌, Bool, true, false, if◌then◌else◌, List, [], ◌∷◌, ◌++◌, Some, length}
 use Rattle.cs_ast.specs.declared.token.Token.{Token}
 use Rattle.cs_ast.specs.declared.token.TokenKind.{TokenKind}
@@ -17,14 +17,14 @@ use Rattle.cs_grammar.specs.FileRefusals.{IsFileReason}
 use Rattle.cs_expr_parser.specs.Positions.{kind_or_end}
 use Rattle.cs_expr_parser.specs.Parts.{Spells, is_deep}
 
--- `static` and `typedef`, which no block has and no expression
+-- `static` and `typedef`, which occur in no block and in no expression
 abbrev pub is_file_word : TokenKind → Bool
 is_file_word (token.Keyword keyword.Static) = true
 is_file_word (token.Keyword keyword.Typedef) = true
 is_file_word other = false
 
--- whether the token is unsupported isn't determined by the parts of the parser: the tokens before it say it of a colon, of `static`, of
--- `typedef`, of a dot, and of an opening bracket, brace and parenthesis
+-- the parts of the parser don't decide whether the token is unsupported: for a colon, `static`, `typedef`, a dot, and an opening
+-- bracket, brace and parenthesis, the tokens before it do
 abbrev pub is_unsupported_after : TokenKind → Bool
 is_unsupported_after (token.Punctuator punctuator.Colon) = true
 is_unsupported_after (token.Punctuator punctuator.Dot) = true
@@ -33,13 +33,13 @@ is_unsupported_after (token.Punctuator punctuator.OpenBrace) = true
 is_unsupported_after (token.Punctuator punctuator.OpenParenthesis) = true
 is_unsupported_after other = is_file_word other
 
--- the reason, where it is known whether the token is unsupported
+-- the reason, if it is known whether the token is unsupported
 abbrev pub unsupported_if : Bool → Reason
 unsupported_if out = if out then Unsupported else Syntax
 
--- a token, or the end of input, is the first that is refused: a file that is low enough begins with the tokens before it, and none with
--- the token too; a higher one does exactly where it is too deep; at the end of input the tokens are no file of any height, and the
--- parts may answer any reason
+-- a token, or the end of input, is the first that is refused: a file within the limit begins with the tokens before it, and none
+-- with the token too; a higher one does exactly if the reason is "too deep". At the end of input the tokens are no file of any
+-- height, and the parts may return any reason
 pub record IsStoppedAt (tokens : List Token) (at : ℕ) (reason : Reason) : Type 0 where
   pub front : Kinds
   pub spelled : Spells tokens 0 at (λ rest. front ++ rest)
@@ -49,17 +49,17 @@ pub record IsStoppedAt (tokens : List Token) (at : ℕ) (reason : Reason) : Type
   pub flat : at < length tokens → is_deep reason ≡ false → BeginsFile (front ++ kind_or_end tokens at ∷ []) → ⊥
   pub unfinished : at ≡ length tokens → (file : List External) → IsFile [] file → file_text file ≡ front → ⊥
 
--- and if it is a token, the reason is the right one after those before it
+-- and if it is a token, the reason is right after those before it
 pub record IsTokenRefusedAt (tokens : List Token) (at : ℕ) (reason : Reason) : Type 0 where
   pub stopped : IsStoppedAt tokens at reason
   pub why : at < length tokens → IsFileReason stopped.front (Some (kind_or_end tokens at)) reason
 
--- a part refuses a token, or the end of input: for the right reason, if the parts say whether the token is unsupported
+-- a part refuses a token, or the end of input; the reason is right if the parts decide whether the token is unsupported
 pub record IsPartRefusedAt (tokens : List Token) (at : ℕ) (reason : Reason) : Type 0 where
   pub stopped : IsStoppedAt tokens at reason
   pub why : at < length tokens → is_unsupported_after (kind_or_end tokens at) ≡ false → IsFileReason stopped.front (Some (kind_or_end tokens at)) reason
 
--- want of memory, or a token is refused
+-- memory runs out, or a token is refused
 abbrev pub FileStops : List Token → Stop → Type 0
 FileStops tokens stop.Memory = Unit {0}
 FileStops tokens (stop.Refused at reason) = IsPartRefusedAt tokens at reason

@@ -1,4 +1,4 @@
--- What the parser of files answers.
+-- The result of the parser of files.
 use Rattle.std.specs.Prelude.{◌≡◌, ℕ, List, [], ◌∷◌, ◌++◌, Option, Some, None, map}
 use Rattle.cs_ast.specs.declared.place.Place.{Place}
 use Rattle.cs_ast.specs.declared.token.Token.{Token}
@@ -17,24 +17,24 @@ use Rattle.cs_expr_parser.specs.Positions.{kinds}
 use Rattle.cs_expr_parser.specs.Parts.{Spells}
 use Rattle.cs_expr_parser.specs.Expression.{kind_at, IsRefusalFor}
 
--- the parts of a file, without their places
+-- the external declarations of a file, without positions
 abbrev pub parts_of : List RawExternal → List External
 parts_of externals = map external externals
 
--- the tokens are this file, with parts of height at most 200, and no other one
+-- the tokens are this file, whose parts have a height of at most 200, and no other
 pub record IsTheFile (tokens : List Token) (file : List External) : Type 0 where
   pub is_file : IsFile [] file
   pub low : AreLow 200 file
   pub spelled : kinds tokens ≡ file_text file
   pub only : (other : List External) → IsFile [] other → file_text other ≡ file_text file → other ≡ file
 
--- some file that is low enough begins with the tokens and the next one; where none is next, the tokens are such a file's
+-- a file within the limit begins with the tokens and the next one; if there is no next one, the tokens are such a file
 abbrev pub GoesOnLow : ℕ → Kinds → Option TokenKind → Type 0
 GoesOnLow limit front (Some next) = BeginsLowFile limit (front ++ next ∷ [])
 GoesOnLow limit front None = (file : List External) × IsFile [] file × AreLow limit file × (file_text file ≡ front)
 
--- a token, or the end of input, is the first that is refused: a file that is low enough begins with the tokens before it, and none
--- goes on with it, for this reason
+-- a token, or the end of input, is the first that is refused: a file within the limit begins with the tokens before it, and none
+-- continues with it, for this reason
 pub record IsFileRefusedAt (tokens : List Token) (at : ℕ) (reason : Reason) : Type 0 where
   pub front : Kinds
   pub spelled : Spells tokens 0 at (λ rest. front ++ rest)
@@ -42,18 +42,18 @@ pub record IsFileRefusedAt (tokens : List Token) (at : ℕ) (reason : Reason) : 
   pub furthest : GoesOnLow 200 front (kind_at tokens at) → ⊥
   pub why : IsFileReason front (kind_at tokens at) reason
 
--- want of memory, or the refusal of the first token, or of the end of input, that no file that is low enough continues with
+-- memory runs out, or the refusal of the first token, or of the end of input, with which no file within the limit continues
 abbrev pub IsFileRefusal : List Token → Place → SyntaxRefusal → Type 0
 IsFileRefusal tokens end refusal.Memory = Unit {0}
 IsFileRefusal tokens end other = (at : ℕ) × (reason : Reason) × IsRefusalFor tokens end at reason other × IsFileRefusedAt tokens at reason
 
--- tokens have at most one refusal; want of memory is none
+-- tokens have at most one refusal; out of memory doesn't count
 abbrev pub RefusalsAreOne : Type 0
 RefusalsAreOne =
     (tokens : List Token) (end : Place) (one other : SyntaxRefusal) → IsFileRefusal tokens end one → IsFileRefusal tokens end other
     → (one ≡ refusal.Memory → ⊥) → (other ≡ refusal.Memory → ⊥) → one ≡ other
 
--- and none where they are a file
+-- tokens that are a file have no refusal
 abbrev pub FilesAreNotRefused : Type 0
 FilesAreNotRefused = (tokens : List Token) (end : Place) (file : List External) (one : SyntaxRefusal) → IsTheFile tokens file → IsFileRefusal tokens end one
     → one ≡ refusal.Memory

@@ -1,4 +1,4 @@
--- Forms of statements: how high the least one of a form is, and how many tokens stand there.
+-- Forms of statements: the height of the least statement of a form, and the number of tokens that determine the form.
 use Rattle.std.specs.Prelude.{◌≡◌, ℕ, ◌+◌, ◌≤◌, Bool, true, false, if◌then◌else◌, List, Option, Some, None, length}
 use Rattle.cs_ast.specs.declared.token.Token.{Token}
 use Rattle.cs_ast.specs.declared.token.TokenKind.{TokenKind}
@@ -29,17 +29,17 @@ least form.Label = 2
 least form.Unlabelled = 2
 least form.Run = 0
 
--- how many tokens determine the form
+-- the number of tokens that determine the form
 abbrev pub reported_by : Form → ℕ
 reported_by form.Label = 2
 reported_by form.Run = 0
 reported_by other = 1
 
--- the tokens that determine the form are there
+-- the tokens that determine the form exist
 abbrev pub IsFormAt : List Token → ℕ → Form → Type 0
 IsFormAt tokens at form = (at ≤ length tokens) → at + reported_by form ≤ length tokens
 
--- the form of the statements that begin with a word
+-- the form of the statements that begin with a keyword
 abbrev pub keyword_form : Keyword → Form
 keyword_form keyword.If = form.If
 keyword_form keyword.While = form.While
@@ -67,23 +67,23 @@ abbrev pub is_colon : TokenKind → Bool
 is_colon (token.Punctuator punctuator.Colon) = true
 is_colon other = false
 
--- the form of the statements that begin with a name, which may be that of a typedef
+-- the form of the statements that begin with a name, which may be a typedef name
 abbrev pub name_form : Bool → Bool → Form
 name_form colon typedef = if colon then form.Label else (if typedef then form.Unlabelled else form.Run)
 
--- the form of the statements that begin with a token, by the one after it
+-- the form of the statements that begin with a token, determined by the one after it
 abbrev pub form_of : Names → TokenKind → TokenKind → Form
 form_of names (token.Name name) second = name_form (is_colon second) (is_among names name)
 form_of names (token.Punctuator m) second = punctuator_form m
 form_of names (token.Keyword k) second = keyword_form k
 form_of names other second = form.Run
 
--- the tokens are a name with a colon after it
+-- the tokens are a name followed by a colon
 abbrev pub is_labelled : TokenKind → TokenKind → Bool
 is_labelled (token.Name name) second = is_colon second
 is_labelled other second = false
 
--- the word stands for this statement
+-- the keyword is that of this statement
 abbrev pub IsJump : TokenKind → Sentence → Type 0
 IsJump (token.Keyword keyword.Continue) statement = statement ≡ Continue
 IsJump (token.Keyword keyword.Break) statement = statement ≡ Break

@@ -1,4 +1,4 @@
--- What the parts of a file that are read say where a token is refused.
+-- What the parsed parts of a file imply when a token is refused.
 use Rattle.std.specs.Prelude.{◌≡◌, ◌≤◌, false, List, [], take}
 use Rattle.cs_ast.specs.declared.token.Token.{Token}
 use Rattle.cs_expr_parser.specs.Positions.{kinds}
@@ -8,13 +8,14 @@ use Rattle.cs_expr_parser.specs.declared.stop.Stop.TheVariants as stop
 use Rattle.cs_unsupported.specs.LastParts.{EndInPart}
 use Rattle.cs_decl_parser.specs.declared.externals.Parts.{Parts}
 
--- none is read
+-- nothing has been parsed
 pub record IsFresh (parts : Parts) : Type 0 where
   pub list : parts.list.items ≡ []
   pub names : parts.names ≡ []
   pub next : parts.next ≡ 0
 
--- want of memory, or a token is refused after the parts, unless it is only too deep in the one that begins after them
+-- memory runs out, or a token is refused after the parts; unless the reason is "too deep", the token is in the part that begins
+-- after them
 abbrev pub StandsAmidst : List Token → Parts → Stop → Type 0
 StandsAmidst tokens parts stop.Memory = Unit {0}
 StandsAmidst tokens parts (stop.Refused at reason) = (parts.next ≤ at)

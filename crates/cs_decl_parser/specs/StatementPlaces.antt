@@ -1,5 +1,4 @@
--- That statements have the places of their tokens where their parts have: for the contracts of the nodes. Each list of tokens begins with
--- the statement.
+-- Statements are placed if their parts are: for the contracts of the nodes. Each list of tokens begins with the statement.
 use Rattle.std.specs.Prelude.{List, drop}
 use Rattle.cs_ast.specs.declared.place.Place.{Place}
 use Rattle.cs_ast.specs.declared.token.Token.{Token}
@@ -17,7 +16,7 @@ use Rattle.cs_declarator_parser.specs.DeclarationPlaces.{past, AreSideBySide, Is
 use Rattle.cs_decl_parser.specs.FilePlaces.{past_first, past_test, IsFirstPlaced, IsStatementPlaced, ArePartsPlaced}
 use Rattle.cs_decl_parser.specs.FilePlaces.{IsItemPlaced, IsSwitchItemPlaced}
 
--- a statement has its places
+-- a statement is placed
 abbrev pub HasStatementPlaces : RawStmt → List Token → Type 0
 HasStatementPlaces s tokens = IsStatementPlaced s.place s.kind.value tokens
 
@@ -42,7 +41,7 @@ IsMadeOf at kind whole = (list : List Token) → StandsAt at list → ArePartsPl
 abbrev pub IsLabelOf : Place → RawStmt → RawStmt → Type 0
 IsLabelOf at body whole = (list : List Token) → StandsAt at list → HasStatementPlaces body (drop 2 list) → HasStatementPlaces whole list
 
--- a test and a body after a word
+-- a test and a body after a keyword
 abbrev pub IsTestedOf : Place → RawExpr → RawStmt → RawStmt → Type 0
 IsTestedOf at test body whole =
     (list : List Token) → StandsAt at list → HasPlaces test (drop 2 list) → HasStatementPlaces body (past (test_text (written test)) (drop 1 list))

@@ -1,4 +1,4 @@
-//! Blocks and what stands in them (C11 6.8.2).
+//! Blocks and their items (C11 6.8.2).
 ghost use Rattle.std.specs.Prelude.{◌≡◌, ◌≤◌, ◌<◌, ◌^◌, length, drop, IfOk, IsTrue};
 ghost use Rattle.cs_ast.specs.declared.token.TokenKind.TheVariants as token;
 ghost use Rattle.cs_ast.specs.declared.token.Punctuator.TheVariants as punctuator;
@@ -29,7 +29,7 @@ use cs_declarator_parser::source::{
 use cs_declarator_parser::stop::{Stop, Taken};
 use std::alloc::Global;
 
-/// The block whose opening brace is at an index.
+/// Returns the block whose opening brace is at an index.
 #[cycle(statement)]
 pub fn block(
     alloc: Global,
@@ -53,8 +53,8 @@ pub fn block(
     Ok(node(alloc, place_at(source, from), kind, height, next)?)
 }
 
-/// What stands in a block, from after its opening brace to the closing one, which isn't taken. The height is that of the highest,
-/// 0 where there is none.
+/// Returns the items of a block, from after its opening brace to the closing one, which isn't taken. The height is that
+/// of the highest, 0 if there is none.
 #[cycle(statement)]
 pub fn items(
     alloc: Global,
@@ -87,7 +87,7 @@ pub fn items(
     })
 }
 
-/// The declaration or the statement that begins at an index.
+/// Returns the declaration or the statement that begins at an index.
 #[cycle(statement)]
 pub fn item(alloc: Global, source: &Source, from: usize, limit: u32) -> Result<Taken<RawItem>, Stop>
     requires within { from ≤ length source.now.tokens.now }
@@ -114,14 +114,14 @@ pub fn item(alloc: Global, source: &Source, from: usize, limit: u32) -> Result<T
     })
 }
 
-/// What a declaration declares.
+/// The parts of a declaration of objects.
 #[derive(Drop)]
 pub struct DeclaredObjects {
     pub specs: RawSpecs,
     pub objects: Vec<RawInit>,
 }
 
-/// The declaration of objects in a block, with its semicolon, where a type begins at an index.
+/// Returns the declaration of objects in a block, with its semicolon, if a type begins at an index.
 pub fn declaration(
     alloc: Global,
     source: &Source,

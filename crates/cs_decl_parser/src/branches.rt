@@ -1,4 +1,4 @@
-//! Statements that choose (C11 6.8.4).
+//! Selection statements (C11 6.8.4).
 ghost use Rattle.std.specs.Prelude.{◌≡◌, ℕ, ◌≤◌, ◌<◌, ◌^◌, length, drop, IfOk};
 ghost use Rattle.cs_ast.specs.declared.token.TokenKind.TheVariants as token;
 ghost use Rattle.cs_ast.specs.declared.token.Keyword.TheVariants as keyword;
@@ -82,7 +82,8 @@ pub fn switch_statement(
     Ok(node(alloc, place_at(source, from), kind, height, items.next)?)
 }
 
-/// What stands in a `switch`, from after its opening brace to after the closing one. The height is that of the highest.
+/// Returns the items of a `switch`, from after its opening brace to after the closing one. The height is that of the
+/// highest.
 #[cycle(statement)]
 fn switch_items(
     alloc: Global,
@@ -115,7 +116,7 @@ fn switch_items(
     })
 }
 
-/// What stands in a `switch` at an index: `case`, `default`, or what any block may have.
+/// Returns the item of a `switch` at an index: `case`, `default`, or an item that any block may have.
 #[cycle(statement)]
 fn switch_item(
     alloc: Global,
@@ -179,7 +180,7 @@ fn case(
     })
 }
 
-/// `default :`, from an index on, which is as high as nothing.
+/// `default :`, from an index on, with height 0.
 fn default(source: &Source, from: usize) -> Result<Taken<RawSwitchItem>, Stop>
     requires within { from < length source.now.tokens.now }
     requires few { length source.now.tokens.now < 2 ^ 32 }

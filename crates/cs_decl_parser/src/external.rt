@@ -1,4 +1,4 @@
-//! What a file has: types, typedefs, objects and functions (C11 6.9).
+//! External declarations: types, typedefs, objects and functions (C11 6.9).
 ghost use Rattle.std.specs.Prelude.{◌≡◌, ℕ, ◌≤◌, ◌<◌, ◌^◌, ◌+◌, ◌-◌, length, IfOk};
 ghost use Rattle.cs_ast.specs.declared.token.TokenKind.TheVariants as token;
 ghost use Rattle.cs_ast.specs.declared.token.Keyword.TheVariants as keyword;
@@ -29,10 +29,10 @@ use cs_declarator_parser::specs::specs;
 use cs_declarator_parser::stop::{Stop, Taken};
 use std::alloc::Global;
 
-/// How high a part of a file may be.
+/// The limit of an external declaration's height.
 const MOST: u32 = 200;
 
-/// The part of a file that begins at an index.
+/// Returns the external declaration that begins at an index.
 pub fn external(alloc: Global, source: &Source, from: usize) -> Result<Taken<RawExternal>, Stop>
     requires within { from < length source.now.tokens.now }
     requires few { length source.now.tokens.now < 2 ^ 32 }
@@ -79,7 +79,7 @@ fn typedef(alloc: Global, source: &Source, from: usize) -> Result<Taken<RawExter
     })
 }
 
-/// A type alone, objects or a function, from an index on.
+/// Returns a declaration of only a type, of objects, or of a function, from an index on.
 fn declared(alloc: Global, source: &Source, from: usize) -> Result<Taken<RawExternalKind>, Stop>
     requires within { from < length source.now.tokens.now }
     requires few { length source.now.tokens.now < 2 ^ 32 }
@@ -108,7 +108,7 @@ fn declared(alloc: Global, source: &Source, from: usize) -> Result<Taken<RawExte
     objects(alloc, source, specs, pointed)
 }
 
-/// Objects, of which the first one's name was taken, to after the semicolon.
+/// Returns the objects, of which the first one's name was taken already, to after the semicolon.
 fn objects(
     alloc: Global,
     source: &Source,
@@ -147,7 +147,7 @@ fn objects(
     })
 }
 
-/// A function, whose name was taken, to after the semicolon or the body.
+/// Returns the function, whose name was taken already, to after the semicolon or the body.
 fn function(
     alloc: Global,
     source: &Source,
@@ -204,7 +204,7 @@ fn function(
     })
 }
 
-/// A function's name with its parameters.
+/// Returns a function's declarator: its name with its parameters.
 fn head(pointed: Pointed, parameters: Taken<RawParameters>) -> Taken<RawFunction>
     requires low { parameters.height < 2 ^ 32 - 1 }
     ensures size { IsOf (parameters.height + 1) parameters.next result }

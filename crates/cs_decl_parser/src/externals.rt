@@ -1,4 +1,4 @@
-//! The parts of a file, one after another (C11 6.9).
+//! The sequence of a file's external declarations (C11 6.9).
 ghost use Rattle.std.specs.Prelude.{◌≡◌, ◌<◌, ◌^◌, length, map, OnOk};
 ghost use Rattle.std.specs.Result.{IfErr};
 ghost use Rattle.cs_ast.specs.RawDeclarationView.{declarator as declarator_of};
@@ -18,18 +18,18 @@ use cs_declarator_parser::stop::Stop;
 use cs_grammar::TypedefNames;
 use std::alloc::{AllocError, Global};
 
-/// The parts of a file that are read.
+/// The external declarations that have been parsed.
 #[derive(Drop)]
 pub struct Parts {
     pub list: Vec<RawExternal>,
-    /// The names that their typedefs declare.
+    /// The typedef names that they declare.
     pub names: TypedefNames,
-    /// The index of the token after them.
+    /// The index of the token after the declarations.
     pub next: usize,
 }
 
 impl Parts {
-    /// None so far.
+    /// Returns the state before the first declaration.
     pub fn new(alloc: Global) -> Parts
         ensures { IsFresh result }
     {
@@ -40,7 +40,7 @@ impl Parts {
         }
     }
 
-    /// Reads the parts of the file that these tokens are. The names that a typedef declares are typedef names after it.
+    /// Parses the file that these tokens are. The names that a typedef declares are typedef names after it.
     pub fn read(&mut self, alloc: Global, tokens: &[Token]) -> Result<(), Stop>
         requires few { length tokens.now < 2 ^ 32 }
         requires fresh { IsFresh self.old }
@@ -63,7 +63,7 @@ impl Parts {
     }
 }
 
-/// Adds the names that a part of a file makes typedef names.
+/// Adds the typedef names that an external declaration declares.
 fn declare(names: &mut TypedefNames, external: &RawExternal) -> Result<(), AllocError>
     ensures { OnOk result (names.new ≡ names_after names.old (external_view external.now)) }
 {

@@ -15,10 +15,10 @@ use cs_expr_parser::refusal;
 use cs_grammar::SyntaxRefusal;
 use std::alloc::Global;
 
-/// The tree of the file that these tokens are, `end` being the place of the end of input (C11 6.9).
+/// Returns the tree of the file that these tokens are (C11 6.9). `end` is the position of the end of input.
 ///
-/// Where they are none that is low enough, the first token is refused at which no file that is low enough begins with the tokens
-/// up to it. The end of input counts as a token.
+/// If they aren't a file within the height limit, the first token is refused such that no file within the limit begins
+/// with the tokens up to it. The end of input counts as a token.
 pub fn parse(alloc: Global, tokens: &[Token], end: Place) -> Result<Tree, SyntaxRefusal>
     requires few { length tokens.now < 2 ^ 32 }
     ensures taken { IfOk result (λ tree. IsTheFile tokens.now (parts_of tree.externals.items)) }
@@ -34,7 +34,7 @@ pub fn parse(alloc: Global, tokens: &[Token], end: Place) -> Result<Tree, Syntax
     }
 }
 
-/// The refusal for which the parser stopped after some parts of the file.
+/// Returns the refusal at which the parser stopped after some parts of the file.
 fn refused(alloc: Global, tokens: &[Token], end: Place, stop: Stop, parts: &Parts) -> SyntaxRefusal
     requires few { length tokens.now < 2 ^ 32 }
     requires amidst { StandsAmidst tokens.now parts.now stop }

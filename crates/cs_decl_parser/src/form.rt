@@ -22,15 +22,15 @@ pub enum Form {
     Continue,
     Break,
     Return,
-    /// A name with a colon after it.
+    /// A name followed by a colon.
     Label,
-    /// The name of a typedef without a colon after it, which only a label begins with.
+    /// A typedef name without a colon after it: a statement that begins with a typedef name has to be a label.
     Unlabelled,
-    /// Anything else, which is an expression or no statement.
+    /// Anything else: an expression, or no statement.
     Run,
 }
 
-/// The form of the statement that begins at an index.
+/// Returns the form of the statement that begins at an index.
 pub fn form_at(source: &Source, at: usize) -> Form
     requires few { at < 2 ^ 33 }
     ensures within { IsFormAt source.now.tokens.now at result }
@@ -50,7 +50,7 @@ pub fn form_at(source: &Source, at: usize) -> Form
     }
 }
 
-/// Whether a name with a colon after it is at an index.
+/// Whether a name followed by a colon is at an index.
 pub fn is_label(source: &Source, at: usize) -> bool
     requires few { at < 2 ^ 33 }
     ensures within { IsTrue result → at + 1 < length source.now.tokens.now }
@@ -79,7 +79,7 @@ fn form_of_word(source: &Source, at: usize) -> Form
 }
 
 impl Form {
-    /// The height of the least statement of the form, 0 where its expression determines it.
+    /// Returns the height of the least statement of the form, 0 if its expression determines it.
     pub fn least_height(self) -> u32
         ensures { result ≡ least self }
     {

@@ -1,4 +1,4 @@
-//! Laws of files that are parsed and refused.
+//! Laws of parsed and of refused files.
 ghost use Rattle.cs_decl_parser.specs.Files.{RefusalsAreOne, FilesAreNotRefused};
 
 /// Tokens have at most one refusal, with one position and one reason.

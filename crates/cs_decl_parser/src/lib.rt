@@ -1,4 +1,4 @@
-//! From tokens to the declarations, statements and functions of a file, exact to the token that is refused.
+//! The parser of files: tokens to declarations, statements and functions, exact to the token that is refused.
 #![tactic(auto)]
 
 mod block;

@@ -1,4 +1,4 @@
-//! Statements that repeat (C11 6.8.5).
+//! Iteration statements (C11 6.8.5).
 ghost use Rattle.std.specs.Prelude.{◌≡◌, ◌≤◌, ◌<◌, ◌+◌, ◌^◌, List, length, IfOk};
 ghost use Rattle.cs_ast.specs.declared.token.Token.{Token as Lexed};
 ghost use Rattle.cs_ast.specs.declared.token.TokenKind.TheVariants as token;
@@ -86,7 +86,7 @@ pub fn do_statement(
     Ok(made)
 }
 
-/// What stands between the parentheses of a `for`.
+/// The parts between the parentheses of a `for`.
 #[derive(Drop)]
 pub struct ForParts {
     pub first: RawFirst,
@@ -118,7 +118,8 @@ pub fn for_statement(
     Ok(made)
 }
 
-/// The parts of a `for` between parentheses, the first of which must be at an index. The height is that of the highest part.
+/// Returns the parts of a `for` between parentheses, the first of which has to be at an index. The height is that of
+/// the highest part.
 fn control(alloc: Global, source: &Source, from: usize, limit: u32) -> Result<Taken<ForParts>, Stop>
     requires within { from ≤ length source.now.tokens.now }
     requires few { length source.now.tokens.now < 2 ^ 32 }
@@ -160,7 +161,7 @@ fn control(alloc: Global, source: &Source, from: usize, limit: u32) -> Result<Ta
     })
 }
 
-/// The first part of a `for`, with its semicolon.
+/// Returns the first part of a `for`, with its semicolon.
 fn first_part(
     alloc: Global,
     source: &Source,
@@ -192,7 +193,7 @@ fn first_part(
     })
 }
 
-/// The first part of a `for` that declares nothing.
+/// Returns the first part of a `for` without a declaration.
 fn run_if_any(value: Option<RawExpr>) -> RawFirst
     ensures tree { first_of result ≡ first_if_any (option_map written value) }
     ensures placed { (list : List Lexed) → IsSomePlaced value list → IsFirstPlaced result list }

@@ -1,4 +1,4 @@
-//! The nodes of statements, each made of its parts: one higher than the highest of them.
+//! Builds the nodes of statements from their parts: each is one higher than its highest part.
 ghost use Rattle.std.specs.Prelude.{◌<◌, ◌^◌, ◌+◌, ◌-◌, max, IfOk};
 ghost use Rattle.std.specs.Option.{option_map};
 ghost use Rattle.cs_ast.specs.RawView.{written};
@@ -15,7 +15,7 @@ use cs_ast::raw::statement::{RawStmt, RawStmtKind};
 use cs_declarator_parser::stop::Taken;
 use std::alloc::{AllocError, Global};
 
-/// The statement of a kind at its place, of this height, up to this token.
+/// Returns the statement of a kind at its position, with this height, up to this token.
 pub fn node(
     alloc: Global,
     place: Place,
@@ -108,7 +108,7 @@ pub fn while_node(
     Ok(node(alloc, place, kind, height, next)?)
 }
 
-/// `do body while ( test ) ;`, with the token after its semicolon
+/// `do body while ( test ) ;`, with the index of the token after its semicolon
 pub fn do_node(
     alloc: Global,
     place: Place,

@@ -1,4 +1,4 @@
-//! Why a token of a file is refused: the tokens before it say of some whether they are unsupported.
+//! Why a token of a file is refused. For some tokens, those before decide whether they are unsupported.
 ghost use Rattle.std.specs.Prelude.{◌≡◌, ◌<◌, ◌≤◌, ◌+◌, ◌⊎◌, ◌^◌, ◌∷◌, [], ◌++◌, ◌↔◌, length, take, IfOk, IsTrue, true};
 ghost use Rattle.cs_grammar.specs.FilePhrases.{BeginsFile, BeginsLowFile};
 ghost use Rattle.cs_ast.specs.declared.token.TokenKind.TheVariants as token;
@@ -23,8 +23,8 @@ use cs_unsupported::{
 };
 use std::alloc::{AllocError, Global};
 
-/// Why the token at an index is refused: the tokens before it say whether a colon, `static`, `typedef`, a dot, or an opening
-/// bracket, brace or parenthesis is unsupported.
+/// Returns why the token at an index is refused. The tokens before it decide whether a colon, `static`, `typedef`, a
+/// dot, or an opening bracket, brace or parenthesis is unsupported.
 pub fn reason_reported(
     alloc: Global,
     tokens: &[Token],
@@ -63,7 +63,8 @@ pub fn reason_reported(
     Ok(reason)
 }
 
-/// Whether a brace with this index is unsupported, in the part of the file after these, which the tokens before it end in.
+/// Whether a brace with this index is unsupported. The tokens before it end in the external declaration after these
+/// parts.
 fn is_brace_out(
     alloc: Global,
     tokens: &[Token],
@@ -97,8 +98,8 @@ fn begins_designator(tokens: &[Token], at: usize) -> bool
     )
 }
 
-/// Whether a list of initial values may open in place of the token with this index, where some file that is low enough begins with
-/// the tokens before it.
+/// Whether a list of initializers may begin in place of the token with this index, if a file within the limit begins
+/// with the tokens before it.
 fn may_open_list(alloc: Global, tokens: &[Token], at: usize) -> Result<bool, AllocError>
     requires within { at < length tokens.now }
     requires few { length tokens.now < 2 ^ 32 }
@@ -118,7 +119,7 @@ fn may_open_list(alloc: Global, tokens: &[Token], at: usize) -> Result<bool, All
     Ok(on)
 }
 
-/// Whether a declarator's name may stand in place of the token with this index, where some file that is low enough begins with the
+/// Whether a declarator's name may be in place of the token with this index, if a file within the limit begins with the
 /// tokens before it, and none of any height continues with an opening parenthesis.
 fn may_name_declarator(alloc: Global, tokens: &[Token], at: usize) -> Result<bool, AllocError>
     requires within { at < length tokens.now }
@@ -140,8 +141,8 @@ fn may_name_declarator(alloc: Global, tokens: &[Token], at: usize) -> Result<boo
     Ok(on)
 }
 
-/// Whether some file, of any height, begins with these tokens and one more, where one that is low enough begins with these. They are
-/// parsed with that one after them.
+/// Whether a file of any height begins with these tokens and one more, if a file within the limit begins with these.
+/// The tokens are parsed with that one after them.
 fn file_goes_on(alloc: Global, before: &[Token], next: Token) -> Result<bool, AllocError>
     requires few { length before.now + 1 < 2 ^ 32 }
     ensures { IfOk result (λ on.
@@ -157,7 +158,7 @@ fn file_goes_on(alloc: Global, before: &[Token], next: Token) -> Result<bool, Al
     }
 }
 
-/// Whether the token with an index, which is refused, stands after so many others, or is too deep.
+/// Whether the token at an index, which is refused, comes after the first `count` tokens, or is too deep.
 fn is_deep_or_past(at: usize, reason: Reason, count: usize) -> bool
     ensures { IsTrue result ↔ ((count < at) ⊎ (is_deep reason ≡ true)) }
 {
@@ -175,7 +176,7 @@ fn is_file_word(tokens: &[Token], at: usize) -> bool
     )
 }
 
-/// The reason, where it is known whether a token is unsupported.
+/// Returns the reason, if it is known whether a token is unsupported.
 fn unsupported_if(out: bool) -> Reason
     ensures { result ≡ out_if out }
 {

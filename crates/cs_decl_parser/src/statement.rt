@@ -28,7 +28,7 @@ use cs_declarator_parser::stop::{Stop, Taken};
 use cs_expr_parser::ExprLevel;
 use std::alloc::{AllocError, Global};
 
-/// The statement that begins at an index.
+/// Returns the statement that begins at an index.
 #[cycle(statement)]
 pub fn statement(
     alloc: Global,
@@ -65,7 +65,7 @@ pub fn statement(
     }
 }
 
-/// A statement with no part, from an index on, up to another index.
+/// Returns a statement without parts, from one index up to another.
 fn leaf(
     alloc: Global,
     source: &Source,
@@ -104,7 +104,7 @@ fn label(alloc: Global, source: &Source, from: usize, limit: u32) -> Result<Take
     Ok(made)
 }
 
-/// An expression with its semicolon, from an index on (C11 6.8.3).
+/// Returns the expression statement, with its semicolon, from an index on (C11 6.8.3).
 fn run(alloc: Global, source: &Source, from: usize, limit: u32) -> Result<Taken<RawStmt>, Stop>
     requires within { from ≤ length source.now.tokens.now }
     requires few { length source.now.tokens.now < 2 ^ 32 }

@@ -1,4 +1,4 @@
--- Reasons that tokens may have: for the contracts of the parts that refuse tokens.
+-- The possible reasons for a refusal of a token: for the contracts of the parts that refuse tokens.
 use Rattle.std.proofs.Common.{◌≡◌, ℕ, if◌then◌else◌, Bool, true, false, List, Option, Some, None, Result, Ok, Err, slice_get, refl, sym, ap}
 use Rattle.std.proofs.Common.{◌∙◌, subst}
 use Rattle.std.specs.Option.{option_map}

@@ -1,4 +1,4 @@
--- What stands before declarators inside a block: what each return gives. For the contracts of `block_specs` and its like.
+-- Specifiers inside a block: the result of each return. For the contracts of `block_specs` and its parts.
 use Rattle.std.proofs.Common.{◌≡◌, ℕ, ◌+◌, ◌≤◌, inl, inr, Bool, true, false, if◌then◌else◌, None, Err, List, [], ◌∷◌, ◌++◌}
 use Rattle.std.proofs.Common.{length, refl, sym, ap, ◌∙◌, subst, arith}
 use Rattle.std.proofs.lemmas.Bool.{false≢true}

@@ -1,4 +1,4 @@
--- Words of pointers, names and declarators: what each return gives. For the contracts of the parts that read declarators.
+-- Words of pointers, names and declarators: the result of each return. For the contracts of the parts that parse declarators.
 use Rattle.std.proofs.Common.{◌≡◌, ℕ, zero, suc, ◌+◌, ◌<◌, ◌≤◌, max, inl, inr, Bool, true, false, ◌&&◌, IsTrue, Option, Some, None}
 use Rattle.std.proofs.Common.{List, [], ◌∷◌, ◌++◌, Err, length, refl, sym, ap, ◌∙◌, subst, arith}
 use Rattle.std.specs.Option.{option_map}

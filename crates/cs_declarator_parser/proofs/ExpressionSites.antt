@@ -1,4 +1,4 @@
--- Expressions as parts of declarations and statements: what each return gives. For the contracts of `expression` and its like.
+-- Expressions as parts of declarations and statements: the result of each return. For the contracts of `expression` and the like.
 use Rattle.std.proofs.Common.{◌≡◌, ℕ, ◌+◌, ◌≤◌, inl, inr, false, IsTrue, Option, Some, None, List, [], ◌∷◌, ◌++◌, refl, sym, ap}
 use Rattle.std.proofs.Common.{◌∙◌, subst, arith}
 use Rattle.std.proofs.lemmas.Bool.{false≢true}

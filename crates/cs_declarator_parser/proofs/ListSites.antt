@@ -1,4 +1,4 @@
--- Lists between braces, enumeration constants and initial values: what each return gives. For the contracts of `constants`,
+-- Lists between braces, enumeration constants and initializers: the result of each return. For the contracts of `constants`,
 -- `constant`, `initial` and `items`.
 use Rattle.std.proofs.Common.{◌≡◌, ℕ, ◌+◌, ◌<◌, ◌≤◌, ◌&&◌, not, Bool, true, false, if◌then◌else◌, map, Some, None, List, []}
 use Rattle.std.proofs.Common.{◌∷◌, length, refl, sym, ap, ◌∙◌, subst, arith}

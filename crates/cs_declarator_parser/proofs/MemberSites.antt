@@ -1,4 +1,4 @@
--- Members of structures: what each return gives. For the contracts of `member` and `members`.
+-- Members of structures: the result of each return. For the contracts of `member` and `members`.
 use Rattle.std.proofs.Common.{◌≡◌, ℕ, ◌+◌, ◌<◌, ◌≤◌, max, inl, inr, true, false, map, List, [], ◌∷◌, ◌++◌, length, refl, sym}
 use Rattle.std.proofs.Common.{ap, ◌∙◌, subst, arith}
 use Rattle.std.proofs.lemmas.Bool.{false≢true}

@@ -1,4 +1,4 @@
--- Declared objects: what each return gives. For the contracts of `with_value`, `with_others` and their like.
+-- Declared objects: the result of each return. For the contracts of `with_value`, `with_others` and the like.
 use Rattle.std.proofs.Common.{◌≡◌, ℕ, ◌+◌, ◌≤◌, true, false, Some, None, List, [], ◌∷◌, ◌++◌, sym, ap, ◌∙◌, subst, arith}
 use Rattle.cs_ast.specs.declared.token.Token.{Token}
 use Rattle.cs_ast.specs.declared.token.TokenKind.{TokenKind}

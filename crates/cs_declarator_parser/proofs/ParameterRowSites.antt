@@ -1,5 +1,5 @@
--- Parameters with commas between them, and what stands between a function's parentheses: what each return gives. For the contracts
--- of `parameter_list` and `parameters`.
+-- Parameters with commas between them, and a function's parameter list: the result of each return. For the contracts of
+-- `parameter_list` and `parameters`.
 use Rattle.std.proofs.Common.{◌≡◌, ℕ, ◌+◌, ◌<◌, ◌≤◌, max, ◌⊎◌, inl, inr, Bool, true, false, ◌&&◌, map, List, [], ◌∷◌}
 use Rattle.std.proofs.Common.{◌++◌, Option, Some, None, length, drop, refl, sym, ap, ◌∙◌, subst, arith, append_assoc, append-nil}
 use Rattle.std.proofs.lemmas.Bool.{false≢true}

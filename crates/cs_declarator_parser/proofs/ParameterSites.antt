@@ -1,4 +1,4 @@
--- One parameter: what each return gives. For the contracts of `parameter` and `parameter_name`.
+-- One parameter: the result of each return. For the contracts of `parameter` and `parameter_name`.
 use Rattle.std.proofs.Common.{◌≡◌, ℕ, ◌+◌, ◌≤◌, ◌⊎◌, inl, inr, Bool, false, IsTrue, List, [], ◌∷◌, ◌++◌, Option, Some, None}
 use Rattle.std.proofs.Common.{Err, length, refl, sym, ap, ◌∙◌, subst, arith, append-nil}
 use Rattle.std.proofs.lemmas.Bool.{false≢true}

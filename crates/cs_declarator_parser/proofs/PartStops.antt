@@ -1,4 +1,4 @@
--- Refusals and phrases inside others, by the numbers of tokens: for the contracts of all parts of declarations and statements.
+-- Refusals and phrases inside others, over indices of tokens: for the contracts of all parts of declarations and statements.
 use Rattle.std.proofs.Common.{◌≡◌, ℕ, ◌+◌, ◌≤◌, Bool, true, false, if◌then◌else◌, List, [], ◌∷◌, ◌++◌, length, drop, refl}
 use Rattle.std.proofs.Common.{sym, subst, append_assoc}
 use Rattle.cs_ast.specs.declared.token.Token.{Token}

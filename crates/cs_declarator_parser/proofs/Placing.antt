@@ -1,4 +1,4 @@
--- The places of declarations, over tokens by their numbers: for the clauses on places of the parts that read them.
+-- The positions of declarations, over indices of tokens: for the clauses on positions of the parts that parse them.
 use Rattle.std.proofs.Common.{◌≡◌, ℕ, ◌+◌, Bool, List, [], ◌∷◌, ◌++◌, Vec, Global, Option, length, drop, refl, sym, ap, ◌∙◌, subst}
 use Rattle.std.proofs.lemmas.List.{drop-drop, length-append}
 use mathlib.Core.Former.{Count}

@@ -1,4 +1,4 @@
--- The places of a parameter, from those of its parts: for the clauses on places of the parts that read parameters.
+-- The positions of a parameter, from those of its parts: for the clauses on positions of the parts that parse parameters.
 use Rattle.std.proofs.Common.{ℕ, List, drop, ap, ◌∙◌}
 use Rattle.std.specs.Option.{option_map}
 use Rattle.cs_ast.specs.declared.token.Token.{Token}

@@ -1,4 +1,4 @@
--- The places of words before declarators and of members: for the clauses on places of the parts that read them.
+-- The positions of specifiers and members: for the clauses on positions of the parts that parse them.
 use Rattle.std.proofs.Common.{◌≡◌, ℕ, zero, suc, inl, inr, ◌+◌, ◌<◌, ◌≤◌, Bool, true, false, List, [], ◌∷◌, ◌++◌, Vec, Global}
 use Rattle.std.proofs.Common.{Option, Some, None, length, drop, map, slice_get, refl, sym, ap, ◌∙◌, subst, arith}
 use mathlib.Core.Former.{Count}

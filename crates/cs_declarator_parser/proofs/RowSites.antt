@@ -1,4 +1,4 @@
--- Rows of phrases with commas between them, by the numbers of tokens: what each return of their loops gives. For the contracts of
+-- Phrases with commas between them, over indices of tokens: the result of each return of their loops. For the contracts of
 -- `declarators`, `with_others` and `parameter_list`, and of the lists that may end with a comma.
 use Rattle.std.proofs.Common.{◌≡◌, ℕ, ◌+◌, ◌≤◌, max, Bool, true, false, if◌then◌else◌, List, [], ◌∷◌, ◌++◌, length, refl, sym}
 use Rattle.std.proofs.Common.{ap, ◌∙◌, subst, arith, append_assoc}

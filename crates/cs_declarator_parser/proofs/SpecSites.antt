@@ -1,5 +1,4 @@
--- What stands before declarators outside blocks, and members: what each return gives. For the contracts of `specs`, `members` and
--- their like.
+-- Specifiers outside blocks, and members: the result of each return. For the contracts of `specs`, `members` and the like.
 use Rattle.std.proofs.Common.{◌≡◌, ℕ, ◌+◌, ◌<◌, ◌≤◌, max, inl, inr, Bool, true, false, Option, Some, None, Result, Ok, Err, List, []}
 use Rattle.std.proofs.Common.{◌∷◌, ◌++◌, length, refl, sym, ap, ◌∙◌, subst, arith, append_assoc, append-nil}
 use Rattle.std.proofs.lemmas.Bool.{false≢true}

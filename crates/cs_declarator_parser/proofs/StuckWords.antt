@@ -1,4 +1,4 @@
--- Words of a type after which a token's word doesn't fit: for the contracts of the parts that read what stands before declarators.
+-- Words of a type that a token's word can't follow: for the contracts of the parts that parse specifiers.
 use Rattle.std.proofs.Common.{◌≡◌, ℕ, ◌+◌, inl, inr, Bool, true, false, if◌then◌else◌, List, [], ◌∷◌, ◌++◌, Option, Some, None}
 use Rattle.std.proofs.Common.{Result, Ok, Err, refl, sym, ap, ◌∙◌, subst, arith}
 use Rattle.std.specs.Option.{option_map}

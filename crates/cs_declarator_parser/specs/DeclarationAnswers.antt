@@ -1,4 +1,4 @@
--- What the parts that read declarations answer: words of pointers, names, declarators.
+-- The results of the parts that parse declarations: words of pointers, names, declarators.
 use Rattle.std.specs.Prelude.{◌≡◌, ℕ, ◌+◌, ◌==◌, ◌&&◌, not, Bool, true, false, IsTrue, List, [], ◌∷◌, map, Option, Some, None, Result}
 use Rattle.std.specs.Prelude.{Ok, Err}
 use Rattle.cs_ast.specs.declared.token.Token.{Token}
@@ -43,26 +43,26 @@ use Rattle.cs_ast.specs.declared.token.Punctuator.{Punctuator}
 use Rattle.std.specs.Option.{option_map}
 use Rattle.cs_declarator_parser.specs.Answers.{Stops, IsTaken, ExactAnswers}
 
--- the word of pointers that a token is; `const` is one after a star alone
+-- the word of pointers that a token is; `const` is one only after a star
 abbrev pub IsPointerWord : Bool → TokenKind → Option PointerWord → Type 0
 IsPointerWord after_star kind (Some pointer.Star) = kind ≡ token.Punctuator punctuator.Star
 IsPointerWord after_star kind (Some pointer.Const) = (kind ≡ token.Keyword keyword.Const) × (after_star ≡ true)
 IsPointerWord after_star kind None = (kind ≡ token.Punctuator punctuator.Star → ⊥)
     × (kind ≡ token.Keyword keyword.Const → after_star ≡ true → ⊥)
 
--- the words of pointers from an index on are these, and no more
+-- the longest sequence of words of pointers from an index on is this one
 pub record ArePointers (tokens : List Token) (from at : ℕ) (words : List PointerWord) : Type 0 where
   pub spelled : Spells tokens from at (pointers_text words)
   pub pointers : IsTrue (is_pointer words)
   pub no_star : kind_or_end tokens at ≡ token.Punctuator punctuator.Star → ⊥
   pub no_const : kind_or_end tokens at ≡ token.Keyword keyword.Const → words ≡ []
 
--- the name that a token is, if it passes
+-- the name that a token is, if it is allowed
 abbrev pub IsNameAt : (List ℕ → Type 0) → TokenKind → Option RawName → Type 0
 IsNameAt IsName kind (Some found) = (kind ≡ token.Name found.name) × IsName found.name
 IsNameAt IsName kind None = (name : List ℕ) → kind ≡ token.Name name → IsName name → ⊥
 
--- the names that a declarator may have, and whether a bound may lack
+-- the names that a declarator may have, and whether a bound may be absent
 abbrev pub IsNameFor : Declares → Names → List ℕ → Type 0
 IsNameFor declaring.Names names name = IsFree names name
 IsNameFor declaring.Members names name = Unit {0}
@@ -71,28 +71,28 @@ abbrev pub MayLackFor : Declares → Type 0
 MayLackFor declaring.Names = Unit {0}
 MayLackFor declaring.Members = ⊥
 
--- the declarators that are asked for, and their bounds
+-- the requested declarators, and their bounds
 abbrev pub DeclaratorsFor : Declares → Names → Class
 DeclaratorsFor declares names = Declarators (IsNameFor declares names) names (MayLackFor declares)
 
 abbrev pub BracketsFor : Declares → Names → Class
 BracketsFor declares names = Brackets names (MayLackFor declares)
 
--- the limit doesn't allow a bound, since that of a member may not lack
+-- the limit doesn't allow a bound that may not be absent
 abbrev pub has_no_limit : Declares → ℕ → Bool
 has_no_limit declaring.Names limit = false
 has_no_limit declaring.Members limit = limit == 0
 
--- a bracket stands there
+-- the token is an opening bracket
 abbrev pub is_bracket : TokenKind → Bool
 is_bracket (token.Punctuator punctuator.OpenBracket) = true
 is_bracket other = false
 
--- a bound stands there that the limit doesn't allow
+-- the token begins a bound that the limit doesn't allow
 abbrev pub is_full : Declares → ℕ → TokenKind → Bool
 is_full declares limit next = has_no_limit declares limit && is_bracket next
 
--- the refusal of this token, with which a higher phrase goes on or none does
+-- the refusal of this token; a higher phrase continues with it exactly if `deep`
 abbrev pub RefusesAfter : ℕ → Bool → Stop → Type 0
 RefusesAfter number deep (stop.Refused at reason) = (at ≡ number) × (is_deep reason ≡ deep)
 RefusesAfter number deep other = ⊥
@@ -103,7 +103,7 @@ pub record IsPointed (declares : Declares) (names : Names) (tokens : List Token)
   pub pointers : IsTrue (is_pointer taken.tree.pointers.items)
   pub named : IsNameFor declares names taken.tree.name.name
 
--- no name stands after the words of pointers
+-- no name follows the words of pointers
 pub record IsNameMissing (declares : Declares) (names : Names) (tokens : List Token) (from at : ℕ) (reason : Reason) : Type 0 where
   pub words : List PointerWord
   pub pointers : ArePointers tokens from at words
@@ -115,7 +115,7 @@ PointedAnswers declares names tokens from (Ok taken) = IsPointed declares names 
 PointedAnswers declares names tokens from (Err stop.Memory) = Unit {0}
 PointedAnswers declares names tokens from (Err (stop.Refused at reason)) = IsNameMissing declares names tokens from at reason
 
--- a declarator was taken, that a higher one continues where the limit doesn't allow a bound
+-- a declarator was taken, which a higher one continues if the limit doesn't allow a bound
 abbrev pub IsDeclaratorTaken : Declares → Names → ℕ → List Token → ℕ → Taken RawDeclarator → Type 0
 IsDeclaratorTaken declares names limit tokens from taken =
     (inner : ℕ) → limit ≡ 1 + inner
@@ -133,7 +133,7 @@ BoundsAnswer declares names view limit tokens from (Ok taken) =
     IsTaken (BracketsFor declares names) view limit tokens from (is_full declares limit (kind_or_end tokens taken.next)) taken
 BoundsAnswer declares names view limit tokens from (Err stop) = Stops (BracketsFor declares names) limit tokens from stop
 
--- expressions of a level with a token after each that closes it
+-- expressions of a level, each with the token that closes it
 abbrev pub ClosedExpressions : Names → ℕ → TokenKind → Class
 ClosedExpressions names level close = record {
   Tree = Written;
@@ -148,12 +148,12 @@ abbrev pub ClosedAnswer : Names → ExprLevel → Punctuator → ℕ → List To
 ClosedAnswer names level closing limit tokens from result =
     ExactAnswers (ClosedExpressions names (level_asked level) (token.Punctuator closing)) written limit tokens from result
 
--- the same, where the expression may lack
+-- the same, but the expression may be absent
 abbrev pub ClosedIfAnyAnswer : Names → ExprLevel → Punctuator → ℕ → List Token → ℕ → Result (Taken (Option RawExpr)) Stop → Type 0
 ClosedIfAnyAnswer names level closing limit tokens from result =
     ExactAnswers (ClosedSome names (level_asked level) (Unit {0}) (token.Punctuator closing)) (option_map written) limit tokens from result
 
--- constants, and whether a comma stands after the last
+-- constants, and whether a comma follows the last one
 abbrev pub constant_row : ConstantList → List Constant × Bool
 constant_row taken = (map constant taken.list.items, taken.comma)
 
@@ -162,7 +162,7 @@ abbrev pub ConstantsAnswer : Names → ℕ → List Token → ℕ → Result (Ta
 ConstantsAnswer names limit tokens from result =
     ExactAnswers (Trailing (Constants names) (token.Punctuator punctuator.CloseBrace)) constant_row limit tokens from result
 
--- the name of a parameter, which may lack
+-- the name of a parameter, which may be absent
 abbrev pub ParameterNameAnswer : Names → List Token → ℕ → Result (Taken (Option RawName)) Stop → Type 0
 ParameterNameAnswer names tokens at (Ok taken) =
     IsNameAt (IsFree names) (kind_or_end tokens at) taken.tree
@@ -190,20 +190,20 @@ abbrev pub is_closing_brace : TokenKind → Bool
 is_closing_brace (token.Punctuator punctuator.CloseBrace) = true
 is_closing_brace other = false
 
--- a comma stands there, and no closing brace after it
+-- a comma, and no closing brace after it
 abbrev pub goes_on : TokenKind → TokenKind → Bool
 goes_on first second = is_comma first && not (is_closing_brace second)
 
--- the object of a declarator with no value
+-- the object of a declarator without an initializer
 abbrev pub IsAlone : RawDeclarator → RawInit → Type 0
 IsAlone d made = declared made ≡ record { declarator = declarator d; initial = None }
 
--- `void` alone stands before a closing parenthesis
+-- only `void` is before a closing parenthesis
 abbrev pub IsVoidAlone : List Token → ℕ → Type 0
 IsVoidAlone tokens from = (kind_or_end tokens from ≡ token.Keyword keyword.Void)
     × (kind_or_end tokens (from + 1) ≡ token.Punctuator punctuator.CloseParenthesis)
 
--- a designator would begin with the token
+-- a designator begins with the token
 abbrev pub is_designator : TokenKind → Bool
 is_designator (token.Punctuator punctuator.Dot) = true
 is_designator (token.Punctuator punctuator.OpenBracket) = true

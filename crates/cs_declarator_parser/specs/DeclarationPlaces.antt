@@ -1,4 +1,5 @@
--- That declarations have the places of their tokens. Each definition takes the tokens that begin with what it speaks of.
+-- Declarations are placed: their nodes have the positions of their tokens. The tokens of each definition begin with those of the
+-- declaration.
 use Rattle.std.specs.Prelude.{◌≡◌, ℕ, suc, ◌+◌, List, [], ◌∷◌, drop, length, map, Option, Some, None, slice_get}
 use Rattle.std.specs.Option.{option_map, option_and_then}
 use Rattle.cs_ast.specs.declared.place.Place.{Place}
@@ -31,17 +32,17 @@ use Rattle.cs_grammar.specs.Places.{HasPlaces, StandsAt}
 abbrev pub past : (Kinds → Kinds) → List Token → List Token
 past spell tokens = drop (length (spell [])) tokens
 
--- each of a list with a token after it has its places
+-- each item of a list, with a token after it, is placed
 abbrev pub AreInRow : {A : Type 0} → (A → List Token → Type 0) → (A → Kinds → Kinds) → List A → List Token → Type 0
 AreInRow Has spell [] tokens = Unit {0}
 AreInRow Has spell (a ∷ all) tokens = Has a tokens × AreInRow Has spell all (drop 1 (past (spell a) tokens))
 
--- each of a list has its places
+-- each item of a list is placed
 abbrev pub AreSideBySide : {A : Type 0} → (A → List Token → Type 0) → (A → Kinds → Kinds) → List A → List Token → Type 0
 AreSideBySide Has spell [] tokens = Unit {0}
 AreSideBySide Has spell (a ∷ all) tokens = Has a tokens × AreSideBySide Has spell all (past (spell a) tokens)
 
--- an expression, if it is there, has its places
+-- an expression, if there is one, is placed
 abbrev pub IsSomePlaced : Option RawExpr → List Token → Type 0
 IsSomePlaced (Some e) tokens = HasPlaces e tokens
 IsSomePlaced None tokens = Unit {0}
@@ -50,7 +51,7 @@ IsSomePlaced None tokens = Unit {0}
 abbrev pub AreBracketsPlaced : List (Option RawExpr) → List Token → Type 0
 AreBracketsPlaced = AreSideBySide (λ bound tokens. IsSomePlaced bound (drop 1 tokens)) (λ bound. brackets_text (option_map written bound ∷ []))
 
--- a declarator is at its name
+-- a declarator has the position of its name
 abbrev pub IsDeclaratorPlaced : RawDeclarator → List Token → Type 0
 IsDeclaratorPlaced d tokens =
     StandsAt d.place (past (pointers_text d.pointers.items) tokens) × AreBracketsPlaced d.bounds.items (drop 1 (past (pointers_text d.pointers.items) tokens))
@@ -58,11 +59,11 @@ IsDeclaratorPlaced d tokens =
 abbrev pub AreDeclaratorsPlaced : List RawDeclarator → List Token → Type 0
 AreDeclaratorsPlaced = AreInRow IsDeclaratorPlaced (λ d. declarator_text (declarator d))
 
--- an enumeration constant is at its name
+-- an enumeration constant has the position of its name
 abbrev pub IsConstantPlaced : RawEnumerator → List Token → Type 0
 IsConstantPlaced e tokens = StandsAt e.place tokens × IsSomePlaced e.value (drop 2 tokens)
 
--- how many tokens stand before the tag that names a type
+-- the number of tokens before the tag that names a type
 abbrev pub before_tag : Specs → Option ℕ
 before_tag NoSpec = None
 before_tag (MoreSpecs (Plain (word.Struct tag)) others) = Some 1
@@ -74,7 +75,7 @@ before_tag (MoreSpecs (EnumBody None constants comma) others) = None
 before_tag (MoreSpecs Static others) = option_map suc (before_tag others)
 before_tag (MoreSpecs (Plain other) others) = option_map suc (before_tag others)
 
--- the place of the tag, where there is one
+-- the position of the tag, if there is one
 abbrev pub tag_place : Specs → List Token → Option Place
 tag_place s tokens = option_map (λ (token : Token). token.place) (option_and_then (λ number. slice_get tokens number) (before_tag s))
 
@@ -83,7 +84,7 @@ abbrev pub in_body : Option (List ℕ) → List Token → List Token
 in_body tag tokens = drop (length (name_text tag []) + 2) tokens
 
 abbrev mutual
-  -- a word before declarators, or a type with its body
+  -- a word before the declarators, or a type with its body
   pub IsSpecPlaced : SpecWord → List Token → Type 0
   IsSpecPlaced words.TheVariants.Static tokens = Unit {0}
   IsSpecPlaced (words.TheVariants.Plain w) tokens = Unit {0}
@@ -95,7 +96,7 @@ abbrev mutual
   AreSpecsPlaced words.end_of-SpecWord tokens = Unit {0}
   AreSpecsPlaced (words.more_of-SpecWord first others) tokens = IsSpecPlaced first tokens × AreSpecsPlaced others (past (spec_text (spec first)) tokens)
 
-  -- members of a body, each group with its semicolon
+  -- the members of a body, each group with its semicolon
   pub AreMembersPlaced : {n : _} → words.Row_of-RawMember n → List Token → Type 0
   AreMembersPlaced words.end_of-RawMember tokens = Unit {0}
   AreMembersPlaced (words.more_of-RawMember shape row tag declarators others) tokens =
@@ -103,13 +104,13 @@ abbrev mutual
       × AreDeclaratorsPlaced declarators.items (past (specs_text (specs_row row)) tokens)
       × AreMembersPlaced others (drop 1 (past (with_commas declarator_text (map declarator declarators.items)) (past (specs_text (specs_row row)) tokens)))
 
--- what stands before declarators: its tag and what its body has
+-- declaration specifiers: the position of the tag, and those in the body
 pub record HasSpecPlaces (s : RawSpecs) (tokens : List Token) : Type 0 where
   pub tag : s.tag ≡ tag_place (specs s) tokens
   pub inside : AreSideBySide IsSpecPlaced (λ w. spec_text (spec w)) s.words.items tokens
 
 abbrev mutual
-  -- what an object holds at first
+  -- an initializer
   pub IsInitialPlaced : RawInitial → List Token → Type 0
   IsInitialPlaced (first_value.TheVariants.Value e) tokens = HasPlaces e tokens
   IsInitialPlaced (first_value.TheVariants.List' shape row comma) tokens = AreInitialsPlaced row (drop 1 tokens)
@@ -119,7 +120,7 @@ abbrev mutual
   AreInitialsPlaced (first_value.more_of-RawInitial first others) tokens =
       IsInitialPlaced first tokens × AreInitialsPlaced others (drop 1 (past (initial_text (initial first)) tokens))
 
--- what stands after a declarator, at its `=`
+-- an initializer after a declarator has the position of its `=`
 abbrev pub IsFirstValuePlaced : Option RawFirstValue → List Token → Type 0
 IsFirstValuePlaced None tokens = Unit {0}
 IsFirstValuePlaced (Some value) tokens = StandsAt value.place tokens × IsInitialPlaced value.initial (drop 1 tokens)
@@ -141,7 +142,7 @@ abbrev pub IsNamePlaced : Option RawName → List Token → Type 0
 IsNamePlaced None tokens = Unit {0}
 IsNamePlaced (Some name) tokens = StandsAt name.place tokens
 
--- a parameter is at its first token
+-- a parameter has the position of its first token
 pub record IsParameterPlaced (p : RawParameter) (tokens : List Token) : Type 0 where
   pub at : StandsAt p.place tokens
   pub specs_are : HasSpecPlaces p.specs tokens

@@ -1,4 +1,4 @@
--- That words before declarators and members have the places of their tokens, as they are taken one by one.
+-- Specifiers and members are placed, as they are taken one by one.
 use Rattle.std.specs.Prelude.{◌≡◌, ℕ, Bool, true, false, List, ◌∷◌, drop, map, Option, Some, None}
 use Rattle.std.specs.Option.{option_map}
 use Rattle.cs_ast.specs.declared.place.Place.{Place}
@@ -16,7 +16,7 @@ use Rattle.cs_expr_parser.specs.Words.{has_tag, names_some}
 use Rattle.cs_declarator_parser.specs.declared.specs.NextWord.{NextWord}
 use Rattle.cs_declarator_parser.specs.DeclarationPlaces.{past, tag_place, AreSideBySide, IsSpecPlaced, HasSpecPlaces, AreDeclaratorsPlaced}
 
--- the place of a name, if it is there
+-- the position of a name, if there is one
 abbrev pub place_in : Option RawName → Option Place
 place_in tag = option_map (λ (n : RawName). n.place) tag
 
@@ -27,21 +27,21 @@ settles (Plain w) = has_tag w
 settles (StructBody tag members) = true
 settles (EnumBody tag constants comma) = true
 
--- a word has its places, and so has its tag, if it has one
+-- a word is placed, and so is its tag, if it has one
 pub record IsWordPlaced (tokens : List Token) (at : ℕ) (found : NextWord) : Type 0 where
   pub inside : IsSpecPlaced found.word (drop at tokens)
   pub tag : found.tag ≡ tag_place (MoreSpecs (spec found.word) NoSpec) (drop at tokens)
 
--- a word with a tag or a body stands only where the words before it name no type
+-- a word with a tag or a body is taken only if the words before it name no type
 abbrev pub IsFresh : TypeSoFar → NextWord → Type 0
 IsFresh so_far found = settles (spec found.word) ≡ true → names_some so_far ≡ false
 
--- the same of the word at an index, if one was found
+-- the same for the word at an index, if one was found
 abbrev pub IsWordThere : List Token → ℕ → TypeSoFar → Option NextWord → Type 0
 IsWordThere tokens at so_far None = Unit {0}
 IsWordThere tokens at so_far (Some found) = IsWordPlaced tokens at found × IsFresh so_far found
 
--- members of one type, with their semicolon
+-- members that share specifiers, with their semicolon
 abbrev pub group_text : RawMember → Kinds → Kinds
 group_text m rest =
     specs_text (specs m.specs) (with_commas declarator_text (map declarator m.declarators.items) (token.Punctuator punctuator.Semicolon ∷ rest))

@@ -1,4 +1,4 @@
--- What the parts that read the words before declarators answer.
+-- The results of the parts that parse specifiers.
 use Rattle.std.specs.Prelude.{◌≡◌, ℕ, ◌+◌, ◌≤◌, ◌<◌, ◌⊎◌, Bool, true, false, List, [], ◌∷◌, ◌++◌, map, Option, Some, None}
 use Rattle.std.specs.Prelude.{Result, Ok, Err}
 use Rattle.std.specs.Option.{option_map}
@@ -39,7 +39,7 @@ use Rattle.cs_declarator_parser.specs.declared.stop.Taken.{Taken}
 use Rattle.cs_declarator_parser.specs.declared.specs.NextWord.{NextWord}
 use Rattle.cs_declarator_parser.specs.Answers.{BraceAnswers}
 
--- the token begins what stands before declarators in this scope
+-- the token begins specifiers in this scope
 abbrev pub begins_words : Scope → Names → TokenKind → Bool
 begins_words File names (token.Keyword keyword.Static) = true
 begins_words scope names next = begins_type names next
@@ -49,24 +49,24 @@ abbrev pub tag_keyword : Bool → TokenKind
 tag_keyword true = token.Keyword keyword.Struct
 tag_keyword false = token.Keyword keyword.Enum
 
--- the word of a type that a keyword is alone
+-- the word of a type that consists of only this keyword
 abbrev pub word_of_keyword : Keyword → Option TypeWord
 word_of_keyword keyword.Const = Some word.Const
 word_of_keyword keyword.Void = Some word.Void
 word_of_keyword other = option_map word.Integer (word_of other)
 
--- the word of a type that a token is alone
+-- the word of a type that consists of only this token
 abbrev pub IsTypeWord : Names → TokenKind → Option TypeWord → Type 0
 IsTypeWord names next (Some found) = ((rest : Kinds) → type_word_text found rest ≡ next ∷ rest) × (has_tag found ≡ false)
     × (is_known names found ≡ true)
 IsTypeWord names next None = (one : TypeWord) → first_of_word one ≡ next → (has_tag one ≡ true) ⊎ (is_known names one ≡ false)
 
--- the keyword of a word with a tag doesn't stand there
+-- the token isn't the keyword of a word with a tag
 pub record HasNoTag (next : TokenKind) : Type 0 where
   pub no_struct : next ≡ token.Keyword keyword.Struct → ⊥
   pub no_enum : next ≡ token.Keyword keyword.Enum → ⊥
 
--- a word of a type was taken, which fits after those before it
+-- a word of a type was taken that can follow those before it
 pub record IsPlainWord (names : Names) (tokens : List Token) (at : ℕ) (so_far : TypeSoFar) (found : NextWord) (one : TypeWord) : Type 0 where
   pub word_is : found.word ≡ words.Plain one
   pub height_is : found.height ≡ 1
@@ -75,11 +75,11 @@ pub record IsPlainWord (names : Names) (tokens : List Token) (at : ℕ) (so_far 
   pub quiet : (following : Kinds) → Near (kind_or_end tokens found.next) following → IsQuiet (Plain one) following
   pub described : (before : List TypeWord) → Describes names so_far before → Describes names found.so_far (before ++ one ∷ [])
 
--- no word of a type that begins with the token fits after those before it
+-- no word of a type that begins with the token can follow those before it
 abbrev pub NothingFits : Names → TypeSoFar → TokenKind → Type 0
 NothingFits names so_far next = (before : List TypeWord) → Describes names so_far before → IsStuck names before next
 
--- the word of one token at an index; not asked where `struct` or `enum` stands
+-- the word of one token at an index; nothing is stated for `struct` and `enum`
 abbrev pub PlainAnswer : Names → List Token → ℕ → TypeSoFar → Result (Option NextWord) Stop → Type 0
 PlainAnswer names tokens at so_far (Ok (Some found)) = (one : TypeWord) × IsPlainWord names tokens at so_far found one
 PlainAnswer names tokens at so_far (Ok None) = HasNoTag (kind_or_end tokens at) → NothingFits names so_far (kind_or_end tokens at)
@@ -93,7 +93,7 @@ pub record IsTagBraced (tokens : List Token) (at refused : ℕ) : Type 0 where
   pub spelled : Spells tokens at refused (λ rest. tag_keyword is_struct ∷ token.Name tag ∷ rest)
   pub brace : kind_or_end tokens refused ≡ token.Punctuator punctuator.OpenBrace
 
--- inside a block `struct` or `enum` is refused: no tag stands after it, or a brace after the tag
+-- inside a block `struct` or `enum` is refused: no tag follows it, or a brace follows the tag
 abbrev pub BlockTagStops : List Token → ℕ → Stop → Type 0
 BlockTagStops tokens at stop.Memory = Unit {0}
 BlockTagStops tokens at (stop.Refused refused reason) = (is_deep reason ≡ false) × (IsTagMissing tokens at refused ⊎ IsTagBraced tokens at refused)
@@ -109,12 +109,12 @@ BlockWordAnswer names tokens at so_far (Ok None) = NothingFits names so_far (kin
 BlockWordAnswer names tokens at so_far (Err stop.Memory) = Unit {0}
 BlockWordAnswer names tokens at so_far (Err other) = (names_some so_far ≡ false) × BlockTagStops tokens at other
 
--- it is determined by its tokens
+-- the word is determined by its tokens
 abbrev pub IsReportedByTokens : Names → Spec → Type 0
 IsReportedByTokens names s = (t : Spec) (x y : Kinds) → HasBody names t → IsQuiet t x → IsQuiet s y → spec_text t x ≡ spec_text s y
     → (t ≡ s) × (x ≡ y)
 
--- a word before declarators was taken, or a type with a body, which fits after the words before it
+-- a specifier was taken, which may be a type with a body, and which can follow the words before it
 pub record IsSpecTaken (names : Names) (limit : ℕ) (tokens : List Token) (at : ℕ) (so_far : TypeSoFar) (found : NextWord) : Type 0 where
   pub height_is : found.height ≡ spec_height (spec found.word)
   pub low : found.height ≤ limit
@@ -146,7 +146,7 @@ ElementStops names limit tokens at stop.Memory = Unit {0}
 ElementStops names limit tokens at (stop.Refused refused reason) = IsElementRefused names limit tokens at refused reason
     ⊎ IsEnumFull limit tokens at refused reason
 
--- a type with `struct` or `enum`, where the words before it name nothing
+-- a type with `struct` or `enum`, if the words before it name no type
 abbrev pub ElementAnswer : Names → ℕ → List Token → ℕ → Result NextWord Stop → Type 0
 ElementAnswer names limit tokens at (Ok found) = IsSpecTaken names limit tokens at Nothing found
 ElementAnswer names limit tokens at (Err stop) = ElementStops names limit tokens at stop
@@ -159,15 +159,15 @@ SpecAnswer names limit tokens at so_far (Ok None) = NothingFits names so_far (ki
 SpecAnswer names limit tokens at so_far (Err stop.Memory) = Unit {0}
 SpecAnswer names limit tokens at so_far (Err other) = (names_some so_far ≡ false) × ElementStops names limit tokens at other
 
--- `static`, where it is at an index
+-- `static` at an index, as a word
 abbrev pub IsStatic : ℕ → TypeSoFar → NextWord → Type 0
 IsStatic at so_far found = (found.word ≡ words.Static) × (found.height ≡ 1) × (found.next ≡ at + 1) × (found.so_far ≡ so_far)
 
--- a name apart from its place
+-- the name of a tag, without its position
 abbrev pub name_in : Option RawName → Option (List ℕ)
 name_in tag = option_map (λ (n : RawName). n.name) tag
 
--- the number after `struct` or `enum`, at an index, and its tag, if it has one
+-- the index of the token after `struct` or `enum`, which is at `at`, and its tag, if it has one
 abbrev pub number_after : ℕ → Option (List ℕ) → ℕ
 number_after at None = at + 1
 number_after at (Some tag) = at + 2
@@ -197,13 +197,13 @@ pub record IsSpecOf (s : Spec) (found : NextWord) : Type 0 where
   pub word_is : spec found.word ≡ s
   pub whole : found.so_far ≡ Whole
 
--- what stands before declarators, outside blocks and inside
+-- declaration specifiers, outside blocks and inside
 abbrev pub SpecsAnswer : Names → ℕ → List Token → ℕ → Result (Taken RawSpecs) Stop → Type 0
 SpecsAnswer names limit tokens from result = BraceAnswers (FileSpecs names) specs limit tokens from result
 
 abbrev pub BlockSpecsAnswer : Names → ℕ → List Token → ℕ → Result (Taken RawSpecs) Stop → Type 0
 BlockSpecsAnswer names limit tokens from result = BraceAnswers (BlockSpecs names) specs limit tokens from result
 
--- members of one type
+-- members that share specifiers
 abbrev pub group : RawMember → Specs × List Declarator
 group member = (specs member.specs, map declarator member.declarators.items)

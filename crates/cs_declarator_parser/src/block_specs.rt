@@ -1,4 +1,4 @@
-//! What stands before declarators inside blocks: words of types, and no body (C11 6.7.2).
+//! Declaration specifiers inside blocks: words of types, without bodies (C11 6.7.2).
 ghost use Rattle.std.specs.Prelude.{◌≡◌, ◌≤◌, ◌<◌, ◌^◌, length, false, IfOk};
 ghost use Rattle.cs_expr_parser.specs.Positions.{kind_or_end};
 ghost use Rattle.cs_declarator_parser.specs.TreePlaces.{TreeAt};
@@ -18,7 +18,7 @@ use cs_ast::raw::declaration::RawSpecs;
 use cs_grammar::{Reason, TypeSoFar};
 use std::alloc::Global;
 
-/// What stands before declarators inside a block, from an index on: as many words as fit together.
+/// Returns the specifiers inside a block from an index on: the longest sequence of words that a type may have.
 pub fn block_specs(
     alloc: Global,
     source: &Source,
@@ -33,7 +33,7 @@ pub fn block_specs(
     ensures placed { IfOk result (TreeAt HasSpecPlaces source.now.tokens.now from) }
     ensures apt { IsAnswerApt Scope.Block source.now.tokens.now result }
 {
-    // Mostly there is one word.
+    // Usually there is one word.
     let mut words = Vec::with_capacity(alloc, 1)?;
     let mut tag = None;
     let mut next = from;
@@ -54,7 +54,7 @@ pub fn block_specs(
     })
 }
 
-/// The word at an index, if one stands there that fits after those before it.
+/// Returns the word at an index, if there is one that can follow those before it.
 fn block_word_at(source: &Source, at: usize, so_far: TypeSoFar) -> Result<Option<NextWord>, Stop>
     requires within { at ≤ length source.now.tokens.now }
     requires few { length source.now.tokens.now < 2 ^ 32 }
@@ -73,7 +73,7 @@ fn block_word_at(source: &Source, at: usize, so_far: TypeSoFar) -> Result<Option
     Ok(Some(found))
 }
 
-/// `struct` or `enum`, at an index, with a tag after it.
+/// Returns `struct` or `enum`, at an index, with the tag after it.
 fn tag_at(source: &Source, at: usize) -> Result<NextWord, Stop>
     requires within { at < length source.now.tokens.now }
     requires few { length source.now.tokens.now < 2 ^ 32 }
@@ -92,7 +92,7 @@ fn tag_at(source: &Source, at: usize) -> Result<NextWord, Stop>
     Ok(without_body(source, at, tag))
 }
 
-/// The refusal of what is at an index, where bodies aren't supported.
+/// Returns the refusal of the token at an index where bodies aren't supported.
 fn refuse_body(source: &Source, at: usize) -> Stop
     ensures plain { RefusesAfter at false result }
     ensures apt { IsStopApt Scope.Block source.now.tokens.now result }

@@ -27,7 +27,7 @@ use cs_expr_parser::ExprLevel;
 use cs_grammar::Reason;
 use std::alloc::Global;
 
-/// The constants of an enumeration, one at least.
+/// The constants of an enumeration, at least one.
 #[derive(Drop)]
 pub struct ConstantList {
     pub list: Vec<RawEnumerator>,
@@ -35,7 +35,7 @@ pub struct ConstantList {
     pub comma: bool,
 }
 
-/// The constants from after an opening brace to after the closing one. The height is that of the highest.
+/// Returns the constants from after an opening brace to after the closing one. The height is that of the highest.
 pub fn constants(
     alloc: Global,
     source: &Source,
@@ -74,7 +74,8 @@ pub fn constants(
     })
 }
 
-/// The number at which a list between braces is to be closed, where its last part ends before a number.
+/// Returns the index of the brace that closes a list whose last item ends before `at`: after the comma, if there is
+/// one.
 pub fn closing_at(at: usize, comma: bool) -> usize
     requires few { at < 2 ^ 33 }
     ensures { result ≡ (if comma then at + 1 else at) }
@@ -82,7 +83,7 @@ pub fn closing_at(at: usize, comma: bool) -> usize
     if comma { at + 1 } else { at }
 }
 
-/// Whether a comma is at an index, and doesn't end a list between braces.
+/// Whether a comma is at an index, and isn't followed by a closing brace.
 pub fn goes_on(source: &Source, at: usize) -> bool
     requires few { at < 2 ^ 33 }
     ensures within { IsTrue result → at < length source.now.tokens.now }
@@ -93,7 +94,7 @@ pub fn goes_on(source: &Source, at: usize) -> bool
         && !is_punctuator(source, at + 1, Punctuator::CloseBrace)
 }
 
-/// A constant, with its value if it has one.
+/// Returns the constant, with its value if it has one.
 fn constant(
     alloc: Global,
     source: &Source,
@@ -127,7 +128,7 @@ fn constant(
     })
 }
 
-/// A constant without a value, up to a token, and why that one is refused.
+/// Returns a constant without a value, with the index of the token after it and why that is refused.
 fn lone(name: RawName, next: usize, otherwise: Reason) -> Unclosed<RawEnumerator>
     ensures tree { IsConstantOf name.name None result.tree }
     ensures height { result.height ≡ 1 }

@@ -1,4 +1,4 @@
-//! Declarators: names with the pointers before them and the bounds of arrays after them (C11 6.7.6).
+//! Declarators: names with the pointers before them and the array bounds after them (C11 6.7.6).
 ghost use Rattle.std.specs.Prelude.{◌≡◌, ℕ, ◌+◌, ◌≤◌, ◌<◌, ◌^◌, true, false, length, drop, map, IfOk, IsSome, IsTrue};
 ghost use Rattle.cs_ast.specs.declared.token.TokenKind.TheVariants as token;
 ghost use Rattle.cs_ast.specs.declared.token.Punctuator.TheVariants as punctuator;
@@ -30,9 +30,9 @@ use std::alloc::{AllocError, Global};
 /// What a declarator declares.
 #[derive(Clone, Copy)]
 pub enum Declares {
-    /// Objects, functions or typedefs: the name is no typedef's so far, and a bound may be absent.
+    /// Objects, functions or typedef names: the name is no typedef name so far, and a bound may be absent.
     Names,
-    /// Members: the name may be any, and no bound is unsupported.
+    /// Members: any name is allowed, and each bound is required.
     Members,
 }
 
@@ -43,7 +43,7 @@ pub struct Pointed {
     pub name: RawName,
 }
 
-/// The declarator that begins at an index.
+/// Returns the declarator that begins at an index.
 pub fn declarator(
     alloc: Global,
     source: &Source,
@@ -67,7 +67,7 @@ pub fn declarator(
     Ok(taken)
 }
 
-/// The name that begins at an index, with the pointers before it.
+/// Returns the name, with the pointers before it, that begins at an index.
 pub fn pointed_name(
     alloc: Global,
     source: &Source,
@@ -100,7 +100,7 @@ pub fn pointed_name(
     })
 }
 
-/// The name at an index, if one stands there that may be declared.
+/// Returns the name at an index, if there is one that may be declared.
 fn name_at(source: &Source, at: usize, declares: Declares) -> Result<Option<RawName>, AllocError>
     ensures within { IfOk result (λ name. IsSome name → at < length source.now.tokens.now) }
     ensures name { IfOk result
@@ -114,7 +114,7 @@ fn name_at(source: &Source, at: usize, declares: Declares) -> Result<Option<RawN
     }
 }
 
-/// The declarator of a name with the bounds after it.
+/// Returns the declarator of a name with the bounds after it.
 pub fn with_bounds(
     alloc: Global,
     source: &Source,
@@ -151,8 +151,8 @@ pub fn with_bounds(
     })
 }
 
-/// The bounds of arrays from an index on, each between brackets. The height is that of the highest, 0 where there is none.
-/// Where the limit doesn't allow the bound of a member, it isn't taken.
+/// Returns the array bounds from an index on, each between brackets. The height is that of the highest, 0 if there is
+/// none. If the limit doesn't allow the bound of a member, the bound isn't taken.
 pub fn bounds(
     alloc: Global,
     source: &Source,
@@ -185,7 +185,7 @@ pub fn bounds(
     })
 }
 
-/// Whether the limit doesn't allow a bound, since it may not be absent.
+/// Whether the limit doesn't allow a bound that may not be absent.
 fn lacks_limit(declares: Declares, limit: u32) -> bool
     ensures { result ≡ has_no_limit declares limit }
 {
@@ -195,7 +195,7 @@ fn lacks_limit(declares: Declares, limit: u32) -> bool
     }
 }
 
-/// Whether the bracket of a bound that the limit allows is at an index.
+/// Whether the bracket of a bound is at an index, and the limit allows the bound.
 fn begins_bound(source: &Source, at: usize, limit: u32, declares: Declares) -> bool
     ensures bracket { IsTrue result
         → kind_or_end source.now.tokens.now at ≡ token.Punctuator punctuator.OpenBracket }
@@ -208,7 +208,7 @@ fn begins_bound(source: &Source, at: usize, limit: u32, declares: Declares) -> b
     !lacks_limit(declares, limit) && is_punctuator(source, at, Punctuator::OpenBracket)
 }
 
-/// The bound of an array, between brackets, the first of which is at an index.
+/// Returns the array bound between brackets; the first is at an index.
 fn bound(
     alloc: Global,
     source: &Source,
@@ -241,7 +241,8 @@ fn bound(
     }
 }
 
-/// Declarators with commas between them, one at least, to after the semicolon. The height is that of the highest.
+/// Returns the declarators, at least one, with commas between them, to after the semicolon. The height is that of the
+/// highest.
 pub fn declarators(
     alloc: Global,
     source: &Source,
@@ -282,7 +283,7 @@ pub fn declarators(
     })
 }
 
-/// The refusal of the token after a declarator, at an index.
+/// Returns the refusal of the token after a declarator, at an index.
 fn refuse_after(source: &Source, at: usize, limit: u32, declares: Declares) -> Stop
     requires some { 1 ≤ limit }
     ensures is { (inner : ℕ) → limit ≡ 1 + inner

@@ -1,4 +1,4 @@
-//! Expressions as parts of declarations and statements, with what closes them.
+//! Expressions as parts of declarations and statements, with the punctuators that close them.
 ghost use Rattle.std.specs.Prelude.{◌≤◌, ◌<◌, ◌+◌, ◌^◌, length, IfOk, IsTrue};
 ghost use Rattle.cs_ast.specs.RawView.{written};
 ghost use Rattle.cs_grammar.specs.Parsing.{Expressions};
@@ -19,7 +19,7 @@ use cs_ast::raw::expression::RawExpr;
 use cs_expr_parser::{ExprLevel, Phrase, expression_at};
 use std::alloc::Global;
 
-/// The expression of a level that begins at an index.
+/// Returns the expression of a level that begins at an index.
 pub fn expression(
     alloc: Global,
     source: &Source,
@@ -51,7 +51,7 @@ fn unclosed(phrase: Phrase) -> Unclosed<RawExpr>
     }
 }
 
-/// The expression of a level with the punctuator after it that closes it.
+/// Returns the expression of a level, with the punctuator that closes it.
 pub fn closed(
     alloc: Global,
     source: &Source,
@@ -81,7 +81,7 @@ pub fn closed(
     })
 }
 
-/// The expression, which may be absent, with the punctuator after it that closes it. Its height is 0 where it is absent.
+/// Returns the expression, if any, with the punctuator that closes it. Its height is 0 if it is absent.
 pub fn closed_if_any(
     alloc: Global,
     source: &Source,
@@ -114,7 +114,7 @@ pub fn closed_if_any(
     })
 }
 
-/// The expression between parentheses, the first of which must be at an index.
+/// Returns the expression between parentheses; the first has to be at an index.
 pub fn parenthesised(
     alloc: Global,
     source: &Source,

@@ -1,4 +1,4 @@
-//! What objects hold at first (C11 6.7.9).
+//! Initializers (C11 6.7.9).
 ghost use Rattle.std.specs.Prelude.{◌≡◌, ◌≤◌, ◌<◌, ◌^◌, length, true, IfOk, IsTrue};
 ghost use Rattle.cs_ast.specs.declared.token.TokenKind.TheVariants as token;
 ghost use Rattle.cs_ast.specs.declared.token.Punctuator.TheVariants as punctuator;
@@ -22,7 +22,7 @@ use cs_expr_parser::ExprLevel;
 use cs_grammar::Reason;
 use std::alloc::Global;
 
-/// What an object holds at first: an expression without a comma, or items between braces.
+/// Returns the initializer: an expression without a comma, or items between braces.
 #[cycle(initial)]
 pub fn initial(
     alloc: Global,
@@ -55,14 +55,14 @@ pub fn initial(
     })
 }
 
-/// Whether a designator would begin with the token at an index.
+/// Whether a designator begins with the token at an index.
 fn begins_designator(source: &Source, at: usize) -> bool
     ensures { IsTrue result → is_designator (kind_or_end source.now.tokens.now at) ≡ true }
 {
     is_punctuator(source, at, Punctuator::Dot) || is_punctuator(source, at, Punctuator::OpenBracket)
 }
 
-/// Items between braces, one at least, the first of which is at an index.
+/// Returns the items between braces, at least one; the first brace is at an index.
 #[cycle(initial)]
 fn items(
     alloc: Global,

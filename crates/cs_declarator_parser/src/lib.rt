@@ -1,4 +1,4 @@
-//! From tokens to what declarations consist of: specifiers, declarators, declared objects, initializers and parameters.
+//! Parses the parts of declarations: specifiers, declarators, declared objects, initializers and parameters.
 #![tactic(auto)]
 
 pub mod block_specs;

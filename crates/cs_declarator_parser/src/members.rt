@@ -17,7 +17,8 @@ use cs_ast::Punctuator;
 use cs_ast::raw::declaration::RawMember;
 use std::alloc::Global;
 
-/// The members from after an opening brace to after the closing one. The height is that of the highest, 0 where there is none.
+/// Returns the members from after an opening brace to after the closing one. The height is that of the highest, 0 if
+/// there is none.
 #[cycle(specs)]
 pub fn members(
     alloc: Global,
@@ -50,7 +51,7 @@ pub fn members(
     })
 }
 
-/// Members of one type, with their semicolon.
+/// Returns the members that share specifiers, with their semicolon.
 #[cycle(specs)]
 fn member(alloc: Global, source: &Source, from: usize, limit: u32) -> Result<Taken<RawMember>, Stop>
     requires within { from ≤ length source.now.tokens.now }

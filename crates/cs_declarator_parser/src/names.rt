@@ -1,4 +1,4 @@
-//! The names that tags, declarators and constants have.
+//! The names of tags, declarators and constants.
 ghost use Rattle.std.specs.Prelude.{◌<◌, length, drop, IfOk, IsSome};
 ghost use Rattle.cs_grammar.specs.FilePhrases.{IsFree};
 ghost use Rattle.cs_expr_parser.specs.Positions.{kind_or_end};
@@ -9,7 +9,7 @@ use crate::source::{Source, begins_type, name_at, place_at};
 use cs_ast::raw::name::RawName;
 use std::alloc::AllocError;
 
-/// The name at an index, which may be that of a typedef, if one stands there.
+/// Returns the name at an index, if there is one; it may be a typedef name.
 pub fn any_name_at(source: &Source, at: usize) -> Result<Option<RawName>, AllocError>
     ensures within { IfOk result (λ name. IsSome name → at < length source.now.tokens.now) }
     ensures name { IfOk result
@@ -26,7 +26,7 @@ pub fn any_name_at(source: &Source, at: usize) -> Result<Option<RawName>, AllocE
     }))
 }
 
-/// The name at an index, if one stands there that is no typedef's.
+/// Returns the name at an index, if there is one that is no typedef name.
 pub fn free_name_at(source: &Source, at: usize) -> Result<Option<RawName>, AllocError>
     ensures within { IfOk result (λ name. IsSome name → at < length source.now.tokens.now) }
     ensures name { IfOk result

@@ -1,4 +1,4 @@
-//! Declared objects, each with what it holds at first (C11 6.7).
+//! Declared objects, each with its initializer (C11 6.7).
 ghost use Rattle.std.specs.Prelude.{◌≡◌, ℕ, ◌≤◌, ◌<◌, ◌^◌, List, length, drop, map, IfOk};
 ghost use Rattle.cs_ast.specs.declared.token.Token.{Token};
 ghost use Rattle.cs_ast.specs.declared.token.TokenKind.TheVariants as token;
@@ -24,7 +24,8 @@ use cs_ast::raw::declaration::{RawDeclarator, RawFirstValue, RawInit};
 use cs_grammar::Reason;
 use std::alloc::Global;
 
-/// Objects with commas between them, one at least, to after the semicolon. The height is that of the highest.
+/// Returns the objects, at least one, with commas between them, to after the semicolon. The height is that of the
+/// highest.
 pub fn objects(
     alloc: Global,
     source: &Source,
@@ -48,7 +49,7 @@ pub fn objects(
     Ok(all)
 }
 
-/// The objects of which the first was taken, to after the semicolon.
+/// Returns the objects, of which the first was taken already, to after the semicolon.
 pub fn with_others(
     alloc: Global,
     source: &Source,
@@ -75,7 +76,7 @@ pub fn with_others(
         AreObjectsPlaced taken.tree.items (drop from source.now.tokens.now)) }
     ensures apt { IsAnswerApt scope source.now.tokens.now result }
 {
-    // Mostly there is no other.
+    // Usually there is no other.
     let mut list = Vec::with_capacity(alloc, 1)?;
     let mut height = first.height;
     let mut last = first;
@@ -117,7 +118,7 @@ fn object(
     Ok(object)
 }
 
-/// The object of a declarator, with the value after it, if there is one.
+/// Returns the object of a declarator, with its initializer if it has one.
 pub fn with_value(
     alloc: Global,
     source: &Source,
@@ -162,7 +163,7 @@ pub fn with_value(
     })
 }
 
-/// The object of a declarator with no value, and why the token after it is refused.
+/// Returns the object of a declarator without an initializer, and why the token after it is refused.
 fn alone(declarator: Taken<RawDeclarator>, otherwise: Reason) -> Unclosed<RawInit>
     ensures tree { IsAlone declarator.tree result.tree }
     ensures height { result.height ≡ declarator.height }

@@ -25,7 +25,7 @@ use cs_ast::raw::name::RawName;
 use cs_ast::{Keyword, Punctuator};
 use std::alloc::Global;
 
-/// The parameters from after an opening parenthesis to after the closing one, as one node.
+/// Returns the parameters from after an opening parenthesis to after the closing one, as one node.
 pub fn parameters(
     alloc: Global,
     source: &Source,
@@ -63,7 +63,7 @@ pub fn parameters(
     })
 }
 
-/// Whether `void` alone stands before a closing parenthesis, from an index on.
+/// Whether only `void` is before a closing parenthesis, from an index on.
 fn is_void_alone(source: &Source, from: usize) -> bool
     requires few { from < 2 ^ 33 }
     ensures within { IsTrue result → from + 1 < length source.now.tokens.now }
@@ -73,7 +73,8 @@ fn is_void_alone(source: &Source, from: usize) -> bool
         && is_punctuator(source, from + 1, Punctuator::CloseParenthesis)
 }
 
-/// Parameters with commas between them, one at least, to after the closing parenthesis. The height is that of the highest.
+/// Returns the parameters, at least one, with commas between them, to after the closing parenthesis. The height is that
+/// of the highest.
 fn parameter_list(
     alloc: Global,
     source: &Source,
@@ -144,7 +145,7 @@ fn parameter(
     })
 }
 
-/// The name of a parameter at an index, if it has one.
+/// Returns the name of a parameter at an index, if it has one.
 fn parameter_name(source: &Source, at: usize) -> Result<Taken<Option<RawName>>, Stop>
     requires within { at ≤ length source.now.tokens.now }
     requires few { length source.now.tokens.now < 2 ^ 32 }
@@ -165,7 +166,7 @@ fn parameter_name(source: &Source, at: usize) -> Result<Taken<Option<RawName>>, 
     })
 }
 
-/// The number after a name, if there is one at an index.
+/// Returns the index of the token after a name at `at`, or `at` if there is no name.
 fn after_name(at: usize, name: &Option<RawName>) -> usize
     requires few { at < 2 ^ 32 }
     ensures { result ≡ number_past at (name_in name.now) }

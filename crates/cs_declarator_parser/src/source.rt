@@ -1,4 +1,4 @@
-//! Tokens by their numbers, and why they are refused.
+//! Tokens by their indices, and why they are refused.
 ghost use Rattle.std.specs.Prelude.{◌≡◌, ◌<◌, ◌↔◌, List, length, drop, false, IsSome, IsTrue};
 ghost use Rattle.std.specs.Option.{option_copied};
 ghost use Rattle.cs_ast.specs.declared.token.Token.{Token as Lexed};
@@ -18,21 +18,21 @@ use cs_expr_parser as tokens;
 use cs_grammar::{Reason, TypedefNames};
 use cs_names::Name;
 
-/// What a part of the parser reads: the tokens, and the names of the typedefs before.
+/// The input of a part of the parser: the tokens, and the typedef names declared so far.
 #[derive(Clone, Copy)]
 pub struct Source<'a> {
     pub tokens: &'a [Token],
     pub names: &'a TypedefNames,
 }
 
-/// Whether tokens stand inside a block, where other words are unsupported.
+/// Whether tokens are inside a block, where more words are unsupported.
 #[derive(Clone, Copy, PartialEq, Eq)]
 pub enum Scope {
     File,
     Block,
 }
 
-/// The punctuator at an index, if there is one.
+/// Returns the punctuator at an index, if there is one.
 pub fn punctuator_at(source: &Source, at: usize) -> Option<Punctuator>
     ensures punctuator { result ≡ punctuator_of (kind_or_end source.now.tokens.now at) }
     ensures within { IsSome result → at < length source.now.tokens.now }
@@ -49,7 +49,7 @@ pub fn is_punctuator(source: &Source, at: usize, punctuator: Punctuator) -> bool
     tokens::is_punctuator(source.tokens, at, punctuator)
 }
 
-/// The keyword at an index, if there is one.
+/// Returns the keyword at an index, if there is one.
 pub fn keyword_at(source: &Source, at: usize) -> Option<Keyword>
     ensures keyword { result ≡ keyword_of (kind_or_end source.now.tokens.now at) }
     ensures within { IsSome result → at < length source.now.tokens.now }
@@ -66,7 +66,7 @@ pub fn is_keyword(source: &Source, at: usize, keyword: Keyword) -> bool
     keyword_at(source, at) == Some(keyword)
 }
 
-/// The name at an index, if there is one.
+/// Returns the name at an index, if there is one.
 pub fn name_at<'a>(source: &Source<'a>, at: usize) -> Option<&'a Name>
     ensures name { option_copied result ≡ name_of (kind_or_end source.now.tokens.now at) }
     ensures within { IsSome result → at < length source.now.tokens.now }
@@ -81,7 +81,7 @@ pub fn begins_type(source: &Source, at: usize) -> bool
     tokens::begins_type(source.tokens, source.names, at)
 }
 
-/// Whether the token at an index is unsupported wherever it stands, outside expressions, in this scope.
+/// Whether the token at an index, outside expressions, is unsupported everywhere in this scope.
 fn is_unsupported(source: &Source, at: usize, scope: Scope) -> bool
     ensures { result ≡ unsupported scope (kind_or_end source.now.tokens.now at) }
 {
@@ -103,7 +103,7 @@ fn is_unsupported_kind(kind: &TokenKind, scope: Scope) -> bool
     }
 }
 
-/// Why the token at an index is refused where no tree of any height continues with it.
+/// Returns why the token at an index is refused if no tree of any height continues with it.
 #[tactic(auto, using(crate::proofs::AptReasons::always_apt, crate::proofs::AptReasons::syntax_apt))]
 pub fn reason_at(source: &Source, at: usize, scope: Scope) -> Reason
     ensures is { result ≡ plain_reason scope (kind_or_end source.now.tokens.now at) }
@@ -116,7 +116,7 @@ pub fn reason_at(source: &Source, at: usize, scope: Scope) -> Reason
     }
 }
 
-/// The refusal of the token at an index, which no tree of any height continues with.
+/// Returns the refusal of the token at an index, with which no tree of any height continues.
 pub fn refuse(source: &Source, at: usize, scope: Scope) -> Stop
     ensures is { result ≡ stop.Refused at
         (plain_reason scope (kind_or_end source.now.tokens.now at)) }
@@ -125,7 +125,7 @@ pub fn refuse(source: &Source, at: usize, scope: Scope) -> Stop
     Stop::Refused(at, reason_at(source, at, scope))
 }
 
-/// The same, where besides a punctuator is unsupported.
+/// The same where the given punctuator is unsupported as well.
 #[tactic(auto, using(crate::proofs::AptReasons::left_apt))]
 pub fn refuse_but(source: &Source, at: usize, scope: Scope, unsupported: Punctuator) -> Stop
     ensures reason { RefusesBut unsupported scope at (kind_or_end source.now.tokens.now at) result }
@@ -139,7 +139,7 @@ pub fn refuse_but(source: &Source, at: usize, scope: Scope, unsupported: Punctua
     refuse(source, at, scope)
 }
 
-/// The refusal of the token at an index, which only trees that are too high continue with.
+/// Returns the refusal of the token at an index, with which only trees above the limit continue.
 #[tactic(auto, using(crate::proofs::AptReasons::deep_apt))]
 pub fn refuse_deep(at: usize) -> Stop
     ensures is { result ≡ stop.Refused at TooDeep }
@@ -148,7 +148,7 @@ pub fn refuse_deep(at: usize) -> Stop
     Stop::Refused(at, Reason::TooDeep)
 }
 
-/// The place of the token at an index.
+/// Returns the position of the token at an index.
 pub fn place_at(source: &Source, at: usize) -> Place
     requires { at < length source.now.tokens.now }
     ensures { StandsAt result (drop at source.now.tokens.now) }

@@ -1,4 +1,4 @@
-//! What stands before declarators: words of types and bodies (C11 6.7.2).
+//! Declaration specifiers: words of types, and bodies (C11 6.7.2).
 ghost use Rattle.std.specs.Prelude.{◌≡◌, ◌≤◌, ◌<◌, ◌^◌, ◌+◌, ◌-◌, List, length, drop, false, Some, None, IfOk, IsTrue};
 ghost use Rattle.cs_ast.specs.declared.token.Token.{Token};
 ghost use Rattle.cs_ast.specs.RawDeclarations.{StructBody};
@@ -28,20 +28,20 @@ use cs_grammar::TypeSoFar;
 use cs_names::Name;
 use std::alloc::Global;
 
-/// A word before declarators that fits after those before it.
+/// A specifier that can follow those before it.
 #[derive(Drop)]
 pub struct NextWord {
     pub word: SpecWord,
-    /// The place of its tag, if it has one.
+    /// The position of its tag, if it has one.
     pub tag: Option<Place>,
     pub height: u32,
     /// The index of the token after it.
     pub next: usize,
-    /// What the words leave open with this one.
+    /// The description of the words with this one.
     pub so_far: TypeSoFar,
 }
 
-/// Whether what stands before declarators outside blocks may begin with the token at an index.
+/// Whether specifiers outside blocks may begin with the token at an index.
 pub fn begins_specs(source: &Source, at: usize) -> bool
     ensures { result ≡ begins_words Scope.File source.now.names.now
         (kind_or_end source.now.tokens.now at) }
@@ -49,7 +49,7 @@ pub fn begins_specs(source: &Source, at: usize) -> bool
     begins_type(source, at) || is_keyword(source, at, Keyword::Static)
 }
 
-/// What stands before declarators outside blocks, from an index on: as many words as fit together.
+/// Returns the specifiers outside blocks from an index on: the longest sequence of words that a type may have.
 #[cycle(specs)]
 pub fn specs(
     alloc: Global,
@@ -65,7 +65,7 @@ pub fn specs(
     ensures placed { IfOk result (TreeAt HasSpecPlaces source.now.tokens.now from) }
     ensures apt { IsAnswerApt Scope.File source.now.tokens.now result }
 {
-    // Mostly there is one word.
+    // Usually there is one word.
     let mut words = Vec::with_capacity(alloc, 1)?;
     let mut tag = None;
     let mut height = 0;
@@ -100,7 +100,7 @@ pub fn begins_tagged(source: &Source, at: usize) -> bool
     is_keyword(source, at, Keyword::Enum)
 }
 
-/// The word at an index, if one stands there that fits after those before it.
+/// Returns the word at an index, if there is one that can follow those before it.
 #[cycle(specs)]
 fn word_at(
     alloc: Global,
@@ -140,7 +140,7 @@ pub fn names_type(so_far: TypeSoFar) -> bool
     }
 }
 
-/// `static`, at an index.
+/// Returns `static`, at an index, as a word.
 fn static_word(at: usize, so_far: TypeSoFar) -> NextWord
     requires few { at < 2 ^ 32 }
     ensures word { IsStatic at so_far result }
@@ -155,7 +155,7 @@ fn static_word(at: usize, so_far: TypeSoFar) -> NextWord
     }
 }
 
-/// The word of one token at an index, if it is one that fits after the words before it.
+/// Returns the word of one token at an index, if there is one that can follow those before it.
 pub fn plain_word(source: &Source, at: usize, so_far: TypeSoFar) -> Result<Option<NextWord>, Stop>
     requires few { length source.now.tokens.now < 2 ^ 32 }
     ensures bounds { IsWordBounded 1 source.now.tokens.now at result }
@@ -178,7 +178,7 @@ pub fn plain_word(source: &Source, at: usize, so_far: TypeSoFar) -> Result<Optio
     }
 }
 
-/// `struct` or `enum`, at an index, with a tag or a body after it or both.
+/// Returns `struct` or `enum`, at an index, with a tag, a body, or both.
 #[cycle(specs)]
 fn tagged(alloc: Global, source: &Source, at: usize, limit: u32) -> Result<NextWord, Stop>
     requires within { at < length source.now.tokens.now }
@@ -201,7 +201,7 @@ fn tagged(alloc: Global, source: &Source, at: usize, limit: u32) -> Result<NextW
     }
 }
 
-/// The number after `struct` or `enum`, at an index, and its tag, if it has one.
+/// Returns the index of the token after `struct` or `enum`, which is at `at`, and its tag, if it has one.
 fn after_tag(at: usize, tag: &Option<RawName>) -> usize
     requires few { at < 2 ^ 32 }
     ensures { result ≡ number_after at (name_in tag.now) }
@@ -212,7 +212,7 @@ fn after_tag(at: usize, tag: &Option<RawName>) -> usize
     }
 }
 
-/// `struct` or `enum`, at an index, and the tag after it.
+/// Returns `struct` or `enum`, at an index, with the tag after it.
 pub fn without_body(source: &Source, at: usize, tag: RawName) -> NextWord
     requires few { at < 2 ^ 32 }
     ensures bounds { IsWordOf 2 1 at result }
@@ -233,7 +233,8 @@ pub fn without_body(source: &Source, at: usize, tag: RawName) -> NextWord
     }
 }
 
-/// `struct` or `enum`, at an index, with its tag, if it has one, and a body, whose opening brace stands at another.
+/// Returns `struct` or `enum`, at an index, with its tag, if it has one, and its body, whose opening brace is at
+/// `brace`.
 #[cycle(specs)]
 fn with_body(
     alloc: Global,
@@ -265,7 +266,7 @@ fn with_body(
     Ok(enumeration(tag, constants))
 }
 
-/// A tag, if there is one, apart from its place.
+/// Returns the name and the position of a tag, if there is one.
 fn split(tag: Option<RawName>) -> (Option<Name>, Option<Place>)
     ensures name { result.0 ≡ name_in tag }
     ensures place { result.1 ≡ place_in tag }
@@ -276,7 +277,7 @@ fn split(tag: Option<RawName>) -> (Option<Name>, Option<Place>)
     }
 }
 
-/// The word of a structure with its body.
+/// Returns the word of a structure with its body.
 fn structure(tag: Option<RawName>, members: Taken<Vec<RawMember>>) -> NextWord
     requires low { members.height < 2 ^ 32 - 1 }
     ensures bounds { IsWordOf 0 (members.height + 1) members.next result }
@@ -296,7 +297,7 @@ fn structure(tag: Option<RawName>, members: Taken<Vec<RawMember>>) -> NextWord
     }
 }
 
-/// The word of an enumeration with its body.
+/// Returns the word of an enumeration with its body.
 fn enumeration(tag: Option<RawName>, constants: Taken<ConstantList>) -> NextWord
     requires low { constants.height < 2 ^ 32 - 1 }
     ensures bounds { IsWordOf 0 (constants.height + 1) constants.next result }

@@ -1,4 +1,4 @@
-//! What the parts of the parser answer to one another.
+//! The results that the parts of the parser return to one another.
 
 pub use cs_expr_parser::Stop;
 use cs_grammar::Reason;
@@ -9,7 +9,7 @@ pub struct Taken<T> {
     pub tree: T,
     /// The height of the tree, or of the highest of some trees.
     pub height: u32,
-    /// The index of the token after it.
+    /// The index of the token after the tree.
     pub next: usize,
 }
 
@@ -19,8 +19,8 @@ pub struct Unclosed<T> {
     pub tree: T,
     /// The height of the tree.
     pub height: u32,
-    /// The index of the token after it.
+    /// The index of the token after the tree.
     pub next: usize,
-    /// Why the token after it is refused, if the caller can't continue with it either.
+    /// Why the token after the tree is refused, if the caller can't continue with it either.
     pub otherwise: Reason,
 }

@@ -1,4 +1,4 @@
-//! The words of pointers, and the words of types that name no body (C11 6.7.2, 6.7.6.1).
+//! The words of pointers, and the words of types without a body (C11 6.7.2, 6.7.6.1).
 ghost use Rattle.std.specs.Prelude.{◌≡◌, ◌≤◌, ◌<◌, ◌^◌, length, IfOk, IsSome};
 ghost use Rattle.cs_expr_parser.specs.Positions.{kind_or_end};
 ghost use Rattle.cs_declarator_parser.specs.DeclarationAnswers.{IsPointerWord, ArePointers};
@@ -11,7 +11,7 @@ use cs_ast::{Keyword, Punctuator};
 use cs_grammar::integer_word;
 use std::alloc::{AllocError, Global};
 
-/// The stars from an index on and the `const`s after them, which are as high as nothing.
+/// Returns the stars from an index on, with the `const`s after them. Their height is 0.
 pub fn stars(
     alloc: Global,
     source: &Source,
@@ -37,7 +37,7 @@ pub fn stars(
     })
 }
 
-/// The word of pointers at an index, if one stands there. `const` is one after a star alone.
+/// Returns the word of pointers at an index, if there is one. `const` is one only after a star.
 fn pointer_word_at(source: &Source, at: usize, after_star: bool) -> Option<PointerWord>
     ensures within { IsSome result → at < length source.now.tokens.now }
     ensures word { IsPointerWord after_star (kind_or_end source.now.tokens.now at) result }
@@ -51,7 +51,7 @@ fn pointer_word_at(source: &Source, at: usize, after_star: bool) -> Option<Point
     }
 }
 
-/// The word of a type that the one token at an index is, if it is one.
+/// Returns the word of a type that the one token at an index is, if it is one.
 pub fn type_word_at(source: &Source, at: usize) -> Result<Option<TypeWord>, AllocError>
     ensures within { IfOk result (λ word. IsSome word → at < length source.now.tokens.now) }
     ensures word { IfOk result
@@ -69,7 +69,7 @@ pub fn type_word_at(source: &Source, at: usize) -> Result<Option<TypeWord>, Allo
     }
 }
 
-/// The word of a type that a keyword is alone.
+/// Returns the word of a type that consists of only this keyword.
 fn type_word(keyword: Keyword) -> Option<TypeWord>
     ensures { result ≡ word_of_keyword keyword }
 {

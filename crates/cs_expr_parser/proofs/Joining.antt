@@ -1,4 +1,4 @@
--- Which tokens continue with which chains: for the contracts of `postfix`, `infix` and `comma`.
+-- Which tokens continue which chains: for the contracts of `postfix`, `infix` and `comma`.
 use Rattle.std.proofs.Common.{◌≡◌, ℕ, suc, ◌+◌, ◌<◌, ◌≤◌, Bool, true, false, List, [], ◌∷◌, Option, Some, None, refl, sym, ap}
 use Rattle.std.proofs.Common.{◌∙◌, subst, arith}
 use Rattle.cs_ast.specs.declared.token.TokenKind.{TokenKind}

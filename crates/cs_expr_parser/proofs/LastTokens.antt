@@ -1,4 +1,4 @@
--- What the last tokens of expressions are: for the reasons of refusals.
+-- The last tokens of expressions: for the reasons of refusals.
 use Rattle.std.proofs.Common.{◌≡◌, ℕ, Bool, true, false, if◌then◌else◌, List, [], ◌∷◌, ◌++◌, refl, sym, ap, ◌∙◌, subst}
 use Rattle.std.proofs.lemmas.Bool.{false_from_ne_true}
 use Rattle.cs_ast.specs.declared.token.TokenKind.{TokenKind}

@@ -1,4 +1,4 @@
--- Choices and expressions that store: for the contracts of `choice` and `assign`.
+-- Conditional expressions and assignments: for the contracts of `choice` and `assign`.
 use Rattle.std.proofs.Common.{◌≡◌, ℕ, suc, ◌+◌, ◌-◌, ◌<◌, ◌≤◌, max, ◌⊎◌, inl, inr, Bool, true, false, List, [], ◌∷◌}
 use Rattle.std.proofs.Common.{◌++◌, refl, sym, ap, ◌∙◌, subst, arith, append_assoc}
 use Rattle.std.proofs.lemmas.Bool.{false≢true, both_ways, cases_lt}

@@ -1,4 +1,4 @@
--- The places of nodes, from those of their parts: for the contracts of the nodes.
+-- The positions of nodes, from those of their parts: for the contracts of the nodes.
 use Rattle.std.proofs.Common.{◌≡◌, ℕ, suc, ◌<◌, length, get_or, Option, Result, Ok, Err, List, [], ◌∷◌, Vec, Global, drop, refl, sym, ap}
 use Rattle.std.proofs.Common.{◌∙◌, subst}
 use Rattle.std.specs.Prelude.{IfOk}

@@ -1,4 +1,4 @@
--- What stands before an operand: for the contracts of `unary`, `sized` and `cast`.
+-- Prefixes of operands: for the contracts of `unary`, `sized` and `cast`.
 use Rattle.std.proofs.Common.{◌≡◌, ℕ, suc, ◌+◌, ◌-◌, ◌<◌, ◌≤◌, ◌⊎◌, inl, inr, Bool, true, false, List, [], ◌∷◌, ◌++◌}
 use Rattle.std.proofs.Common.{refl, sym, ap, ◌∙◌, subst, arith, Option, Some, None, append_assoc}
 use Rattle.std.proofs.lemmas.Bool.{false≢true, both_ways, cases_lt}

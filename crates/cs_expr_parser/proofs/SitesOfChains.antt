@@ -1,4 +1,4 @@
--- The returns of `postfix`, `suffixed`, `infix` and `comma`, over tokens by their numbers.
+-- The returns of `postfix`, `suffixed`, `infix` and `comma`, over indices of tokens.
 use Rattle.std.proofs.Common.{◌≡◌, ℕ, suc, ◌+◌, ◌-◌, ◌<◌, ◌≤◌, max, ◌⊎◌, inl, inr, Bool, true, false, if◌then◌else◌, List}
 use Rattle.std.proofs.Common.{[], ◌∷◌, ◌++◌, Option, Some, None, Result, Ok, Err, length, refl, sym, ap, ◌∙◌, subst, arith, add-one}
 use Rattle.cs_ast.specs.declared.token.Token.{Token}

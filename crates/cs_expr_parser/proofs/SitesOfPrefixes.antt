@@ -1,4 +1,4 @@
--- The returns of `unary`, `sized` and `cast`, over tokens by their numbers.
+-- The returns of `unary`, `sized` and `cast`, over indices of tokens.
 use Rattle.std.proofs.Common.{◌≡◌, ℕ, suc, ◌+◌, ◌-◌, ◌<◌, ◌≤◌, max, ◌⊎◌, inl, inr, Bool, true, false, Result, Ok, Err, Option}
 use Rattle.std.proofs.Common.{Some, None, List, [], ◌∷◌, ◌++◌, length, drop, map, refl, sym, ap, ◌∙◌, subst, arith, append_assoc, append-nil}
 use Rattle.std.proofs.Common.{length-drop}

@@ -1,4 +1,4 @@
--- The returns of `arguments` and `bounds`, over tokens by their numbers.
+-- The returns of `arguments` and `bounds`, over indices of tokens.
 use Rattle.std.proofs.Common.{◌≡◌, ℕ, suc, ◌+◌, ◌<◌, ◌≤◌, max, ◌⊎◌, inl, inr, Bool, true, false, List, [], ◌∷◌, ◌++◌}
 use Rattle.std.proofs.Common.{length, refl, sym, ap, ◌∙◌, subst, arith, append_assoc, append-nil}
 use Rattle.cs_ast.specs.declared.token.Token.{Token}

@@ -1,4 +1,4 @@
--- The returns of the parts that read the words of a type and of pointers, over tokens by their numbers.
+-- The returns of the parts that parse the words of types and of pointers, over indices of tokens.
 use Rattle.std.proofs.Common.{◌≡◌, ℕ, suc, ◌+◌, ◌<◌, ◌≤◌, ◌⊎◌, inl, inr, Bool, true, false, if◌then◌else◌, List, []}
 use Rattle.std.proofs.Common.{◌∷◌, ◌++◌, Option, Some, None, length, drop, refl, sym, ap, ◌∙◌, subst, arith, append_assoc, append-nil}
 use Rattle.std.specs.List.{list_all}

@@ -1,4 +1,4 @@
--- Refusals inside a phrase, by the numbers of tokens: for the contracts of all parts of the parser.
+-- Refusals inside a phrase, over indices of tokens: for the contracts of all parts of the parser.
 use Rattle.std.proofs.Common.{◌≡◌, ℕ, ◌+◌, ◌-◌, ◌<◌, ◌≤◌, ◌⊎◌, inl, inr, Bool, true, false, ◌&&◌, ◌||◌}
 use Rattle.std.proofs.Common.{if◌then◌else◌, List, [], ◌∷◌, ◌++◌, length, drop, refl, sym, ap, ◌∙◌, subst, arith, append_assoc}
 use Rattle.std.proofs.Common.{length-drop}

@@ -1,4 +1,4 @@
--- What stands after an operand and belongs to it: for the contracts of `suffixed`, `infix` and `comma`.
+-- Suffixes of operands: for the contracts of `suffixed`, `infix` and `comma`.
 use Rattle.std.proofs.Common.{◌≡◌, ℕ, suc, ◌+◌, ◌-◌, ◌<◌, ◌≤◌, ◌⊎◌, inl, inr, Bool, true, false, List, [], ◌∷◌, ◌++◌}
 use Rattle.std.proofs.Common.{refl, sym, ap, ◌∙◌, subst, arith}
 use Rattle.cs_ast.specs.declared.token.TokenKind.{TokenKind}

@@ -1,4 +1,4 @@
--- What the parser of expressions answers.
+-- The results of the expression parser.
 use Rattle.std.specs.Prelude.{◌≡◌, ℕ, ◌≤◌, ◌<◌, ◌⊎◌, List, [], ◌∷◌, ◌++◌, Option, Some, None, drop, slice_get}
 use Rattle.std.specs.Option.{option_map}
 use Rattle.cs_ast.specs.declared.place.Place.{Place}
@@ -28,23 +28,23 @@ use Rattle.cs_expr_parser.specs.declared.answer.ExprLevel.{ExprLevel}
 use Rattle.cs_expr_parser.specs.declared.answer.ExprLevel.TheVariants.{Expr, Assign, Cond}
 use Rattle.cs_expr_parser.specs.declared.answer.Phrase.{Phrase}
 
--- the level of a phrase that is asked for
+-- the level of a phrase that is requested
 abbrev pub level_asked : ExprLevel → ℕ
 level_asked Expr = COMMA
 level_asked Assign = ASSIGN
 level_asked Cond = CHOICE
 
--- the kind of the token with this index, if it is there
+-- the kind of the token with this index, if there is one
 abbrev pub kind_at : List Token → ℕ → Option TokenKind
 kind_at tokens at = option_map (λ (token : Token). token.kind) (slice_get tokens at)
 
--- no phrase of the level that is low enough begins with these tokens and the next one
+-- no phrase of the level within the limit begins with these tokens and the next one
 abbrev pub GoesNoFurther : Names → ℕ → ℕ → Kinds → Option TokenKind → Type 0
 GoesNoFurther names level limit front (Some next) = BeginsLowPhrase names level limit (front ++ next ∷ []) → ⊥
 GoesNoFurther names level limit front None = Unit {0}
 
--- the tokens from an index on begin with this phrase of the level, and no phrase that is low enough goes further; `took` says
--- the same for parsers that go on
+-- the tokens from an index on begin with this phrase of the level, and no phrase within the limit is longer; `took` states the
+-- same for parsers that continue
 pub record IsTaken (names : Names) (level limit : ℕ) (tokens : List Token) (from : ℕ) (phrase : Phrase) : Type 0 where
   pub is_phrase : IsPhrase names level (written phrase.tree)
   pub low : height (written phrase.tree) ≤ limit
@@ -57,8 +57,8 @@ pub record IsTaken (names : Names) (level limit : ℕ) (tokens : List Token) (fr
   pub otherwise : IsReason names level (text (written phrase.tree) []) (kind_at tokens phrase.next) phrase.otherwise
   pub took : Took (Expressions names level) limit (written phrase.tree) (kind_or_end tokens phrase.next) (is_deep phrase.otherwise)
 
--- the tokens from an index on, up to another index, begin a phrase of the level that is low enough, if there are any, but aren't
--- one; with the next token they begin none, for this reason; `refused` says the same for parsers that go on
+-- the tokens from one index up to another begin a phrase of the level within the limit, if there are any, but aren't one; with
+-- the next token they begin none, for this reason; `refused` states the same for parsers that continue
 pub record IsRefusedAt (names : Names) (level limit : ℕ) (tokens : List Token) (from at : ℕ) (reason : Reason) : Type 0 where
   pub front : Kinds
   pub spelled : Spells tokens from at (λ rest. front ++ rest)
@@ -68,22 +68,22 @@ pub record IsRefusedAt (names : Names) (level limit : ℕ) (tokens : List Token)
   pub why : IsReason names level front (kind_at tokens at) reason
   pub refused : Refused (Expressions names level) limit front (kind_or_end tokens at) (is_deep reason)
 
--- want of memory, or a token is refused for the right reason, as the parts of the parser say it to one another
+-- memory runs out, or a token is refused for the right reason, in the form that the parts of the parser use among each other
 abbrev pub IsStopped : Names → ℕ → ℕ → List Token → ℕ → Stop → Type 0
 IsStopped names level limit tokens from stop.Memory = Unit {0}
 IsStopped names level limit tokens from (stop.Refused at reason) =
     IsRefused (Expressions names level) limit tokens from at reason × IsReportedAt names tokens from at reason
 
--- the place of the first of these tokens, or of the end of input
+-- the position of the first of these tokens, or of the end of input
 abbrev pub first_place : Place → List Token → Place
 first_place end [] = end
 first_place end (token ∷ tokens) = token.place
 
--- the place of the token with this index, or of the end of input
+-- the position of the token with this index, or of the end of input
 abbrev pub place_or_end : List Token → Place → ℕ → Place
 place_or_end tokens end at = first_place end (drop at tokens)
 
--- a refusal of this token, for this reason, or want of memory
+-- a refusal of this token, for this reason; or memory runs out
 abbrev pub IsRefusalBy : Token → Reason → SyntaxRefusal → Type 0
 IsRefusalBy token Syntax (refusal.Syntax place) = place ≡ token.place
 IsRefusalBy token Unsupported (refusal.Unsupported place word) = (place ≡ token.place) × (word ≡ unsupported_spelling token.kind)
@@ -91,7 +91,7 @@ IsRefusalBy token TooDeep (refusal.TooDeep place) = place ≡ token.place
 IsRefusalBy token reason refusal.Memory = Unit {0}
 IsRefusalBy token reason other = ⊥
 
--- a refusal of the token with this index, for this reason, or want of memory
+-- a refusal of the token with this index, for this reason; or memory runs out
 abbrev pub IsRefusalFor : List Token → Place → ℕ → Reason → SyntaxRefusal → Type 0
 IsRefusalFor tokens end at Syntax (refusal.Syntax place) = place ≡ place_or_end tokens end at
 IsRefusalFor tokens end at Unsupported (refusal.Unsupported place word) =
@@ -100,12 +100,12 @@ IsRefusalFor tokens end at TooDeep (refusal.TooDeep place) = place ≡ place_or_
 IsRefusalFor tokens end at reason refusal.Memory = Unit {0}
 IsRefusalFor tokens end at reason other = ⊥
 
--- the reason for a refusal of this token; the end of input is refused as syntax
+-- the reason for the refusal of this token; the end of input is refused as a syntax error
 abbrev pub reason_there : Option TokenKind → Reason → Reason
 reason_there (Some next) reason = reason
 reason_there None reason = Syntax
 
--- want of memory, or the refusal of the first token that no phrase of the level that is low enough continues with
+-- memory runs out, or the first token is refused with which no phrase of the level within the limit continues
 abbrev pub IsRefusal : Names → ℕ → ℕ → List Token → Place → ℕ → SyntaxRefusal → Type 0
 IsRefusal names level limit tokens end from refusal.Memory = Unit {0}
 IsRefusal names level limit tokens end from other = (at : ℕ) × (reason : Reason) × IsRefusalFor tokens end at reason other

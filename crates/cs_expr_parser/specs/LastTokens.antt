@@ -1,4 +1,4 @@
--- What the last of the tokens so far are, where a brace would be unsupported after a tag or a type between parentheses.
+-- What the last of the tokens so far are, since a brace is unsupported after a tag or after a type between parentheses.
 use Rattle.std.specs.Prelude.{◌≡◌, ℕ, ◌≤◌, Bool, true, false, List, [], ◌∷◌, ◌++◌, length, Result, Ok, Err}
 use Rattle.cs_ast.specs.declared.token.Token.{Token}
 use Rattle.cs_ast.specs.declared.token.TokenKind.{TokenKind}
@@ -16,28 +16,28 @@ use Rattle.cs_expr_parser.specs.Parts.{Spells}
 use Rattle.cs_expr_parser.specs.declared.stop.Stop.{Stop}
 use Rattle.cs_expr_parser.specs.declared.stop.Stop.TheVariants as stop
 
--- what the last tokens are: none of the others, `struct` or `enum`, or a tag or a type between parentheses
+-- the last tokens: none of the following, `struct` or `enum`, or a tag or a type between parentheses
 pub data Last : Type 0 where
   AnyToken : Last
   TagWord : Last
   TypeEnd : Last
 
--- the tokens begin with one that begins a type
+-- the first of the tokens begins a type
 abbrev pub begin_type : Names → Kinds → Bool
 begin_type names [] = false
 begin_type names (first ∷ others) = begins_type names first
 
--- what the last tokens are after a name
+-- the last tokens after one more name
 abbrev pub named : Last → Last
 named TagWord = TypeEnd
 named other = AnyToken
 
--- what the last tokens are where the innermost of the open parentheses, of which those of types are marked, is closed
+-- the last tokens after the innermost open parenthesis is closed; `true` marks those of types
 abbrev pub closed_by : List Bool → Last
 closed_by (true ∷ opened) = TypeEnd
 closed_by other = AnyToken
 
--- the parentheses that are left open
+-- the parentheses that remain open
 abbrev pub below : List Bool → List Bool
 below [] = []
 below (one ∷ opened) = opened
@@ -54,22 +54,22 @@ last_by opened last (token.Keyword keyword.Enum) = TagWord
 last_by opened last (token.Name name) = named last
 last_by opened last other = AnyToken
 
--- what the last tokens are after these, where so many parentheses are open before them
+-- the last tokens after these, if these parentheses are open before them
 abbrev pub last_of : Names → List Bool → Last → Kinds → Last
 last_of names opened last [] = last
 last_of names opened last (kind ∷ rest) = last_of names (opened_by names opened kind rest) (last_by opened last kind) rest
 
--- a brace after these tokens isn't unsupported, but a fault, whatever parentheses are open
+-- a brace after these tokens is a syntax error, whatever parentheses are open
 abbrev pub IsPlainEnd : Names → Kinds → Type 0
 IsPlainEnd names front = (opened : List Bool) → last_of names opened AnyToken front ≡ AnyToken
 
--- the reason says whether the token is unsupported after these
+-- the reason states correctly whether the token is unsupported after these
 abbrev pub YieldsUnsupported : Names → Kinds → TokenKind → Reason → Type 0
 YieldsUnsupported names front next TooDeep = Unit {0}
 YieldsUnsupported names front next Unsupported = IsUnsupported names front next
 YieldsUnsupported names front next Syntax = (is_unsupported next ≡ false) × (is_brace next ≡ true → IsPlainEnd names front)
 
--- the reason of a refusal is right after the tokens from an index on
+-- the reason of a refusal is right for the tokens from an index on
 pub record IsReportedAt (names : Names) (tokens : List Token) (from at : ℕ) (reason : Reason) : Type 0 where
   pub front : Kinds
   pub spelled : Spells tokens from at (λ rest. front ++ rest)
@@ -79,7 +79,7 @@ abbrev pub IsReported : Names → List Token → ℕ → Stop → Type 0
 IsReported names tokens from stop.Memory = Unit {0}
 IsReported names tokens from (stop.Refused at reason) = IsReportedAt names tokens from at reason
 
--- a part of the parser that gives no answer has the right reason
+-- if a part of the parser refuses a token, the reason is right
 abbrev pub IsStopReported : {Answer : Type 0} → Names → List Token → ℕ → Result Answer Stop → Type 0
 IsStopReported names tokens from (Ok taken) = Unit {0}
 IsStopReported names tokens from (Err stop) = IsReported names tokens from stop
@@ -89,7 +89,7 @@ abbrev pub YieldsAfter : Names → Kinds → Bool → Type 0
 YieldsAfter names before true = EndsWithTag before
 YieldsAfter names before false = IsPlainEnd names before
 
--- the reason of a refusal is right after the tokens from an index on, and others before them
+-- the reason of a refusal is right for the tokens from an index on, with others before them
 pub record IsReportedAfterAt (names : Names) (before : Kinds) (tokens : List Token) (from at : ℕ) (reason : Reason) : Type 0 where
   pub front : Kinds
   pub spelled : Spells tokens from at (λ rest. front ++ rest)

@@ -8,7 +8,7 @@ use Rattle.cs_ast.specs.RawTree.{Written, Named, Numeral, Character, Literal}
 use Rattle.cs_ast.specs.RawView.{written, written_kind}
 use Rattle.cs_grammar.specs.TypeWords.{Names, is_among}
 
--- the token is a name that is no typedef name, a constant or a text
+-- the token is a name that is no typedef name, a constant or a string literal
 abbrev pub is_leaf : Names → TokenKind → Bool
 is_leaf names (token.Name name) = not (is_among names name)
 is_leaf names (token.Number constant) = true
@@ -24,12 +24,12 @@ IsLeaf (token.Character value) tree = tree ≡ Character value
 IsLeaf (token.Text bytes) tree = tree ≡ Literal bytes
 IsLeaf other tree = ⊥
 
--- the answer for a token: its expression, or none where it has none
+-- the result for a token: its expression, or none if it is none
 abbrev pub IsLeafOf : Names → TokenKind → Option RawExpr → Type 0
 IsLeafOf names kind (Some tree) = (is_leaf names kind ≡ true) × IsLeaf kind (written tree)
 IsLeafOf names kind None = is_leaf names kind ≡ false
 
--- the same for an expression without its place
+-- the same for an expression without its position
 abbrev pub IsLeafKindOf : Names → TokenKind → Option RawExprKind → Type 0
 IsLeafKindOf names kind (Some leaf) = (is_leaf names kind ≡ true) × IsLeaf kind (written_kind leaf)
 IsLeafKindOf names kind None = is_leaf names kind ≡ false

@@ -1,4 +1,4 @@
--- What the parts of the parser of expressions answer to one another.
+-- The results that the parts of the expression parser return to one another.
 use Rattle.std.specs.Prelude.{◌≡◌, ℕ, ◌+◌, ◌≤◌, ◌<◌, Bool, true, false, List, [], ◌∷◌, ◌++◌, drop, length, Option, None}
 use Rattle.std.specs.Prelude.{if◌then◌else◌, Result, Ok, Err}
 use Rattle.cs_ast.specs.declared.token.Token.{Token}
@@ -26,24 +26,24 @@ use Rattle.cs_expr_parser.specs.declared.stop.Taken.{Taken}
 use Rattle.cs_expr_parser.specs.declared.lists.Listed.{Listed}
 use Rattle.cs_expr_parser.specs.declared.types.TakenType.{TakenType}
 
--- the reason is that only too high phrases go on
+-- the reason is that only phrases above the limit continue
 abbrev pub is_deep : Reason → Bool
 is_deep TooDeep = true
 is_deep other = false
 
--- the tokens from one number to another are these
+-- the tokens from one index to another are these
 pub record Spells (tokens : List Token) (from next : ℕ) (spell : Kinds → Kinds) : Type 0 where
   pub onward : from ≤ next
   pub within : next ≤ length tokens
   pub spelled : kinds (drop from tokens) ≡ spell (kinds (drop next tokens))
 
--- a token is refused: no phrase of the class continues with it that is low enough
+-- a token is refused: no phrase of the class within the limit continues with it
 pub record IsRefused (C : Class) (limit : ℕ) (tokens : List Token) (from at : ℕ) (reason : Reason) : Type 0 where
   pub front : Kinds
   pub spelled : Spells tokens from at (λ rest. front ++ rest)
   pub refused : Refused C limit front (kind_or_end tokens at) (is_deep reason)
 
--- what is known where no phrase is given
+-- what is known if no phrase is returned
 abbrev pub Stops : Class → ℕ → List Token → ℕ → Stop → Type 0
 Stops C limit tokens from stop.Memory = Unit {0}
 Stops C limit tokens from (stop.Refused at reason) = IsRefused C limit tokens from at reason
@@ -60,14 +60,14 @@ abbrev pub Answers : Names → ℕ → ℕ → List Token → ℕ → Result Tak
 Answers names level limit tokens from (Ok taken) = IsTakenFrom names level limit tokens from taken
 Answers names level limit tokens from (Err stop) = Stops (Expressions names level) limit tokens from stop
 
--- what was taken is this tree of this height, up to this token
+-- this tree of this height, up to this token, was taken
 pub record IsNode (tree : Written) (tall next : ℕ) (deep : Bool) (taken : Taken) : Type 0 where
   pub tree_is : written taken.tree ≡ tree
   pub height_is : taken.height ≡ tall
   pub next_is : taken.next ≡ next
   pub deep_is : taken.deep ≡ deep
 
--- the answer for a dot or an arrow: the name after it, or the refusal of what stands there
+-- the result for a dot or an arrow: the name after it, or the refusal of the token after it
 abbrev pub IsSelected : Bool → Written → ℕ → ℕ → List Token → Result Taken Stop → Type 0
 IsSelected through left tall next tokens (Ok taken) =
     (name : List ℕ) × (kind_or_end tokens (next + 1) ≡ token.Name name)
@@ -88,7 +88,7 @@ abbrev pub ChainAnswers : Names → ℕ → ℕ → List Token → ℕ → Resul
 ChainAnswers names level limit tokens from (Ok taken) = IsChainFrom names level limit tokens from taken
 ChainAnswers names level limit tokens from (Err stop) = Stops (Expressions names level) limit tokens from stop
 
--- phrases in a row, with what closes them
+-- lists of phrases, with what closes them
 abbrev pub Rows : (WrittenList → Kinds → Kinds) → (WrittenList → Type 0) → Class
 Rows spell Is = record { Tree = WrittenList; spell = spell; tall = highest; Is = Is; Shut = λ tree after. Unit {0} }
 
@@ -106,7 +106,7 @@ pub record TypeParts : Type 0 where
   pub pointers : List PointerWord
   pub bounds : WrittenList
 
--- the parts make a type
+-- the parts form a type
 pub record IsTypeOf (names : Names) (parts : TypeParts) : Type 0 where
   pub words : is_type names parts.words ≡ true
   pub pointers : is_pointer parts.pointers ≡ true
@@ -130,14 +130,14 @@ Types names = record {
   Shut = λ tree after. Unit {0};
 }
 
--- phrases in a row were taken
+-- a list of phrases was taken
 pub record IsRowFrom (spell : WrittenList → Kinds → Kinds) (Is : WrittenList → Type 0) (limit : ℕ) (tokens : List Token) (from : ℕ) (taken : Listed) :
     Type 0 where
   pub height_is : taken.height ≡ highest (written_list taken.trees.items)
   pub spelled : Spells tokens from taken.next (spell (written_list taken.trees.items))
   pub exactly : Exactly (Rows spell Is) limit (written_list taken.trees.items)
 
--- phrases in a row were taken, or a token was refused
+-- a list of phrases was taken, or a token was refused
 abbrev pub RowAnswers : (WrittenList → Kinds → Kinds) → (WrittenList → Type 0) → ℕ → List Token → ℕ → Result Listed Stop → Type 0
 RowAnswers spell Is limit tokens from (Ok taken) = IsRowFrom spell Is limit tokens from taken
 RowAnswers spell Is limit tokens from (Err stop) = Stops (Rows spell Is) limit tokens from stop
@@ -153,7 +153,7 @@ abbrev pub TypeAnswers : Names → ℕ → List Token → ℕ → Result TakenTy
 TypeAnswers names limit tokens from (Ok taken) = IsTypeFrom names limit tokens from taken
 TypeAnswers names limit tokens from (Err stop) = Stops (Types names) limit tokens from stop
 
--- what was taken lies inside the tokens, has some, and is low enough
+-- what was taken lies within the tokens, isn't empty, and is within the limit
 abbrev pub IsBounded : ℕ → List Token → ℕ → Result Taken Stop → Type 0
 IsBounded limit tokens from (Ok taken) = (from < taken.next) × (taken.next ≤ length tokens) × (1 ≤ taken.height) × (taken.height ≤ limit)
 IsBounded limit tokens from (Err (stop.Refused at reason)) = (from ≤ at) × (at ≤ length tokens)
@@ -169,7 +169,7 @@ IsTypeBounded limit tokens from (Ok taken) = (from < taken.next) × (taken.next 
 IsTypeBounded limit tokens from (Err (stop.Refused at reason)) = (from ≤ at) × (at ≤ length tokens)
 IsTypeBounded limit tokens from (Err stop.Memory) = Unit {0}
 
--- what was refused lies inside the tokens
+-- what was refused lies within the tokens
 abbrev pub IsStopBounded : {Answer : Type 0} → List Token → ℕ → Result Answer Stop → Type 0
 IsStopBounded tokens from (Ok taken) = Unit {0}
 IsStopBounded tokens from (Err (stop.Refused at reason)) = (from ≤ at) × (at ≤ length tokens)

@@ -1,4 +1,4 @@
--- Tokens by their numbers; after the last one stands a token that no expression takes.
+-- Tokens by their indices; after the last one, the end of input counts as a token that no expression takes.
 use Rattle.std.specs.Prelude.{◌≡◌, ℕ, List, [], ◌∷◌, Option, Some, None, Bool, true, false, drop, map}
 use Rattle.cs_ast.specs.declared.token.Token.{Token}
 use Rattle.cs_ast.specs.declared.token.TokenKind.{TokenKind}
@@ -18,7 +18,7 @@ abbrev pub first_kind : List Token → TokenKind
 first_kind [] = token.Attribute
 first_kind (first ∷ others) = first.kind
 
--- the kind of the token with this index
+-- the kind of the token with this index, or of the end of input
 abbrev pub kind_or_end : List Token → ℕ → TokenKind
 kind_or_end tokens at = first_kind (drop at tokens)
 
@@ -37,7 +37,7 @@ abbrev pub name_of : TokenKind → Option (List ℕ)
 name_of (token.Name name) = Some name
 name_of other = None
 
--- the token is a word or punctuator that is unsupported wherever it stands in an expression
+-- the token is a word or punctuator that is unsupported everywhere in an expression
 abbrev pub is_unsupported : TokenKind → Bool
 is_unsupported (token.Unsupported word) = true
 is_unsupported (token.Punctuator punctuator.Ellipsis) = true
@@ -50,7 +50,7 @@ abbrev pub is_brace : TokenKind → Bool
 is_brace (token.Punctuator punctuator.OpenBrace) = true
 is_brace other = false
 
--- the punctuator stands after an operand and belongs to it
+-- the punctuator begins a suffix of an operand
 abbrev pub is_suffix : Punctuator → Bool
 is_suffix punctuator.OpenBracket = true
 is_suffix punctuator.OpenParenthesis = true
@@ -60,7 +60,7 @@ is_suffix punctuator.Increment = true
 is_suffix punctuator.Decrement = true
 is_suffix other = false
 
--- the answer for a token: the punctuator that it is, if that stands after an operand and belongs to it
+-- the result for a token: its punctuator, if that begins a suffix of an operand
 abbrev pub IsSuffixAt : TokenKind → Option Punctuator → Type 0
 IsSuffixAt kind (Some punctuator) = (kind ≡ token.Punctuator punctuator) × (is_suffix punctuator ≡ true)
 IsSuffixAt kind None = (punctuator : Punctuator) → kind ≡ token.Punctuator punctuator → is_suffix punctuator ≡ false

@@ -1,4 +1,4 @@
--- Why a token is refused, by what stands before it.
+-- Why a token is refused, depending on what precedes it.
 use Rattle.std.specs.Prelude.{Bool, true, false, ◌&&◌, ◌||◌, if◌then◌else◌}
 use Rattle.cs_ast.specs.declared.token.TokenKind.{TokenKind}
 use Rattle.cs_ast.specs.RawTree.{Written, Named, Numeral, Character, Literal, Enclosed, Index, Call, Member, Arrow, StepAfter, StepBefore, Prefix, SizeOf}
@@ -20,10 +20,10 @@ ends_in_type (Assign operator object value) = ends_in_type value
 ends_in_type (Comma first second) = ends_in_type second
 ends_in_type other = false
 
--- why a token is refused that no phrase of any height continues with, after a type or a tag or not
+-- why a token is refused with which no phrase of any height continues; `after_type`: it follows a type or a tag
 abbrev pub plain_reason : TokenKind → Bool → Reason
 plain_reason next after_type = if is_unsupported next || (after_type && is_brace next) then Unsupported else Syntax
 
--- why a token is refused, if a higher phrase continues with it and if not
+-- why a token is refused; `deep`: a phrase above the limit continues with it
 abbrev pub reason_of : Bool → TokenKind → Bool → Reason
 reason_of deep next after_type = if deep then TooDeep else plain_reason next after_type

@@ -1,4 +1,4 @@
--- What stands before the operand of a unary expression.
+-- What precedes the operand of a unary expression.
 use Rattle.std.specs.Prelude.{◌≡◌, Bool, true, false, Option, Some, None}
 use Rattle.cs_ast.specs.declared.token.TokenKind.{TokenKind}
 use Rattle.cs_ast.specs.declared.token.TokenKind.TheVariants as token
@@ -13,23 +13,23 @@ use Rattle.cs_grammar.specs.FirstTokens.{begins_type}
 use Rattle.cs_expr_parser.specs.declared.unary.Before.{Before}
 use Rattle.cs_expr_parser.specs.declared.unary.Before.TheVariants as before
 
--- a parenthesis and the token after it begin a type
+-- the first token opens a parenthesis, and the second begins a type
 abbrev pub opens_type : Names → TokenKind → TokenKind → Bool
 opens_type names (token.Punctuator punctuator.OpenParenthesis) second = begins_type names second
 opens_type names other second = false
 
--- the token of what stands before an operand
+-- the token of a prefix
 abbrev pub before_text : Before → TokenKind
 before_text (before.Step by) = token.Punctuator (step_punctuator by)
 before_text (before.Operator operator) = token.Punctuator (prefix_punctuator operator)
 before_text before.Size = token.Keyword keyword.Sizeof
 
--- the answer for a token: what it is before an operand, none where it is nothing of that kind
+-- the result for a token: the prefix that it is, or none if it is none
 abbrev pub IsOperatorAt : TokenKind → Option Before → Type 0
 IsOperatorAt kind (Some found) = kind ≡ before_text found
 IsOperatorAt kind None = (found : Before) → kind ≡ before_text found → ⊥
 
--- the expression of an operand with what stands before it
+-- the expression of an operand with its prefix
 abbrev pub prefixed_tree : Before → Written → Written
 prefixed_tree (before.Step by) operand = StepBefore by operand
 prefixed_tree (before.Operator operator) operand = Prefix operator operand

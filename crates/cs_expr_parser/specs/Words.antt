@@ -1,4 +1,4 @@
--- What the parts of the parser of types answer to one another.
+-- The results that the parts of the type parser return to one another.
 use Rattle.std.specs.Prelude.{◌≡◌, ℕ, ◌+◌, ◌≤◌, ◌<◌, length, Bool, true, false, List, [], ◌∷◌, ◌++◌, Option, Some, None, Result}
 use Rattle.std.specs.Prelude.{Ok, Err, if◌then◌else◌}
 use Rattle.cs_ast.specs.declared.token.Token.{Token}
@@ -52,12 +52,12 @@ last_tagged [] = false
 last_tagged (last ∷ []) = has_tag last
 last_tagged (first ∷ second ∷ words) = last_tagged (second ∷ words)
 
--- a tag that stood last still does, where these stand after it
+-- the last word has a tag, of words that end with these
 abbrev pub is_last_tag : {Item : Type 0} → Bool → List Item → Bool
 is_last_tag tagged [] = tagged
 is_last_tag tagged (first ∷ others) = false
 
--- the words of a type were taken, as many as there are
+-- the longest sequence of words of a type was taken
 pub record IsWordsFrom (names : Names) (tokens : List Token) (from : ℕ) (taken : TypeWords) : Type 0 where
   pub spelled : Spells tokens from taken.next (words_text taken.words.items)
   pub is_type : is_type names taken.words.items ≡ true
@@ -73,25 +73,25 @@ abbrev pub names_some : TypeSoFar → Bool
 names_some Nothing = false
 names_some other = true
 
--- a word of a type is at an index; one with a tag only where the words so far name no type
+-- a word of a type is at an index; it has a tag only if the words so far name no type
 pub record IsWordAt (names : Names) (tokens : List Token) (at : ℕ) (so_far : TypeSoFar) (found : NextWord) : Type 0 where
   pub spelled : Spells tokens at found.next (type_word_text found.word)
   pub known : (name : List ℕ) → found.word ≡ word.Typedef name → is_among names name ≡ true
   pub later : at + 1 ≤ found.next
   pub fresh : has_tag found.word ≡ true → names_some so_far ≡ false
 
--- the word can't be used where the words so far are these
+-- the word can't follow the words so far
 abbrev pub IsUnusable : Names → TypeSoFar → TypeWord → Type 0
 IsUnusable names so_far (word.Typedef name) = is_among names name ≡ false
 IsUnusable names so_far (word.Struct tag) = names_some so_far ≡ true
 IsUnusable names so_far (word.Enum tag) = names_some so_far ≡ true
 IsUnusable names so_far other = ⊥
 
--- no word of a type is at an index, but perhaps one with a tag where the words so far name a type
+-- no word of a type is at an index, except perhaps one with a tag, if the words so far name a type
 abbrev pub NoWord : Names → TypeSoFar → TokenKind → Type 0
 NoWord names so_far next = (one : TypeWord) → first_of_word one ≡ next → IsUnusable names so_far one
 
--- a tag is missing after `struct` or `enum`, where the words so far name no type
+-- a tag is missing after `struct` or `enum`, and the words so far name no type
 pub record IsTagMissing (tokens : List Token) (at refused : ℕ) : Type 0 where
   pub is_struct : Bool
   pub stands : kind_or_end tokens at ≡ token.Keyword (if is_struct then keyword.Struct else keyword.Enum)
@@ -105,12 +105,12 @@ WordAnswer names tokens at so_far (Err stop.Memory) = Unit {0}
 WordAnswer names tokens at so_far (Err (stop.Refused refused reason)) =
     IsTagMissing tokens at refused × (names_some so_far ≡ false) × (reason ≡ plain_reason (kind_or_end tokens refused) true)
 
--- a word is at an index that joins the words of a type so far
+-- a word at an index continues the words of a type so far
 pub record IsJoiningAt (names : Names) (words : List TypeWord) (tokens : List Token) (at : ℕ) (joining : JoiningWord) : Type 0 where
   pub spelled : Spells tokens at joining.found.next (type_word_text joining.found.word)
   pub described : Describes names joining.after (words ++ joining.found.word ∷ [])
 
--- the answer for a number: the word there that joins the words of a type so far, none where no type continues with it
+-- the result at an index: the word there that continues the words of a type so far, or none if no type continues with it
 abbrev pub JoiningAnswer : Names → List TypeWord → List Token → ℕ → Result (Option JoiningWord) Stop → Type 0
 JoiningAnswer names words tokens at (Ok (Some joining)) = IsJoiningAt names words tokens at joining
 JoiningAnswer names words tokens at (Ok None) = IsStuck names words (kind_or_end tokens at)
@@ -118,11 +118,11 @@ JoiningAnswer names words tokens at (Err stop.Memory) = Unit {0}
 JoiningAnswer names words tokens at (Err (stop.Refused refused reason)) =
     IsTagMissing tokens at refused × (named_by words ≡ []) × (reason ≡ plain_reason (kind_or_end tokens refused) true)
 
--- the word of a tag
+-- `struct` or `enum` with a tag, as a word
 abbrev pub word_of_tag : Bool → List ℕ → TypeWord
 word_of_tag is_struct tag = if is_struct then word.Struct tag else word.Enum tag
 
--- the answer where `struct` or `enum` stands
+-- the result at `struct` or `enum`
 abbrev pub TagAnswer : Bool → List Token → ℕ → TypeSoFar → Result (Option NextWord) Stop → Type 0
 TagAnswer is_struct tokens at so_far (Ok (Some found)) =
     (tag : List ℕ) × (kind_or_end tokens (at + 1) ≡ token.Name tag) × (found.word ≡ word_of_tag is_struct tag) × (found.next ≡ at + 2)
@@ -133,7 +133,7 @@ TagAnswer is_struct tokens at so_far (Err (stop.Refused refused reason)) =
     (name_of (kind_or_end tokens (at + 1)) ≡ None) × (refused ≡ at + 1) × (names_some so_far ≡ false)
     × (reason ≡ plain_reason (kind_or_end tokens refused) true)
 
--- the answer for a keyword: the word of an integer type that it is
+-- the result for a keyword: the word of an integer type that it is
 abbrev pub IsIntegerAt : Keyword → ℕ → Option NextWord → Type 0
 IsIntegerAt kind at (Some found) = (one : IntegerWord) × (word_of kind ≡ Some one) × (found.word ≡ word.Integer one) × (found.next ≡ at + 1)
     × (found.tag ≡ None)
@@ -144,7 +144,7 @@ IsPointerAt kind (Some pointer.Star) = kind ≡ token.Punctuator punctuator.Star
 IsPointerAt kind (Some pointer.Const) = kind ≡ token.Keyword keyword.Const
 IsPointerAt kind None = (kind ≡ token.Punctuator punctuator.Star → ⊥) × (kind ≡ token.Keyword keyword.Const → ⊥)
 
--- the words of pointers were taken, as many as there are
+-- the longest sequence of words of pointers was taken
 pub record IsPointersFrom (tokens : List Token) (from : ℕ) (taken : PointerWords) : Type 0 where
   pub spelled : Spells tokens from taken.next (pointers_text taken.words.items)
   pub is_pointer : is_pointer taken.words.items ≡ true
@@ -156,7 +156,7 @@ PointersAnswer tokens from (Ok taken) = IsPointersFrom tokens from taken
 PointersAnswer tokens from (Err stop.Memory) = Unit {0}
 PointersAnswer tokens from (Err (stop.Refused at reason)) = ⊥
 
--- a word that was found, or what was refused, lies inside the tokens
+-- a word that was found, or what was refused, lies within the tokens
 abbrev pub IsNextBounded : List Token → ℕ → Result (Option NextWord) Stop → Type 0
 IsNextBounded tokens at (Ok (Some found)) = (at < found.next) × (found.next ≤ length tokens)
 IsNextBounded tokens at (Ok None) = Unit {0}

@@ -1,4 +1,4 @@
-//! The kind of an expression, and what it ends with.
+//! The level of an expression, and its last part.
 ghost use Rattle.std.specs.Prelude.{◌≡◌, nat_le};
 ghost use Rattle.cs_ast.specs.RawView.{written, written_kind};
 ghost use Rattle.cs_grammar.specs.Levels.{level_of};
@@ -6,7 +6,7 @@ ghost use Rattle.cs_expr_parser.specs.Reasons.{ends_in_type};
 
 use cs_ast::raw::expression::{RawExpr, RawExprKind};
 
-/// Whether the expression ends with a type between parentheses: its last part is `sizeof ( type )`.
+/// Whether the last part of the expression is `sizeof ( type )`, so that it ends with a type between parentheses.
 #[cycle(ends)]
 pub fn ends_with_type(tree: &RawExpr) -> bool
     ensures { result ≡ ends_in_type (written tree.now) }
@@ -28,7 +28,7 @@ fn kind_ends_with_type(kind: &RawExprKind) -> bool
     }
 }
 
-/// Whether the expression is a unary one (C11 6.5.3), so that it may stand before an operator that stores.
+/// Whether the expression is a unary one (C11 6.5.3), so that it may be the left operand of an assignment.
 pub fn is_unary(tree: &RawExpr) -> bool
     ensures { result ≡ nat_le 14 (level_of (written tree.now)) }
 {

@@ -1,4 +1,4 @@
-//! Operators between two operands that group from the left (C11 6.5.5 to 6.5.14).
+//! Left-associative infix operators (C11 6.5.5 to 6.5.14).
 ghost use Rattle.std.specs.Prelude.{◌≡◌, ◌≤◌, ◌<◌, ◌^◌, ◌+◌, ◌-◌, length, max, IfOk, IsSome};
 ghost use Rattle.cs_expr_parser.specs.Places.{IsOkPlaced, IsBuiltWith};
 ghost use Rattle.cs_ast.specs.RawTree.{Infix};
@@ -18,10 +18,10 @@ use cs_ast::raw::operator::InfixOp;
 use cs_grammar::{TypedefNames, infix_level, infix_operator};
 use std::alloc::{AllocError, Global};
 
-/// The level of casts, which are the operands of the tightest operators.
+/// The level of casts, which are the operands of the tightest infix operators.
 const CASTS: u32 = 13;
 
-/// The expression with operators of this level or a tighter one that begins at an index.
+/// Returns the expression with operators of this level or a tighter one that begins at an index.
 #[cycle(expression)]
 pub fn infix(
     alloc: Global,
@@ -54,7 +54,7 @@ pub fn infix(
     Ok(left)
 }
 
-/// The operator of this level at an index, if there is one.
+/// Returns the operator of this level at an index, if there is one.
 fn operator_at(tokens: &[Token], at: usize, level: u32) -> Option<InfixOp>
     ensures within { IsSome result → at < length tokens.now }
     ensures operator { IsInfixAt level (kind_or_end tokens.now at) result }
@@ -67,7 +67,7 @@ fn operator_at(tokens: &[Token], at: usize, level: u32) -> Option<InfixOp>
     }
 }
 
-/// Two operands with the operator between them.
+/// Returns the infix expression of two operands, with the operator between them.
 fn joined(
     alloc: Global,
     tokens: &[Token],

@@ -1,4 +1,4 @@
-//! From tokens to written expressions, exact to the token that is refused.
+//! The expression parser: tokens to written expressions, exact to the token that is refused.
 #![tactic(auto)]
 
 mod answer;

@@ -1,4 +1,4 @@
-//! Expressions in a row: arguments of calls, and bounds of arrays.
+//! Lists of expressions: arguments of calls, and bounds of arrays.
 ghost use Rattle.std.specs.Prelude.{◌≡◌, ◌≤◌, ◌<◌, ◌^◌, length};
 ghost use Rattle.cs_expr_parser.specs.Places.{IsRowPlaced, AreBoundsPlaced};
 ghost use Rattle.cs_grammar.specs.Levels.{ASSIGN, CHOICE};
@@ -16,17 +16,17 @@ use cs_ast::{Punctuator, Token};
 use cs_grammar::TypedefNames;
 use std::alloc::Global;
 
-/// Expressions in a row with what closes them, as one part of the parser hands them to another.
+/// A list of expressions and what closes it, as a part of the parser returns it to another.
 #[derive(Drop)]
 pub struct Listed {
     pub trees: Vec<RawExpr>,
-    /// The height of the highest, 0 where there is none.
+    /// The height of the highest, 0 if there is none.
     pub height: u32,
-    /// The index of the token after what closes them.
+    /// The index of the token after what closes the list.
     pub next: usize,
 }
 
-/// The arguments of a call, from after its opening parenthesis to after the closing one (C11 6.5.2.2).
+/// Returns the arguments of a call, from after the opening parenthesis to after the closing one (C11 6.5.2.2).
 #[cycle(expression)]
 pub fn arguments(
     alloc: Global,
@@ -70,8 +70,8 @@ pub fn arguments(
     })
 }
 
-/// The bounds of a type's arrays, each between brackets, to after the parenthesis that closes the type (C11 6.7.6.2). Whether
-/// a tag stands before them says why a brace is refused.
+/// Returns the bounds of a type's arrays, each between brackets, to after the parenthesis that closes the type (C11
+/// 6.7.6.2). `after_tag`, whether a tag is before them, decides why a brace is refused.
 #[cycle(expression)]
 pub fn bounds(
     alloc: Global,
@@ -113,7 +113,7 @@ pub fn bounds(
     })
 }
 
-/// Whether what stood last before these still does.
+/// Whether what was last before these items is still last.
 pub fn is_last_word<T>(last: bool, following: &[T]) -> bool
     ensures { result ≡ is_last_tag last following.now }
 {

@@ -1,4 +1,4 @@
-//! The loosest expressions: choices, those that store, and those with commas (C11 6.5.15 to 6.5.17).
+//! The loosest expressions: conditional ones, assignments, and those with commas (C11 6.5.15 to 6.5.17).
 ghost use Rattle.std.specs.Prelude.{◌≡◌, ◌≤◌, ◌<◌, ◌^◌, ◌+◌, ◌-◌, length, max, IfOk, IsSome};
 ghost use Rattle.cs_expr_parser.specs.Places.{IsOkPlaced, IsBuiltWith, IsBuiltOfThree};
 ghost use Rattle.cs_ast.specs.RawTree.{Choice, Assign, Comma};
@@ -20,10 +20,10 @@ use cs_ast::{Punctuator, Token};
 use cs_grammar::{TypedefNames, assign_operator};
 use std::alloc::{AllocError, Global};
 
-/// The level of the loosest operators between two operands.
+/// The level of the loosest infix operators.
 const INFIX: u32 = 3;
 
-/// The choice, or the tighter expression, that begins at an index.
+/// Returns the conditional expression, or the tighter one, that begins at an index.
 #[cycle(expression)]
 pub fn choice(
     alloc: Global,
@@ -54,7 +54,7 @@ pub fn choice(
     Ok(chosen(alloc, tokens, test, one, other)?)
 }
 
-/// The choice of its three parts.
+/// Returns the conditional expression of its three parts.
 fn chosen(
     alloc: Global,
     tokens: &[Token],
@@ -80,7 +80,7 @@ fn chosen(
     })
 }
 
-/// The expression that stores, or the tighter one, that begins at an index.
+/// Returns the assignment, or the tighter expression, that begins at an index.
 #[cycle(expression)]
 pub fn assign(
     alloc: Global,
@@ -110,7 +110,7 @@ pub fn assign(
     Ok(stored(alloc, tokens, operator, object, value)?)
 }
 
-/// The operator that stores at an index, if one stands there.
+/// Returns the assignment operator at an index, if there is one.
 fn assign_operator_at(tokens: &[Token], at: usize) -> Option<AssignOp>
     ensures within { IsSome result → at < length tokens.now }
     ensures operator { IsAssignAt (kind_or_end tokens.now at) result }
@@ -118,7 +118,7 @@ fn assign_operator_at(tokens: &[Token], at: usize) -> Option<AssignOp>
     assign_operator(punctuator_at(tokens, at)?)
 }
 
-/// An object and a value with the operator between them.
+/// Returns the assignment of a value to an object, with the operator between them.
 fn stored(
     alloc: Global,
     tokens: &[Token],
@@ -143,7 +143,7 @@ fn stored(
     })
 }
 
-/// The expression with commas, or the tighter one, that begins at an index.
+/// Returns the expression with commas, or the tighter one, that begins at an index.
 #[cycle(expression)]
 pub fn comma(
     alloc: Global,
@@ -170,7 +170,7 @@ pub fn comma(
     Ok(first)
 }
 
-/// Two expressions with the comma between them.
+/// Returns the comma expression of two expressions.
 fn followed(
     alloc: Global,
     tokens: &[Token],

@@ -1,4 +1,4 @@
-//! The nodes of trees, each made of its parts.
+//! Builds the nodes of trees from their parts.
 ghost use Rattle.std.specs.Prelude.{◌≡◌, ◌<◌, ◌∷◌, List, drop, IfOk, IsSome, length};
 ghost use Rattle.cs_ast.specs.declared.token.Token.{Token as OneToken};
 ghost use Rattle.cs_expr_parser.specs.Places.{IsFoundPlaced, IsPlacedAnywhere, PlacesForm, PlacesBefore, PlacesAfter, PlacesBetween, PlacesMember, PlacesCall, PlacesChoice, PlacesSizeOfType, PlacesCast};
@@ -15,7 +15,7 @@ use cs_ast::{Place, Token, TokenKind};
 use cs_grammar::TypedefNames;
 use std::alloc::{AllocError, Global};
 
-/// The expression of the one token at an index, if that is one.
+/// Returns the expression of the one token at an index, if that is an expression.
 #[tactic(auto, using(std::proofs::lemmas::Option::slice_get_within))]
 pub fn leaf_at(
     alloc: Global,
@@ -33,7 +33,7 @@ pub fn leaf_at(
     }
 }
 
-/// The expression of one token: a name that is no typedef name, a constant or a text.
+/// Returns the expression of one token: a name that is no typedef name, a constant or a string literal.
 fn leaf(alloc: Global, token: &Token, names: &TypedefNames) -> Result<Option<RawExpr>, AllocError>
     ensures leaf { IfOk result (IsLeafOf names.now token.now.kind) }
     ensures placed { IfOk result (λ found.
@@ -63,7 +63,7 @@ fn leaf_kind(kind: &TokenKind, names: &TypedefNames) -> Result<Option<RawExprKin
     }
 }
 
-/// The node of this form at this place.
+/// Returns the node of this form at this position.
 fn node(alloc: Global, place: Place, kind: RawExprKind) -> Result<RawExpr, AllocError>
     ensures tree { IfOk result (λ tree. written tree ≡ written_kind kind) }
     ensures placed { IfOk result (PlacesForm place kind) }
@@ -160,7 +160,7 @@ pub fn step_before(
     node(alloc, place, RawExprKind::StepBefore(step, object))
 }
 
-/// An operator before its operand.
+/// A prefix operator with its operand.
 pub fn prefix(
     alloc: Global,
     place: Place,
@@ -214,7 +214,7 @@ pub fn cast(
     node(alloc, place, RawExprKind::Cast(ty, bounds, operand))
 }
 
-/// An operator between its operands.
+/// An infix operator with its operands.
 pub fn infix(
     alloc: Global,
     place: Place,
@@ -244,7 +244,7 @@ pub fn choice(
     node(alloc, place, RawExprKind::Choice(test, one, other))
 }
 
-/// An operator that stores, between its object and the value.
+/// An assignment operator with the object and the value.
 pub fn assign(
     alloc: Global,
     place: Place,

@@ -18,10 +18,10 @@ use cs_grammar::{Reason, SyntaxRefusal, TypedefNames, unsupported_text};
 use cs_names::Name;
 use std::alloc::Global;
 
-/// The expression of a level, no higher than the limit, that begins at an index.
+/// Returns the expression of a level, within the height limit, that begins at an index.
 ///
-/// It takes tokens while some such expression begins with them, and refuses the next one if what it took isn't one. The
-/// place of the end of input is `end`.
+/// It takes tokens as long as some such expression begins with them, and refuses the next token if the tokens that it
+/// took aren't one. `end` is the position of the end of input.
 pub fn expression(
     alloc: Global,
     tokens: &[Token],
@@ -44,7 +44,7 @@ pub fn expression(
     }
 }
 
-/// The same for parsers that continue, with the index of the token that is refused.
+/// The same for parsers that continue: the refusal has the index of the token.
 pub fn expression_at(
     alloc: Global,
     tokens: &[Token],
@@ -62,7 +62,7 @@ pub fn expression_at(
     Ok(phrase(tokens, taken))
 }
 
-/// The expression of a level, as the parts of the parser hand it to one another.
+/// Returns the expression of a level, as a part of the parser returns it to another.
 fn part(
     alloc: Global,
     tokens: &[Token],
@@ -84,7 +84,8 @@ fn part(
     }
 }
 
-/// The expression that was taken, with the reason for which the token after it is refused where nothing else continues with it.
+/// Returns the expression that was taken, with the reason why the token after it is refused if nothing else continues
+/// with it.
 fn phrase(tokens: &[Token], taken: Taken) -> Phrase
     ensures tree { result.tree ≡ taken.tree }
     ensures height { result.height ≡ taken.height }
@@ -102,7 +103,7 @@ fn phrase(tokens: &[Token], taken: Taken) -> Phrase
     }
 }
 
-/// The refusal of the token with this index, or of the end of input, whose place is `end`.
+/// Returns the refusal of the token with this index, or of the end of input, whose position is `end`.
 pub fn refusal(
     alloc: Global,
     tokens: &[Token],

@@ -23,7 +23,7 @@ use cs_ast::{Place, Punctuator, Token};
 use cs_grammar::TypedefNames;
 use std::alloc::{AllocError, Global};
 
-/// The postfix expression that begins at an index.
+/// Returns the postfix expression that begins at an index.
 #[cycle(expression)]
 pub fn postfix(
     alloc: Global,
@@ -49,7 +49,7 @@ pub fn postfix(
     Ok(left)
 }
 
-/// The expression, marked as one that a too high expression continues.
+/// Returns the expression, with the flag set that an expression above the limit continues it.
 pub fn deepened(taken: Taken) -> Taken
     ensures node { IsNode (written taken.tree) taken.height taken.next true result }
     ensures same { result.tree ≡ taken.tree }
@@ -62,7 +62,7 @@ pub fn deepened(taken: Taken) -> Taken
     }
 }
 
-/// The punctuator at an index, if it stands after an operand and belongs to it.
+/// Returns the punctuator at an index, if it begins a suffix of an operand.
 fn suffix_at(tokens: &[Token], at: usize) -> Option<Punctuator>
     ensures within { IsSome result → at < length tokens.now }
     ensures punctuator { IsSuffixAt (kind_or_end tokens.now at) result }
@@ -87,7 +87,7 @@ fn suffix_of(punctuator: Punctuator) -> Option<Punctuator>
     }
 }
 
-/// The operand with what begins with this punctuator after it.
+/// Returns the operand with the suffix that begins with this punctuator.
 #[cycle(expression)]
 fn suffixed(
     alloc: Global,
@@ -166,7 +166,7 @@ fn called(alloc: Global, tokens: &[Token], left: Taken, listed: Listed) -> Resul
     })
 }
 
-/// The operand with a dot or an arrow and the name of a member after it.
+/// Returns the operand with the dot or arrow and the name of a member after it.
 fn selected(alloc: Global, tokens: &[Token], left: Taken, through: bool) -> Result<Taken, Stop>
     requires within { left.next < length tokens.now }
     requires low { left.height < 2 ^ 32 - 1 }
@@ -210,7 +210,7 @@ fn selected_node(
     }
 }
 
-/// The operand with a step after it.
+/// Returns the operand with `++` or `--` after it.
 fn stepped(alloc: Global, tokens: &[Token], left: Taken, by: Step) -> Result<Taken, AllocError>
     requires within { left.next < length tokens.now }
     requires low { left.height < 2 ^ 32 - 1 }

@@ -15,7 +15,7 @@ use cs_ast::{Punctuator, Token};
 use cs_grammar::TypedefNames;
 use std::alloc::{AllocError, Global};
 
-/// The primary expression that begins at an index.
+/// Returns the primary expression that begins at an index.
 #[cycle(expression)]
 pub fn primary(
     alloc: Global,
@@ -55,7 +55,7 @@ pub fn primary(
     })
 }
 
-/// The expression with parentheses around it, the first of which is at an index.
+/// Returns the expression with parentheses around it; the first is at an index.
 fn enclosed(alloc: Global, tokens: &[Token], from: usize, inner: Taken) -> Result<Taken, AllocError>
     requires within { from < length tokens.now }
     requires low { inner.height < 2 ^ 32 - 1 }

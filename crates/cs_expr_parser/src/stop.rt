@@ -1,4 +1,4 @@
-//! What the parts of the parser answer to one another.
+//! The results that the parts of the parser return to one another.
 ghost use Rattle.cs_expr_parser.specs.declared.stop.Stop.TheVariants.{Memory};
 ghost use Rattle.std.specs.Prelude.{◌≡◌};
 
@@ -6,24 +6,24 @@ use cs_ast::raw::expression::RawExpr;
 use cs_grammar::Reason;
 use std::alloc::{AllocError, AllocFailed};
 
-/// An expression that tokens begin with, as one part of the parser hands it to another.
+/// An expression that tokens begin with, as a part of the parser returns it to another.
 #[derive(Drop)]
 pub struct Taken {
     pub tree: RawExpr,
     /// The height of the tree.
     pub height: u32,
-    /// The index of the token after it.
+    /// The index of the token after the expression.
     pub next: usize,
-    /// Whether an expression of the same level that is too high continues with the token after it.
+    /// Whether an expression of the same level, but higher than the limit, continues with the token after this one.
     pub deep: bool,
 }
 
-/// Why a part of the parser gives no expression.
+/// Why a part of the parser returns no expression.
 #[derive(Drop)]
 pub enum Stop {
     /// The token with this index is refused, for this reason.
     Refused(usize, Reason),
-    /// Want of memory.
+    /// Memory ran out.
     Memory,
 }
 

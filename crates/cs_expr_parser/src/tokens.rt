@@ -1,4 +1,4 @@
-//! Tokens by their numbers.
+//! Tokens by their indices.
 ghost use Rattle.std.specs.Prelude.{◌≡◌, ◌<◌, ◌↔◌, IsTrue, IsSome, false, length, drop};
 ghost use Rattle.std.specs.Option.{option_copied};
 ghost use Rattle.cs_grammar.specs.FirstTokens.{begins_type as starts_type, keyword_begins_type};
@@ -14,7 +14,7 @@ use cs_ast::{Keyword, Place, Punctuator, Token, TokenKind};
 use cs_grammar::{Reason, TypedefNames};
 use cs_names::Name;
 
-/// The punctuator at an index, if there is one.
+/// Returns the punctuator at an index, if there is one.
 #[tactic(auto, using(std::proofs::lemmas::Option::slice_get_within))]
 pub fn punctuator_at(tokens: &[Token], at: usize) -> Option<Punctuator>
     ensures punctuator { result ≡ punctuator_of_kind (kind_or_end tokens.now at) }
@@ -44,7 +44,7 @@ pub fn is_punctuator(tokens: &[Token], at: usize, punctuator: Punctuator) -> boo
     punctuator_at(tokens, at) == Some(punctuator)
 }
 
-/// The keyword at an index, if there is one.
+/// Returns the keyword at an index, if there is one.
 #[tactic(auto, using(std::proofs::lemmas::Option::slice_get_within))]
 pub fn keyword_at(tokens: &[Token], at: usize) -> Option<Keyword>
     ensures within { IsSome result → at < length tokens.now }
@@ -65,7 +65,7 @@ fn keyword_of(kind: &TokenKind) -> Option<Keyword>
     }
 }
 
-/// The name at an index, if there is one.
+/// Returns the name at an index, if there is one.
 #[tactic(auto, using(std::proofs::lemmas::Option::slice_get_within))]
 pub fn name_at(tokens: &[Token], at: usize) -> Option<&Name>
     ensures within { IsSome result → at < length tokens.now }
@@ -117,7 +117,7 @@ fn is_type_keyword(keyword: Keyword) -> bool
     }
 }
 
-/// Whether the token at an index is unsupported wherever it stands in an expression.
+/// Whether the token at an index is unsupported everywhere in an expression.
 fn is_unsupported(tokens: &[Token], at: usize) -> bool
     ensures { result ≡ unsupported (kind_or_end tokens.now at) }
 {
@@ -149,7 +149,8 @@ pub fn is_brace(tokens: &[Token], at: usize) -> bool
     }
 }
 
-/// Why the token at an index is refused where no expression continues with it, after a type or a tag or not.
+/// Returns why the token at an index is refused if no expression of any height continues with it; `after_type`: it
+/// follows a type or a tag.
 pub fn reason_at(tokens: &[Token], at: usize, after_type: bool) -> Reason
     ensures { result ≡ plain_reason (kind_or_end tokens.now at) after_type }
 {
@@ -160,7 +161,7 @@ pub fn reason_at(tokens: &[Token], at: usize, after_type: bool) -> Reason
     }
 }
 
-/// The refusal of the token at an index, which no expression that is low enough continues with.
+/// Returns the refusal of the token at an index, with which no expression within the limit continues.
 pub fn refuse(tokens: &[Token], at: usize, deep: bool) -> Stop
     ensures { result ≡ Stop.Refused at (reason_of deep (kind_or_end tokens.now at) false) }
 {
@@ -171,14 +172,14 @@ pub fn refuse(tokens: &[Token], at: usize, deep: bool) -> Stop
     }
 }
 
-/// The refusal of the token at an index, after a type between parentheses or a tag or not.
+/// The same for a token inside a type; `after_type`: it follows a type between parentheses or a tag.
 pub fn refuse_in_type(tokens: &[Token], at: usize, after_type: bool) -> Stop
     ensures { result ≡ Stop.Refused at (plain_reason (kind_or_end tokens.now at) after_type) }
 {
     Stop::Refused(at, reason_at(tokens, at, after_type))
 }
 
-/// Why the token after an expression is refused, if nothing else continues with it.
+/// Returns why the token after an expression is refused, if nothing else continues with it.
 pub fn reason_after(tokens: &[Token], taken: &Taken) -> Reason
     ensures { result ≡ reason_of taken.now.deep (kind_or_end tokens.now taken.now.next)
         (ends_in_type (written taken.now.tree)) }
@@ -192,7 +193,7 @@ pub fn reason_after(tokens: &[Token], taken: &Taken) -> Reason
     reason_at(tokens, taken.next, false)
 }
 
-/// The refusal of the token after an expression.
+/// Returns the refusal of the token after an expression.
 pub fn refuse_after(tokens: &[Token], taken: &Taken) -> Stop
     ensures { result ≡ Stop.Refused taken.now.next
         (reason_of taken.now.deep (kind_or_end tokens.now taken.now.next)
@@ -201,7 +202,7 @@ pub fn refuse_after(tokens: &[Token], taken: &Taken) -> Stop
     Stop::Refused(taken.next, reason_after(tokens, taken))
 }
 
-/// The place of the token at an index.
+/// Returns the position of the token at an index.
 pub fn place_at(tokens: &[Token], at: usize) -> Place
     requires { at < length tokens.now }
     ensures { StandsAt result (drop at tokens.now) }

@@ -20,12 +20,12 @@ use cs_grammar::{TypeSoFar, TypedefNames, integer_word};
 use cs_names::Name;
 use std::alloc::Global;
 
-/// A type between parentheses, as one part of the parser hands it to another.
+/// A type between parentheses, as a part of the parser returns it to another.
 #[derive(Drop)]
 pub struct TakenType {
     pub ty: WrittenType,
     pub bounds: Vec<RawExpr>,
-    /// The height of the highest bound, 0 where there is none.
+    /// The height of the highest bound, 0 if there is none.
     pub height: u32,
     /// The index of the token after the closing parenthesis.
     pub next: usize,
@@ -48,7 +48,7 @@ pub struct PointerWords {
     pub next: usize,
 }
 
-/// A word of a type, with the place of its tag, and the index of the token after it.
+/// A word of a type, with the position of its tag, and the index of the token after it.
 #[derive(Drop)]
 pub struct NextWord {
     pub word: TypeWord,
@@ -56,14 +56,14 @@ pub struct NextWord {
     pub next: usize,
 }
 
-/// A word that joins those before it, and what they leave open with it.
+/// A word that continues those before it, and the description of the words with it.
 #[derive(Drop)]
 pub struct JoiningWord {
     pub found: NextWord,
     pub after: TypeSoFar,
 }
 
-/// The type from after an opening parenthesis to after the closing one.
+/// Returns the type from after an opening parenthesis to after the closing one.
 #[cycle(expression)]
 pub fn parenthesised_type(
     alloc: Global,
@@ -96,7 +96,7 @@ pub fn parenthesised_type(
     })
 }
 
-/// The words of a type, as many as fit together.
+/// Returns the longest sequence of words of a type.
 fn type_words(
     alloc: Global,
     tokens: &[Token],
@@ -136,7 +136,7 @@ fn type_words(
     })
 }
 
-/// The word of a type at an index, if one stands there that joins the words so far.
+/// Returns the word of a type at an index, if there is one that continues the words so far.
 fn joining_word_at(
     tokens: &[Token],
     names: &TypedefNames,
@@ -159,7 +159,8 @@ fn joining_word_at(
     Ok(Some(JoiningWord { found, after }))
 }
 
-/// The word of a type at an index, if one stands there; `struct` and `enum` begin one only where no word names a type yet.
+/// Returns the word of a type at an index, if there is one; `struct` and `enum` begin one only if no word so far names
+/// a type.
 fn word_at(
     tokens: &[Token],
     names: &TypedefNames,
@@ -199,7 +200,7 @@ fn integer_at(keyword: Keyword, at: usize) -> Option<NextWord>
     Some(untagged(TypeWord::Integer(word), at))
 }
 
-/// A word of one token, at an index.
+/// Returns the word of the one token at an index.
 fn untagged(word: TypeWord, at: usize) -> NextWord
     requires { at < 2 ^ 32 }
     ensures word { result.word ≡ word }
@@ -213,7 +214,7 @@ fn untagged(word: TypeWord, at: usize) -> NextWord
     }
 }
 
-/// `struct` or `enum`, at an index, with the tag after it.
+/// Returns `struct` or `enum`, at an index, with the tag after it.
 fn tagged(
     tokens: &[Token],
     at: usize,
@@ -272,7 +273,7 @@ fn tag_word(tag: Name, is_struct: bool) -> TypeWord
     }
 }
 
-/// The stars and the `const`s after them.
+/// Returns the stars with the `const`s after them.
 fn pointer_words(alloc: Global, tokens: &[Token], from: usize) -> Result<PointerWords, Stop>
     requires within { from ≤ length tokens.now }
     requires few { length tokens.now < 2 ^ 32 }

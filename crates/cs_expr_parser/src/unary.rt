@@ -27,12 +27,12 @@ use cs_ast::{Keyword, Place, Punctuator, Token};
 use cs_grammar::{TypedefNames, prefix_operator, step};
 use std::alloc::{AllocError, Global};
 
-/// What stands before the operand of a unary expression.
+/// What precedes the operand of a unary expression.
 #[derive(Clone, Copy)]
 pub enum Before {
     /// `++` or `--`, before a unary expression.
     Step(Step),
-    /// Another operator, before a cast.
+    /// Another prefix operator, before a cast.
     Operator(PrefixOp),
     /// `sizeof`, before a unary expression or a type.
     Size,
@@ -48,7 +48,7 @@ fn opens_type(tokens: &[Token], names: &TypedefNames, at: usize) -> bool
     is_punctuator(tokens, at, Punctuator::OpenParenthesis) && begins_type(tokens, names, at + 1)
 }
 
-/// The cast, or the unary expression, that begins at an index.
+/// Returns the cast, or the unary expression, that begins at an index.
 #[cycle(expression)]
 pub fn cast(
     alloc: Global,
@@ -78,7 +78,7 @@ pub fn cast(
     Ok(converted(alloc, tokens, from, taken, operand)?)
 }
 
-/// The operand with a type between parentheses before it, which is at an index.
+/// Returns the cast of the operand to a type between parentheses, the first of which is at an index.
 fn converted(
     alloc: Global,
     tokens: &[Token],
@@ -103,7 +103,7 @@ fn converted(
     })
 }
 
-/// The unary expression that begins at an index.
+/// Returns the unary expression that begins at an index.
 #[cycle(expression)]
 pub fn unary(
     alloc: Global,
@@ -138,7 +138,7 @@ pub fn unary(
     }
 }
 
-/// What is at an index, if an operand may stand after it.
+/// Returns the prefix at an index, if there is one that an operand may follow.
 fn operator_at(tokens: &[Token], at: usize) -> Option<Before>
     ensures within { IsSome result → at < length tokens.now }
     ensures operator { IsOperatorAt (kind_or_end tokens.now at) result }
@@ -164,7 +164,7 @@ fn operator_of(punctuator: Punctuator) -> Option<Before>
     None
 }
 
-/// The operand with what stands before it.
+/// Returns the operand with its prefix.
 fn prefixed(
     alloc: Global,
     tokens: &[Token],
@@ -205,7 +205,7 @@ fn prefixed_node(
     }
 }
 
-/// The `sizeof` of a type or of an expression (C11 6.5.3.4).
+/// Returns the `sizeof` of a type or of an expression (C11 6.5.3.4).
 #[cycle(expression)]
 fn sized(
     alloc: Global,
@@ -227,7 +227,7 @@ fn sized(
         let taken = parenthesised_type(alloc, tokens, names, from + 2, limit - 1)?;
         return Ok(measured(alloc, tokens, from, taken)?);
     }
-    // At a limit of 2 the parenthesis may stand for that of a type alone, so that the token after it is refused.
+    // At a limit of 2 the parenthesis can only be that of a type, so that the token after it is refused.
     if is_narrow(tokens, from + 1, limit) {
         return comma(alloc, tokens, names, from + 2, 0);
     }
@@ -235,7 +235,7 @@ fn sized(
     Ok(prefixed(alloc, tokens, from, Before::Size, operand)?)
 }
 
-/// Whether an opening parenthesis is at an index, and the limit allows a type alone after it.
+/// Whether an opening parenthesis is at an index that, by the limit, only a type can follow.
 fn is_narrow(tokens: &[Token], at: usize, limit: u32) -> bool
     ensures { IsTrue result ↔ ((limit ≡ 2)
         × (kind_or_end tokens.now at ≡ token.Punctuator OpenParenthesis)) }
@@ -243,7 +243,7 @@ fn is_narrow(tokens: &[Token], at: usize, limit: u32) -> bool
     limit == 2 && is_punctuator(tokens, at, Punctuator::OpenParenthesis)
 }
 
-/// The `sizeof`, at an index, of a type.
+/// Returns the `sizeof`, at an index, of a type.
 fn measured(
     alloc: Global,
     tokens: &[Token],

@@ -1,4 +1,4 @@
--- What stands in blocks and between the braces of a `switch`: for the contracts of every parser of statements.
+-- The items of blocks and of a `switch`: for the contracts of every parser of statements.
 use Rattle.std.proofs.Common.{◌≡◌, ℕ, ◌≤◌, ◌⊎◌, inl, inr, true, false, IsTrue, List, [], ◌∷◌, refl, sym, ap, ◌∙◌, subst, arith}
 use Rattle.std.proofs.lemmas.Bool.{false≢true, both_ways, not-true}
 use Rattle.cs_ast.specs.declared.token.TokenKind.{TokenKind}

@@ -1,4 +1,4 @@
--- Chains that grow to the left, as `a + b + c` or `a [ b ] . c`: for the loops of the parser of expressions.
+-- Chains that grow on the left, such as `a + b + c` or `a [ b ] . c`: for the loops of the parser of expressions.
 use Rattle.std.proofs.Common.{◌≡◌, ℕ, suc, ◌<◌, ◌≤◌, ◌⊎◌, inl, inr, Bool, true, [], ◌∷◌, ◌++◌, refl, sym, ap, ◌∙◌}
 use Rattle.std.proofs.Common.{subst, arith}
 use Rattle.std.proofs.lemmas.Bool.{cases_lt, cases_eq}

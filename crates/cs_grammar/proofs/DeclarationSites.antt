@@ -1,5 +1,5 @@
--- Declarations and parts of files as a type and what stands after it: what each return gives. For the contracts of every parser of
--- declarations and files.
+-- Declarations and external declarations as specifiers and what follows them: the result of each return. For the contracts of
+-- every parser of declarations and files.
 use Rattle.std.proofs.Common.{◌≡◌, ℕ, suc, ◌+◌, ◌≤◌, ◌⊎◌, inl, inr, Bool, true, false, List, [], ◌∷◌, ◌++◌, Option, Some}
 use Rattle.std.proofs.Common.{None, refl, sym, ap, ◌∙◌, subst, arith}
 use Rattle.std.proofs.lemmas.Bool.{false≢true}

@@ -1,4 +1,4 @@
--- Declared objects: a declarator, and what stands after its `=`. For the contracts of every parser of declarations.
+-- Declared objects: a declarator, and the initializer after its `=`. For the contracts of every parser of declarations.
 use Rattle.std.proofs.Common.{◌≡◌, ℕ, ◌+◌, ◌<◌, ◌≤◌, ◌⊎◌, inl, inr, Bool, true, [], ◌∷◌, ◌++◌, Option, Some, None}
 use Rattle.std.proofs.Common.{MatchOption, refl, sym, ap, ◌∙◌, subst, arith}
 use Rattle.std.proofs.lemmas.Bool.{false≢true}

@@ -1,4 +1,5 @@
--- Returns of functions that read parts of files, and what the limit doesn't allow: for the contracts of every parser of files.
+-- Returns of functions that parse external declarations, and what the limit doesn't allow: for the contracts of every parser of
+-- files.
 use Rattle.std.proofs.Common.{◌≡◌, ℕ, ◌+◌, ◌≤◌, inl, inr, Bool, true, false, IsTrue, List, [], ◌∷◌, ◌++◌, refl, sym, ap, ◌∙◌}
 use Rattle.std.proofs.Common.{arith}
 use Rattle.std.proofs.lemmas.Bool.{false≢true}

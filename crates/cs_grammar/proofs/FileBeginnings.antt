@@ -1,4 +1,4 @@
--- The first tokens of statements and of what stands in blocks: for the contracts of every parser of statements.
+-- The first tokens of statements and of items of blocks: for the contracts of every parser of statements.
 use Rattle.std.proofs.Common.{◌≡◌, Bool, true, List, [], ◌∷◌, Option, Some, None, MatchOption, option_map, IsTrue, refl, sym, ap, ◌∙◌, subst}
 use Rattle.std.proofs.lemmas.Bool.{or_left, or_right}
 use Rattle.cs_ast.specs.declared.token.TokenKind.{TokenKind}

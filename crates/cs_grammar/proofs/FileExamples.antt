@@ -1,4 +1,4 @@
--- Small files and statements, to see what the definitions take and what they don't.
+-- Small files and statements, which show what the definitions accept and what they don't.
 use Rattle.std.proofs.Common.{◌≡◌, ℕ, Bool, true, false, List, [], ◌∷◌, ◌++◌, Option, Some, None, refl, sym, arith}
 use Rattle.std.proofs.lemmas.Bool.{false≢true}
 use Rattle.cs_ast.specs.declared.token.TokenKind.{TokenKind}

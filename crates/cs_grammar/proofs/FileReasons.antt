@@ -1,4 +1,4 @@
--- Why a token of a file is refused, where that doesn't depend on what stands before it: for the contract of the parser of files.
+-- Why a token of a file is refused, if that doesn't depend on what precedes it: for the contract of the parser of files.
 use Rattle.std.proofs.Common.{◌≡◌, ℕ, ◌⊎◌, inl, inr, Bool, true, false, List, [], ◌∷◌, ◌++◌, Option, Some, None, refl, sym, ap}
 use Rattle.std.proofs.Common.{◌∙◌}
 use Rattle.std.proofs.lemmas.Bool.{false≢true}

@@ -1,4 +1,4 @@
--- Texts of declarations, statements and files and what stands after them: for the contracts of every parser of them.
+-- Texts of declarations, statements and files, and what follows them: for the contracts of every parser of them.
 use Rattle.std.proofs.Common.{◌≡◌, ℕ, Bool, true, false, List, [], ◌∷◌, ◌++◌, Option, Some, None, refl, ap, ◌∙◌}
 use Rattle.cs_ast.specs.declared.token.TokenKind.TheVariants as token
 use Rattle.cs_ast.specs.declared.token.Keyword.TheVariants as keyword

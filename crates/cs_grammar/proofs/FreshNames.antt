@@ -1,4 +1,4 @@
--- Names that are none of some: for completions that declare a name.
+-- Names that differ from some names: for completions that declare a name.
 use Rattle.std.proofs.Common.{◌≡◌, ℕ, zero, suc, inl, inr, ◌+◌, ◌<◌, true, false, List, [], ◌∷◌, length, refl, ap, arith}
 use Rattle.std.proofs.lemmas.Bool.{false_from_ne_true, or_cases}
 use Rattle.std.specs.Cmp.Lexicographic.{pointwise}

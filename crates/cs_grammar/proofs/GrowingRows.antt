@@ -1,4 +1,4 @@
--- Rows that grow at their end: for the loops of every parser of declarations, statements and files.
+-- Lists that grow at their end: for the loops of every parser of declarations, statements and files.
 use Rattle.std.proofs.Common.{◌≡◌, ℕ, Bool, true, false, [], ◌∷◌, ◌++◌, sym, ◌∙◌, subst}
 use Rattle.cs_ast.specs.declared.token.TokenKind.{TokenKind}
 use Rattle.cs_grammar.specs.Text.{Kinds}

@@ -1,4 +1,4 @@
--- What stands between a function's parentheses, and the heads of functions: for the contracts of every parser of declarations.
+-- Parameter lists, and the declarators of functions: for the contracts of every parser of declarations.
 use Rattle.std.proofs.Common.{◌≡◌, ◌≢◌, ℕ, ◌≤◌, ◌⊎◌, inl, inr, Bool, true, false, IsTrue, List, [], ◌∷◌, ◌++◌, Option, Some}
 use Rattle.std.proofs.Common.{None, refl, sym, ap, ◌∙◌, arith}
 use Rattle.std.proofs.lemmas.Bool.{false≢true}

@@ -1,5 +1,5 @@
--- A phrase inside another: what is known of the whole when the part was refused, or when a wrong token came after it. For the
--- contracts of every parser of phrases.
+-- A phrase inside another: what is known of the whole if the part was refused, or if a wrong token followed it. For the contracts
+-- of every parser of phrases.
 use Rattle.std.proofs.Common.{◌≡◌, ℕ, ◌<◌, ◌≤◌, ◌⊎◌, inl, inr, Bool, false, arith, List, [], ◌∷◌, ◌++◌, refl, sym, ap}
 use Rattle.std.proofs.Common.{◌∙◌, append_assoc, append-nil, subst}
 use Rattle.cs_ast.specs.declared.token.TokenKind.{TokenKind}

@@ -1,4 +1,4 @@
--- What objects hold at first: expressions and lists between braces. For the contracts of every parser of declarations.
+-- Initializers: expressions and lists between braces. For the contracts of every parser of declarations.
 use Rattle.std.proofs.Common.{◌≡◌, ℕ, ◌+◌, ◌<◌, ◌≤◌, max, inl, inr, Bool, true, false, List, [], ◌∷◌, ◌++◌, refl, sym, ap}
 use Rattle.std.proofs.Common.{◌∙◌, arith}
 use Rattle.std.proofs.lemmas.Bool.{false≢true}

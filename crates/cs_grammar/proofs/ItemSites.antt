@@ -1,4 +1,4 @@
--- Returns of functions that read what stands in a block or in a `switch`: for the contracts of every parser of statements.
+-- Returns of functions that parse items of blocks or of a `switch`: for the contracts of every parser of statements.
 use Rattle.std.proofs.Common.{◌≡◌, ℕ, ◌+◌, ◌<◌, ◌≤◌, ◌⊎◌, inl, inr, Bool, true, false, List, [], ◌∷◌, ◌++◌, refl, sym, ap}
 use Rattle.std.proofs.Common.{◌∙◌, arith}
 use Rattle.std.proofs.lemmas.Bool.{false≢true, both_ways, or_cases}

@@ -1,4 +1,4 @@
--- An optional expression, before what closes it: for the contracts of the parser of declarations and statements.
+-- An optional expression before the token that closes it: for the contracts of the parser of declarations and statements.
 use Rattle.std.proofs.Common.{◌≡◌, ℕ, ◌<◌, ◌≤◌, inl, inr, Bool, false, [], ◌∷◌, ◌++◌, Option, Some, None, refl, sym, ap, ◌∙◌}
 use Rattle.std.proofs.Common.{subst, arith, append_assoc}
 use Rattle.std.proofs.lemmas.Bool.{false≢true}

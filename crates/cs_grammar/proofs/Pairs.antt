@@ -1,5 +1,5 @@
--- Productions of two parts: for the contracts of every parser of declarations, statements and files. Each return of a function that
--- reads two parts is answered by one of these lemmas.
+-- Productions of two parts: for the contracts of every parser of declarations, statements and files. Each return of a function
+-- that parses two parts is covered by one of these lemmas.
 use Rattle.std.proofs.Common.{◌≡◌, ℕ, ◌+◌, ◌≤◌, Bool, true, [], ◌∷◌, ◌++◌, arith}
 use Rattle.cs_ast.specs.declared.token.TokenKind.{TokenKind}
 use Rattle.cs_grammar.specs.Text.{Kinds}

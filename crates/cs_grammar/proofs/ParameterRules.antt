@@ -1,4 +1,4 @@
--- Parameters and the heads of functions: for the contracts of every parser of declarations.
+-- Parameters and the declarators of functions: for the contracts of every parser of declarations.
 use Rattle.std.proofs.Common.{◌≡◌, ℕ, ◌≤◌, inr, Bool, true, false, IsTrue, List, [], ◌∷◌, Option, Some, None, MatchOption, refl, sym, ap}
 use Rattle.std.proofs.Common.{◌∙◌, subst, arith, append-nil}
 use Rattle.std.proofs.lemmas.Bool.{false≢true}

@@ -1,4 +1,4 @@
--- The roles of the tokens of a file run beside its tokens: each list is as long as the other.
+-- The list of the roles of a file's tokens is as long as the list of its tokens.
 use Rattle.std.proofs.Common.{◌≡◌, ℕ, Bool, true, false, List, [], ◌∷◌, ◌++◌, Option, Some, None, length, refl, ap, ◌∙◌, subst, arith}
 use Rattle.cs_ast.specs.declared.token.TokenKind.{TokenKind}
 use Rattle.cs_ast.specs.declared.token.TokenKind.TheVariants as token

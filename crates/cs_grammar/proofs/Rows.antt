@@ -1,4 +1,4 @@
--- Phrases in a row, without and with commas between them: for the loops of every parser of declarations, statements and files.
+-- Lists of phrases, without and with commas between them: for the loops of every parser of declarations, statements and files.
 use Rattle.std.proofs.Common.{◌≡◌, ℕ, ◌<◌, ◌≤◌, max, ◌⊎◌, inl, inr, Bool, true, false, List, [], ◌∷◌, ◌++◌, refl, sym, ap}
 use Rattle.std.proofs.Common.{◌∙◌, subst, arith, append_assoc}
 use Rattle.cs_ast.specs.declared.token.TokenKind.{TokenKind}

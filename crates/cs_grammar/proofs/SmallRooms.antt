@@ -1,4 +1,5 @@
--- Types with bodies that the limit doesn't allow, and words that continue no further: for the contracts of every parser of declarations.
+-- Types with bodies that the limit doesn't allow, and words that no word continues: for the contracts of every parser of
+-- declarations.
 use Rattle.std.proofs.Common.{◌≡◌, ℕ, ◌<◌, ◌≤◌, ◌⊎◌, inl, inr, Bool, true, false, List, [], ◌∷◌, ◌++◌, Option, Some, None}
 use Rattle.std.proofs.Common.{refl, sym, ap, ◌∙◌, subst, arith, append-nil}
 use Rattle.std.proofs.lemmas.Bool.{false≢true}

@@ -1,4 +1,4 @@
--- What stands before declarators outside blocks, word by word: for the contracts of every parser of declarations.
+-- Specifiers outside blocks, word by word: for the contracts of every parser of declarations.
 use Rattle.std.proofs.Common.{◌≡◌, ℕ, ◌<◌, ◌≤◌, max, inl, inr, Bool, true, false, List, [], ◌∷◌, ◌++◌, Option, Some, None, refl}
 use Rattle.std.proofs.Common.{sym, ap, ◌∙◌, subst, arith, append_assoc, append-nil}
 use Rattle.std.proofs.lemmas.Bool.{false≢true, both_ways}

@@ -1,4 +1,4 @@
--- Each form of a statement by its first token: for the contracts of every parser of statements.
+-- Each form of a statement, determined by its first token: for the contracts of every parser of statements.
 use Rattle.std.proofs.Common.{◌≡◌, ℕ, suc, ◌+◌, Bool, true, false, List, [], ◌∷◌, Option, Some, None, refl, sym, ap, ◌∙◌, arith}
 use Rattle.std.proofs.lemmas.Bool.{false≢true}
 use Rattle.cs_ast.specs.declared.token.TokenKind.{TokenKind}

@@ -1,6 +1,6 @@
--- What is left of a phrase after its first tokens: for the contracts of every parser of declarations, statements and files. A `Tail`
--- says that the phrases of C that begin with some tokens are made of those of D; tails are put one after another, and at each
--- return a refusal or a phrase of D gives one of C (`tail_refused`, `tail_took`).
+-- The rest of a phrase after its first tokens: for the contracts of every parser of declarations, statements and files. A `Tail`
+-- states that the phrases of C that begin with some tokens consist of those and a phrase of D. Tails are composed, and at each
+-- return a refusal or a phrase of D yields one of C (`tail_refused`, `tail_took`).
 use Rattle.std.proofs.Common.{◌≡◌, ℕ, ◌+◌, ◌<◌, ◌≤◌, inl, inr, true, false, [], ◌∷◌, ◌++◌, refl, sym, ap, ◌∙◌, subst}
 use Rattle.std.proofs.Common.{arith, append_assoc, append-nil}
 use Rattle.std.proofs.lemmas.Bool.{false≢true}

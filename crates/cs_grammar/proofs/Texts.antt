@@ -1,4 +1,4 @@
--- Texts of trees and what stands after them: for the contracts of every parser of phrases.
+-- Texts of trees, and what follows them: for the contracts of every parser of phrases.
 use Rattle.std.proofs.Common.{◌≡◌, ◌+◌, List, [], ◌∷◌, ◌++◌, length, refl, sym, ap, ◌∙◌}
 use Rattle.std.proofs.lemmas.List.{append_cancel_left, length-append}
 use Rattle.cs_ast.specs.declared.token.TokenKind.TheVariants as token

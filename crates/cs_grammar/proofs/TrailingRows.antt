@@ -1,4 +1,4 @@
--- Phrases in a row with commas between them and perhaps one after them: for lists of initial values and of enumeration constants.
+-- Lists of phrases with commas between them and perhaps one after them: for initializer lists and for enumeration constants.
 use Rattle.std.proofs.Common.{◌≡◌, ℕ, ◌+◌, ◌≤◌, max, inl, inr, Bool, true, false, List, [], ◌∷◌, ◌++◌, Option, Some, None, refl}
 use Rattle.std.proofs.Common.{sym, ap, ◌∙◌, subst, arith, append_assoc, append-nil}
 use Rattle.cs_ast.specs.declared.token.TokenKind.{TokenKind}

@@ -1,4 +1,4 @@
--- Chains that grow to the left, as `a + b + c` or `a [ b ] . c`.
+-- Chains that grow on the left, such as `a + b + c` or `a [ b ] . c`.
 use Rattle.std.specs.Prelude.{◌≡◌, ℕ, suc, ◌≤◌, ◌<◌, ◌⊎◌, Bool, true, List, [], ◌∷◌}
 use Rattle.cs_ast.specs.declared.token.TokenKind.{TokenKind}
 use Rattle.cs_ast.specs.declared.token.TokenKind.TheVariants as token
@@ -15,7 +15,7 @@ use Rattle.cs_grammar.specs.Phrases.{IsPhrase}
 use Rattle.cs_grammar.specs.Continuing.{join, join_of}
 use Rattle.cs_grammar.specs.Parsing.{Expressions, Near, IsOver, Begins}
 
--- a tree before some tokens is a smaller one of its level with one more suffix
+-- `whole` before the tokens `after` is the smaller tree `left` of its level with one more suffix
 pub data Suffix (level : ℕ) (whole : Written) (after : Kinds) (left : Written) (following : Kinds) : Type 0 where
   indexed : (number : Written) → level ≡ 15 → whole ≡ Index left number
       → following ≡ token.Punctuator punctuator.OpenBracket ∷ text number (token.Punctuator punctuator.CloseBracket ∷ after)
@@ -34,13 +34,13 @@ pub data Suffix (level : ℕ) (whole : Written) (after : Kinds) (left : Written)
   continued : (second : Written) → level ≡ 0 → whole ≡ Comma left second → following ≡ token.Punctuator punctuator.Comma ∷ text second after
       → Suffix level whole after left following
 
--- a tree before some tokens is a smaller one, before others, with some suffixes, or none
+-- a tree before some tokens is a smaller one, before others, with any number of suffixes
 pub data Stem (level : ℕ) (left : Written) (following : Kinds) : Written → Kinds → Type 0 where
   bare : {whole : Written} {after : Kinds} → whole ≡ left → after ≡ following → Stem level left following whole after
   grown : {whole : Written} {after : Kinds} (smaller : Written) (rest : Kinds) → Suffix level whole after smaller rest
       → Stem level left following smaller rest → Stem level left following whole after
 
--- a chain so far: any phrase of the level that begins so has it at its left, but for those that are too high
+-- a chain so far: any phrase of the level with this beginning has the chain at its left, except for phrases above the limit
 pub record Grows (names : Names) (level limit : ℕ) (left : Written) (next : TokenKind) (deep : Bool) : Type 0 where
   pub is_phrase : IsPhrase names level left
   pub low : height left ≤ limit

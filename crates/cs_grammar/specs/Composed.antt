@@ -1,4 +1,4 @@
--- Classes of phrases that are made of other classes.
+-- Classes of phrases that consist of other classes.
 use Rattle.std.specs.Prelude.{ℕ, max, Bool, List, ◌∷◌, Option, MatchOption}
 use Rattle.cs_ast.specs.declared.token.TokenKind.{TokenKind}
 use Rattle.cs_ast.specs.RawTree.{Written}
@@ -9,7 +9,7 @@ use Rattle.cs_grammar.specs.FilePhrases.{AreAll, IsSomeList}
 use Rattle.cs_grammar.specs.Phrases.{IsPhrase}
 use Rattle.cs_grammar.specs.Parsing.{Class}
 
--- a phrase of C, and one of D after it
+-- a phrase of C, followed by one of D
 abbrev pub Sequence : Class → Class → Class
 Sequence C D = record {
   Tree = C.Tree × D.Tree;
@@ -19,11 +19,11 @@ Sequence C D = record {
   Shut = λ pair after. D.Shut pair.1 after;
 }
 
--- a token, and a phrase of D after it
+-- a token, followed by a phrase of D
 abbrev pub Following : TokenKind → Class → Class
 Following t D = record { Tree = D.Tree; spell = λ tree after. t ∷ D.spell tree after; tall = D.tall; Is = D.Is; Shut = D.Shut }
 
--- an expression of the level, or none where that is allowed, and a token that closes it
+-- an expression of the level, or none if that is allowed, and a token that closes it
 abbrev pub ClosedSome : Names → ℕ → Type 0 → TokenKind → Class
 ClosedSome names level MayLack close = record {
   Tree = Option Written;
@@ -33,7 +33,7 @@ ClosedSome names level MayLack close = record {
   Shut = λ tree after. Unit {0};
 }
 
--- phrases of D, one at least, with commas between them, and a token that closes them
+-- at least one phrase of D, with commas between them, and a token that closes them
 abbrev pub Separated : Class → TokenKind → Class
 Separated D close = record {
   Tree = List D.Tree;
@@ -53,7 +53,7 @@ Further D close = record {
   Shut = λ list after. Unit {0};
 }
 
--- phrases of D, one at least, with commas between them and perhaps one after them, and a token that closes them
+-- at least one phrase of D, with commas between them and perhaps one after them, and a token that closes them
 abbrev pub Trailing : Class → TokenKind → Class
 Trailing D close = record {
   Tree = List D.Tree × Bool;
@@ -63,7 +63,7 @@ Trailing D close = record {
   Shut = λ row after. Unit {0};
 }
 
--- phrases of D, each after a comma, perhaps one comma more, and a token that closes them
+-- phrases of D, each after a comma, perhaps one more comma, and a token that closes them
 abbrev pub FurtherTrailing : Class → TokenKind → Class
 FurtherTrailing D close = record {
   Tree = List D.Tree × Bool;

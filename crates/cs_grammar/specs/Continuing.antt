@@ -1,4 +1,4 @@
--- Which tokens continue with an expression, by the level of the expression that they make.
+-- Which tokens continue an expression, and the level of the expression that they form.
 use Rattle.std.specs.Prelude.{ℕ, [], ◌∷◌}
 use Rattle.cs_ast.specs.declared.token.TokenKind.{TokenKind}
 use Rattle.cs_ast.specs.declared.token.TokenKind.TheVariants as token
@@ -6,7 +6,7 @@ use Rattle.cs_ast.specs.declared.token.Punctuator.{Punctuator}
 use Rattle.cs_ast.specs.declared.token.Punctuator.TheVariants as punctuator
 use Rattle.cs_grammar.specs.Text.{Kinds}
 
--- one more than the level of the expressions that continue with this punctuator after an operand, 0 where none does
+-- one more than the level of the expressions that continue with this punctuator after an operand, 0 if there are none
 abbrev pub punctuator_join : Punctuator → ℕ
 punctuator_join punctuator.Comma = 1
 punctuator_join punctuator.Equal = 2
@@ -47,12 +47,12 @@ punctuator_join punctuator.Increment = 16
 punctuator_join punctuator.Decrement = 16
 punctuator_join other = 0
 
--- the same of a token
+-- the same for a token
 abbrev pub join : TokenKind → ℕ
 join (token.Punctuator punctuator) = punctuator_join punctuator
 join other = 0
 
--- the same of the first of these tokens, 0 where there is none
+-- the same for the first of these tokens, 0 if there is none
 abbrev pub join_of : Kinds → ℕ
 join_of [] = 0
 join_of (first ∷ others) = join first

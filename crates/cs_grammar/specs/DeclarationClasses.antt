@@ -1,4 +1,4 @@
--- The classes of phrases that declarations are made of.
+-- The classes of phrases that declarations consist of.
 use Rattle.std.specs.Prelude.{◌≡◌, ◌≢◌, IsTrue, ℕ, ◌+◌, max, Bool, true, false, List, [], ◌∷◌, Option, MatchOption}
 use Rattle.cs_ast.specs.declared.token.TokenKind.{TokenKind}
 use Rattle.cs_ast.specs.declared.token.TokenKind.TheVariants as token
@@ -26,16 +26,16 @@ abbrev pub Follows : (TokenKind → Bool) → Kinds → Type 0
 Follows test [] = Unit {0}
 Follows test (t ∷ tokens) = test t ≡ true
 
--- no opening bracket stands first
+-- the first token isn't an opening bracket
 abbrev pub HasNoBracket : Kinds → Type 0
 HasNoBracket (token.Punctuator punctuator.OpenBracket ∷ others) = ⊥
 HasNoBracket tokens = Unit {0}
 
--- a bound between brackets, which may lack if that is allowed
+-- a bound between brackets, which may be absent if that is allowed
 abbrev pub Bounds : Names → Type 0 → Class
 Bounds names MayLack = Following (token.Punctuator punctuator.OpenBracket) (ClosedSome names CHOICE MayLack (token.Punctuator punctuator.CloseBracket))
 
--- bounds between brackets, one after another: no other one stands after them
+-- a sequence of bounds between brackets, not followed by another one
 abbrev pub Brackets : Names → Type 0 → Class
 Brackets names MayLack = record {
   Tree = List (Option Written);
@@ -45,7 +45,7 @@ Brackets names MayLack = record {
   Shut = λ tree after. HasNoBracket after;
 }
 
--- declarators with such names, whose bounds may lack if that is allowed: no other bound stands after one
+-- declarators with such names, whose bounds may be absent if that is allowed, not followed by another bound
 abbrev pub Declarators : (List ℕ → Type 0) → Names → Type 0 → Class
 Declarators IsName names MayLack = record {
   Tree = Declarator;
@@ -86,7 +86,7 @@ ends_value (token.Punctuator punctuator.Semicolon) = true
 ends_value (token.Punctuator punctuator.CloseBrace) = true
 ends_value other = false
 
--- what objects hold at first
+-- initializers
 abbrev pub Values : Names → Class
 Values names = record { Tree = Initial; spell = initial_text; tall = initial_height; Is = IsInitial names; Shut = λ tree after. Follows ends_value after }
 
@@ -107,30 +107,30 @@ ends_specs (token.Punctuator punctuator.OpenBrace) = false
 ends_specs (token.Punctuator punctuator) = true
 ends_specs other = false
 
--- what stands before declarators outside blocks
+-- declaration specifiers outside blocks
 abbrev pub FileSpecs : Names → Class
 FileSpecs names = record { Tree = Specs; spell = specs_text; tall = specs_height; Is = AreSpecs names; Shut = λ tree after. Follows ends_specs after }
 
--- what stands before declarators inside a block
+-- declaration specifiers inside a block
 abbrev pub BlockSpecs : Names → Class
 BlockSpecs names = record { Tree = Specs; spell = specs_text; tall = specs_height; Is = AreBlockSpecs names; Shut = λ tree after. Follows ends_specs after }
 
--- no opening brace stands first
+-- the first token isn't an opening brace
 abbrev pub HasNoOpenBrace : Kinds → Type 0
 HasNoOpenBrace (token.Punctuator punctuator.OpenBrace ∷ others) = ⊥
 HasNoOpenBrace tokens = Unit {0}
 
--- no opening brace stands after a tag
+-- no opening brace follows a tag
 abbrev pub IsQuiet : Spec → Kinds → Type 0
 IsQuiet (Plain (Struct tag)) after = HasNoOpenBrace after
 IsQuiet (Plain (Enum tag)) after = HasNoOpenBrace after
 IsQuiet other after = Unit {0}
 
--- the words before declarators outside blocks, and the types with bodies
+-- the specifiers outside blocks, types with bodies among them
 abbrev pub SpecElements : Names → Class
 SpecElements names = record { Tree = Spec; spell = spec_text; tall = spec_height; Is = HasBody names; Shut = IsQuiet }
 
--- members of one type, with their semicolon
+-- members that share specifiers, with their semicolon
 abbrev pub MemberGroups : Names → Class
 MemberGroups names = record {
   Tree = Specs × List Declarator;
@@ -169,7 +169,7 @@ ParameterTails names = record {
   Shut = λ tree after. Follows ends_parameter after;
 }
 
--- parameters, one at least and not `void` alone, with commas between them and the closing parenthesis
+-- at least one parameter, but not only `void`, with commas between them and the closing parenthesis
 abbrev pub ParameterRows : Names → Class
 ParameterRows names = record {
   Tree = List Parameter;
@@ -179,7 +179,7 @@ ParameterRows names = record {
   Shut = λ tree after. Unit {0};
 }
 
--- what stands between a function's parentheses, with the closing one
+-- a function's parameter list, with the closing parenthesis
 abbrev pub ParameterLists : Names → Class
 ParameterLists names = record {
   Tree = Parameters;
@@ -189,11 +189,11 @@ ParameterLists names = record {
   Shut = λ tree after. Unit {0};
 }
 
--- the heads of functions
+-- the declarators of functions
 abbrev pub Heads : Names → Class
 Heads names = record { Tree = Head; spell = head_text; tall = head_height; Is = IsHead names; Shut = λ tree after. Unit {0} }
 
--- the members of a struct, with the brace after them
+-- the members of a struct, with the closing brace
 abbrev pub MemberRows : Names → Class
 MemberRows names = record {
   Tree = Members;
@@ -203,6 +203,6 @@ MemberRows names = record {
   Shut = λ tree after. Unit {0};
 }
 
--- the parts of a file
+-- external declarations
 abbrev pub Externals : Names → Class
 Externals names = record { Tree = External; spell = external_text; tall = external_height; Is = IsExternal names; Shut = λ tree after. Unit {0} }

@@ -1,4 +1,4 @@
--- The classes of phrases that declarations, statements and files are made of.
+-- The classes of phrases that declarations, statements and files consist of.
 use Rattle.std.specs.Prelude.{◌≡◌, ℕ, ◌+◌, max, Bool, true, false, ◌∷◌, Option, Some, None, IsFalse}
 use Rattle.cs_ast.specs.declared.token.TokenKind.TheVariants as token
 use Rattle.cs_ast.specs.declared.token.Keyword.TheVariants as keyword
@@ -23,12 +23,12 @@ Tests names = record { Tree = Written; spell = test_text; tall = height; Is = Is
 abbrev pub Firsts : Names → Class
 Firsts names = record { Tree = First; spell = first_text; tall = first_height; Is = IsFirst names; Shut = λ tree after. Unit {0} }
 
--- no `else` is the first of these tokens
+-- the first of these tokens isn't `else`
 abbrev pub HasNoElse : Kinds → Type 0
 HasNoElse (token.Keyword keyword.Else ∷ others) = ⊥
 HasNoElse tokens = Unit {0}
 
--- statements: no `else` stands after one to which it would belong
+-- statements, not followed by an `else` that would belong to them
 abbrev pub Sentences : Names → Class
 Sentences names = record {
   Tree = Sentence;
@@ -38,7 +38,7 @@ Sentences names = record {
   Shut = λ tree after. is_open tree ≡ true → HasNoElse after;
 }
 
--- the statement of an `if`, with the one after its `else`, if there is one
+-- the body of an `if`, with the statement after its `else`, if there is one
 abbrev pub Branch : Type 0
 Branch = Sentence × Option Sentence
 
@@ -67,12 +67,12 @@ Branches names = record {
   Shut = λ branch after. IsBranchShut branch.1 after;
 }
 
--- an `else` after what stands in a block would belong to an `if` in it
+-- an `else` after the item of a block would belong to an `if` in it
 abbrev pub is_item_open : Item → Bool
 is_item_open (Declares specs objects) = false
 is_item_open (Does statement) = is_open statement
 
--- what stands in a block
+-- the items of a block
 abbrev pub BlockItems : Names → Class
 BlockItems names = record {
   Tree = Item;
@@ -82,7 +82,7 @@ BlockItems names = record {
   Shut = λ tree after. is_item_open tree ≡ true → HasNoElse after;
 }
 
--- what stands between the braces of a block, with the closing one
+-- the items between the braces of a block, with the closing brace
 abbrev pub BlockRows : Names → Class
 BlockRows names = record {
   Tree = Items;
@@ -96,7 +96,7 @@ abbrev pub is_switch_item_open : SwitchItem → Bool
 is_switch_item_open (Inside item) = is_item_open item
 is_switch_item_open other = false
 
--- what stands in a `switch`
+-- the items of a `switch`
 abbrev pub SwitchParts : Names → Class
 SwitchParts names = record {
   Tree = SwitchItem;
@@ -106,7 +106,7 @@ SwitchParts names = record {
   Shut = λ tree after. is_switch_item_open tree ≡ true → HasNoElse after;
 }
 
--- what stands between the braces of a `switch`, with the closing one
+-- the items between the braces of a `switch`, with the closing brace
 abbrev pub SwitchRows : Names → Class
 SwitchRows names = record {
   Tree = SwitchItems;
@@ -116,7 +116,7 @@ SwitchRows names = record {
   Shut = λ tree after. Unit {0};
 }
 
--- the same with both braces, which are a node
+-- the same with both braces, as a node
 abbrev pub SwitchBodies : Names → Class
 SwitchBodies names = record {
   Tree = SwitchItems;

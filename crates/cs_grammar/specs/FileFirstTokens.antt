@@ -1,4 +1,4 @@
--- Which tokens a statement begins with, and what stands in a block or in a `switch`.
+-- Which tokens begin a statement, and an item of a block or of a `switch`.
 use Rattle.std.specs.Prelude.{Bool, true, false, ◌||◌}
 use Rattle.cs_ast.specs.declared.token.TokenKind.{TokenKind}
 use Rattle.cs_ast.specs.declared.token.TokenKind.TheVariants as token
@@ -39,7 +39,7 @@ begins_sentence (token.Punctuator punctuator) = punctuator_begins_sentence punct
 begins_sentence (token.Keyword keyword) = keyword_begins_sentence keyword
 begins_sentence other = false
 
--- the token begins what stands in a block
+-- the token begins an item of a block
 abbrev pub begins_item : Names → TokenKind → Bool
 begins_item names next = begins_sentence next || begins_type names next
 
@@ -49,6 +49,6 @@ is_case (token.Keyword keyword.Case) = true
 is_case (token.Keyword keyword.Default) = true
 is_case other = false
 
--- the token begins what stands in a `switch`
+-- the token begins an item of a `switch`
 abbrev pub begins_switch_part : Names → TokenKind → Bool
 begins_switch_part names next = is_case next || begins_item names next

@@ -1,4 +1,4 @@
--- The classes of phrases that files are made of.
+-- The classes of phrases that files consist of.
 use Rattle.std.specs.Prelude.{◌≡◌, ℕ, ◌+◌, max, List, [], ◌∷◌, Option, Some, None}
 use Rattle.cs_ast.specs.declared.token.TokenKind.TheVariants as token
 use Rattle.cs_ast.specs.declared.token.Punctuator.TheVariants as punctuator
@@ -11,8 +11,8 @@ use Rattle.cs_grammar.specs.FileText.{with_commas, declared_text, head_text, ite
 use Rattle.cs_grammar.specs.FilePhrases.{AreAll, IsSomeList, IsDeclared, IsHead, AreNamed, AreItems, IsFile}
 use Rattle.cs_grammar.specs.Parsing.{Class}
 
--- what stands after the type of a part of a file that is no typedef: a semicolon alone, objects, a function without a body or with
--- one
+-- what follows the specifiers of an external declaration that is no typedef: only a semicolon, objects, or a function with or
+-- without a body
 pub data ExternalRest : Type 0 where
   no_name : ExternalRest
   objects : (list : List Declared) → ExternalRest
@@ -41,14 +41,14 @@ IsRest names (definition head body) = IsHead names head × AreNamed head.paramet
 abbrev pub ExternalRests : Names → Class
 ExternalRests names = record { Tree = ExternalRest; spell = rest_text; tall = rest_height; Is = IsRest names; Shut = λ tree after. Unit {0} }
 
--- a part of a file of a type and what stands after it
+-- the external declaration of specifiers and what follows them
 abbrev pub external_from : Specs → ExternalRest → External
 external_from specs no_name = TypeAlone specs
 external_from specs (objects list) = Objects specs list
 external_from specs (function head) = Function specs head
 external_from specs (definition head body) = Definition specs head body
 
--- what stands after a head: a semicolon, or a block, if each parameter has a name
+-- the end of a function: a semicolon, or, if each parameter has a name, a block
 abbrev pub end_text : Option Items → Kinds → Kinds
 end_text None rest = token.Punctuator punctuator.Semicolon ∷ rest
 end_text (Some body) rest = token.Punctuator punctuator.OpenBrace ∷ items_text body (token.Punctuator punctuator.CloseBrace ∷ rest)
@@ -64,7 +64,7 @@ IsEnd names head (Some body) = AreNamed head.parameters × AreItems names body
 abbrev pub FunctionEnds : Names → Head → Class
 FunctionEnds names head = record { Tree = Option Items; spell = end_text; tall = end_height; Is = IsEnd names head; Shut = λ tree after. Unit {0} }
 
--- the parts of a file after others, where these are the typedef names so far: nothing stands after them
+-- the external declarations after others, if these are the typedef names so far; nothing follows them
 abbrev pub FilesFrom : Names → Class
 FilesFrom names = record {
   Tree = List External;

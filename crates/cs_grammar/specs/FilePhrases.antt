@@ -1,4 +1,4 @@
--- Which written declarations, statements and files the grammar has (C11 6.7, 6.8, 6.9), and which tokens begin a file.
+-- Which written declarations, statements and files are in the grammar (C11 6.7, 6.8, 6.9), and which tokens begin a file.
 use Rattle.std.specs.Prelude.{◌≡◌, ◌≢◌, ◌≤◌, ℕ, Bool, true, false, IsTrue, IsFalse, List, [], ◌∷◌, ◌++◌, Option, Some, None}
 use Rattle.std.specs.Prelude.{IsSome, MatchOption, if◌then◌else◌}
 use Rattle.std.specs.Option.{option_map}
@@ -18,17 +18,17 @@ use Rattle.cs_grammar.specs.Text.{Kinds}
 use Rattle.cs_grammar.specs.Phrases.{IsPhrase}
 use Rattle.cs_grammar.specs.FileText.{file_text}
 
--- each of these is one
+-- all of these satisfy a predicate
 abbrev pub AreAll : {A : Type 0} → (A → Type 0) → List A → Type 0
 AreAll Is [] = Unit {0}
 AreAll Is (a ∷ all) = Is a × AreAll Is all
 
--- there is one at least
+-- there is at least one
 abbrev pub IsSomeList : {A : Type 0} → List A → Type 0
 IsSomeList [] = ⊥
 IsSomeList (a ∷ all) = Unit {0}
 
--- the words of the type: all but `static`; a type with a body counts as one with a tag
+-- the words of the type: all except `static`; a type with a body counts as one with a tag
 abbrev pub words_of : Specs → List TypeWord
 words_of NoSpec = []
 words_of (MoreSpecs Static others) = words_of others
@@ -74,12 +74,12 @@ pub record IsConstant (names : Names) (c : Constant) : Type 0 where
   pub value : MatchOption c.value (Unit {0}) (IsPhrase names CHOICE)
 
 abbrev mutual
-  -- the bodies among some words are well made
+  -- the bodies among some specifiers are in the grammar
   pub HaveBodies : Names → Specs → Type 0
   HaveBodies names NoSpec = Unit {0}
   HaveBodies names (MoreSpecs first others) = HasBody names first × HaveBodies names others
 
-  -- a body has members of one type each, or constants, one at least
+  -- a body has groups of members, or at least one constant
   pub HasBody : Names → Spec → Type 0
   HasBody names Static = Unit {0}
   HasBody names (Plain w) = Unit {0}
@@ -92,16 +92,16 @@ abbrev mutual
       IsTrue (is_type names (words_of specs)) × HaveBodies names specs × IsSomeList declarators × AreAll (IsMember names) declarators
       × AreMembers names others
 
--- what stands before declarators outside blocks
+-- declaration specifiers outside blocks
 abbrev pub AreSpecs : Names → Specs → Type 0
 AreSpecs names specs = IsTrue (is_type names (words_of specs)) × HaveBodies names specs
 
--- what stands before declarators inside a block: no `static`, and no body
+-- declaration specifiers inside a block: no `static`, and no body
 abbrev pub AreBlockSpecs : Names → Specs → Type 0
 AreBlockSpecs names specs = MatchOption (plain_words specs) ⊥ (λ words. IsTrue (is_type names words))
 
 abbrev mutual
-  -- an expression without a comma, or items between braces, one at least
+  -- an expression without a comma, or at least one item between braces
   pub IsInitial : Names → Initial → Type 0
   IsInitial names (Single value) = IsPhrase names ASSIGN value
   IsInitial names (Listed NoInitial comma) = ⊥
@@ -116,7 +116,7 @@ pub record IsDeclared (names : Names) (d : Declared) : Type 0 where
   pub declarator : IsDeclarator names d.declarator
   pub initial : MatchOption d.initial (Unit {0}) (IsInitial names)
 
--- declared objects, one at least
+-- at least one declared object
 abbrev pub AreDeclared : Names → List Declared → Type 0
 AreDeclared names objects = IsSomeList objects × AreAll (IsDeclared names) objects
 
@@ -127,17 +127,17 @@ pub record IsParameter (names : Names) (p : Parameter) : Type 0 where
   pub free : MatchOption p.name (Unit {0}) (IsFree names)
   pub bounds : AreAll (IsBound names) p.bounds
 
--- the parameter whose one token is `void`
+-- the parameter whose only token is `void`
 abbrev pub lone_void : Parameter
 lone_void = record { specs = MoreSpecs (Plain Void) NoSpec; pointers = []; name = None; bounds = [] }
 
--- parameters, one at least; `void` alone is none
+-- at least one parameter; a lone `void` isn't one
 abbrev pub AreParameters : Names → Parameters → Type 0
 AreParameters names NoParameter = Unit {0}
 AreParameters names VoidAlone = Unit {0}
 AreParameters names (ParameterList list) = IsSomeList list × (list ≢ lone_void ∷ []) × AreAll (IsParameter names) list
 
--- a function's declared name with its parameters
+-- a function's declarator: its name with its parameters
 pub record IsHead (names : Names) (h : Head) : Type 0 where
   pub pointers : IsTrue (is_pointer h.pointers)
   pub free : IsFree names h.name
@@ -202,7 +202,7 @@ abbrev mutual
   AreSwitchItems names NoSwitchItem = Unit {0}
   AreSwitchItems names (MoreSwitchItems first others) = IsSwitchItem names first × AreSwitchItems names others
 
--- a part of a file; every parameter of a function with a body has a name
+-- an external declaration; every parameter of a function with a body has a name
 abbrev pub IsExternal : Names → External → Type 0
 IsExternal names (TypeAlone specs) = AreSpecs names specs
 IsExternal names (Typedef specs declarators) = AreSpecs names specs × IsSomeList declarators × AreAll (IsDeclarator names) declarators
@@ -210,37 +210,37 @@ IsExternal names (Objects specs objects) = AreSpecs names specs × AreDeclared n
 IsExternal names (Function specs head) = AreSpecs names specs × IsHead names head
 IsExternal names (Definition specs head body) = AreSpecs names specs × IsHead names head × AreNamed head.parameters × AreItems names body
 
--- the names with this one, which stands after the others if it is new
+-- the names with this one, after the others if it is new
 abbrev pub with_name : Names → List ℕ → Names
 with_name names name = if is_among names name then names else names ++ name ∷ []
 
--- the names with those that are declared here
+-- the names with those that are declared by these declarators
 abbrev pub with_names : Names → List Declarator → Names
 with_names names [] = names
 with_names names (d ∷ declarators) = with_names (with_name names d.name) declarators
 
--- the typedef names after a part of a file: those before it and, after its end, those that it declares
+-- the typedef names after an external declaration: those before it, and those that it declares
 abbrev pub names_after : Names → External → Names
 names_after names (Typedef specs declarators) = with_names names declarators
 names_after names other = names
 
--- a file, where these are the typedef names before it
+-- a file, if these are the typedef names before it
 abbrev pub IsFile : Names → List External → Type 0
 IsFile names [] = Unit {0}
 IsFile names (external ∷ externals) = IsExternal names external × IsFile (names_after names external) externals
 
--- each part of a file is no higher than the limit
+-- no external declaration is higher than the limit
 abbrev pub AreLow : ℕ → List External → Type 0
 AreLow limit externals = AreAll (λ external. external_height external ≤ limit) externals
 
--- a file whose tokens these begin
+-- the tokens begin a file
 pub record BeginsFile (front : Kinds) : Type 0 where
   pub file : List External
   pub more : Kinds
   pub is_file : IsFile [] file
   pub spelled : file_text file ≡ front ++ more
 
--- a file with parts no higher than the limit, whose tokens these begin
+-- the tokens begin a file whose parts are no higher than the limit
 pub record BeginsLowFile (limit : ℕ) (front : Kinds) : Type 0 where
   pub file : List External
   pub more : Kinds

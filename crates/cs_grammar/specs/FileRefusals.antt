@@ -14,7 +14,7 @@ use Rattle.cs_grammar.specs.FilePhrases.{IsFile, BeginsFile}
 use Rattle.cs_grammar.specs.Refusals.{EndsWithTag}
 use Rattle.cs_grammar.specs.Roles.{Role, closes_type, in_expression, declared_name, after_member, opens_list, file_roles}
 
--- some file, of any height, begins with these tokens, and after that many of its tokens stands one of this role
+-- a file of any height begins with these tokens, and its token after the first `following` ones has this role
 pub record HasRole (front : Kinds) (following : ℕ) (role : Role) : Type 0 where
   pub file : List External
   pub more : Kinds
@@ -22,12 +22,12 @@ pub record HasRole (front : Kinds) (following : ℕ) (role : Role) : Type 0 wher
   pub spelled : file_text file ≡ front ++ more
   pub there : slice_get (file_roles file) following ≡ Some role
 
--- some file that begins with these tokens has a token of this role after them
+-- a file that begins with these tokens has a token of this role next
 abbrev pub MayHave : Kinds → Role → Type 0
 MayHave front role = HasRole front (length front) role
 
--- the place after the tokens is inside a block: the brace that opens a function's body stands among them, and the one that closes
--- it doesn't
+-- the position after the tokens is inside a block: they contain the brace that opens a function's body, and not the one that
+-- closes it
 pub record IsInBlock (front : Kinds) : Type 0 where
   pub before : List External
   pub specs : Specs
@@ -39,7 +39,7 @@ pub record IsInBlock (front : Kinds) : Type 0 where
   pub within : items_text body [] ≡ inside ++ more
   pub spelled : front ≡ externals_text before (specs_text specs (head_text head (punctuator_text punctuator.OpenBrace inside)))
 
--- the place after the tokens is inside a block or inside an expression
+-- the position after the tokens is inside a block or inside an expression
 abbrev pub IsInside : Kinds → Type 0
 IsInside front = IsInBlock front ⊎ MayHave front in_expression ⊎ MayHave front closes_type
 
@@ -49,10 +49,10 @@ pub record IsAfterType (front : Kinds) : Type 0 where
   pub number : length front ≡ suc last
   pub closes : HasRole front last closes_type
 
--- the token is a word or punctuator of C that is unsupported after these tokens: an unsupported word or the punctuator of three dots anywhere; inside
--- a block or an expression `static`, `typedef`, and a brace after `struct` or `enum` or its tag; a brace after a type between
--- parentheses; a parenthesis where a declarator's name may stand; a colon after a member's declarator; a dot or a bracket where an
--- initial value may begin, and so a list of them may
+-- the token is a word or punctuator of C that is unsupported after these tokens: an unsupported word or an ellipsis anywhere;
+-- inside a block or an expression `static`, `typedef`, and a brace after `struct` or `enum` or its tag; a brace after a type
+-- between parentheses; a parenthesis where a declarator's name may be; a colon after a member's declarator; a dot or a bracket
+-- where an initializer may begin, and so an initializer list may
 abbrev pub IsUnsupportedOfFile : Kinds → TokenKind → Type 0
 IsUnsupportedOfFile front (token.Unsupported word) = Unit {0}
 IsUnsupportedOfFile front (token.Punctuator punctuator.Ellipsis) = Unit {0}
@@ -65,18 +65,18 @@ IsUnsupportedOfFile front (token.Punctuator punctuator.Dot) = MayHave front open
 IsUnsupportedOfFile front (token.Punctuator punctuator.OpenBracket) = MayHave front opens_list
 IsUnsupportedOfFile front next = ⊥
 
--- some file, of any height, begins with the tokens and the next one; where none is next, the tokens are a file's
+-- a file of any height begins with the tokens and the next one; if there is no next one, the tokens are a file
 abbrev pub GoesOn : Kinds → Option TokenKind → Type 0
 GoesOn front (Some next) = BeginsFile (front ++ next ∷ [])
 GoesOn front None = (file : List External) × IsFile [] file × (file_text file ≡ front)
 
--- the same of unsupported tokens: the end of input is none
+-- the same for unsupported tokens: the end of input isn't one
 abbrev pub IsUnsupportedNext : Kinds → Option TokenKind → Type 0
 IsUnsupportedNext front (Some next) = IsUnsupportedOfFile front next
 IsUnsupportedNext front None = ⊥
 
--- why the next token, or the end of input where none is next, is refused after these tokens, where no file that is low enough goes
--- on with it: too deep where a higher one does; unsupported where none does and the token is unsupported there
+-- why the next token, or the end of input if there is none, is refused after these tokens, if no file within the limit continues
+-- with it: too deep if a higher one does; unsupported if none does and the token is unsupported there
 abbrev pub IsFileReason : Kinds → Option TokenKind → Reason → Type 0
 IsFileReason front next TooDeep = GoesOn front next
 IsFileReason front next Unsupported = (GoesOn front next → ⊥) × IsUnsupportedNext front next

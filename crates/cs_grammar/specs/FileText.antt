@@ -1,4 +1,4 @@
--- The tokens of written declarations, statements and files, by their kinds. Each definition takes the tokens that stand after.
+-- The tokens of written declarations, statements and files, by their kinds. Each definition takes the tokens that follow.
 use Rattle.std.specs.Prelude.{ℕ, Bool, List, [], ◌∷◌, Option, Some, None, if◌then◌else◌}
 use Rattle.cs_ast.specs.declared.token.TokenKind.TheVariants as token
 use Rattle.cs_ast.specs.declared.token.Keyword.{Keyword}
@@ -26,12 +26,12 @@ abbrev pub name_text : Option (List ℕ) → Kinds → Kinds
 name_text None rest = rest
 name_text (Some name) rest = token.Name name ∷ rest
 
--- an expression, if it is there
+-- an expression, if there is one
 abbrev pub some_text : Option Written → Kinds → Kinds
 some_text None rest = rest
 some_text (Some e) rest = text e rest
 
--- a comma, if it is there
+-- a comma, if there is one
 abbrev pub comma_text : Bool → Kinds → Kinds
 comma_text comma rest = if comma then punctuator_text punctuator.Comma rest else rest
 
@@ -63,7 +63,7 @@ abbrev pub constant_text : Constant → Kinds → Kinds
 constant_text c rest = token.Name c.name ∷ value_text c.value rest
 
 abbrev mutual
-  -- a word before declarators, or a type with its body
+  -- a word before the declarators, or a type with its body
   pub spec_text : Spec → Kinds → Kinds
   spec_text Static rest = word_text keyword.Static rest
   spec_text (Plain w) rest = type_word_text w rest
@@ -96,7 +96,7 @@ abbrev mutual
   further_initials_text NoInitial rest = rest
   further_initials_text (MoreInitials first others) rest = punctuator_text punctuator.Comma (initial_text first (further_initials_text others rest))
 
--- what an object holds at first, after its `=`
+-- an initializer, after its `=`
 abbrev pub first_value_text : Option Initial → Kinds → Kinds
 first_value_text None rest = rest
 first_value_text (Some initial) rest = punctuator_text punctuator.Equal (initial_text initial rest)
@@ -116,7 +116,7 @@ parameters_text NoParameter rest = rest
 parameters_text VoidAlone rest = word_text keyword.Void rest
 parameters_text (ParameterList parameters) rest = with_commas parameter_text parameters rest
 
--- a function's declared name, with its parameters between parentheses
+-- a function's declarator: its name, with its parameters between parentheses
 abbrev pub head_text : Head → Kinds → Kinds
 head_text h rest =
     pointers_text h.pointers (token.Name h.name ∷ punctuator_text punctuator.OpenParenthesis
@@ -172,7 +172,7 @@ abbrev mutual
   switch_text NoSwitchItem rest = rest
   switch_text (MoreSwitchItems first others) rest = switch_item_text first (switch_text others rest)
 
--- a part of a file
+-- an external declaration
 abbrev pub external_text : External → Kinds → Kinds
 external_text (TypeAlone specs) rest = specs_text specs (punctuator_text punctuator.Semicolon rest)
 external_text (Typedef specs names) rest =
@@ -182,7 +182,7 @@ external_text (Function specs head) rest = specs_text specs (head_text head (pun
 external_text (Definition specs head body) rest =
     specs_text specs (head_text head (punctuator_text punctuator.OpenBrace (items_text body (punctuator_text punctuator.CloseBrace rest))))
 
--- parts of a file, one after another
+-- a sequence of external declarations
 abbrev pub externals_text : List External → Kinds → Kinds
 externals_text [] rest = rest
 externals_text (external ∷ externals) rest = external_text external (externals_text externals rest)

@@ -1,4 +1,4 @@
--- Which tokens an expression begins with, and which a type between parentheses.
+-- Which tokens begin an expression, and which begin a type between parentheses.
 use Rattle.std.specs.Prelude.{Bool, true, false, not}
 use Rattle.cs_ast.specs.declared.token.TokenKind.{TokenKind}
 use Rattle.cs_ast.specs.declared.token.TokenKind.TheVariants as token

@@ -1,5 +1,5 @@
--- How tightly expressions bind (C11 6.5.1 to 6.5.17): an expression of a level may stand where one of that level or of a looser
--- one is wanted.
+-- How tightly expressions bind (C11 6.5.1 to 6.5.17): an expression of a level is allowed where one of that level or of a looser
+-- one is required.
 use Rattle.std.specs.Prelude.{ℕ}
 use Rattle.cs_ast.specs.declared.raw.operator.InfixOp.{InfixOp}
 use Rattle.cs_ast.specs.declared.raw.operator.InfixOp.TheVariants as between
@@ -10,33 +10,33 @@ use Rattle.cs_ast.specs.RawTree.{SizeOfType, Cast, Infix, Choice, Assign, Comma}
 abbrev pub COMMA : ℕ
 COMMA = 0
 
--- expressions that store
+-- assignments
 abbrev pub ASSIGN : ℕ
 ASSIGN = 1
 
--- expressions with `?`
+-- conditional expressions
 abbrev pub CHOICE : ℕ
 CHOICE = 2
 
--- the loosest operator between two operands
+-- the loosest infix operators
 abbrev pub INFIX : ℕ
 INFIX = 3
 
 abbrev pub CAST : ℕ
 CAST = 13
 
--- operators before one operand
+-- prefix operators
 abbrev pub UNARY : ℕ
 UNARY = 14
 
--- operators after one operand
+-- postfix operators
 abbrev pub POSTFIX : ℕ
 POSTFIX = 15
 
 abbrev pub PRIMARY : ℕ
 PRIMARY = 16
 
--- the level of an operator between two operands
+-- the level of an infix operator
 abbrev pub infix_level : InfixOp → ℕ
 infix_level between.Or = 3
 infix_level between.And = 4

@@ -1,4 +1,4 @@
--- Which written expressions are phrases of the grammar (C11 6.5), where these names are typedef names, and which tokens begin one.
+-- Which written expressions are phrases of the grammar (C11 6.5), given the typedef names, and which tokens begin one.
 use Rattle.std.specs.Prelude.{◌≡◌, ℕ, suc, ◌≤◌, IsTrue, IsFalse, [], ◌++◌}
 use Rattle.cs_ast.specs.RawTree.{Written, WrittenList, Named, Numeral, Character, Literal, Enclosed, Index, Call, Member, Arrow, StepAfter, StepBefore, Prefix}
 use Rattle.cs_ast.specs.RawTree.{SizeOf, SizeOfType, Cast, Infix, Choice, Assign, Comma, End, More}
@@ -7,12 +7,12 @@ use Rattle.cs_grammar.specs.TypeWords.{Names, is_among, is_type, is_pointer}
 use Rattle.cs_grammar.specs.Levels.{level_of, infix_level, ASSIGN, CHOICE, INFIX, CAST, UNARY, POSTFIX}
 use Rattle.cs_grammar.specs.Text.{Kinds, text}
 
--- an expression may stand where one of this level is wanted
+-- an expression is allowed where one of this level is required
 abbrev pub Binds : ℕ → Written → Type 0
 Binds level e = level ≤ level_of e
 
 abbrev mutual
-  -- the parts of an expression are phrases of the levels that the grammar gives them; no typedef name stands for an object
+  -- the parts of an expression are phrases of the levels that the grammar requires; no typedef name is used as an object
   pub IsWell : Names → Written → Type 0
   IsWell names (Named name) = IsFalse (is_among names name)
   IsWell names (Numeral constant) = Unit {0}
@@ -41,18 +41,18 @@ abbrev mutual
   ArePhrases names level End = Unit {0}
   ArePhrases names level (More first others) = Binds level first × IsWell names first × ArePhrases names level others
 
--- an expression is a phrase of the level: it binds as tightly as that, and so do its parts as their places ask
+-- an expression is a phrase of the level: it binds at least as tightly, and its parts do as their positions require
 abbrev pub IsPhrase : Names → ℕ → Written → Type 0
 IsPhrase names level e = Binds level e × IsWell names e
 
--- a phrase of the level, and tokens that begin its text
+-- the tokens begin a phrase of the level
 pub record BeginsPhrase (names : Names) (level : ℕ) (front : Kinds) : Type 0 where
   pub phrase : Written
   pub more : Kinds
   pub is_phrase : IsPhrase names level phrase
   pub spelled : text phrase [] ≡ front ++ more
 
--- a phrase of the level that is no higher than the limit, and tokens that begin its text
+-- the tokens begin a phrase of the level that is no higher than the limit
 pub record BeginsLowPhrase (names : Names) (level limit : ℕ) (front : Kinds) : Type 0 where
   pub phrase : Written
   pub more : Kinds

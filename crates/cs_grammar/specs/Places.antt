@@ -1,5 +1,5 @@
--- That each node of a written expression has the place of its token: that of its operator, or its first one where it has none. The
--- name of a member has a place of its own.
+-- Each node of a written expression has the position of its token: that of its operator, or its first one if it has none. The
+-- name of a member has its own position.
 use Rattle.std.specs.Prelude.{◌≡◌, ℕ, suc, List, [], ◌∷◌, drop, Option, None, Some, slice_get}
 use Rattle.std.specs.Option.{option_map, option_and_then}
 use Rattle.cs_ast.specs.declared.raw.written_type.TypeWord.{TypeWord}
@@ -14,7 +14,7 @@ use Rattle.cs_ast.specs.RawView.{written_kind}
 use Rattle.cs_grammar.specs.Text.{size, words_text, pointers_text}
 use Rattle.std.specs.Prelude.{length}
 
--- the place is that of the first of these tokens
+-- the position is that of the first of these tokens
 abbrev pub StandsAt : Place → List Token → Type 0
 StandsAt at [] = ⊥
 StandsAt at (token ∷ tokens) = at ≡ token.place
@@ -30,14 +30,14 @@ after_tree e = following e.kind.value
 abbrev pub after_words : WrittenType → List Token → List Token
 after_words ty tokens = drop (length (words_text ty.words.items (pointers_text ty.pointers.items []))) tokens
 
--- how many tokens stand before the tag that names a type
+-- the number of tokens before the tag that names a type
 abbrev pub before_tag : List TypeWord → Option ℕ
 before_tag [] = None
 before_tag (word.Struct tag ∷ words) = Some 1
 before_tag (word.Enum tag ∷ words) = Some 1
 before_tag (other ∷ words) = option_map suc (before_tag words)
 
--- a type's words begin these tokens, and its tag, if it has one, is at its place
+-- if a type's words begin these tokens, its tag, if it has one, has the position of its token
 abbrev pub HasTagPlace : WrittenType → List Token → Type 0
 HasTagPlace ty tokens =
     ty.tag ≡ option_map (λ (token : Token). token.place) (option_and_then (λ number. slice_get tokens number) (before_tag ty.words.items))
@@ -48,7 +48,7 @@ after_bounds end_of-RawExpr tokens = tokens
 after_bounds (more_of-RawExpr at p first others) tokens = after_bounds others (drop 1 (following first (drop 1 tokens)))
 
 abbrev mutual
-  -- an expression at a place begins these tokens, and each of its nodes has the place of its token
+  -- an expression at a position begins these tokens, and each of its nodes has the position of its token
   pub IsPlaced : Place → RawExprKind → List Token → Type 0
   IsPlaced at (kind.Name name) tokens = StandsAt at tokens
   IsPlaced at (kind.Number constant) tokens = StandsAt at tokens
@@ -82,17 +82,17 @@ abbrev mutual
   IsPlaced at (kind.Comma' place p first place' q second) tokens =
       IsPlaced place first tokens × StandsAt at (following first tokens) × IsPlaced place' second (drop 1 (following first tokens))
 
-  -- the same of expressions with a punctuator after each
+  -- the same for expressions with a punctuator after each
   pub ArePlaced : {n : _} → Row_of-RawExpr n → List Token → Type 0
   ArePlaced end_of-RawExpr tokens = Unit {0}
   ArePlaced (more_of-RawExpr at p first others) tokens = IsPlaced at first tokens × ArePlaced others (drop 1 (following first tokens))
 
-  -- the same of expressions between brackets
+  -- the same for expressions between brackets
   pub AreBoundsPlaced : {n : _} → Row_of-RawExpr n → List Token → Type 0
   AreBoundsPlaced end_of-RawExpr tokens = Unit {0}
   AreBoundsPlaced (more_of-RawExpr at p first others) tokens =
       IsPlaced at first (drop 1 tokens) × AreBoundsPlaced others (drop 1 (following first (drop 1 tokens)))
 
--- the tokens begin with an expression whose nodes have the places of their tokens
+-- the tokens begin with an expression whose nodes have the positions of their tokens
 abbrev pub HasPlaces : RawExpr → List Token → Type 0
 HasPlaces e tokens = IsPlaced e.place e.kind.value tokens

@@ -1,4 +1,4 @@
--- The punctuators of operators, of steps and of pointers.
+-- The punctuators of operators, of increments and decrements, and of pointers.
 use Rattle.std.specs.Prelude.{◌≡◌, Option, Some, None}
 use Rattle.cs_ast.specs.declared.token.Punctuator.{Punctuator}
 use Rattle.cs_ast.specs.declared.token.Punctuator.TheVariants as punctuator
@@ -56,7 +56,7 @@ assign_punctuator assign.BitAnd = punctuator.AmpersandEqual
 assign_punctuator assign.BitXor = punctuator.CaretEqual
 assign_punctuator assign.BitOr = punctuator.BarEqual
 
--- an answer for a punctuator: the operator whose punctuator it is, or none where no operator has it
+-- the result for a punctuator: the operator that is written with it, or none if there is none
 abbrev pub IsWhatStandsFor : {Operator : Type 0} → (Operator → Punctuator) → Punctuator → Option Operator → Type 0
 IsWhatStandsFor marked punctuator (Some operator) = marked operator ≡ punctuator
 IsWhatStandsFor {Operator} marked punctuator None = (operator : Operator) → marked operator ≡ punctuator → ⊥

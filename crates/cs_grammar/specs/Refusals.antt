@@ -33,8 +33,8 @@ pub record EndsWithType (names : Names) (front : Kinds) : Type 0 where
   pub spelled : front ≡ before ++ token.Punctuator punctuator.OpenParenthesis
       ∷ type_text words pointers bounds (token.Punctuator punctuator.CloseParenthesis ∷ [])
 
--- the token is a word or punctuator of C that is unsupported after these tokens of an expression: an unsupported word, the punctuator of three
--- dots, `static` or `typedef` anywhere; a brace after `struct` or `enum`, after its tag, or after a type between parentheses
+-- the token is a word or punctuator of C that is unsupported after these tokens of an expression: an unsupported word, an
+-- ellipsis, `static` or `typedef` anywhere; a brace after `struct` or `enum`, after its tag, or after a type between parentheses
 abbrev pub IsUnsupported : Names → Kinds → TokenKind → Type 0
 IsUnsupported names front (token.Unsupported word) = Unit {0}
 IsUnsupported names front (token.Punctuator punctuator.Ellipsis) = Unit {0}
@@ -43,8 +43,8 @@ IsUnsupported names front (token.Keyword keyword.Typedef) = Unit {0}
 IsUnsupported names front (token.Punctuator punctuator.OpenBrace) = EndsWithTag front ⊎ EndsWithType names front
 IsUnsupported names front next = ⊥
 
--- why the next token is refused after these tokens, where an expression of the level doesn't continue with it or is too high: too
--- deep where some phrase of the level, of any height, begins so; the end of input is no unsupported word
+-- why the next token is refused after these tokens, if no expression of the level within the limit continues with it: too deep if
+-- a phrase of the level, of any height, begins with them all; the end of input isn't an unsupported word
 abbrev pub IsReason : Names → ℕ → Kinds → Option TokenKind → Reason → Type 0
 IsReason names level front (Some next) TooDeep = BeginsPhrase names level (front ++ next ∷ [])
 IsReason names level front (Some next) Unsupported = (BeginsPhrase names level (front ++ next ∷ []) → ⊥) × IsUnsupported names front next

@@ -1,5 +1,5 @@
--- What each token of a file is there, as far as it matters for words and punctuators that aren't supported. The lists run beside those of
--- the tokens.
+-- The role of each token in a file, as far as it matters for words and punctuators that aren't supported. The lists are parallel
+-- to those of the tokens.
 use Rattle.std.specs.Prelude.{ℕ, Bool, List, [], ◌∷◌, Option, Some, None, if◌then◌else◌}
 use Rattle.cs_ast.specs.declared.raw.written_type.TypeWord.{TypeWord}
 use Rattle.cs_ast.specs.declared.raw.written_type.PointerWord.{PointerWord}
@@ -14,8 +14,8 @@ use Rattle.cs_ast.specs.RawStatements.{SwitchItems, NoSwitchItem, MoreSwitchItem
 use Rattle.cs_grammar.specs.Text.{Kinds, words_text, pointers_text, type_word_text}
 use Rattle.cs_grammar.specs.FileText.{name_text}
 
--- what a token is: the parenthesis after the type of a cast or of `sizeof`; another token of an expression; the name of a
--- declarator; the comma or semicolon after a member's declarator; the brace that begins a list of initial values; anything else
+-- the role of a token: the parenthesis after the type of a cast or of `sizeof`; another token of an expression; the name of a
+-- declarator; the comma or semicolon after a member's declarator; the brace that begins an initializer list; anything else
 pub data Role : Type 0 where
   closes_type : Role
   in_expression : Role
@@ -79,12 +79,12 @@ some_roles (Some e) rest = roles e rest
 abbrev pub comma_roles : Bool → Roles → Roles
 comma_roles comma rest = if comma then another ∷ rest else rest
 
--- each of a list after a comma, which has this role
+-- each item of a list after a comma, which has this role
 abbrev pub each_after : {A : Type 0} → Role → (A → Roles → Roles) → List A → Roles → Roles
 each_after comma of [] rest = rest
 each_after comma of (a ∷ all) rest = comma ∷ of a (each_after comma of all rest)
 
--- a list with commas of this role between its parts
+-- a list with commas of this role between its items
 abbrev pub between : {A : Type 0} → Role → (A → Roles → Roles) → List A → Roles → Roles
 between comma of [] rest = rest
 between comma of (a ∷ all) rest = of a (each_after comma of all rest)
@@ -100,7 +100,7 @@ abbrev pub value_roles : Option Written → Roles → Roles
 value_roles None rest = rest
 value_roles (Some e) rest = another ∷ roles e rest
 
--- an enumeration constant, whose name is no declarator's
+-- an enumeration constant, whose name isn't that of a declarator
 abbrev pub constant_roles : Constant → Roles → Roles
 constant_roles c rest = another ∷ value_roles c.value rest
 
@@ -210,7 +210,7 @@ external_roles (Objects specs objects) rest = declaration_roles specs objects re
 external_roles (Function specs head) rest = specs_roles specs (head_roles head (another ∷ rest))
 external_roles (Definition specs head body) rest = specs_roles specs (head_roles head (another ∷ items_roles body (another ∷ rest)))
 
--- what the tokens of a file are
+-- the roles of the tokens of a file
 abbrev pub file_roles : List External → Roles
 file_roles [] = []
 file_roles (external ∷ externals) = external_roles external (file_roles externals)

@@ -1,4 +1,4 @@
--- How the words and punctuators of C that aren't supported are spelled.
+-- The spellings of the words and punctuators of C that aren't supported.
 use Rattle.std.specs.Prelude.{ℕ, List, [], codes}
 use Rattle.cs_ast.specs.declared.token.TokenKind.{TokenKind}
 use Rattle.cs_ast.specs.declared.token.TokenKind.TheVariants as token
@@ -7,7 +7,7 @@ use Rattle.cs_ast.specs.declared.token.Punctuator.TheVariants as punctuator
 use Rattle.cs_ast.specs.declared.token.Unsupported.{Unsupported}
 use Rattle.cs_ast.specs.declared.token.Unsupported.TheVariants as left
 
--- the bytes of a word that is unsupported
+-- the bytes of an unsupported word
 abbrev pub word_spelling : Unsupported → List ℕ
 word_spelling left.Float = codes "float"
 word_spelling left.Double = codes "double"
@@ -30,7 +30,7 @@ word_spelling left.Typeof = codes "typeof"
 word_spelling left.TypeofUnderscored = codes "__typeof__"
 word_spelling left.Auto = codes "auto"
 
--- the bytes of a token that is unsupported somewhere, none of any other
+-- the bytes of a token that is unsupported somewhere, none for any other token
 abbrev pub unsupported_spelling : TokenKind → List ℕ
 unsupported_spelling (token.Unsupported word) = word_spelling word
 unsupported_spelling (token.Punctuator punctuator.Ellipsis) = codes "..."

@@ -1,4 +1,4 @@
--- The tokens of a written expression, by their kinds. Each definition takes the tokens that stand after.
+-- The tokens of a written expression, by their kinds. Each definition takes the tokens that follow.
 use Rattle.std.specs.Prelude.{ℕ, List, [], ◌∷◌, length}
 use Rattle.cs_ast.specs.declared.token.TokenKind.{TokenKind}
 use Rattle.cs_ast.specs.declared.token.TokenKind.TheVariants as token
@@ -14,7 +14,7 @@ use Rattle.cs_ast.specs.RawTree.{Written, WrittenList, Named, Numeral, Character
 use Rattle.cs_ast.specs.RawTree.{SizeOf, SizeOfType, Cast, Infix, Choice, Assign, Comma, End, More}
 use Rattle.cs_grammar.specs.Punctuators.{step_punctuator, prefix_punctuator, infix_punctuator, assign_punctuator}
 
--- tokens by their kinds
+-- a list of tokens, by their kinds
 abbrev pub Kinds : Type 0
 Kinds = List TokenKind
 
@@ -94,6 +94,6 @@ abbrev mutual
 abbrev pub type_text : List TypeWord → List PointerWord → WrittenList → Kinds → Kinds
 type_text words pointers bounds rest = words_text words (pointers_text pointers (bounds_text bounds rest))
 
--- how many tokens an expression has
+-- the number of tokens of an expression
 abbrev pub size : Written → ℕ
 size e = length (text e [])

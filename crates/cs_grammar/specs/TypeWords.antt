@@ -25,11 +25,11 @@ abbrev pub is_const : TypeWord → Bool
 is_const word.Const = true
 is_const other = false
 
--- the words but `const`
+-- the words without `const`
 abbrev pub named_by : List TypeWord → List TypeWord
 named_by words = filter (λ w. not (is_const w)) words
 
--- the word is this one of an integer type
+-- the word is this word of an integer type
 abbrev pub is_word : IntegerWord → TypeWord → Bool
 is_word Char (word.Integer Char) = true
 is_word Short (word.Integer Short) = true
@@ -44,12 +44,12 @@ abbrev pub is_integer_word : TypeWord → Bool
 is_integer_word (word.Integer kind) = true
 is_integer_word other = false
 
--- how often an integer type's word stands among these
+-- the number of occurrences of an integer type word among these
 abbrev pub times : IntegerWord → List TypeWord → ℕ
 times kind words = count_by (is_word kind) words
 
--- so many words of integer types, in any order, make a type or are part of one (C11 6.7.2, paragraph 2): at most one sign, one
--- `int`, one of `char` and `short`, and two `long`; with `char` no `int` and no `long`, with `short` no `long`
+-- these numbers of words of integer types, in any order, form a type or a part of one (C11 6.7.2, paragraph 2): at most one sign,
+-- one `int`, one of `char` and `short`, and two `long`; with `char` no `int` and no `long`, with `short` no `long`
 abbrev pub fit_numbers : (char short int long signed unsigned : ℕ) → Bool
 fit_numbers char short int long signed unsigned =
     nat_le (signed + unsigned) 1
@@ -59,11 +59,11 @@ fit_numbers char short int long signed unsigned =
     && ((char == 0) || (int + long == 0))
     && ((short == 0) || (long == 0))
 
--- these words of integer types make a type or are part of one
+-- these words of integer types form a type or a part of one
 abbrev pub fit_together : List TypeWord → Bool
 fit_together words = fit_numbers (times Char words) (times Short words) (times Int words) (times Long words) (times Signed words) (times Unsigned words)
 
--- words but `const` name one type: a whole one, or a nonempty choice of words of an integer type
+-- words without `const` name one type: a whole one, or an allowed nonempty combination of words of an integer type
 abbrev pub names_type : Names → List TypeWord → Bool
 names_type names [] = false
 names_type names (word.Void ∷ []) = true
@@ -72,7 +72,7 @@ names_type names (word.Struct tag ∷ []) = true
 names_type names (word.Enum tag ∷ []) = true
 names_type names words = list_all is_integer_word words && fit_together words
 
--- the words of a type: those but `const` name one
+-- the words of a type: those other than `const` name one
 abbrev pub is_type : Names → List TypeWord → Bool
 is_type names words = names_type names (named_by words)
 
@@ -82,7 +82,7 @@ is_pointer [] = true
 is_pointer (pointer.Star ∷ words) = true
 is_pointer (pointer.Const ∷ words) = false
 
--- a keyword's word of an integer type, if it is one
+-- the word of an integer type that a keyword is, if it is one
 abbrev pub word_of : Keyword → Option IntegerWord
 word_of keyword.Char = Some Char
 word_of keyword.Short = Some Short
@@ -92,6 +92,6 @@ word_of keyword.Signed = Some Signed
 word_of keyword.Unsigned = Some Unsigned
 word_of other = None
 
--- the words may stand at the beginning of a type's words
+-- the words may begin the words of a type
 abbrev pub BeginType : Names → List TypeWord → Type 0
 BeginType names words = (more : List TypeWord) × IsTrue (is_type names (words ++ more))

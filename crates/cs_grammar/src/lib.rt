@@ -1,4 +1,4 @@
-//! The grammar: what is a phrase, which tokens begin one, and why a token is refused.
+//! The grammar: which trees are phrases, which tokens begin one, and why a token is refused.
 #![tactic(auto)]
 
 mod punctuators;

@@ -1,4 +1,4 @@
-//! The operators that punctuators stand for (C11 6.5).
+//! The operators of punctuators (C11 6.5).
 ghost use Rattle.std.specs.Prelude.{◌≡◌};
 ghost use Rattle.cs_grammar.specs.Levels.{infix_level as level_of_infix};
 ghost use Rattle.cs_grammar.specs.Punctuators.{infix_punctuator, prefix_punctuator, step_punctuator, assign_punctuator, IsWhatStandsFor};
@@ -6,7 +6,7 @@ ghost use Rattle.cs_grammar.specs.Punctuators.{infix_punctuator, prefix_punctuat
 use cs_ast::Punctuator;
 use cs_ast::raw::operator::{AssignOp, InfixOp, PrefixOp, Step};
 
-/// The operator between two operands that a punctuator stands for, if it does (C11 6.5.5 to 6.5.14).
+/// Returns the infix operator that is written with a punctuator, if there is one (C11 6.5.5 to 6.5.14).
 pub fn infix_operator(punctuator: Punctuator) -> Option<InfixOp>
     ensures { IsWhatStandsFor infix_punctuator punctuator result }
 {
@@ -33,7 +33,7 @@ pub fn infix_operator(punctuator: Punctuator) -> Option<InfixOp>
     }
 }
 
-/// How tightly an operator between two operands binds.
+/// Returns the level of an infix operator: the greater, the tighter it binds.
 pub fn infix_level(operator: InfixOp) -> u32
     ensures { result ≡ level_of_infix operator }
 {
@@ -51,7 +51,7 @@ pub fn infix_level(operator: InfixOp) -> u32
     }
 }
 
-/// The operator before one operand that a punctuator stands for, if it does (C11 6.5.3).
+/// Returns the prefix operator that is written with a punctuator, if there is one (C11 6.5.3).
 pub fn prefix_operator(punctuator: Punctuator) -> Option<PrefixOp>
     ensures { IsWhatStandsFor prefix_punctuator punctuator result }
 {
@@ -66,7 +66,7 @@ pub fn prefix_operator(punctuator: Punctuator) -> Option<PrefixOp>
     }
 }
 
-/// The step that a punctuator stands for, if it does (C11 6.5.2.4, 6.5.3.1).
+/// Returns the increment or decrement that is written with a punctuator, if it is one (C11 6.5.2.4, 6.5.3.1).
 pub fn step(punctuator: Punctuator) -> Option<Step>
     ensures { IsWhatStandsFor step_punctuator punctuator result }
 {
@@ -77,7 +77,7 @@ pub fn step(punctuator: Punctuator) -> Option<Step>
     }
 }
 
-/// The operator that stores that a punctuator stands for, if it does (C11 6.5.16).
+/// Returns the assignment operator that is written with a punctuator, if there is one (C11 6.5.16).
 pub fn assign_operator(punctuator: Punctuator) -> Option<AssignOp>
     ensures { IsWhatStandsFor assign_punctuator punctuator result }
 {

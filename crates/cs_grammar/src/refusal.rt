@@ -3,7 +3,7 @@
 use cs_ast::Place;
 use cs_names::Name;
 
-/// Why a token is refused where no phrase that is low enough continues with it.
+/// Why a token is refused if no phrase within the height limit continues with it.
 #[derive(Clone, Copy)]
 pub enum Reason {
     /// No phrase of any height continues with it.
@@ -14,7 +14,7 @@ pub enum Reason {
     TooDeep,
 }
 
-/// The refusal of a file's tokens, at the place of the first token that can't continue a translation unit.
+/// The refusal of a file's tokens, at the position of the first token that can't continue a translation unit.
 #[derive(Drop)]
 pub enum SyntaxRefusal {
     /// The token can't continue a translation unit.
@@ -23,6 +23,6 @@ pub enum SyntaxRefusal {
     Unsupported(Place, Name),
     /// A translation unit that is nested too deeply continues with the token.
     TooDeep(Place),
-    /// Want of memory.
+    /// Memory ran out.
     Memory,
 }

@@ -1,10 +1,10 @@
-//! How the words and punctuators of C that aren't supported are spelled.
+//! The spellings of the words and punctuators of C that aren't supported.
 ghost use Rattle.std.specs.Prelude.{◌≡◌};
 ghost use Rattle.cs_grammar.specs.Spelling.{unsupported_spelling, word_spelling};
 
 use cs_ast::{Keyword, Punctuator, TokenKind, Unsupported};
 
-/// The spelling of a token that is unsupported somewhere, and of no other.
+/// Returns the spelling of a token that is unsupported somewhere, and no bytes for any other token.
 pub fn unsupported_text(kind: &TokenKind) -> &'static [u8]
     ensures { result.now ≡ unsupported_spelling kind.now }
 {

@@ -1,4 +1,4 @@
-//! The words of a type, one after another (C11 6.7.2).
+//! The words of a type, taken one by one (C11 6.7.2).
 ghost use Rattle.std.specs.Prelude.{◌≡◌, true, List, IsTrue};
 ghost use Rattle.cs_ast.specs.declared.raw.written_type.TypeWord.{TypeWord};
 ghost use Rattle.cs_grammar.specs.TypeWords.{Names, word_of, is_type};
@@ -7,7 +7,7 @@ ghost use Rattle.cs_grammar.specs.TypesSoFar.{fit, counted, Describes, IsExtende
 use cs_ast::Keyword;
 use cs_ast::raw::written_type::{IntegerWord, TypeWord};
 
-/// How often each word of an integer type stands in a type so far.
+/// The number of occurrences of each integer type word in a type so far.
 #[derive(Clone, Copy)]
 pub struct IntegerWords {
     pub char: u8,
@@ -18,18 +18,18 @@ pub struct IntegerWords {
     pub unsigned: u8,
 }
 
-/// What the words of a type so far leave open.
+/// What the words of a type so far are, as far as it determines which words may follow.
 #[derive(Clone, Copy)]
 pub enum TypeSoFar {
     /// They name no type yet.
     Nothing,
-    /// They are words of an integer type, which others may join.
+    /// They are words of an integer type, which others may follow.
     Integers(IntegerWords),
-    /// They name a type, which no word but `const` may join.
+    /// They name a type, which only `const` may follow.
     Whole,
 }
 
-/// The word of an integer type that a keyword is, if it is one.
+/// Returns the word of an integer type that a keyword is, if it is one.
 pub fn integer_word(keyword: Keyword) -> Option<IntegerWord>
     ensures { result ≡ word_of keyword }
 {
@@ -54,7 +54,7 @@ const NONE: IntegerWords = IntegerWords {
 };
 
 impl IntegerWords {
-    // The words with one more.
+    // Returns the words with one more.
     fn with(self, word: IntegerWord) -> IntegerWords
         ensures { fit self ≡ true → result ≡ counted word self }
     {
@@ -70,7 +70,7 @@ impl IntegerWords {
         all
     }
 
-    // Whether the words make a type or are part of one.
+    // Whether the words form a type or a part of one.
     fn fit(self) -> bool
         ensures { result ≡ fit self }
     {
@@ -85,7 +85,7 @@ impl IntegerWords {
             && (self.short == 0 || self.long == 0)
     }
 
-    // The words with one more, if they still fit together.
+    // Returns the words with one more, if they still form a type or a part of one.
     fn joined(self, word: IntegerWord) -> Option<IntegerWords>
         ensures { fit self ≡ true → IsJoined self word result }
     {
@@ -95,7 +95,7 @@ impl IntegerWords {
 }
 
 impl TypeSoFar {
-    /// What the words leave open with one more, none where no type begins so.
+    /// Returns the description of the words with one more, none if no type begins with them.
     pub fn with(self, next: &TypeWord) -> Option<TypeSoFar>
         ensures { (names : Names) (words : List TypeWord) → Describes names self words
             → IsTrue (is_known names next.now) → IsExtended names words next.now result }

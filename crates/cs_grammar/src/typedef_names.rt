@@ -1,4 +1,4 @@
-//! The names that a file's typedefs have declared so far.
+//! The typedef names that a file has declared so far.
 ghost use Rattle.std.specs.Prelude.{◌≡◌, [], if◌then◌else◌, ◌++◌, ◌∷◌, OnOk, OnErr};
 ghost use Rattle.cs_grammar.specs.TypeWords.{is_among};
 
@@ -7,7 +7,7 @@ use indexmap::IndexSet;
 use std::alloc::{AllocError, Global};
 use std::marker::Model;
 
-/// The names that are typedef names, each once, in the order in which they came. A contract sees them as a list.
+/// The typedef names, each once, in the order of their declarations. In contracts it is the list of them.
 #[derive(Drop)]
 pub struct TypedefNames {
     names: IndexSet<Name>,
@@ -22,7 +22,7 @@ impl Model for TypedefNames {
 }
 
 impl TypedefNames {
-    /// No name is a typedef name.
+    /// Returns the empty set of names.
     pub fn new(alloc: Global) -> TypedefNames
         ensures { result ≡ [] }
     {
@@ -31,14 +31,14 @@ impl TypedefNames {
         }
     }
 
-    /// Whether the name is one of these.
+    /// Whether the name is a typedef name.
     pub fn contains(&self, name: &Name) -> bool
         ensures { result ≡ is_among self.now name.now }
     {
         self.names.contains(name)
     }
 
-    /// Makes the name one of these, after the others if it is new.
+    /// Adds a name, after the others if it is new.
     pub fn add(&mut self, name: Name) -> Result<(), AllocError>
         ensures added { OnOk result
             (self.new ≡ (if is_among self.old name then self.old else self.old ++ name ∷ [])) }

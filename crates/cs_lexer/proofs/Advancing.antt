@@ -1,4 +1,4 @@
--- A piece takes one byte or more, and a linemarker's line is bounded: for the loop of `cut`.
+-- A piece takes at least one byte, and a linemarker's line is bounded: for the loop of `cut`.
 use Rattle.std.proofs.Common.{◌≡◌, ℕ, ◌+◌, ◌<◌, ◌≤◌, Bool, true, false, cond, ◌&&◌, List, [], ◌∷◌, length, take, drop, Option}
 use Rattle.std.proofs.Common.{Some, None, nat_lt, refl, sym, subst, arith}
 use Rattle.std.specs.Prelude.{◌==◌, nat_le, nat_eq}

@@ -1,4 +1,4 @@
--- How far a text is cut, and that its places fit: for the loop of `cut`.
+-- The part of a text that has been cut, and that its positions fit their types: for the loop of `cut`.
 use Rattle.std.proofs.Common.{◌≡◌, ℕ, ◌+◌, ◌<◌, ◌≤◌, true, false, cond, nat_lt, List, [], ◌∷◌, ◌++◌, length, take, drop, Option}
 use Rattle.std.proofs.Common.{Some, None, length-append, length-drop, length-take, sym, ap, ◌∙◌, subst, arith}
 use Rattle.std.specs.Prelude.{codes, ◌==◌}

@@ -1,4 +1,4 @@
--- Digits of a base as std reads them: for `value` and `leading_value`.
+-- Digits of a base as std parses them: for `value` and `leading_value`.
 use Rattle.std.proofs.Common.{◌≡◌, ℕ, ◌<◌, ◌^◌, zero, suc, true, false, List, [], ◌∷◌, length, get_or, nat_lt, cond, Result, Err, Some}
 use Rattle.std.proofs.Common.{None, refl, arith}
 use Rattle.std.specs.Prelude.{◌==◌}

@@ -1,4 +1,4 @@
--- The place of a name among the names of files: for `add` and `number_in`.
+-- The index of a name among the names of files: for `add` and `number_in`.
 use Rattle.std.proofs.Common.{◌≡◌, ℕ, ◌+◌, ◌≤◌, Bool, true, false, cond, List, [], ◌∷◌, ◌++◌, length, length-append, Option, Some}
 use Rattle.std.proofs.Common.{None, nat_lt, nat_eq, eqb, refl, sym, ap, ◌∙◌, subst, arith}
 use Rattle.std.specs.List.{position, position_or_len}

@@ -1,4 +1,4 @@
--- The file of a place is one that the text names: for the refusals of `tokens`.
+-- The file of a position is one that the text names: for the refusals of `tokens`.
 use Rattle.std.proofs.Common.{◌≡◌, ℕ, ◌+◌, ◌<◌, ◌≤◌, true, false, cond, nat_lt, List, [], ◌∷◌, ◌++◌, length, take, Option, Some}
 use Rattle.std.proofs.Common.{None, length-append, refl, ◌∙◌, ap, subst, arith}
 use Rattle.std.specs.Prelude.{◌==◌}

@@ -1,4 +1,4 @@
--- Parentheses that close, counted from the end of a list: for `closings` and `without_attributes`.
+-- Closed parentheses, counted from the end of a list: for `closings` and `without_attributes`.
 use Rattle.std.proofs.Common.{◌≡◌, ℕ, zero, suc, ◌+◌, ◌-◌, ◌<◌, ◌≤◌, inl, inr, Bool, true, false, cond, List, [], ◌∷◌, ◌++◌}
 use Rattle.std.proofs.Common.{length, length-append, append_assoc, take, drop, length-take, reverse, get_or, Option, Some, None, refl, sym, ap, ◌∙◌}
 use Rattle.std.proofs.Common.{subst, arith}

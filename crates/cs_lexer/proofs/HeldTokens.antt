@@ -1,4 +1,4 @@
--- What the lexer takes has no constant that is too wide: for the tokens of lexed files.
+-- The lexer accepts no constant that is too wide: for the tokens of lexed files.
 use Rattle.std.proofs.Common.{◌-◌, ◌≡◌, ℕ, zero, suc, ◌+◌, ◌^◌, ◌<◌, Bool, true, false, cond, List, [], ◌∷◌, length, take, drop}
 use Rattle.std.proofs.Common.{Option, Some, None, refl, sym, subst, arith}
 use Rattle.std.specs.Prelude.{pos, negsuc, nat_le, nat_lt, not, ◌&&◌, codes, IfSome, is_some, FitsSigned, nat_eq}

@@ -1,4 +1,4 @@
--- Texts that stand side by side, gathered one by one: for `whole_text` and `joined`.
+-- Adjacent string literals, joined one by one: for `whole_text` and `joined`.
 use Rattle.std.proofs.Common.{◌≡◌, ℕ, ◌-◌, ◌≤◌, List, [], ◌∷◌, ◌++◌, length, length-take, append_assoc, take, reverse, cond, Some}
 use Rattle.std.proofs.Common.{None, refl, sym, ap, ◌∙◌, subst, arith}
 use Rattle.cs_ast.specs.declared.place.Place.{Place}

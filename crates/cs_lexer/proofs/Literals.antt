@@ -1,4 +1,4 @@
--- How far the body of a string literal is read: for `text_of`.
+-- The part of a string literal's body that has been read: for `text_of`.
 use Rattle.std.proofs.Common.{◌≡◌, ℕ, ◌<◌, ◌≤◌, List, [], ◌∷◌, ◌++◌, length, drop, length-drop, sym, subst, arith}
 use Rattle.cs_lexer.specs.declared.escape.Item.TheVariants.{Byte}
 use Rattle.cs_lexer.specs.Escapes.{item_at}

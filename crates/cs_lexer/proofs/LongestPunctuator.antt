@@ -1,4 +1,4 @@
--- The longest punctuator at the front of bytes: for `longest_punctuator`, which tries three bytes, then two, then one.
+-- The longest punctuator that bytes begin with: for `longest_punctuator`, which tries three bytes, then two, then one.
 use Rattle.std.proofs.Common.{◌≡◌, ◌≢◌, ℕ, ◌<◌, ◌≤◌, inl, inr, zero, suc, List, [], ◌∷◌, length, take, refl, sym, ap, ◌∙◌}
 use Rattle.std.proofs.Common.{arith, length-take}
 use Rattle.std.proofs.lemmas.Bool.{cases_lt}

@@ -1,4 +1,4 @@
--- The cutting of a text is one: for what is said of its tokens.
+-- A text has only one cutting: for statements about its tokens.
 use Rattle.std.proofs.Common.{◌≡◌, ◌++◌, ℕ, ◌<◌, List, [], ◌∷◌, length, take, drop, codes, Option, Some, None, refl, sym, ap, ◌∙◌}
 use Rattle.std.proofs.Common.{subst, arith}
 use Rattle.cs_ast.specs.declared.place.Place.{Place}

@@ -1,4 +1,4 @@
--- A text has one list of tokens, or no tokens: for the crates above, which refuse a text or continue with its tokens.
+-- A text has either one list of tokens or none: for the crates above, which refuse a text or continue with its tokens.
 use Rattle.std.proofs.Common.{◌≡◌, ℕ, List, length, refl, sym, ap, ◌∙◌, arith}
 use Rattle.cs_ast.specs.declared.place.Place.{Place}
 use Rattle.cs_lexer.specs.declared.cut.End.TheVariants as ends

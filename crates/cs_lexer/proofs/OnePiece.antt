@@ -1,4 +1,4 @@
--- The piece that bytes begin with is one: for the one cutting of a text.
+-- Bytes begin with only one piece: for the uniqueness of cuttings.
 use Rattle.std.proofs.Common.{◌≡◌, inl, inr, ◌++◌, ℕ, ◌+◌, ◌<◌, Bool, List, [], ◌∷◌, length, take, drop, Option, Some, None, refl}
 use Rattle.std.proofs.Common.{sym, ap, ◌∙◌, arith}
 use Rattle.std.proofs.lemmas.Bool.{cases_lt}

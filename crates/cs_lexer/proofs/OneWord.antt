@@ -1,4 +1,4 @@
--- A word, and the punctuator at the front of bytes, is one thing alone: for the one cutting of a text.
+-- A word, and the punctuator that bytes begin with, is only one token: for the uniqueness of cuttings.
 use Rattle.std.proofs.Common.{◌≡◌, ◌⊎◌, inl, inr, ◌||◌, codes, ℕ, Bool, true, false, List, [], ◌∷◌, length, take, Option, Some, None}
 use Rattle.std.proofs.Common.{nat_eq, refl, sym, ap, ◌∙◌, arith}
 use Rattle.std.proofs.lemmas.Bool.{false≢true}

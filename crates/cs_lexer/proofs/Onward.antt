@@ -1,4 +1,4 @@
--- Where steps lead that are determined: two ways from one beginning meet. For the one reading of a literal, and the one cutting of a text.
+-- Deterministic steps: two paths from one beginning meet. For the uniqueness of a literal's bytes and of a text's cutting.
 use Rattle.std.proofs.Common.{◌≡◌, ◌⊎◌, inl, inr, refl, sym, subst}
 
 module _ {S : Type 0} where

@@ -1,4 +1,4 @@
--- The bytes from the front on that pass a test: for the readers of digits, words and white space.
+-- The longest prefix of bytes that pass a test: for digits, words and white space.
 use Rattle.std.proofs.Common.{◌≡◌, Bool, true, false, cond, List, [], ◌∷◌, length, take, refl, sym, ap, subst}
 use Rattle.std.specs.List.{list_all, take_while}
 use Rattle.std.proofs.lemmas.List.Sums.{take_while-cons}

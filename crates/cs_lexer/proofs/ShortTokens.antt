@@ -1,4 +1,4 @@
--- The tokens of a text with the bytes of their string literals are no more than its bytes: for `lexed_texts_are_bounded`.
+-- The tokens of a text plus the bytes of their string literals are no more than its bytes: for `lexed_texts_are_bounded`.
 use Rattle.std.proofs.Common.{ℕ, zero, suc, ◌+◌, ◌<◌, ◌≤◌, Bool, true, false, cond, List, [], ◌∷◌, ◌++◌, length, length-append}
 use Rattle.std.proofs.Common.{length-drop, length-take, take, drop, Option, Some, None, sym, ap, subst, arith}
 use Rattle.std.specs.Prelude.{nat_lt, nat_le, ◌&&◌, ◌==◌, codes, is_some, unwrap_or, nat_eq}

@@ -1,4 +1,4 @@
--- How far a spot is moved over bytes: for `spot_after`.
+-- How far bytes move a position: for `spot_after`.
 use Rattle.std.proofs.Common.{◌≡◌, ℕ, List, drop}
 use Rattle.cs_lexer.specs.declared.spot.Spot.{Spot}
 use Rattle.cs_lexer.specs.Spots.{spot_after, IsWithin}

@@ -1,4 +1,4 @@
--- The tokens of a text stand in the files that it names, which are few: for `lexed_texts_are_bounded`.
+-- The tokens of a text are in the files that it names, whose number is bounded: for `lexed_texts_are_bounded`.
 use Rattle.std.proofs.Common.{ℕ, zero, suc, ◌+◌, ◌<◌, ◌≤◌, Bool, true, false, cond, List, [], ◌∷◌, length, length-drop, Option, Some}
 use Rattle.std.proofs.Common.{None, arith}
 use Rattle.std.specs.Prelude.{is_some}

@@ -1,4 +1,4 @@
--- Tokens that are taken from the end of a reversed list: for `without_attributes` and `joined`.
+-- Tokens taken from the end of a reversed list: for `without_attributes` and `joined`.
 use Rattle.std.proofs.Common.{◌≡◌, ◌-◌, List, [], ◌∷◌, ◌++◌, length, length-append, take, reverse, refl, sym, ap, ◌∙◌, arith}
 use Rattle.std.proofs.lemmas.List.{reverse-append, reverse-reverse, take-append-le}
 use Rattle.cs_ast.specs.declared.token.Token.{Token}

@@ -1,4 +1,4 @@
--- Tokens that stay where they are: those without attributes, and those without texts.
+-- Lists of tokens that remain unchanged: those without attributes, and those without string literals.
 use Rattle.std.proofs.Common.{◌≡◌, ℕ, false, cond, List, [], ◌∷◌, Option, Some, None, refl, ap, ◌∙◌}
 use Rattle.std.specs.Prelude.{◌&&◌, is_some}
 use Rattle.std.specs.List.{list_any}

@@ -5,7 +5,7 @@ use Rattle.std.specs.Prelude.{ℕ, Bool, false, ◌||◌, ◌&&◌, nat_le, ◌=
 abbrev pub is_blank : ℕ → Bool
 is_blank b = (b == 32) || ((b == 9) || ((b == 11) || ((b == 12) || (b == 13))))
 
--- white space: also a line feed
+-- white space: a blank or a line feed
 abbrev pub is_space : ℕ → Bool
 is_space b = is_blank b || (b == 10)
 
@@ -22,7 +22,7 @@ is_octal_digit b = nat_le 48 b && nat_le b 55
 abbrev pub is_hexadecimal_digit : ℕ → Bool
 is_hexadecimal_digit b = is_digit b || ((nat_le 97 b && nat_le b 102) || (nat_le 65 b && nat_le b 70))
 
--- a byte that a name continues with
+-- a byte that can continue a name
 abbrev pub is_name_byte : ℕ → Bool
 is_name_byte b = is_letter b || is_digit b
 

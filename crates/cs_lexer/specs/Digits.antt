@@ -1,4 +1,4 @@
--- Digits and the numbers that they write (C11 6.4.4.1).
+-- Digits and their values (C11 6.4.4.1).
 use Rattle.std.specs.Prelude.{ℕ, ◌^◌, Bool, List, Option, Some, None, nat_lt, if◌then◌else◌}
 use Rattle.std.specs.List.{take_while}
 use Rattle.std.specs.Str.Parse.{digits_value}
@@ -16,10 +16,10 @@ is_digit_of Octal b = is_octal_digit b
 is_digit_of Decimal b = is_digit b
 is_digit_of Hexadecimal b = is_hexadecimal_digit b
 
--- the digits at the front, as many as there are
+-- the longest prefix of digits
 abbrev pub run : Base → List ℕ → List ℕ
 run base bytes = take_while (is_digit_of base) bytes
 
--- the number that digits write, if 64 bits hold it
+-- the value of digits, if it fits 64 bits
 abbrev pub value_of : Base → List ℕ → Option ℕ
 value_of base digits = if nat_lt (digits_value (radix base) digits) (2 ^ 64) then Some (digits_value (radix base) digits) else None

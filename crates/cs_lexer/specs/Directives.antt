@@ -17,7 +17,7 @@ use Rattle.cs_lexer.specs.Quoted.{closing}
 abbrev pub blank_count : List ℕ → ℕ
 blank_count bytes = length (take_while is_blank bytes)
 
--- the bytes after the blanks at the front
+-- the bytes after the leading blanks
 abbrev pub skip_blanks : List ℕ → List ℕ
 skip_blanks bytes = drop (blank_count bytes) bytes
 
@@ -25,25 +25,25 @@ abbrev pub begins_blank : List ℕ → Bool
 begins_blank [] = false
 begins_blank (b ∷ bytes) = is_blank b
 
--- the word `line` and blanks may stand before a marker's number
+-- the word `line` and blanks may come before a marker's number
 abbrev pub number_part : List ℕ → List ℕ
 number_part bytes = if starts_with nat_eq bytes (codes "line") && begins_blank (drop 4 bytes) then skip_blanks (drop 4 bytes) else bytes
 
--- a line is at most 2,147,483,647
+-- a line number is at most 2,147,483,647
 abbrev pub bounded : Option ℕ → Option ℕ
 bounded None = None
 bounded (Some value) = if nat_le value 2147483647 then Some value else None
 
--- the line that digits at the front give
+-- the line number that the leading digits are
 abbrev pub line_number : List ℕ → Option ℕ
 line_number bytes = if length (run Decimal bytes) == 0 then None else bounded (value_of Decimal (run Decimal bytes))
 
--- a backslash and the byte after it stand for that byte; the one before the first may be such a backslash
+-- a backslash and the byte after it represent that byte; `escaped`: such a backslash is before the first byte
 abbrev pub unescaped : Bool → List ℕ → List ℕ
 unescaped escaped [] = []
 unescaped escaped (b ∷ bytes) = if (b == 92) && not escaped then unescaped true bytes else b ∷ unescaped false bytes
 
--- the name with these bytes between its quotes is text in UTF-8
+-- the name with these bytes between its quotes is valid UTF-8
 abbrev pub name_of : List ℕ → FileName
 name_of body = if is_utf8 (unescaped false body) then Given (unescaped false body) else Bad
 
@@ -51,15 +51,15 @@ abbrev pub name_in : List ℕ → Option ℕ → FileName
 name_in bytes None = Bad
 name_in bytes (Some count) = name_of (take count bytes)
 
--- a name in quotes stands at the front
+-- a quoted name comes first
 abbrev pub quoted_name : List ℕ → FileName
 quoted_name bytes = if begins_with 34 bytes then name_in (drop 1 bytes) (closing 34 false (drop 1 bytes)) else Bad
 
--- after the number stand blanks alone, or blanks, a name and flags
+-- the number is followed by blanks only, or by blanks, a name and flags
 abbrev pub file_name : List ℕ → FileName
 file_name bytes = if list_all is_blank bytes then Absent else (if begins_blank bytes then quoted_name (skip_blanks bytes) else Bad)
 
--- the line after a marker is there where the marker's own line ends
+-- the line after a marker exists if the marker's own line ends
 abbrev pub next_line : ℕ → Bool → Option ℕ
 next_line line is_ended = if is_ended then Some line else None
 
@@ -77,15 +77,15 @@ abbrev pub marker : List ℕ → ℕ → Bool → Lexeme
 marker body size is_ended = with_line (line_number (number_part body)) (file_name (drop (length (run Decimal (number_part body))) (number_part body))) size
     is_ended
 
--- how many bytes a line has, with its line feed
+-- the number of bytes of a line, with its line feed
 abbrev pub whole_length : ℕ → Bool → ℕ
 whole_length count is_ended = if is_ended then count + 1 else count
 
--- a pragma is skipped, and any other line is a linemarker
+-- a pragma is skipped; any other line has to be a linemarker
 abbrev pub line_of : List ℕ → ℕ → Bool → Lexeme
 line_of body size is_ended = if starts_with nat_eq body (codes "pragma") then Gap size else marker body size is_ended
 
--- the line that bytes begin with, the first of them being its `#`
+-- the directive that bytes begin with; the first is its `#`
 abbrev pub directive_at : List ℕ → Lexeme
 directive_at bytes = (let line = take_while is_inside bytes in let is_ended = nat_lt (length line) (length bytes) in
     line_of (skip_blanks (drop 1 line)) (whole_length (length line) is_ended) is_ended)

@@ -4,6 +4,6 @@ use Rattle.cs_ast.specs.HeldTokens.{AreHeld}
 use Rattle.cs_lexer.specs.declared.lexer.Lexed.{Lexed}
 use Rattle.cs_lexer.specs.Lexing.{Lexes}
 
--- no token of a lexed text is too wide
+-- no constant of a lexed text is too wide
 abbrev pub LexedTokensAreHeld : Type 0
 LexedTokensAreHeld = (text : List ℕ) (lexed : Lexed) → Lexes text lexed → AreHeld lexed.list.items

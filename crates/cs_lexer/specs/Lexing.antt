@@ -13,7 +13,7 @@ use Rattle.cs_lexer.specs.Attributes.{without_attributes}
 use Rattle.cs_lexer.specs.Texts.{joined}
 use Rattle.cs_lexer.specs.Cuttings.{IsWhole, IsRefusedAt, EndsAs}
 
--- the tokens of a cutting: attributes are unsupported, then texts that stand side by side are one
+-- the tokens of a cutting: attributes are removed, then adjacent string literals are joined
 abbrev pub tokens_of : List Token → List Token
 tokens_of pieces = joined (without_attributes 0 pieces)
 
@@ -24,7 +24,7 @@ pub record Lexes (text : List ℕ) (lexed : Lexed) : Type 0 where
   pub tokens_are : lexed.list.items ≡ tokens_of pieces
   pub few : length lexed.list.items ≤ MOST_TOKENS
 
--- the first fault of the text is at this place in the file of this name, and no more than `MOST_TOKENS` tokens begin before it
+-- the first fault of the text is at this position in the file of this name, and at most `MOST_TOKENS` tokens begin before it
 pub record IsFirstFault (text : List ℕ) (fault : Fault) (place : Place) (file : List ℕ) : Type 0 where
   pub files : List (List ℕ)
   pub pieces : List Token
@@ -47,7 +47,7 @@ refusal_of faults.Unclosed place file = Unclosed place file
 refusal_of faults.WideNumber place file = WideNumber place file
 refusal_of faults.BadLine place file = BadLine place file
 
--- why a text has no tokens; want of memory is free
+-- why a text has no tokens; nothing is stated about when memory runs out
 abbrev pub IsRefused : List ℕ → LexRefusal → Type 0
 IsRefused text (BadByte place file) = IsFirstFault text faults.BadByte place file
 IsRefused text (Unclosed place file) = IsFirstFault text faults.Unclosed place file

@@ -27,7 +27,7 @@ begins_twice byte (b ∷ bytes) = (b == byte) && begins_with byte bytes
 abbrev pub base_of : List ℕ → Base
 base_of bytes = if is_hexadecimal bytes then Hexadecimal else (if begins_with 48 bytes then Octal else Decimal)
 
--- how many bytes stand before the digits
+-- the number of bytes before the digits
 abbrev pub prefix_length : Base → ℕ
 prefix_length Octal = 0
 prefix_length Decimal = 0
@@ -52,12 +52,12 @@ unsigned_first length = record { unsigned = true; length = length; bytes = 1 + w
 abbrev pub longs_first : Length → Bool → Suffix
 longs_first length unsigned = record { unsigned = unsigned; length = length; bytes = width length + (if unsigned then 1 else 0) }
 
--- the suffix at the front of bytes: `u` and `l`s in either order, as many as there are
+-- the longest suffix that bytes begin with: `u` and `l`s in either order
 abbrev pub suffix_of : List ℕ → Suffix
 suffix_of bytes = if begins_unsigned bytes then unsigned_first (longs (drop 1 bytes))
     else longs_first (longs bytes) (begins_unsigned (drop (width (longs bytes)) bytes))
 
--- what may not stand directly after a number: a letter, a digit, `_` or `.`
+-- the bytes that aren't allowed directly after a number: a letter, a digit, `_` or `.`
 abbrev pub goes_on : List ℕ → Bool
 goes_on [] = false
 goes_on (b ∷ bytes) = is_name_byte b || (b == 46)
@@ -67,11 +67,11 @@ is_decimal Decimal = true
 is_decimal Octal = false
 is_decimal Hexadecimal = false
 
--- a constant in base ten without `u` is at most 2^63 - 1
+-- a decimal constant without `u` is at most 2^63 - 1
 abbrev pub is_too_wide : Base → Suffix → ℕ → Bool
 is_too_wide base suffix value = is_decimal base && (not suffix.unsigned && nat_le (2 ^ 63) value)
 
--- the constant with this value and suffix, of so many of the bytes
+-- the constant with this value and suffix, which takes this number of the bytes
 abbrev pub constant : Base → Option ℕ → Suffix → ℕ → List ℕ → Lexeme
 constant base None suffix size bytes = Refused WideNumber 0
 constant base (Some value) suffix size bytes =
@@ -79,7 +79,7 @@ constant base (Some value) suffix size bytes =
     else (if goes_on (drop size bytes) then Refused BadByte size
     else Token size (Number (record { value = value; decimal = is_decimal base; unsigned = suffix.unsigned; length = suffix.length })))
 
--- the integer constant that bytes begin with: as many digits of its base as there are, then its suffix
+-- the integer constant that bytes begin with: the longest prefix of digits of its base, then its suffix
 abbrev pub number_at : List ℕ → Lexeme
 number_at bytes = (let base = base_of bytes in let digits = drop (prefix_length base) bytes in let count = length (run base digits) in
     let suffix = suffix_of (drop count digits) in

@@ -1,4 +1,4 @@
--- The piece at the front of bytes: its first bytes determine its class, and each class has a rule.
+-- The piece that bytes begin with: its first bytes determine its class, and each class has a rule.
 use Rattle.std.specs.Prelude.{◌≡◌, ℕ, Bool, ◌&&◌, ◌==◌, List, [], ◌∷◌, length, drop, if◌then◌else◌}
 use Rattle.std.specs.List.{take_while}
 use Rattle.cs_lexer.specs.declared.piece.Class.{Class}
@@ -13,11 +13,11 @@ use Rattle.cs_lexer.specs.Numbers.{number_at}
 use Rattle.cs_lexer.specs.Quoted.{character_at, TextGives}
 use Rattle.cs_lexer.specs.Words.{WordGives}
 
--- digits and quotes, and else a punctuator
+-- a digit, a quote, or else a punctuator
 abbrev pub other_class : ℕ → Class
 other_class b = if is_digit b then Number else (if b == 39 then Character else (if b == 34 then Text else Punctuator))
 
--- the class of the piece that bytes begin with, on whose line blanks alone may stand before it
+-- the class of the piece that bytes begin with; `is_line_start`: only blanks are before it on its line
 abbrev pub class_of : Bool → List ℕ → Class
 class_of is_line_start [] = Punctuator
 class_of is_line_start (b ∷ bytes) =
@@ -27,7 +27,7 @@ class_of is_line_start (b ∷ bytes) =
     else (if (b == 47) && begins_with 47 bytes then LineComment
     else (if is_letter b then Word else other_class b))))
 
--- the piece of a class that bytes begin with, which goes on as far as it can
+-- the piece of a class that bytes begin with, which is as long as possible
 abbrev pub BeginsAs : Class → List ℕ → Lexeme → Type 0
 BeginsAs Directive bytes found = found ≡ directive_at bytes
 BeginsAs Space bytes found = found ≡ Gap (length (take_while is_space bytes))

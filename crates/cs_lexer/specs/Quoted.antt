@@ -11,8 +11,8 @@ use Rattle.cs_lexer.specs.declared.escape.Item.{Item}
 use Rattle.cs_lexer.specs.declared.escape.Item.TheVariants as items
 use Rattle.cs_lexer.specs.Escapes.{item_at}
 
--- how many bytes stand before the first quote that no backslash escapes, where no line feed stands among them; at the
--- first of these bytes the one before it may be such a backslash
+-- the number of bytes before the first quote that isn't escaped by a backslash, if there is no line feed before it; `escaped`:
+-- such a backslash is before the first byte
 abbrev pub closing : ℕ → Bool → List ℕ → Option ℕ
 closing quote escaped [] = None
 closing quote escaped (b ∷ bytes) =
@@ -24,7 +24,7 @@ closing quote escaped (b ∷ bytes) =
 abbrev pub signed : ℕ → ℤ
 signed byte = if nat_lt byte 128 then pos byte else negsuc (255 - byte)
 
--- the constant whose one item this is, of all the bytes between its quotes
+-- the constant with this item, if the item takes all bytes between its quotes
 abbrev pub character_with : Item → ℕ → Lexeme
 character_with (items.Refused fault) count = Refused fault 1
 character_with (items.Byte byte size) count = if nat_lt size count then Refused BadByte (size + 1) else Token (count + 2) (Character (signed byte))
@@ -38,17 +38,17 @@ abbrev pub character_in : List ℕ → Option ℕ → Lexeme
 character_in bytes None = Refused Unclosed 0
 character_in bytes (Some count) = character_of (take count bytes)
 
--- the character constant that bytes begin with, the first of them being its quote
+-- the character constant that bytes begin with; the first is its quote
 abbrev pub character_at : List ℕ → Lexeme
 character_at bytes = character_in (drop 1 bytes) (closing 39 false (drop 1 bytes))
 
--- the body stands for these bytes as far as the rest of it
+-- the part of the body before this rest represents these bytes
 pub data Reads (body : List ℕ) : List ℕ → List ℕ → Type 0 where
   begins : Reads body [] body
   item : {values rest : List ℕ} {byte size : ℕ} → Reads body values rest → 0 < length rest → item_at rest ≡ items.Byte byte size
       → Reads body (values ++ byte ∷ []) (drop size rest)
 
--- the first bad item of a body
+-- the first faulty item of a body
 pub record BadItem (body : List ℕ) (fault : Fault) (size : ℕ) : Type 0 where
   pub values : List ℕ
   pub rest : List ℕ
@@ -62,7 +62,7 @@ abbrev pub IsTextToken : List ℕ → ℕ → TokenKind → Type 0
 IsTextToken body size (Text values) = (size ≡ length body + 2) × Reads body values []
 IsTextToken body size _ = ⊥
 
--- a literal has the bytes that all of its body stands for, or is refused at its first bad item
+-- a literal has the bytes that its whole body represents, or is refused at its first faulty item
 abbrev pub TextBodyGives : List ℕ → Lexeme → Type 0
 TextBodyGives body (Token size kind) = IsTextToken body size kind
 TextBodyGives body (Refused fault size) = BadItem body fault size
@@ -72,6 +72,6 @@ abbrev pub TextIn : List ℕ → Option ℕ → Lexeme → Type 0
 TextIn bytes None found = found ≡ Refused Unclosed 0
 TextIn bytes (Some count) found = TextBodyGives (take count bytes) found
 
--- the string literal that bytes begin with, the first of them being its quote
+-- the string literal that bytes begin with; the first is its quote
 abbrev pub TextGives : List ℕ → Lexeme → Type 0
 TextGives bytes found = TextIn (drop 1 bytes) (closing 34 false (drop 1 bytes)) found

@@ -1,4 +1,4 @@
--- How keywords, unsupported words and punctuators are spelled.
+-- The spellings of keywords, unsupported words and punctuators.
 use Rattle.std.specs.Prelude.{◌≢◌, ℕ, List, codes}
 use Rattle.cs_ast.specs.declared.token.Keyword.{Keyword}
 use Rattle.cs_ast.specs.declared.token.Keyword.TheVariants.{Break, Case, Char, Const, Continue, Default, Do, Else, Enum, For, Goto, If, Int, Long, Return}
@@ -117,7 +117,7 @@ pub record NoLongUnsupported (text : List ℕ) : Type 0 where
   pub no_assertion : codes "_Static_assert" ≢ text
   pub no_thread_local : codes "_Thread_local" ≢ text
 
--- not one of the punctuators that assign
+-- not one of the assignment operators
 pub record IsNoAssignment (text : List ℕ) : Type 0 where
   pub no_equal : codes "=" ≢ text
   pub no_star_equal : codes "*=" ≢ text

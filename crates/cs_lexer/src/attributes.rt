@@ -1,4 +1,4 @@
-//! Tokens without the attributes among them.
+//! Removes attributes from tokens.
 ghost use Rattle.std.specs.Prelude.{◌≡◌, ℕ, ◌≤◌, ◌<◌, ◌+◌, ◌^◌, false, List, length, reverse, take, slice_index, IfOk};
 ghost use Rattle.std.specs.List.{list_any};
 ghost use Rattle.cs_lexer.specs.Attributes as spec;
@@ -8,7 +8,7 @@ use crate::tail::drop_last;
 use cs_ast::{Punctuator, Token, TokenKind};
 use std::alloc::{AllocError, Global};
 
-// Whether a token is a word that begins an attribute.
+// Whether a token is the word `__attribute__`, or another that begins an attribute.
 fn is_attribute(token: &Token) -> bool
     ensures { result ≡ spec.is_attribute token.now.kind }
 {
@@ -35,7 +35,7 @@ fn closes(token: &Token) -> bool
     )
 }
 
-// How many parentheses are open after a token, of so many before it.
+// Returns the number of parentheses that are open after a token, from the number before it.
 fn depth_after(token: &Token, depth: usize) -> usize
     requires { depth + 1 < 2 ^ 64 }
     ensures { result ≡ spec.depth_after token.now depth }
@@ -49,7 +49,8 @@ fn depth_after(token: &Token, depth: usize) -> usize
     }
 }
 
-// How many parentheses tokens close that open before them, by the number that those after the first do.
+// Returns how many parentheses a token and those after it close that were opened before it, from the same number for those
+// after it.
 fn surplus_before(token: &Token, surplus: usize) -> usize
     requires { surplus + 1 < 2 ^ 64 }
     ensures { result ≡ spec.surplus_before token.now surplus }
@@ -63,8 +64,8 @@ fn surplus_before(token: &Token, surplus: usize) -> usize
     }
 }
 
-// For each number of tokens at the end of a list, whether they close a parenthesis that opens before them. The tokens are
-// given from the last one on.
+// Returns for each number of tokens at the end of a list whether they close a parenthesis that opens before them. The
+// tokens are given in reverse order.
 fn closings(alloc: Global, reversed: &[Token]) -> Result<Vec<bool>, AllocError>
     ensures { IfOk result (λ made. IsClosings reversed.now made.items) }
 {
@@ -78,7 +79,8 @@ fn closings(alloc: Global, reversed: &[Token]) -> Result<Vec<bool>, AllocError>
     Ok(made)
 }
 
-// Whether an attribute with its parenthesis begins with a token and those after it, which are given from the last one on.
+// Whether a token is the word of an attribute with a closed parenthesis after it. The tokens after it are given in
+// reverse order.
 fn has_group(token: &Token, reversed: &[Token], closings: &[bool]) -> bool
     requires { IsClosings reversed.now closings.now }
     ensures { result ≡ spec.has_group token.now (reverse reversed.now) }
@@ -89,14 +91,14 @@ fn has_group(token: &Token, reversed: &[Token], closings: &[bool]) -> bool
     }
 }
 
-// Whether a word among the tokens begins an attribute.
+// Whether some token begins an attribute.
 fn has_attribute(tokens: &[Token]) -> bool
     ensures { result ≡ list_any (λ token. spec.is_attribute token.kind) tokens.now }
 {
     tokens.iter().any(is_attribute)
 }
 
-/// The tokens without the attributes among them. Most texts have none, and their tokens stay where they are.
+/// Returns the tokens without attributes. Most texts have none; then the tokens are returned unchanged.
 #[tactic(auto, using(crate::proofs::Untouched::none_dropped))]
 pub fn without_attributes(alloc: Global, tokens: Vec<Token>) -> Result<Vec<Token>, AllocError>
     ensures { IfOk result (λ kept. kept.items ≡ spec.without_attributes 0 tokens.items) }

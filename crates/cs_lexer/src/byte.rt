@@ -44,7 +44,7 @@ pub fn is_hexadecimal_digit(byte: u8) -> bool
     matches!(byte, b'0'..=b'9' | b'a'..=b'f' | b'A'..=b'F')
 }
 
-/// Whether a name continues with a byte.
+/// Whether a byte may be part of a name after its first byte.
 pub fn is_name_byte(byte: u8) -> bool
     ensures { result ≡ classes.is_name_byte byte }
 {

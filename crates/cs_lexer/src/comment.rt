@@ -1,4 +1,4 @@
-//! Where comments end.
+//! The ends of comments.
 ghost use Rattle.std.specs.Prelude.{◌≡◌, ℕ, ◌<◌, ◌^◌, length, take, drop, MatchOption};
 ghost use Rattle.std.specs.List.{take_while};
 ghost use Rattle.cs_lexer.specs.Comments.{IsEnd, IsFirstEnd, CommentGives, is_inside};
@@ -6,14 +6,14 @@ ghost use Rattle.cs_lexer.specs.Comments.{IsEnd, IsFirstEnd, CommentGives, is_in
 use crate::lexeme::{Fault, Lexeme};
 use crate::part::following;
 
-/// How many bytes at the front are none of them a line feed.
+/// Returns the number of bytes before the first line feed.
 pub fn line_length(bytes: &[u8]) -> usize
     ensures { result ≡ length (take_while is_inside bytes.now) }
 {
     bytes.iter().take_while(|byte| **byte != b'\n').count()
 }
 
-// How many bytes stand before the first `*/`.
+// Returns the number of bytes before the first `*/`.
 fn comment_end(bytes: &[u8]) -> Option<usize>
     requires { length bytes.now < 2 ^ 32 }
     ensures { MatchOption result ((k : ℕ) → IsEnd bytes.now k
@@ -27,7 +27,7 @@ fn comment_end(bytes: &[u8]) -> Option<usize>
     None
 }
 
-/// The comment that bytes begin with, the first of them being `/*`.
+/// Returns the comment that bytes begin with; the first two are `/*`.
 pub fn comment(bytes: &[u8]) -> Lexeme
     requires { length bytes.now < 2 ^ 32 }
     ensures { CommentGives (drop 2 bytes.now) result }

@@ -1,4 +1,4 @@
-//! The cutting of a text into pieces.
+//! Cuts a text into pieces.
 ghost use Rattle.std.specs.Prelude.{◌≡◌, ◌≤◌, ◌<◌, ◌+◌, ◌^◌, ◌++◌, length, take, IfOk, OnOk, OnErr};
 ghost use Rattle.cs_lexer.specs.Cuttings as spec;
 ghost use Rattle.cs_lexer.specs.Spots as spots;
@@ -14,14 +14,14 @@ use cs_limits::MOST_BYTES;
 use cs_names::{Bytes, Name};
 use std::alloc::{AllocError, Global};
 
-/// How a cutting ends: with the text, or at a fault.
+/// How a cutting ends: at the end of the text, or at a fault.
 #[derive(Clone, Copy)]
 pub enum End {
     Whole,
     Refused(Fault),
 }
 
-/// The tokens and the files of a text, as far as its end or its first fault, and the place of that.
+/// The tokens and the files of a text up to its end or its first fault, and the position of that.
 #[derive(Drop)]
 pub struct Cutting {
     pub tokens: Vec<Token>,
@@ -30,7 +30,7 @@ pub struct Cutting {
     pub end: End,
 }
 
-// The file after a linemarker.
+// Returns the file after a linemarker.
 fn marked_file(files: &mut Files, spot: Spot, name: Option<Name>) -> Result<u32, AllocError>
     requires { length files.old < 2 ^ 32 }
     ensures value { IfOk result (λ file. file ≡ file_after files.old spot name) }
@@ -43,7 +43,7 @@ fn marked_file(files: &mut Files, spot: Spot, name: Option<Name>) -> Result<u32,
     }
 }
 
-// Where the byte after a linemarker stands.
+// Returns the position of the byte after a linemarker.
 fn marked_spot(spot: Spot, file: u32, next: Option<u32>, bytes: &[u8]) -> Spot
     requires line { spot.place.line + length bytes.now < 2 ^ 32 }
     requires column { spot.place.column + length bytes.now < 2 ^ 32 }
@@ -55,7 +55,7 @@ fn marked_spot(spot: Spot, file: u32, next: Option<u32>, bytes: &[u8]) -> Spot
     }
 }
 
-// The token that has begun where a fault stands after its first byte.
+// Returns the kind of the token that has begun, if a fault is after its first byte.
 fn begun_kind(alloc: Global, rest: &[u8]) -> TokenKind
     ensures { result ≡ spec.begun_kind rest.now }
 {
@@ -66,7 +66,7 @@ fn begun_kind(alloc: Global, rest: &[u8]) -> TokenKind
     }
 }
 
-// Adds the token in which a fault stands, if it has begun.
+// Adds the token that a fault is in, if it has begun.
 fn push_begun(
     alloc: Global,
     tokens: &mut Vec<Token>,
@@ -85,7 +85,7 @@ fn push_begun(
     Ok(())
 }
 
-// The cutting that ends at a fault in the piece at the front of the rest.
+// Returns the cutting that ends at a fault in the piece that the rest begins with.
 fn refused(
     alloc: Global,
     before: Vec<Token>,

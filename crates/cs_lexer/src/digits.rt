@@ -1,4 +1,4 @@
-//! Digits and the numbers that they write.
+//! Digits and their values.
 ghost use Rattle.std.specs.Prelude.{◌≡◌, ◌<◌, length, IsTrue};
 ghost use Rattle.std.specs.List.{list_all};
 ghost use Rattle.cs_lexer.specs.Digits as spec;
@@ -7,7 +7,7 @@ ghost use Rattle.cs_lexer.specs.Digits.{run, value_of};
 use crate::byte::{is_digit, is_hexadecimal_digit, is_octal_digit};
 use std::str;
 
-/// How a number is written.
+/// The base of a number.
 #[derive(Clone, Copy)]
 pub enum Base {
     Octal,
@@ -15,7 +15,7 @@ pub enum Base {
     Hexadecimal,
 }
 
-// How many values a digit has.
+// Returns the number of digits of a base.
 fn radix(base: Base) -> u32
     ensures { result ≡ spec.radix base }
 {
@@ -37,7 +37,7 @@ pub fn is_digit_of(base: Base, byte: u8) -> bool
     }
 }
 
-/// How many bytes at the front are digits in a base.
+/// Returns the number of leading bytes that are digits in a base.
 pub fn digit_count(base: Base, bytes: &[u8]) -> usize
     ensures { result ≡ length (run base bytes.now) }
 {
@@ -47,7 +47,7 @@ pub fn digit_count(base: Base, bytes: &[u8]) -> usize
         .count()
 }
 
-// The number that digits write, if 64 bits hold it.
+// Returns the value of digits, if it fits 64 bits.
 fn value(base: Base, digits: &[u8]) -> Option<u64>
     requires some { 0 < length digits.now }
     requires digits { IsTrue (list_all (spec.is_digit_of base) digits.now) }
@@ -62,7 +62,7 @@ fn value(base: Base, digits: &[u8]) -> Option<u64>
     }
 }
 
-/// The number that the digits at the front write, 0 where there are none, if 64 bits hold it.
+/// Returns the value of the leading digits, 0 if there are none, if it fits 64 bits.
 pub fn leading_value(base: Base, bytes: &[u8]) -> Option<u64>
     ensures { result ≡ value_of base (run base bytes.now) }
 {

@@ -15,10 +15,10 @@ use cs_names::Name;
 use std::alloc::{AllocError, Global};
 use std::str;
 
-/// The greatest line that a linemarker may give.
+/// The greatest line number that a linemarker may have.
 const MOST_LINE: u64 = 2_147_483_647;
 
-/// What a linemarker says of its file.
+/// The file name of a linemarker.
 #[derive(Drop)]
 enum FileName {
     Absent,
@@ -26,7 +26,7 @@ enum FileName {
     Bad,
 }
 
-// The bytes after the blanks at the front.
+// Returns the bytes after the leading blanks.
 fn skip_blanks(bytes: &[u8]) -> &[u8]
     ensures { result.now ≡ spec.skip_blanks bytes.now }
 {
@@ -34,7 +34,7 @@ fn skip_blanks(bytes: &[u8]) -> &[u8]
     following(bytes, count)
 }
 
-// How many bytes at the front are blanks.
+// Returns the number of leading blanks.
 fn blank_count(bytes: &[u8]) -> usize
     ensures { result ≡ spec.blank_count bytes.now }
 {
@@ -58,7 +58,7 @@ fn begins_blank(bytes: &[u8]) -> bool
     }
 }
 
-// The bytes from the number of a linemarker on: after the word `line` and blanks, if they stand before it.
+// Returns the bytes from a linemarker's number on. The word `line` and blanks may come before it.
 fn number_part(bytes: &[u8]) -> &[u8]
     ensures { result.now ≡ spec.number_part bytes.now }
 {
@@ -69,7 +69,7 @@ fn number_part(bytes: &[u8]) -> &[u8]
     }
 }
 
-// The line that digits at the front give.
+// Returns the line number that the leading digits are.
 fn line_number(bytes: &[u8]) -> Option<u32>
     ensures { result ≡ spec.line_number bytes.now }
 {
@@ -88,7 +88,7 @@ fn line_number(bytes: &[u8]) -> Option<u32>
     }
 }
 
-// Bytes in which a backslash and the byte after it stand for that byte.
+// Returns the bytes with each backslash and the byte after it replaced by that byte.
 fn unescaped(alloc: Global, bytes: &[u8]) -> Result<Vec<u8>, AllocError>
     ensures { IfOk result (λ made. made.items ≡ spec.unescaped false bytes.now) }
 {
@@ -105,7 +105,7 @@ fn unescaped(alloc: Global, bytes: &[u8]) -> Result<Vec<u8>, AllocError>
     Ok(made)
 }
 
-// Whether bytes are text in UTF-8.
+// Whether bytes are valid UTF-8.
 fn is_text(bytes: &[u8]) -> bool
     ensures { result ≡ is_utf8 bytes.now }
 {
@@ -115,7 +115,7 @@ fn is_text(bytes: &[u8]) -> bool
     }
 }
 
-// The file's name with these bytes between its quotes.
+// Returns the file name with these bytes between its quotes.
 fn name_of(alloc: Global, body: &[u8]) -> Result<FileName, AllocError>
     ensures { IfOk result (λ name. name ≡ spec.name_of body.now) }
 {
@@ -127,7 +127,7 @@ fn name_of(alloc: Global, body: &[u8]) -> Result<FileName, AllocError>
     }
 }
 
-// The file's name in quotes at the front of bytes.
+// Returns the quoted file name that bytes begin with.
 fn quoted_name(alloc: Global, bytes: &[u8]) -> Result<FileName, AllocError>
     ensures { IfOk result (λ name. name ≡ spec.quoted_name bytes.now) }
 {
@@ -141,7 +141,7 @@ fn quoted_name(alloc: Global, bytes: &[u8]) -> Result<FileName, AllocError>
     }
 }
 
-// What stands after the number of a linemarker: nothing, or blanks, a name and flags.
+// Returns the file name after the number of a linemarker: nothing, or blanks, a name and flags.
 fn file_name(alloc: Global, bytes: &[u8]) -> Result<FileName, AllocError>
     ensures { IfOk result (λ name. name ≡ spec.file_name bytes.now) }
 {
@@ -154,14 +154,14 @@ fn file_name(alloc: Global, bytes: &[u8]) -> Result<FileName, AllocError>
     quoted_name(alloc, skip_blanks(bytes))
 }
 
-// The line after a linemarker, which is there if the marker's own line ends.
+// Returns the number of the line after a linemarker, which exists if the marker's own line ends with a line feed.
 fn next_line(line: u32, is_ended: bool) -> Option<u32>
     ensures { result ≡ spec.next_line line is_ended }
 {
     if is_ended { Some(line) } else { None }
 }
 
-// The linemarker with these bytes after its `#` and blanks.
+// Returns the linemarker with these bytes after its `#` and blanks.
 fn marker(alloc: Global, body: &[u8], size: usize, is_ended: bool) -> Result<Lexeme, AllocError>
     ensures { IfOk result (λ found. found ≡ spec.marker body.now size is_ended) }
 {
@@ -178,7 +178,7 @@ fn marker(alloc: Global, body: &[u8], size: usize, is_ended: bool) -> Result<Lex
     }
 }
 
-// How many bytes a line has, with its line feed.
+// Returns the number of bytes of a line, with its line feed.
 fn whole_length(length: usize, is_ended: bool) -> usize
     requires { length < 2 ^ 32 }
     ensures { result ≡ spec.whole_length length is_ended }
@@ -186,7 +186,7 @@ fn whole_length(length: usize, is_ended: bool) -> usize
     if is_ended { length + 1 } else { length }
 }
 
-/// The line that bytes begin with, the first of them being its `#`.
+/// Returns the directive that bytes begin with; the first is its `#`.
 pub fn directive(alloc: Global, bytes: &[u8]) -> Result<Lexeme, AllocError>
     requires { length bytes.now < 2 ^ 32 }
     ensures { IfOk result (λ found. found ≡ spec.directive_at bytes.now) }

@@ -7,14 +7,14 @@ use crate::digits::{Base, digit_count, is_digit_of, leading_value};
 use crate::lexeme::Fault;
 use crate::part::front;
 
-/// The first byte that a constant or a literal stands for, with the number of bytes that it is written in.
+/// The first byte that a constant or a literal represents, with the number of source bytes that it takes.
 #[derive(Clone, Copy)]
 pub enum Item {
     Byte(u8, usize),
     Refused(Fault),
 }
 
-// The byte that a backslash and one other byte stand for.
+// Returns the byte that a simple escape represents: a backslash and this byte.
 fn simple(byte: u8) -> Option<u8>
     ensures { result ≡ spec.simple byte }
 {
@@ -34,7 +34,7 @@ fn simple(byte: u8) -> Option<u8>
     }
 }
 
-// The byte with this value, written in so many bytes.
+// Returns the byte with this value, if it is one, which takes this number of source bytes.
 fn byte_of(value: Option<u64>, size: usize) -> Item
     ensures { result ≡ spec.byte_of value size }
 {
@@ -50,7 +50,7 @@ fn byte_of(value: Option<u64>, size: usize) -> Item
     }
 }
 
-// The byte that digits at the front write, with so many bytes before them.
+// Returns the byte that the leading digits represent, with the number of source bytes before them.
 fn coded(base: Base, bytes: &[u8], before: usize) -> Item
     requires { before < 3 }
     ensures { result ≡ spec.coded base bytes.now before }
@@ -71,7 +71,7 @@ fn begins_hexadecimal(bytes: &[u8]) -> bool
     }
 }
 
-// The escape whose backslash stands before these bytes.
+// Returns the escape that these bytes are the rest of, after its backslash.
 fn escape(bytes: &[u8]) -> Item
     ensures { result ≡ spec.escape bytes.now }
 {
@@ -92,7 +92,7 @@ fn escape(bytes: &[u8]) -> Item
     }
 }
 
-/// The first byte that these bytes stand for.
+/// Returns the first byte that these bytes represent.
 pub fn first_item(bytes: &[u8]) -> Item
     ensures value { result ≡ spec.item_at bytes.now }
     ensures size { spec.Advances result }

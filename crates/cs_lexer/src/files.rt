@@ -10,11 +10,11 @@ use std::alloc::{AllocError, Global};
 use std::collections::BTreeMap;
 use std::marker::Model;
 
-/// The names of files, each once, in order of first sight. A contract sees them as the list of the names.
+/// The names of files, each once, in order of first occurrence. In contracts it is the list of the names.
 #[derive(Drop)]
 pub struct Files {
     names: Vec<Name>,
-    // The place of each name in the list, so that a text with many names takes no longer for each.
+    // The index of each name in the list, so that a lookup takes no longer for texts with many names.
     numbers: BTreeMap<Name, u32>,
 }
 
@@ -30,7 +30,7 @@ impl Model for Files {
 }
 
 impl Files {
-    /// The file that is read, alone.
+    /// Returns the list that has only the file read from standard input.
     pub fn new(alloc: Global) -> Result<Files, AllocError>
         ensures { IfOk result (λ files. files ≡ codes "<input>" ∷ []) }
     {
@@ -44,7 +44,7 @@ impl Files {
         Ok(Files { names, numbers })
     }
 
-    /// The number of the file with this name, which is added where it isn't there.
+    /// Returns the number of the file with this name, which is added if it is new.
     pub fn number(&mut self, name: Name) -> Result<u32, AllocError>
         requires { length self.old < 2 ^ 32 }
         ensures value { IfOk result (λ number. number ≡ file_number self.old name) }
@@ -54,7 +54,7 @@ impl Files {
         number_in(&mut self.names, &mut self.numbers, name)
     }
 
-    /// A copy of the name with this index.
+    /// Returns a copy of the name with this index.
     pub fn name(&self, number: u32) -> Result<Name, AllocError>
         requires { number < length self.now }
         ensures { IfOk result (λ name. slice_get self.now number ≡ Some name) }
@@ -62,7 +62,7 @@ impl Files {
         self.names.as_slice()[number as usize].copy()
     }
 
-    /// The names in order.
+    /// Returns the names in order.
     pub fn into_names(self) -> Vec<Name>
         ensures { result.items ≡ self }
     {
@@ -71,14 +71,14 @@ impl Files {
     }
 }
 
-// The number of a name among the names.
+// Returns the number of a name among the names.
 fn find(numbers: &BTreeMap<Name, u32>, name: &Name) -> Option<u32>
     ensures { result ≡ number_at numbers.now name.now }
 {
     numbers.get(name).copied()
 }
 
-// Gives a name a number in the map.
+// Enters a name with a number in the map.
 fn enter(numbers: &mut BTreeMap<Name, u32>, name: Name, number: u32) -> Result<(), AllocError>
     ensures entered { OnOk result (HasEntered numbers.old numbers.new name number) }
     ensures err { OnErr result ((other : List ℕ)
@@ -90,7 +90,7 @@ fn enter(numbers: &mut BTreeMap<Name, u32>, name: Name, number: u32) -> Result<(
     }
 }
 
-// Adds a name that isn't there.
+// Adds a new name.
 fn add(
     names: &mut Vec<Name>,
     numbers: &mut BTreeMap<Name, u32>,
@@ -112,7 +112,7 @@ fn add(
     Ok(())
 }
 
-// The number of a name, which is added where it isn't there.
+// Returns the number of a name, which is added if it is new.
 fn number_in(
     names: &mut Vec<Name>,
     numbers: &mut BTreeMap<Name, u32>,

@@ -11,7 +11,7 @@ use cs_limits::{MOST_BYTES, MOST_TOKENS};
 use cs_names::Name;
 use std::alloc::{AllocError, Global};
 
-/// The tokens of a text in order, the names of its files by their numbers, and the place of its end.
+/// The tokens of a text in order, the names of its files by their numbers, and the position of its end.
 #[derive(Drop)]
 pub struct Lexed {
     pub list: Vec<Token>,
@@ -19,7 +19,7 @@ pub struct Lexed {
     pub end: Place,
 }
 
-// The tokens of pieces: without attributes, and texts that stand side by side made one.
+// Returns the tokens of pieces: attributes are removed, and adjacent string literals joined.
 fn listed(alloc: Global, pieces: Vec<Token>) -> Result<Vec<Token>, AllocError>
     ensures { IfOk result (λ list. list.items ≡ tokens_of pieces.items) }
 {
@@ -27,7 +27,8 @@ fn listed(alloc: Global, pieces: Vec<Token>) -> Result<Vec<Token>, AllocError>
     joined(alloc, kept)
 }
 
-/// The tokens of a preprocessed text of at most `MOST_BYTES` bytes (C11 6.4), with their places, or why it has none.
+/// Returns the tokens of a preprocessed text of at most `MOST_BYTES` bytes (C11 6.4) with their positions, or why it
+/// has none.
 pub fn tokens(alloc: Global, bytes: &[u8]) -> Result<Lexed, LexRefusal>
     requires { length bytes.now ≤ MOST_BYTES }
     ensures lexed { IfOk result (λ lexed. Lexes bytes.now lexed) }

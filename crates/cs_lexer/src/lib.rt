@@ -1,4 +1,4 @@
-//! The tokens of a preprocessed C text, with their places.
+//! The lexer: a preprocessed C text to its tokens with their positions.
 #![tactic(auto)]
 
 ghost use Rattle.cs_lexer.specs.Extent.{LexedTokensHaveFiles, LexedFilesAreFew, LexedTokensAreShort};
@@ -35,7 +35,7 @@ pub fn lexed_tokens_are_held()
     ensures { LexedTokensAreHeld }
 {}
 
-/// The tokens of a lexed text stand in its files, and neither files nor tokens are more than its bytes allow.
+/// The tokens of a lexed text are in its files, and the numbers of files and tokens are bounded by the text's bytes.
 pub fn lexed_texts_are_bounded()
     ensures placed { LexedTokensHaveFiles }
     ensures few { LexedFilesAreFew }

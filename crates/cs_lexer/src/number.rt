@@ -22,7 +22,7 @@ fn is_hexadecimal(bytes: &[u8]) -> bool
     }
 }
 
-// The base that bytes are written in.
+// Returns the base in which bytes are written.
 fn base_of(bytes: &[u8]) -> Base
     ensures { result ≡ spec.base_of bytes.now }
 {
@@ -35,7 +35,7 @@ fn base_of(bytes: &[u8]) -> Base
     }
 }
 
-// How many bytes stand before the digits.
+// Returns the number of bytes before the digits.
 fn prefix_length(base: Base) -> usize
     ensures { result ≡ spec.prefix_length base }
 {
@@ -52,7 +52,7 @@ fn begins_unsigned(bytes: &[u8]) -> bool
     begins_with(bytes, b'u') || begins_with(bytes, b'U')
 }
 
-// Whether bytes begin with this one twice.
+// Whether bytes begin with this byte twice.
 fn begins_twice(bytes: &[u8], byte: u8) -> bool
     ensures { result ≡ spec.begins_twice byte bytes.now }
 {
@@ -62,7 +62,7 @@ fn begins_twice(bytes: &[u8], byte: u8) -> bool
     }
 }
 
-// The `l`s at the front of bytes.
+// Returns the length suffix that bytes begin with.
 fn longs(bytes: &[u8]) -> Length
     ensures { result ≡ spec.longs bytes.now }
 {
@@ -75,7 +75,7 @@ fn longs(bytes: &[u8]) -> Length
     }
 }
 
-// How many bytes such `l`s are.
+// Returns the number of bytes of such a suffix.
 fn width(length: Length) -> usize
     ensures { result ≡ spec.width length }
 {
@@ -94,7 +94,7 @@ struct Suffix {
     bytes: usize,
 }
 
-// The suffix at the front of bytes: `u` and `l`s in either order, as many as there are.
+// Returns the longest suffix that bytes begin with: `u` and `l`s in either order.
 fn suffix_at(bytes: &[u8]) -> Suffix
     ensures { result ≡ spec.suffix_of bytes.now }
 {
@@ -123,7 +123,7 @@ fn suffix_at(bytes: &[u8]) -> Suffix
     }
 }
 
-// Whether a number or a name would continue with the first byte.
+// Whether the first byte would continue a number or a name.
 fn goes_on(bytes: &[u8]) -> bool
     ensures { result ≡ spec.goes_on bytes.now }
 {
@@ -133,7 +133,7 @@ fn goes_on(bytes: &[u8]) -> bool
     }
 }
 
-// Whether a constant in base ten without `u` has no signed type that holds it.
+// Whether no signed type holds the value of a decimal constant without `u`.
 fn is_too_wide(base: Base, suffix: Suffix, value: u64) -> bool
     ensures { result ≡ spec.is_too_wide base suffix value }
 {
@@ -143,14 +143,14 @@ fn is_too_wide(base: Base, suffix: Suffix, value: u64) -> bool
     }
 }
 
-// Whether a base is ten.
+// Whether a base is decimal.
 fn is_decimal(base: Base) -> bool
     ensures { result ≡ spec.is_decimal base }
 {
     matches!(base, Base::Decimal)
 }
 
-// The constant with this value and suffix, of so many of the bytes.
+// Returns the constant with this value and suffix, which takes this number of the bytes.
 fn constant(base: Base, value: Option<u64>, suffix: Suffix, size: usize, bytes: &[u8]) -> Lexeme
     ensures { result ≡ spec.constant base value suffix size bytes.now }
 {
@@ -172,7 +172,7 @@ fn constant(base: Base, value: Option<u64>, suffix: Suffix, size: usize, bytes: 
     Lexeme::Token(size, TokenKind::Number(constant))
 }
 
-/// The integer constant that bytes begin with, the first of them being a digit.
+/// Returns the integer constant that bytes begin with; the first is a digit.
 pub fn number(bytes: &[u8]) -> Lexeme
     requires { length bytes.now < 2 ^ 32 }
     ensures { result ≡ spec.number_at bytes.now }

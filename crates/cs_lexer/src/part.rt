@@ -1,8 +1,8 @@
-//! Parts of bytes.
+//! Prefixes and suffixes of bytes.
 ghost use Rattle.std.specs.Prelude.{◌≡◌, take, drop};
 ghost use Rattle.cs_lexer.specs.Classes as classes;
 
-/// The bytes after the first ones, none where there are no more than those.
+/// Returns the bytes after the first `count`, none if there are no more than those.
 pub fn following(bytes: &[u8], count: usize) -> &[u8]
     ensures { result.now ≡ drop count bytes.now }
 {
@@ -13,7 +13,7 @@ pub fn following(bytes: &[u8], count: usize) -> &[u8]
     }
 }
 
-/// The first bytes, all where there are no more.
+/// Returns the first `count` bytes, all if there are no more.
 pub fn front(bytes: &[u8], count: usize) -> &[u8]
     ensures { result.now ≡ take count bytes.now }
 {

@@ -1,4 +1,4 @@
-//! The piece at the front of bytes.
+//! The piece that bytes begin with.
 ghost use Rattle.std.specs.Prelude.{◌≡◌, ◌<◌, ◌^◌, length, IfOk};
 ghost use Rattle.std.specs.List.{take_while};
 ghost use Rattle.cs_lexer.specs.Pieces as spec;
@@ -16,7 +16,7 @@ use crate::quoted::{character, text};
 use crate::word::word;
 use std::alloc::{AllocError, Global};
 
-/// The classes of pieces, by their first bytes.
+/// The classes of pieces, determined by their first bytes.
 #[derive(Clone, Copy)]
 enum Class {
     /// A line that begins with `#`.
@@ -31,7 +31,7 @@ enum Class {
     Punctuator,
 }
 
-// The class of the piece at the front of bytes, where only blanks may stand before it on its line.
+// Returns the class of the piece that bytes begin with. `is_line_start`: only blanks are before it on its line.
 fn class_of(is_line_start: bool, bytes: &[u8]) -> Class
     ensures { result ≡ spec.class_of is_line_start bytes.now }
 {
@@ -53,7 +53,7 @@ fn class_of(is_line_start: bool, bytes: &[u8]) -> Class
     }
 }
 
-// The class of a piece that is no space, comment or word, by its first byte.
+// Returns the class of a piece that is no space, comment or word, from its first byte.
 fn other_class(first: u8) -> Class
     ensures { result ≡ spec.other_class first }
 {
@@ -68,28 +68,28 @@ fn other_class(first: u8) -> Class
     }
 }
 
-// How many bytes at the front are white space.
+// Returns the number of leading bytes that are white space.
 fn space_length(bytes: &[u8]) -> usize
     ensures { result ≡ length (take_while classes.is_space bytes.now) }
 {
     bytes.iter().take_while(|byte| is_space(**byte)).count()
 }
 
-// How many bytes at the front a name continues with.
+// Returns the number of leading bytes that can continue a name.
 fn word_length(bytes: &[u8]) -> usize
     ensures { result ≡ length (take_while classes.is_name_byte bytes.now) }
 {
     bytes.iter().take_while(|byte| is_name_byte(**byte)).count()
 }
 
-// The bytes of the word at the front.
+// Returns the bytes of the leading word.
 fn leading_word(bytes: &[u8]) -> &[u8]
     ensures { result.now ≡ take_while classes.is_name_byte bytes.now }
 {
     front(bytes, word_length(bytes))
 }
 
-/// The piece at the front of bytes, of which there are some.
+/// Returns the piece that bytes, which aren't empty, begin with.
 pub fn piece(alloc: Global, is_line_start: bool, bytes: &[u8]) -> Result<Lexeme, AllocError>
     requires { length bytes.now < 2 ^ 32 }
     ensures { IfOk result (λ found. Begins is_line_start bytes.now found) }

@@ -1,4 +1,4 @@
-//! The punctuator at the front of bytes.
+//! The punctuator that bytes begin with.
 ghost use Rattle.std.specs.Prelude.{◌≡◌, length, MatchOption};
 ghost use Rattle.cs_lexer.specs.Spellings.{punctuator_text};
 ghost use Rattle.cs_lexer.specs.Punctuators.{NoPunctuator, IsLongestPunctuator, PunctuatorGives};
@@ -8,7 +8,7 @@ use crate::part::front;
 use crate::spelling::punctuator_spelled;
 use cs_ast::{Punctuator, TokenKind};
 
-// The longest punctuator that bytes begin with.
+// Returns the longest punctuator that bytes begin with.
 fn longest_punctuator(bytes: &[u8]) -> Option<Punctuator>
     ensures { MatchOption result (NoPunctuator bytes.now)
         (λ punctuator. IsLongestPunctuator bytes.now punctuator) }
@@ -22,7 +22,7 @@ fn longest_punctuator(bytes: &[u8]) -> Option<Punctuator>
     punctuator_spelled(front(bytes, 1))
 }
 
-// How many bytes a punctuator has.
+// Returns the number of bytes of a punctuator.
 fn punctuator_length(punctuator: Punctuator) -> usize
     ensures { result ≡ length (punctuator_text punctuator) }
 {
@@ -51,7 +51,7 @@ fn punctuator_length(punctuator: Punctuator) -> usize
     }
 }
 
-/// The punctuator that bytes begin with; a byte that begins no token is bad.
+/// Returns the punctuator that bytes begin with; a byte that begins no token is a fault.
 pub fn punctuator(bytes: &[u8]) -> Lexeme
     ensures { PunctuatorGives bytes.now result }
 {

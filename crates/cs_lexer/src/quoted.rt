@@ -10,7 +10,8 @@ use cs_ast::TokenKind;
 use cs_names::Bytes;
 use std::alloc::{AllocError, Global};
 
-/// How many bytes stand before the first quote that no backslash escapes, if no line feed stands among them.
+/// Returns the number of bytes before the first quote that isn't escaped by a backslash, if there is no line feed
+/// before it.
 pub fn closing(quote: u8, bytes: &[u8]) -> Option<usize>
     ensures { result ≡ spec.closing quote false bytes.now }
 {
@@ -27,7 +28,7 @@ pub fn closing(quote: u8, bytes: &[u8]) -> Option<usize>
     None
 }
 
-// The value of a byte as a signed char.
+// Returns the value of a byte as a signed char.
 fn signed(byte: u8) -> i32
     ensures { result ≡ spec.signed byte }
 {
@@ -38,7 +39,7 @@ fn signed(byte: u8) -> i32
     }
 }
 
-// The character constant with these bytes between its quotes.
+// Returns the character constant with these bytes between its quotes.
 fn character_of(body: &[u8]) -> Lexeme
     requires { length body.now < 2 ^ 32 }
     ensures { result ≡ spec.character_of body.now }
@@ -58,7 +59,7 @@ fn character_of(body: &[u8]) -> Lexeme
     }
 }
 
-/// The character constant that bytes begin with, the first of them being its quote.
+/// Returns the character constant that bytes begin with; the first is its quote.
 pub fn character(bytes: &[u8]) -> Lexeme
     requires { length bytes.now < 2 ^ 32 }
     ensures { result ≡ spec.character_at bytes.now }
@@ -70,7 +71,7 @@ pub fn character(bytes: &[u8]) -> Lexeme
     }
 }
 
-// The string literal with these bytes between its quotes.
+// Returns the string literal with these bytes between its quotes.
 fn text_of(alloc: Global, body: &[u8]) -> Result<Lexeme, AllocError>
     requires { length body.now < 2 ^ 32 }
     ensures { IfOk result (λ found. TextBodyGives body.now found) }
@@ -91,7 +92,7 @@ fn text_of(alloc: Global, body: &[u8]) -> Result<Lexeme, AllocError>
     Ok(Lexeme::Token(body.len() + 2, TokenKind::Text(Bytes::from_vec(values))))
 }
 
-/// The string literal that bytes begin with, the first of them being its quote.
+/// Returns the string literal that bytes begin with; the first is its quote.
 pub fn text(alloc: Global, bytes: &[u8]) -> Result<Lexeme, AllocError>
     requires { length bytes.now < 2 ^ 32 }
     ensures { IfOk result (λ found. TextGives bytes.now found) }

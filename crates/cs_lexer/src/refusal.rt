@@ -9,24 +9,25 @@ use cs_names::Name;
 use std::alloc::{AllocError, AllocFailed};
 use thiserror::Error;
 
-/// Why a text has no tokens, and where, with the name of that file: of several causes the one that stands first in the text,
-/// and at one place the one that stands first here.
+/// Why a text has no tokens, and where, with the name of the file. The first cause in the text is reported, and at one
+/// position the first cause here.
 #[derive(PartialEq, Eq, Debug, Error, Drop)]
 pub enum LexRefusal {
-    /// A byte that begins no token, an escape that isn't known, an empty character constant, or a byte that may not stand
-    /// after a number or in a character constant.
+    /// A byte that begins no token, an unknown escape, an empty character constant, or a byte that isn't allowed after
+    /// a number or in a character constant.
     #[error("a bad byte")]
     BadByte(Place, Name),
-    /// A comment, a character constant or a string literal that doesn't end, or not on its line, by its first byte.
+    /// A comment, a character constant or a string literal that isn't closed, or not on its line; the position is its
+    /// first byte.
     #[error("not closed")]
     Unclosed(Place, Name),
-    /// An integer constant past its type, or an escape past a byte.
+    /// An integer constant that is too large for its types, or an escape whose value exceeds a byte.
     #[error("a number that is too large")]
     WideNumber(Place, Name),
     /// A line that begins with `#` and is neither a linemarker nor a pragma.
     #[error("a bad line")]
     BadLine(Place, Name),
-    /// A token after the 400,000th begins.
+    /// More than 400,000 tokens begin.
     #[error("too many tokens")]
     TooManyTokens,
     /// Memory ran out.
@@ -35,7 +36,7 @@ pub enum LexRefusal {
 }
 
 impl LexRefusal {
-    /// The refusal for a fault at a place in a file.
+    /// Returns the refusal for a fault at a position in a file.
     pub fn of(fault: Fault, place: Place, file: Name) -> LexRefusal
         ensures { result ≡ spec.refusal_of fault place file }
     {

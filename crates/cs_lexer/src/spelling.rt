@@ -1,10 +1,10 @@
-//! Keywords, unsupported words and punctuators by their bytes.
+//! Keywords, unsupported words and punctuators, by their spellings.
 ghost use Rattle.std.specs.Prelude.{◌≡◌, ◌≢◌, MatchOption};
 ghost use Rattle.cs_lexer.specs.Spellings.{keyword_text, unsupported_text, punctuator_text, NoLongUnsupported, IsNoAssignment};
 
 use cs_ast::{Keyword, Punctuator, Unsupported};
 
-/// The keyword that is spelled so.
+/// Returns the keyword with this spelling.
 pub fn keyword_spelled(text: &[u8]) -> Option<Keyword>
     ensures { MatchOption result ((other : Keyword)
         → keyword_text other ≢ text.now) (λ found. keyword_text found ≡ text.now) }
@@ -39,7 +39,7 @@ pub fn keyword_spelled(text: &[u8]) -> Option<Keyword>
     }
 }
 
-// The unsupported word of more than ten bytes that is spelled so.
+// Returns the unsupported word of more than ten bytes with this spelling.
 fn long_unsupported_spelled(text: &[u8]) -> Option<Unsupported>
     ensures { MatchOption result (NoLongUnsupported text.now)
         (λ found. unsupported_text found ≡ text.now) }
@@ -53,7 +53,7 @@ fn long_unsupported_spelled(text: &[u8]) -> Option<Unsupported>
     }
 }
 
-/// The unsupported word that is spelled so.
+/// Returns the unsupported word with this spelling.
 pub fn unsupported_spelled(text: &[u8]) -> Option<Unsupported>
     ensures { MatchOption result ((other : Unsupported)
         → unsupported_text other ≢ text.now) (λ found. unsupported_text found ≡ text.now) }
@@ -84,7 +84,7 @@ pub fn unsupported_spelled(text: &[u8]) -> Option<Unsupported>
     }
 }
 
-// The punctuator that assigns and is spelled so (C11 6.5.16).
+// Returns the assignment operator with this spelling (C11 6.5.16).
 fn assignment_spelled(text: &[u8]) -> Option<Punctuator>
     ensures { MatchOption result (IsNoAssignment text.now)
         (λ found. punctuator_text found ≡ text.now) }
@@ -105,7 +105,7 @@ fn assignment_spelled(text: &[u8]) -> Option<Punctuator>
     }
 }
 
-/// The punctuator that is spelled so.
+/// Returns the punctuator with this spelling.
 pub fn punctuator_spelled(text: &[u8]) -> Option<Punctuator>
     ensures { MatchOption result ((other : Punctuator)
         → punctuator_text other ≢ text.now) (λ found. punctuator_text found ≡ text.now) }

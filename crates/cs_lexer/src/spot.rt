@@ -1,25 +1,25 @@
-//! Where bytes stand in their file.
+//! Positions of bytes in their file.
 ghost use Rattle.std.specs.Prelude.{◌≡◌, ◌+◌, ◌<◌, ◌≤◌, ◌^◌, length};
 ghost use Rattle.cs_lexer.specs.Spots as spec;
 ghost use Rattle.cs_lexer.specs.Spots.{IsWithin};
 
 use cs_ast::Place;
 
-/// The place of a byte, and whether only spaces and tabs stand before it on its line.
+/// The position of a byte, and whether only spaces and tabs are before it on its line.
 #[derive(Clone, Copy)]
 pub struct Spot {
     pub place: Place,
     pub is_line_start: bool,
 }
 
-/// The beginning of the first file.
+/// Returns the beginning of the first file.
 pub fn start() -> Spot
     ensures { result ≡ spec.start }
 {
     line_of(0, 1)
 }
 
-/// The beginning of a line.
+/// Returns the beginning of a line.
 pub fn line_of(file: u32, line: u32) -> Spot
     ensures { result ≡ spec.line_of file line }
 {
@@ -34,7 +34,7 @@ pub fn line_of(file: u32, line: u32) -> Spot
     }
 }
 
-// Where the byte after this one stands.
+// Returns the position of the byte after this one.
 fn step(spot: Spot, byte: u8) -> Spot
     requires line { spot.place.line + 1 < 2 ^ 32 }
     requires column { spot.place.column + 1 < 2 ^ 32 }
@@ -54,7 +54,7 @@ fn step(spot: Spot, byte: u8) -> Spot
     }
 }
 
-/// Where the byte after these ones stands.
+/// Returns the position of the byte after these.
 pub fn spot_after(spot: Spot, bytes: &[u8]) -> Spot
     requires line { spot.place.line + length bytes.now < 2 ^ 32 }
     requires column { spot.place.column + length bytes.now < 2 ^ 32 }

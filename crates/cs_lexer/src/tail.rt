@@ -1,4 +1,4 @@
-//! The last of a list of tokens.
+//! The last token of a list.
 ghost use Rattle.std.specs.Prelude.{◌≡◌, ◌-◌, Some, None, length, take, reverse, MatchOption};
 ghost use Rattle.cs_lexer.specs.Texts.{first_text, text_of_kind};
 
@@ -13,7 +13,7 @@ pub fn drop_last(tokens: &mut Vec<Token>)
     drop(last);
 }
 
-// The bytes of a token, if it is a text.
+// Returns the bytes of a token, if it is a string literal.
 fn text_of(token: &Token) -> Option<&Bytes>
     ensures { MatchOption result (text_of_kind token.now.kind ≡ None)
         (λ bytes. text_of_kind token.now.kind ≡ Some bytes.now) }
@@ -24,7 +24,7 @@ fn text_of(token: &Token) -> Option<&Bytes>
     }
 }
 
-/// The bytes of the last token, if it is a text.
+/// Returns the bytes of the last token, if it is a string literal.
 pub fn last_text(tokens: &[Token]) -> Option<&Bytes>
     ensures { MatchOption result (first_text (reverse tokens.now) ≡ None)
         (λ bytes. first_text (reverse tokens.now) ≡ Some bytes.now) }

@@ -1,4 +1,4 @@
-//! Tokens with the texts that stand side by side made one.
+//! Joins adjacent string literals.
 ghost use Rattle.std.specs.Prelude.{◌≡◌, ◌≤◌, ◌∷◌, Some, is_some, reverse, length, IfOk};
 ghost use Rattle.std.specs.List.{list_any};
 ghost use Rattle.cs_lexer.specs.Texts as spec;
@@ -9,8 +9,8 @@ use cs_ast::{Token, TokenKind};
 use cs_names::Bytes;
 use std::alloc::{AllocError, Global};
 
-// The bytes of a text and of those that stand directly after it, which are dropped. The tokens after it are given from
-// the last one on.
+// Returns the bytes of a string literal and of those directly after it, which are removed. The tokens after it are
+// given in reverse order.
 fn whole_text(alloc: Global, first: Bytes, left: &mut Vec<Token>) -> Result<Bytes, AllocError>
     ensures whole { IfOk result (λ bytes.
         IsWholeText first (reverse left.old.items) bytes (reverse left.new.items)) }
@@ -24,7 +24,7 @@ fn whole_text(alloc: Global, first: Bytes, left: &mut Vec<Token>) -> Result<Byte
     Ok(Bytes::from_vec(bytes))
 }
 
-// What a token is, made one with the texts directly after it if it is a text.
+// Returns the kind of a token, joined with the string literals directly after it if it is one.
 fn whole_kind(
     alloc: Global,
     kind: TokenKind,
@@ -43,7 +43,7 @@ fn whole_kind(
     }
 }
 
-// A token, made one with the texts directly after it if it is a text.
+// Returns a token, joined with the string literals directly after it if it is one.
 fn whole_token(alloc: Global, token: Token, left: &mut Vec<Token>) -> Result<Token, AllocError>
     ensures whole { IfOk result (λ whole.
         spec.joined (token ∷ reverse left.old.items)
@@ -55,21 +55,22 @@ fn whole_token(alloc: Global, token: Token, left: &mut Vec<Token>) -> Result<Tok
     Ok(Token { kind, place })
 }
 
-// Whether a token is a text.
+// Whether a token is a string literal.
 fn is_text(token: &Token) -> bool
     ensures { result ≡ is_some (spec.text_of_kind token.now.kind) }
 {
     matches!(token.kind, TokenKind::Text(_))
 }
 
-// Whether a text is among the tokens.
+// Whether some token is a string literal.
 fn has_text(tokens: &[Token]) -> bool
     ensures { result ≡ list_any (λ token. is_some (spec.text_of_kind token.kind)) tokens.now }
 {
     tokens.iter().any(is_text)
 }
 
-/// The tokens with the texts that stand side by side made one, at the place of the first. Where there is no text, they stay where they are.
+/// Returns the tokens with adjacent string literals joined, at the position of the first. Without a string literal they
+/// are returned unchanged.
 #[tactic(auto, using(crate::proofs::Untouched::none_joined))]
 pub fn joined(alloc: Global, tokens: Vec<Token>) -> Result<Vec<Token>, AllocError>
     ensures { IfOk result (λ made. made.items ≡ spec.joined tokens.items) }

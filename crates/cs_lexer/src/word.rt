@@ -1,4 +1,4 @@
-//! Words: keywords, unsupported words, words that are dropped, names.
+//! Words: keywords, unsupported words, ignored words, names.
 ghost use Rattle.std.specs.Prelude.{◌≡◌, IfOk};
 ghost use Rattle.std.specs.List.{list_any};
 ghost use Rattle.std.specs.Prelude.{nat_eq};
@@ -36,7 +36,7 @@ fn is_among(text: &[u8], words: &[&[u8]]) -> bool
     words.iter().any(|word| text == *word)
 }
 
-// Whether a word is dropped wherever it stands.
+// Whether a word is ignored wherever it occurs.
 #[tactic(auto, unfolding(crate::specs::Words::dropped_words))]
 fn is_dropped(text: &[u8]) -> bool
     ensures { result ≡ spec.is_dropped text.now }
@@ -52,7 +52,7 @@ fn is_attribute(text: &[u8]) -> bool
     is_among(text, &ATTRIBUTES)
 }
 
-/// What a word is.
+/// Returns what a word is: a token, or a gap if it is ignored.
 pub fn word(alloc: Global, text: &[u8]) -> Result<Lexeme, AllocError>
     ensures { IfOk result (λ found. WordGives text.now found) }
 {

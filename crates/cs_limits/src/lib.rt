@@ -1,8 +1,8 @@
-//! How large a file may be.
+//! The limits of a file.
 #![tactic(auto)]
 
-/// The most bytes of a file.
+/// The greatest number of bytes of a file.
 pub const MOST_BYTES: usize = 4_194_304;
 
-/// The most tokens of a file.
+/// The greatest number of tokens of a file.
 pub const MOST_TOKENS: usize = 400_000;

@@ -1,4 +1,4 @@
--- What `==` and `cmp` of names and texts say of their bytes: for the crates above that compare them.
+-- What `==` and `cmp` of names and texts imply for their bytes: for the crates above that compare them.
 use Rattle.std.proofs.Common.{◌≡◌, ℕ, List, true}
 use Rattle.std.specs.Prelude.{nat_eq}
 use Rattle.std.specs.Cmp.Lexicographic.{pointwise, slice_cmp, bytes_decides, texts_ties}

@@ -1,4 +1,4 @@
-//! Names and texts as their bytes.
+//! Names and texts as bytes.
 ghost use Rattle.std.specs.Prelude.{◌≡◌, nat_eq, IfOk};
 ghost use Rattle.std.specs.Hash as fed;
 ghost use Rattle.std.specs.Cmp.{partial_equiv_from_equiv};
@@ -12,15 +12,15 @@ use std::cmp::Ordering;
 use std::hash::{Hash, Hasher};
 use std::marker::Model;
 
-/// The bytes of a name or of a text, such as a literal of C or an output. A contract sees it as its bytes.
+/// The bytes of a name or of a text, such as a string literal or an output. In contracts it is the list of its bytes.
 ///
-/// Two are equal where their bytes are, and are ordered as their bytes, a prefix first.
+/// Two are equal if their bytes are. The order is that of the bytes, a prefix first.
 #[derive(Debug, Drop)]
 pub struct Bytes {
     bytes: Vec<u8>,
 }
 
-/// The bytes of an identifier of C, of a tag or of a file's name.
+/// The bytes of an identifier of C, of a tag or of a file name.
 pub type Name = Bytes;
 
 impl Model for Bytes {
@@ -32,14 +32,14 @@ impl Model for Bytes {
 }
 
 impl Bytes {
-    /// The text with these bytes.
+    /// Returns the text with these bytes.
     pub fn from_vec(bytes: Vec<u8>) -> Bytes
         ensures { result ≡ bytes.items }
     {
         Bytes { bytes }
     }
 
-    /// The text with a copy of these bytes.
+    /// Returns the text with a copy of these bytes.
     pub fn from_slice(alloc: Global, bytes: &[u8]) -> Result<Bytes, AllocError>
         ensures { IfOk result (λ made. made ≡ bytes.now) }
     {
@@ -48,14 +48,14 @@ impl Bytes {
         })
     }
 
-    /// The bytes, in order.
+    /// Returns the bytes, in order.
     pub fn as_bytes(&self) -> &[u8]
         ensures { result.now ≡ self.now }
     {
         self.bytes.as_slice()
     }
 
-    /// A second text with the same bytes.
+    /// Returns a copy of the text.
     pub fn copy(&self) -> Result<Bytes, AllocError>
         ensures { IfOk result (λ made. made ≡ self.now) }
     {

@@ -1,4 +1,4 @@
-//! Names and texts: owned lists of bytes, which contracts see as lists of numbers.
+//! Names and texts: owned lists of bytes, which are lists of numbers in contracts.
 #![tactic(auto)]
 
 mod bytes;

@@ -1,4 +1,4 @@
--- The scalar at an offset of an array is that at the rest of an element: for the contract of `leaf_at`'s array step.
+-- The scalar at an offset of an array is the one at the offset in its element: for the array step of `leaf_at`.
 use Rattle.std.proofs.Common.{◌≡◌, ℕ, ◌*◌, ◌/◌, ◌%◌, ◌<◌, ◌≤◌, ◌⊎◌, inl, inr, List, sym, ◌∙◌, ap, subst, arith}
 use Rattle.std.proofs.Common.{mul-le-mul_right}
 use Rattle.std.specs.Prelude.{Option, Some, None, MatchOption}

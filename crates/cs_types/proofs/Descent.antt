@@ -1,4 +1,4 @@
--- The walk from a type down to the scalar at an offset: for the loop of `leaf_at`.
+-- The descent from a type to the scalar at an offset: for the loop of `leaf_at`.
 use Rattle.std.proofs.Common.{◌≡◌, ℕ, zero, suc, ◌-◌, ◌<◌, ◌≤◌, List, length, sym, ◌∙◌, ap, refl, subst, arith}
 use Rattle.std.specs.Prelude.{Option, Some, None, is_some}
 use Rattle.std.specs.Option.{option_map, option_and_then}

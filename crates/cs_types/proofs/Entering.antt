@@ -1,5 +1,4 @@
--- The member in which an offset of a struct lies has the struct's scalar there: for the contract of `leaf_at`'s step into
--- a struct.
+-- The member that contains an offset of a struct has the struct's scalar there: for the step of `leaf_at` into a struct.
 use Rattle.std.proofs.Common.{◌≡◌, ℕ, suc, ◌-◌, ◌≤◌, List, sym, ◌∙◌, ap, subst, arith, map}
 use Rattle.std.specs.Prelude.{Option, Some, None}
 use Rattle.std.specs.Option.{option_map, option_and_then}

@@ -1,4 +1,4 @@
--- Division that rounds down, and its rest: for the contracts of `quotient`, `wrap` and `multiply`.
+-- Division that rounds down, and its remainder: for the contracts of `quotient`, `wrap` and `multiply`.
 use Rattle.std.proofs.Common.{◌≡◌, ℕ, zero, suc, ◌+◌, ◌*◌, ◌%◌, ◌-◌, ◌<◌, arith, sym, ◌∙◌, ap, refl}
 use Rattle.std.specs.Prelude.{ℤ, pos, negsuc, ◌+ℤ◌, ◌-ℤ◌, ◌*ℤ◌}
 use Rattle.std.specs.Int.{int_rem_euclid}

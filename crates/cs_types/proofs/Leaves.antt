@@ -1,4 +1,4 @@
--- Where the scalars of rows and of members side by side lie: for the contract of `leaf_at`.
+-- The positions of the scalars of arrays and of consecutive members: for the contract of `leaf_at`.
 use Rattle.std.proofs.Common.{◌≡◌, ℕ, zero, suc, ◌+◌, ◌*◌, ◌/◌, ◌%◌, ◌-◌, ◌<◌, ◌≤◌, ◌⊎◌, inl, inr, Bool, true}
 use Rattle.std.proofs.Common.{false, cond, List, [], ◌∷◌, ◌++◌, ◌∙◌, ap, refl, arith}
 use Rattle.std.specs.Prelude.{Option, Some, None, ◌==◌}

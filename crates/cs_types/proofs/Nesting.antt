@@ -1,4 +1,4 @@
--- Layouts at a depth of structs: a greater depth changes no layout, and every layout is sound. For the contract of
+-- Layouts at a nesting depth of structs: a greater depth changes no layout, and every layout is sound. For the contract of
 -- `leaf_at`.
 use Rattle.std.proofs.Common.{◌≡◌, ℕ, zero, suc, ◌+◌, ◌-◌, ◌<◌, ◌≤◌, List, [], ◌∷◌, sym, ◌∙◌, ap, refl, subst, arith}
 use Rattle.std.proofs.Common.{lit<}

@@ -1,4 +1,4 @@
--- What a laid out table says of its structs: for the contracts of `size`, `align` and `leaf_at`.
+-- What a laid out table implies for its structs: for the contracts of `size`, `align` and `leaf_at`.
 use Rattle.std.proofs.Common.{◌≡◌, ℕ, List, sym, ◌∙◌, ap, refl}
 use Rattle.std.specs.Prelude.{Option, Some, None, slice_get}
 use Rattle.std.specs.Option.{option_map, option_and_then}

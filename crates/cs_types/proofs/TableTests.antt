@@ -1,5 +1,5 @@
--- A test of whether a table of structs is laid out, which computes: so that the condition of `size`, `align` and `leaf_at`
--- can be shown of a table that is written down.
+-- A computable test of whether a table of structs is laid out, with which the condition of `size`, `align` and `leaf_at` can be
+-- shown for a given table.
 use Rattle.std.proofs.Common.{◌≡◌, ℕ, ◌+◌, ◌≤◌, ◌^◌, zero, suc, Bool, true, false, ◌&&◌, List, [], ◌∷◌, map, nat_eq, nat_le}
 use Rattle.std.proofs.Common.{sym, ap, refl, subst, eqb-true, arith}
 use Rattle.std.specs.Prelude.{Option, Some, None, IfSome, slice_get}

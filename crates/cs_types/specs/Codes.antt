@@ -1,4 +1,4 @@
--- Shapes and members as numbers in a row, by which a proof distinguishes them.
+-- Shapes and members as lists of numbers, with which proofs distinguish them.
 use Rattle.std.specs.Prelude.{◌≡◌, ℕ, zero, suc, List, [], ◌∷◌, slice_get, unwrap_or, refl}
 use Rattle.std.proofs.Common.{ap}
 use Rattle.std.specs.Coded.{Coded, code_by, coded×, coded_ℕ, coded_list}
@@ -7,7 +7,7 @@ use Rattle.cs_types.specs.declared.int_type.IntType.TheVariants.{Char, SChar, UC
 use Rattle.cs_types.specs.Shape.{Shape, void, integer, pointer, array, struct, place_of}
 use Rattle.cs_types.specs.Members.{Member}
 
--- the integer type at a place among the integer types
+-- the integer type with an index among the integer types
 abbrev pub at_place : ℕ → IntType
 at_place n = unwrap_or (slice_get (Char ∷ SChar ∷ UChar ∷ Short ∷ UShort ∷ Int ∷ UInt ∷ Long ∷ ULong ∷ LLong ∷ ULLong ∷ []) n) Char
 

@@ -6,15 +6,15 @@ use Rattle.cs_types.specs.declared.int_type.IntType.{IntType}
 use Rattle.cs_types.specs.declared.int_type.IntType.TheVariants.{Char, SChar, UChar, Short, UShort, Int, UInt, Long, ULong, LLong, ULLong}
 use Rattle.cs_types.specs.IntType.{has_sign, rank_of, least_of, greatest_of}
 
--- whether the first type holds every number of the second
+-- whether the first type can represent every number of the second
 abbrev pub holds_all_of : DataModel → IntType → IntType → Bool
 holds_all_of model wide narrow = int_le (least_of model wide) (least_of model narrow) && int_le (greatest_of model narrow) (greatest_of model wide)
 
--- a type of a rank below that of `int` becomes `int` where `int` holds all its numbers, else `unsigned int`
+-- a type of lower rank than `int` becomes `int` if `int` can represent all its numbers, else `unsigned int`
 abbrev pub promoted : DataModel → IntType → IntType
 promoted model ty = if nat_lt (rank_of ty) (rank_of Int) then (if holds_all_of model Int ty then Int else UInt) else ty
 
--- the unsigned type that goes with a type
+-- the unsigned type that corresponds to a type
 abbrev pub unsigned_of : IntType → IntType
 unsigned_of Char = UChar
 unsigned_of SChar = UChar
@@ -28,12 +28,12 @@ unsigned_of ULong = ULong
 unsigned_of LLong = ULLong
 unsigned_of ULLong = ULLong
 
--- two types of one sign: the one of higher rank
+-- two types, both signed or both unsigned: the one of higher rank
 abbrev pub of_higher_rank : IntType → IntType → IntType
 of_higher_rank left right = if nat_lt (rank_of left) (rank_of right) then right else left
 
--- a signed and an unsigned type: the unsigned one unless its rank is lower, then the signed one if it holds all
--- numbers of the other, else the signed one's unsigned kin
+-- a signed and an unsigned type: the unsigned one unless its rank is lower; then the signed one if it can represent all numbers
+-- of the other, else the unsigned type that corresponds to the signed one
 abbrev pub common_of_mixed : DataModel → IntType → IntType → IntType
 common_of_mixed model signed unsigned = if nat_le (rank_of signed) (rank_of unsigned) then unsigned
     else (if holds_all_of model signed unsigned then signed else unsigned_of signed)

@@ -1,4 +1,4 @@
--- What the two data models fix besides the bytes of the types.
+-- What the two data models determine besides the sizes of the types.
 use Rattle.std.specs.Prelude.{ℕ, ◌*◌, ◌/◌, ◌-◌, ◌^◌, nat_lt, if◌then◌else◌}
 use Rattle.cs_types.specs.declared.data_model.DataModel.{DataModel}
 use Rattle.cs_types.specs.declared.data_model.DataModel.TheVariants.{Lp64, Ilp32}
@@ -15,21 +15,21 @@ abbrev pub difference_type_of : DataModel → IntType
 difference_type_of Lp64 = Long
 difference_type_of Ilp32 = Int
 
--- how far a pointer's offset may leave its object, below and above
+-- the greatest absolute value of a pointer's offset, in bytes from its object's start
 abbrev pub offset_bound_of : DataModel → ℕ
 offset_bound_of Lp64 = 2 ^ 40
 offset_bound_of Ilp32 = 2 ^ 29
 
--- the most bytes of one `calloc`
+-- the greatest size of one `calloc`
 abbrev pub product_bound_of : DataModel → ℕ
 product_bound_of Lp64 = 2 ^ 64 - 1
 product_bound_of Ilp32 = 2 ^ 32 - 1
 
--- the greatest multiple of n that is at most the limit
+-- the greatest multiple of n up to the limit
 abbrev pub greatest_multiple : ℕ → ℕ → ℕ
 greatest_multiple n limit = limit / n * n
 
--- the bytes of the block after an unknown pointer to a type of this size
+-- the number of bytes of the block that an unknown pointer to a type of this size points to
 abbrev pub start_extent_of : DataModel → ℕ → ℕ
 start_extent_of Lp64 size = 2 ^ 20 * size
 start_extent_of Ilp32 size = if nat_lt (2 ^ 28) (2 ^ 20 * size) then greatest_multiple size (2 ^ 28) else 2 ^ 20 * size

@@ -1,16 +1,16 @@
--- The integer types: bytes, signs, ranks and ranges, as the two data models and C11 6.2.5 and 6.3.1.1 fix them.
+-- The integer types: sizes, signs, ranks and ranges, as the two data models and C11 6.2.5 and 6.3.1.1 determine them.
 use Rattle.std.specs.Prelude.{ℕ, ◌*◌, ◌-◌, ◌^◌, ℤ, pos, ◌-ℤ◌, ◌≤ℤ◌, Bool, true, false, if◌then◌else◌}
 use Rattle.cs_types.specs.declared.data_model.DataModel.{DataModel}
 use Rattle.cs_types.specs.declared.data_model.DataModel.TheVariants.{Lp64, Ilp32}
 use Rattle.cs_types.specs.declared.int_type.IntType.{IntType}
 use Rattle.cs_types.specs.declared.int_type.IntType.TheVariants.{Char, SChar, UChar, Short, UShort, Int, UInt, Long, ULong, LLong, ULLong}
 
--- the bytes of `long` and of a pointer
+-- the number of bytes of `long` and of a pointer
 abbrev pub word_bytes : DataModel → ℕ
 word_bytes Lp64 = 8
 word_bytes Ilp32 = 4
 
--- the bytes of a number of the type
+-- the number of bytes of the type
 abbrev pub bytes_of : DataModel → IntType → ℕ
 bytes_of model Char = 1
 bytes_of model SChar = 1
@@ -52,11 +52,11 @@ rank_of ULong = 4
 rank_of LLong = 5
 rank_of ULLong = 5
 
--- how many numbers the type has
+-- the number of values of the type
 abbrev pub modulus_of : DataModel → IntType → ℕ
 modulus_of model ty = 2 ^ (8 * bytes_of model ty)
 
--- how many of them are below 0
+-- the number of values below 0
 abbrev pub negatives_of : DataModel → IntType → ℕ
 negatives_of model ty = if has_sign ty then 2 ^ (8 * bytes_of model ty - 1) else 0
 
@@ -68,12 +68,12 @@ least_of model ty = pos 0 -ℤ pos (negatives_of model ty)
 abbrev pub greatest_of : DataModel → IntType → ℤ
 greatest_of model ty = pos (modulus_of model ty - negatives_of model ty - 1)
 
--- the type holds the number
+-- the number is in the range of the type
 pub record InRange (model : DataModel) (ty : IntType) (number : ℤ) : Type 0 where
   pub from_least : least_of model ty ≤ℤ number
   pub to_greatest : number ≤ℤ greatest_of model ty
 
--- some integer type of C holds the number
+-- the number is in the range of some integer type of C
 pub record IsIntegerOfC (number : ℤ) : Type 0 where
   pub from_least : (pos 0 -ℤ pos (2 ^ 63)) ≤ℤ number
   pub to_greatest : number ≤ℤ pos (2 ^ 64 - 1)

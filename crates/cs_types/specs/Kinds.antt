@@ -1,4 +1,4 @@
--- What kind of type a type is (C11 6.2.5).
+-- Kinds of types (C11 6.2.5).
 use Rattle.std.specs.Prelude.{Bool, true, false, List, is_some}
 use Rattle.cs_types.specs.declared.structs.StructType.{StructType}
 use Rattle.cs_types.specs.Shape.{Shape, void, integer, pointer, array, struct}
@@ -20,7 +20,7 @@ is_scalar (integer ty) = true
 is_scalar (pointer target) = true
 is_scalar other = false
 
--- the type has a size: it is not `void`, and has no struct without its members in it
+-- the type has a size: it isn't `void`, and contains no struct without members
 abbrev pub is_complete : List StructType → Shape → Bool
 is_complete table void = false
 is_complete table (integer ty) = true

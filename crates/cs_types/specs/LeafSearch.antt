@@ -1,4 +1,4 @@
--- Steps of the search for the scalar at an offset, which goes by dividing offsets: the contracts of its parts cite them.
+-- Steps of the search for the scalar at an offset, which divides offsets: the contracts of its parts cite them.
 use Rattle.std.specs.Prelude.{◌≡◌, ℕ, suc, ◌≤◌, List, [], ◌∷◌, nat_le, if◌then◌else◌, Option, Some, None, MatchOption}
 use Rattle.std.specs.Borrow.{Bor}
 use Rattle.std.specs.Option.{option_or}
@@ -11,7 +11,7 @@ use Rattle.cs_types.specs.declared.structs.StructType.{StructType}
 use Rattle.cs_types.specs.Shape.{Shape, shape_of}
 use Rattle.cs_types.specs.Layout.{Layout, layout_with, struct_layout, scalar_at, complete_count, HasSmallSizes}
 
--- the layout of a type in which no more than so many structs hold one another
+-- the layout of a type in which structs are nested at most `depth` deep
 abbrev pub layout_within : DataModel → List StructType → ℕ → Shape → Option Layout
 layout_within model table depth shape = layout_with model (struct_layout model table depth) shape
 
@@ -20,7 +20,7 @@ abbrev pub last_at : ℕ → List Member → Option Member
 last_at offset [] = None
 last_at offset (m ∷ ms) = option_or (last_at offset ms) (if nat_le m.offset offset then Some m else None)
 
--- what stands at an offset of an array's elements is what the layout has there
+-- what was found at an offset of an array's elements is what the layout has there
 abbrev pub IsBase : DataModel → List StructType → ℕ → Layout → ℕ → Base → Type 0
 IsBase model table depth layout offset (Scalar found) = scalar_at offset layout.leaves ≡ Some (shape_of found.now)
 IsBase model table depth layout offset (Inside number rest) =
@@ -32,14 +32,14 @@ DividesArrays model table shape offset answer = (depth : ℕ) (layout : Layout) 
     → layout_within model table depth shape ≡ Some layout
     → MatchOption answer (scalar_at offset layout.leaves ≡ None) (IsBase model table depth layout offset)
 
--- a member's type, with an offset in it, has there what the struct has
+-- a member's type has at the offset in it what the struct has at its offset
 pub record IsHeld (model : DataModel) (table : List StructType) (depth : ℕ) (layout : Layout) (offset : ℕ) (held : Shape) (rest : ℕ) : Type 0 where
   pub inner : Layout
   pub laid : layout_within model table depth held ≡ Some inner
   pub same : scalar_at offset layout.leaves ≡ scalar_at rest inner.leaves
   pub small : HasSmallSizes model table held
 
--- the member in which an offset of a struct lies
+-- the member that contains an offset of a struct
 abbrev pub EntersMember : DataModel → List StructType → ℕ → ℕ → Option (Bor CType × ℕ) → Type 0
 EntersMember model table number offset answer = (depth : ℕ) (layout : Layout) → suc depth ≤ complete_count table
     → struct_layout model table (suc depth) number ≡ Some layout

@@ -1,4 +1,4 @@
--- The members of a struct apart from the boxes of their types.
+-- The members of a struct, without the boxes of their types.
 use Rattle.std.specs.Prelude.{ℕ, List}
 use Rattle.cs_types.specs.Shape.{Shape}
 

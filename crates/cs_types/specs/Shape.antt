@@ -1,4 +1,4 @@
--- What a C type is, apart from the boxes that hold its parts.
+-- C types without the boxes that hold their parts.
 use Rattle.std.specs.Prelude.{ℕ, Bool, true, false, ◌&&◌, ◌==◌}
 use Rattle.cs_types.specs.declared.int_type.IntType.{IntType}
 use Rattle.cs_types.specs.declared.int_type.IntType.TheVariants.{Char, SChar, UChar, Short, UShort, Int as PlainInt, UInt, Long, ULong, LLong, ULLong}
@@ -20,7 +20,7 @@ shape_of (Pointer' p target) = pointer (shape_of target)
 shape_of (Array' p element count) = array (shape_of element) count
 shape_of (Struct number) = struct number
 
--- the place of an integer type among the integer types
+-- the index of an integer type among the integer types
 abbrev pub place_of : IntType → ℕ
 place_of Char = 0
 place_of SChar = 1

@@ -32,7 +32,7 @@ type_at-place_of ULLong = refl
 same_place : (a b : IntType) → place_of a ≡ place_of b → a ≡ b
 same_place a b e = sym (type_at-place_of a) ∙ ap type_at e ∙ type_at-place_of b
 
--- types that are found equal have one shape
+-- types that compare equal have one shape
 pub same_shape-true : (a b : Shape) → same_shape a b ≡ true → a ≡ b
 same_shape-true void void h = refl
 same_shape-true (integer a) (integer b) h = ap integer (same_place a b (eqb-true (place_of a) (place_of b) h))

@@ -1,4 +1,4 @@
--- Structs as numbers in a row, by which a proof distinguishes them.
+-- Structs as lists of numbers, with which proofs distinguish them.
 use Rattle.std.specs.Prelude.{ℕ, List, Option, refl}
 use Rattle.std.specs.Coded.{Coded, code_by, coded×, coded_ℕ, coded_list, coded_option}
 use Rattle.cs_types.specs.declared.structs.StructType.{StructType}

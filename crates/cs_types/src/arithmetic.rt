@@ -1,4 +1,4 @@
-//! Conversion of numbers to an integer type: the range, the wrapped number and its wrap quotient.
+//! Conversion of numbers to an integer type: the range, the wrapped number and the wrap quotient.
 ghost use Rattle.std.specs.Prelude.{◌≡◌, ◌↔◌, ◌≤◌, ◌-◌, ◌*◌, ◌^◌, ◌+ℤ◌, ◌*ℤ◌, ◌-ℤ◌, ◌≤ℤ◌, pos, IsTrue, FitsSigned, unsigned_abs};
 ghost use Rattle.std.specs.Int.{w64, w128};
 ghost use Rattle.cs_types.specs.IntType.{InRange, IsIntegerOfC, modulus_of, negatives_of};
@@ -12,19 +12,19 @@ use crate::int_type::{IntType, bytes, greatest, least, modulus, negatives};
 pub struct Product {
     /// The converted product.
     pub number: i128,
-    /// The product's wrap quotient where that is -1, 0 or 1.
+    /// The product's wrap quotient if that is -1, 0 or 1.
     pub quotient: Option<i128>,
 }
 
-/// Whether the type holds the number.
+/// Whether the number is in the range of the type.
 pub fn in_range(model: DataModel, ty: IntType, number: i128) -> bool
     ensures { IsTrue result ↔ InRange model ty number }
 {
     least(model, ty) <= number && number <= greatest(model, ty)
 }
 
-/// How often the number of the type's numbers has to be taken from `number` to come into the type's range:
-/// rounded down, so -1 just below the range.
+/// Returns how many times the type's modulus has to be subtracted from `number` to bring it into the type's range:
+/// rounded down, so that it is -1 just below the range.
 pub fn quotient(model: DataModel, ty: IntType, number: i128) -> i128
     requires { unsigned_abs number ≤ 2 ^ 126 }
     ensures value { result ≡ wrap_quotient model ty number }
@@ -34,7 +34,7 @@ pub fn quotient(model: DataModel, ty: IntType, number: i128) -> i128
     turns(model, ty, number)
 }
 
-/// The number converted to the type, modulo two to the power of its width, for signed types too (C11 6.3.1.3).
+/// Returns the number converted to the type, modulo two to the power of its width, also for signed types (C11 6.3.1.3).
 pub fn wrap(model: DataModel, ty: IntType, number: i128) -> i128
     requires { unsigned_abs number ≤ 2 ^ 126 }
     ensures value { result ≡ wrapped model ty number }
@@ -43,8 +43,8 @@ pub fn wrap(model: DataModel, ty: IntType, number: i128) -> i128
     rest(model, ty, number)
 }
 
-/// The product of two integers of C converted to the type, with its wrap quotient where that is near. The exact
-/// product may need more than 128 bits: 2^64-1 squared does.
+/// Returns the product of two integers of C converted to the type, with its wrap quotient if that is -1, 0 or 1. The
+/// exact product may need more than 128 bits, as 2^64-1 squared does.
 pub fn multiply(model: DataModel, ty: IntType, left: i128, right: i128) -> Product
     requires left { IsIntegerOfC left }
     requires right { IsIntegerOfC right }
@@ -59,7 +59,8 @@ pub fn multiply(model: DataModel, ty: IntType, left: i128, right: i128) -> Produ
     folded_product(model, ty, left - (1 << 64), right, taken)
 }
 
-// The converted product of a factor of `long long`, which keeps it within 128 bits, after `taken` turns were taken off.
+// Returns the converted product after `taken` was subtracted from its wrap quotient. The left factor fits `long long`,
+// which keeps the product within 128 bits.
 fn folded_product(model: DataModel, ty: IntType, left: i128, right: i128, taken: i128) -> Product
     requires left { FitsSigned w64 left }
     requires right { IsIntegerOfC right }
@@ -75,7 +76,7 @@ fn folded_product(model: DataModel, ty: IntType, left: i128, right: i128, taken:
     }
 }
 
-// A product so small that the shift into a type's range doesn't overflow.
+// Returns a product that is so small that the shift into a type's range doesn't overflow.
 fn near_product(left: i128, right: i128) -> i128
     requires left { FitsSigned w64 left }
     requires right { IsIntegerOfC right }
@@ -86,7 +87,7 @@ fn near_product(left: i128, right: i128) -> i128
     left * right
 }
 
-// The wrap quotient of a number whose shift into the type's range doesn't overflow.
+// Returns the wrap quotient of a number whose shift into the type's range doesn't overflow.
 fn turns(model: DataModel, ty: IntType, number: i128) -> i128
     requires { FitsSigned w128 (number +ℤ pos (negatives_of model ty)) }
     ensures value { result ≡ wrap_quotient model ty number }
@@ -95,7 +96,7 @@ fn turns(model: DataModel, ty: IntType, number: i128) -> i128
     (number + negatives(model, ty)).div_euclid(modulus(model, ty))
 }
 
-// The number converted to the type, where the same shift doesn't overflow.
+// Returns the number converted to the type, if the same shift doesn't overflow.
 fn rest(model: DataModel, ty: IntType, number: i128) -> i128
     requires { FitsSigned w128 (number +ℤ pos (negatives_of model ty)) }
     ensures value { result ≡ wrapped model ty number }
@@ -105,8 +106,8 @@ fn rest(model: DataModel, ty: IntType, number: i128) -> i128
     (number + below).rem_euclid(modulus(model, ty)) - below
 }
 
-// The turns that 2^64 taken off the other factor takes off a product: whole ones, since 2^64 is a multiple of every
-// type's modulus.
+// Returns by how much the wrap quotient of a product decreases if 2^64 is subtracted from the other factor. It is an
+// integer, since 2^64 is a multiple of every type's modulus.
 fn turns_of_word(model: DataModel, ty: IntType, factor: i128) -> i128
     requires { IsIntegerOfC factor }
     ensures value { result *ℤ pos (modulus_of model ty) ≡ pos (2 ^ 64) *ℤ factor }
@@ -120,7 +121,7 @@ fn turns_of_word(model: DataModel, ty: IntType, factor: i128) -> i128
     }
 }
 
-// The quotient if it is -1, 0 or 1.
+// Returns the quotient if it is -1, 0 or 1.
 fn near(quotient: i128) -> Option<i128>
     ensures { result ≡ near_quotient quotient }
 {

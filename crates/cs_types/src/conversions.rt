@@ -5,7 +5,7 @@ ghost use Rattle.cs_types.specs.Conversions.{promoted, common_type, common_of_mi
 use crate::data_model::DataModel;
 use crate::int_type::{IntType, greatest, is_signed, least, rank};
 
-/// The type to which an operand of this type is promoted.
+/// Returns the type to which an operand of this type is promoted.
 pub fn promote(model: DataModel, ty: IntType) -> IntType
     ensures { result ≡ promoted model ty }
 {
@@ -18,7 +18,7 @@ pub fn promote(model: DataModel, ty: IntType) -> IntType
     }
 }
 
-/// The type in which an operator on operands of these two types works.
+/// Returns the type in which an operator on operands of these two types works.
 pub fn usual(model: DataModel, left: IntType, right: IntType) -> IntType
     ensures { result ≡ common_type model left right }
 {
@@ -32,7 +32,7 @@ pub fn usual(model: DataModel, left: IntType, right: IntType) -> IntType
     }
 }
 
-// The common type of a signed and an unsigned type, both promoted.
+// Returns the common type of a signed and an unsigned type, both promoted.
 fn common_mixed(model: DataModel, signed: IntType, unsigned: IntType) -> IntType
     ensures { result ≡ common_of_mixed model signed unsigned }
 {
@@ -45,14 +45,14 @@ fn common_mixed(model: DataModel, signed: IntType, unsigned: IntType) -> IntType
     }
 }
 
-// Whether the first type holds every number of the second.
+// Whether the first type can represent every number of the second.
 fn holds_all_of(model: DataModel, wide: IntType, narrow: IntType) -> bool
     ensures { result ≡ holds_all_of model wide narrow }
 {
     least(model, wide) <= least(model, narrow) && greatest(model, narrow) <= greatest(model, wide)
 }
 
-// The unsigned type that goes with a type.
+// Returns the unsigned type that corresponds to a type.
 fn unsigned_kin(ty: IntType) -> IntType
     ensures { result ≡ unsigned_of ty }
 {

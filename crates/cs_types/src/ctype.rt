@@ -17,7 +17,7 @@ pub enum CType {
 }
 
 impl CType {
-    /// The same type once more.
+    /// Returns a copy of the type.
     pub fn copy(&self, alloc: Global) -> Result<CType, AllocError>
         ensures { IfOk result (λ made. shape_of made ≡ shape_of self.now) }
     {

@@ -1,18 +1,18 @@
-//! The two data models, and what else of the analyzed machine they fix.
+//! The two data models, and what else they determine about the target.
 ghost use Rattle.std.specs.Prelude.{◌≡◌, ◌^◌, ◌≤◌, pos};
 ghost use Rattle.cs_types.specs.IntType.{word_bytes};
 ghost use Rattle.cs_types.specs.DataModel.{size_type_of, difference_type_of, offset_bound_of, product_bound_of, start_extent_of};
 
 use crate::int_type::IntType;
 
-/// Which sizes `long` and pointers have: 8 bytes in LP64, 4 in ILP32.
+/// The sizes of `long` and of pointers: 8 bytes in LP64, 4 in ILP32.
 #[derive(Clone, Copy, Debug, PartialEq, Eq)]
 pub enum DataModel {
     Lp64,
     Ilp32,
 }
 
-/// The bytes of a pointer.
+/// Returns the number of bytes of a pointer.
 pub fn pointer_bytes(model: DataModel) -> u64
     ensures { result ≡ word_bytes model }
 {
@@ -22,7 +22,7 @@ pub fn pointer_bytes(model: DataModel) -> u64
     }
 }
 
-/// The type of `sizeof` (C11 6.5.3.4).
+/// Returns the type of `sizeof` (C11 6.5.3.4).
 pub fn size_type(model: DataModel) -> IntType
     ensures { result ≡ size_type_of model }
 {
@@ -32,7 +32,7 @@ pub fn size_type(model: DataModel) -> IntType
     }
 }
 
-/// The type of the difference of two pointers (C11 6.5.6).
+/// Returns the type of the difference of two pointers (C11 6.5.6).
 pub fn difference_type(model: DataModel) -> IntType
     ensures { result ≡ difference_type_of model }
 {
@@ -42,7 +42,7 @@ pub fn difference_type(model: DataModel) -> IntType
     }
 }
 
-/// The greatest size of a pointer's byte offset, in bytes below and above its object's start.
+/// Returns the greatest absolute value of a pointer's offset, in bytes from its object's start.
 pub fn offset_bound(model: DataModel) -> i128
     ensures { result ≡ pos (offset_bound_of model) }
 {
@@ -52,7 +52,7 @@ pub fn offset_bound(model: DataModel) -> i128
     }
 }
 
-/// The greatest size in bytes that `calloc` may be asked for.
+/// Returns the greatest size in bytes that a call of `calloc` may request.
 pub fn product_bound(model: DataModel) -> u64
     ensures { result ≡ product_bound_of model }
 {
@@ -62,7 +62,7 @@ pub fn product_bound(model: DataModel) -> u64
     }
 }
 
-/// The bytes of the block that an unknown pointer to a type of `size` bytes names.
+/// Returns the number of bytes of the block that an unknown pointer to a type of `size` bytes points to.
 pub fn start_extent(model: DataModel, size: u64) -> u64
     requires { size ≤ 2 ^ 20 }
     ensures { result ≡ start_extent_of model size }

@@ -1,10 +1,10 @@
-//! The integer types: their bytes, signs, ranks and ranges (C11 6.2.5, 6.3.1.1).
+//! The integer types: their sizes, signs, ranks and ranges (C11 6.2.5, 6.3.1.1).
 ghost use Rattle.std.specs.Prelude.{◌≡◌, pos};
 ghost use Rattle.cs_types.specs.IntType.{bytes_of, has_sign, rank_of, least_of, greatest_of, modulus_of, negatives_of};
 
 use crate::data_model::DataModel;
 
-/// An integer type. Plain `char` is signed, and is a type apart from `signed char`.
+/// An integer type. Plain `char` is signed, and is distinct from `signed char`.
 #[derive(Clone, Copy, Debug, PartialEq, Eq)]
 pub enum IntType {
     Char,
@@ -20,7 +20,7 @@ pub enum IntType {
     ULLong,
 }
 
-/// The bytes of a number of the type.
+/// Returns the number of bytes of the type.
 pub fn bytes(model: DataModel, ty: IntType) -> u64
     ensures { result ≡ bytes_of model ty }
 {
@@ -46,7 +46,7 @@ pub fn is_signed(ty: IntType) -> bool
     }
 }
 
-/// The type's conversion rank: types of one width may have two ranks.
+/// Returns the type's conversion rank: types of the same width may have different ranks.
 pub fn rank(ty: IntType) -> u8
     ensures { result ≡ rank_of ty }
 {
@@ -59,7 +59,7 @@ pub fn rank(ty: IntType) -> u8
     }
 }
 
-/// How many numbers the type has: two to the power of its width.
+/// Returns the number of values of the type: two to the power of its width.
 pub fn modulus(model: DataModel, ty: IntType) -> i128
     ensures { result ≡ pos (modulus_of model ty) }
 {
@@ -71,7 +71,7 @@ pub fn modulus(model: DataModel, ty: IntType) -> i128
     }
 }
 
-/// How many numbers the type has below 0.
+/// Returns the number of values of the type below 0.
 pub fn negatives(model: DataModel, ty: IntType) -> i128
     ensures { result ≡ pos (negatives_of model ty) }
 {
@@ -82,14 +82,14 @@ pub fn negatives(model: DataModel, ty: IntType) -> i128
     }
 }
 
-/// The least number of the type.
+/// Returns the least number of the type.
 pub fn least(model: DataModel, ty: IntType) -> i128
     ensures { result ≡ least_of model ty }
 {
     -negatives(model, ty)
 }
 
-/// The greatest number of the type.
+/// Returns the greatest number of the type.
 pub fn greatest(model: DataModel, ty: IntType) -> i128
     ensures { result ≡ greatest_of model ty }
 {

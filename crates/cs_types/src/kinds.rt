@@ -1,4 +1,4 @@
-//! What kind of type a type is (C11 6.2.5).
+//! Kinds of types (C11 6.2.5).
 ghost use Rattle.std.specs.Prelude.{◌≡◌};
 ghost use Rattle.cs_types.specs.Shape.{shape_of};
 ghost use Rattle.cs_types.specs.Kinds.{is_void, is_array, is_scalar, is_complete};
@@ -36,7 +36,7 @@ pub fn is_scalar(ty: &CType) -> bool
     }
 }
 
-/// Whether the type has a size: it is not `void`, and has no struct without its members in it.
+/// Whether the type has a size: it isn't `void`, and contains no struct without members.
 pub fn is_complete(table: &StructTable, ty: &CType) -> bool
     ensures { result ≡ is_complete table.now.list (shape_of ty.now) }
 {

@@ -11,7 +11,7 @@ use crate::int_type::bytes;
 use crate::members::Member;
 use crate::structs::{StructTable, complete_struct};
 
-/// The bytes of a type, as `sizeof` counts them, and `None` for `void` and incomplete types.
+/// Returns the size of a type in bytes, as `sizeof` does, and `None` for `void` and incomplete types.
 pub fn size(model: DataModel, table: &StructTable, ty: &CType) -> Option<u64>
     requires { Fits model table.now.list (shape_of ty.now) }
     ensures { result ≡ option_map (λ layout. layout.size)
@@ -26,7 +26,7 @@ pub fn size(model: DataModel, table: &StructTable, ty: &CType) -> Option<u64>
     }
 }
 
-/// The alignment of a type in bytes, and `None` for `void` and incomplete types.
+/// Returns the alignment of a type in bytes, and `None` for `void` and incomplete types.
 pub fn align(model: DataModel, table: &StructTable, ty: &CType) -> Option<u64>
     requires { Fits model table.now.list (shape_of ty.now) }
     ensures { result ≡ option_map (λ layout. layout.align)
@@ -41,8 +41,8 @@ pub fn align(model: DataModel, table: &StructTable, ty: &CType) -> Option<u64>
     }
 }
 
-/// The scalar type that begins at an offset of a type: it costs the depth of the type, and not the length of its
-/// arrays. `None` where none begins there, as in `void` and incomplete types.
+/// Returns the scalar type that begins at an offset of a type, or `None` if none begins there, as in `void` and
+/// incomplete types. The cost grows with the depth of the type, and not with the length of its arrays.
 pub fn leaf_at<'a>(
     model: DataModel,
     table: &'a StructTable,
@@ -57,7 +57,7 @@ pub fn leaf_at<'a>(
     let mut depth = table.list.as_slice().len();
     let mut held = ty;
     let mut rest = offset;
-    // A struct holds no struct that holds it, so each turn is one struct further in.
+    // No struct contains itself, so each iteration is one struct further in.
     loop {
         match base_at(model, table, held, rest)? {
             Base::Scalar(found) => return Some(found),
@@ -67,7 +67,7 @@ pub fn leaf_at<'a>(
     }
 }
 
-// What an offset of a type leads to, once the arrays around it are divided away.
+// What is at an offset of a type, after the arrays around it are divided away.
 #[derive(Drop)]
 enum Base<'a> {
     // A scalar that begins there.
@@ -100,7 +100,7 @@ fn base_at<'a>(
     }
 }
 
-// The type of the member in which an offset of a struct lies, and the offset in that member.
+// Returns the type of the member that contains an offset of a struct, and the offset in that member.
 fn member_at<'a>(
     model: DataModel,
     table: &'a StructTable,
@@ -115,8 +115,8 @@ fn member_at<'a>(
     Some((member.ty(), offset - member.offset()))
 }
 
-// The last of the members that begin at or before an offset: the members after it lie past the offset, and those
-// before it end before it begins.
+// Returns the last of the members that begin at or before an offset: the members after it begin past the offset, and
+// those before it end before it begins.
 fn last_member(members: &[Member], offset: u64) -> Option<&Member>
     ensures { option_copied result ≡ last_at offset members.now }
 {

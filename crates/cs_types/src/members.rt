@@ -7,7 +7,7 @@ use cs_names::Name;
 use std::alloc::{AllocError, Global};
 use std::marker::Model;
 
-/// A member of a struct, with its offset in bytes from the struct's start. A contract sees the shape of its type.
+/// A member of a struct, with its offset in bytes from the struct's start. In contracts it has the shape of its type.
 #[derive(Drop)]
 pub struct Member {
     name: Name,
@@ -28,28 +28,28 @@ impl Model for Member {
 }
 
 impl Member {
-    /// A member of these parts.
+    /// Returns a member with these parts.
     pub fn new(name: Name, ty: CType, offset: u64) -> Member
         ensures { result ≡ record { name = name; ty = shape_of ty; offset = offset } }
     {
         Member { name, ty, offset }
     }
 
-    /// Its name.
+    /// Returns the member's name.
     pub fn name(&self) -> &Name
         ensures { result.now ≡ self.now.name }
     {
         &self.name
     }
 
-    /// Its type.
+    /// Returns the member's type.
     pub fn ty(&self) -> &CType
         ensures { shape_of result.now ≡ self.now.ty }
     {
         &self.ty
     }
 
-    /// Its offset in bytes from the struct's start.
+    /// Returns the member's offset in bytes from the struct's start.
     pub fn offset(&self) -> u64
         ensures { result ≡ self.now.offset }
     {
@@ -57,7 +57,7 @@ impl Member {
     }
 }
 
-/// The members of a struct in their order. A contract sees them as a list.
+/// The members of a struct in their order. In contracts it is a list.
 #[derive(Drop)]
 pub struct Members {
     list: Vec<Member>,
@@ -76,7 +76,7 @@ impl Model for Members {
 }
 
 impl Members {
-    /// No members.
+    /// Returns the empty list of members.
     pub fn new(alloc: Global) -> Members
         ensures { result ≡ [] }
     {
@@ -94,7 +94,7 @@ impl Members {
         Ok(())
     }
 
-    /// The members in order.
+    /// Returns the members in order.
     pub fn as_slice(&self) -> &[Member]
         ensures { result.now ≡ self.now }
     {

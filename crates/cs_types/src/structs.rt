@@ -1,4 +1,4 @@
-//! The structs of a program, and the table that numbers them.
+//! The structs of a program, and the table of them by number.
 ghost use Rattle.std.specs.Prelude.{◌≡◌, ◌<◌, ◌++◌, [], ◌∷◌, OnOk, OnErr, length, slice_set, option_copied};
 ghost use Rattle.cs_types.specs.Layout.{members_of, complete_of};
 
@@ -7,8 +7,8 @@ use cs_names::Name;
 use std::alloc::{AllocError, Global};
 use std::marker::Model;
 
-/// A struct by its tag, with its size and alignment in bytes. An incomplete one has no members yet, and its size and
-/// alignment mean nothing.
+/// A struct by its tag, with its size and alignment in bytes. An incomplete struct has no members yet, and its size and
+/// alignment have no meaning.
 #[derive(Drop)]
 pub struct StructType {
     pub tag: Name,
@@ -17,7 +17,7 @@ pub struct StructType {
     pub align: u64,
 }
 
-/// Structs by number. A contract sees them as a list.
+/// Structs by number. In contracts it is a list.
 #[derive(Drop)]
 pub struct Structs {
     list: Vec<StructType>,
@@ -36,7 +36,7 @@ impl Model for Structs {
 }
 
 impl Structs {
-    /// No structs.
+    /// Returns the empty list of structs.
     pub fn new(alloc: Global) -> Structs
         ensures { result ≡ [] }
     {
@@ -45,7 +45,7 @@ impl Structs {
         }
     }
 
-    /// Adds a struct, whose number is the length before.
+    /// Adds a struct; its number is the length before.
     pub fn push(&mut self, added: StructType) -> Result<(), AllocError>
         ensures ok { OnOk result (self.new ≡ self.old ++ added ∷ []) }
         ensures err { OnErr result (self.new ≡ self.old) }
@@ -54,7 +54,7 @@ impl Structs {
         Ok(())
     }
 
-    /// Puts a struct in place of the one with this number, as where the body of a declared tag is met.
+    /// Replaces the struct with this number, for instance when the body of a declared tag is read.
     pub fn set(&mut self, number: usize, changed: StructType)
         requires { number < length self.old }
         ensures { self.new ≡ slice_set self.old number changed }
@@ -62,7 +62,7 @@ impl Structs {
         self.list[number] = changed;
     }
 
-    /// The structs in order of number.
+    /// Returns the structs in order of number.
     pub fn as_slice(&self) -> &[StructType]
         ensures { result.now ≡ self.now }
     {
@@ -70,13 +70,13 @@ impl Structs {
     }
 }
 
-/// The structs of a program: a struct's number is its place in the list.
+/// The structs of a program: a struct's number is its index in the list.
 #[derive(Drop)]
 pub struct StructTable {
     pub list: Structs,
 }
 
-/// The members of a struct, if it has them.
+/// Returns the members of a struct, if it has them.
 pub fn members_of(table: &StructTable, number: u32) -> Option<&Members>
     ensures { option_copied result ≡ members_of table.now.list number }
 {
@@ -88,7 +88,7 @@ pub fn members_of(table: &StructTable, number: u32) -> Option<&Members>
     }
 }
 
-/// The struct with this number, if it has its members.
+/// Returns the struct with this number, if it has its members.
 pub fn complete_struct(table: &StructTable, number: u32) -> Option<&StructType>
     ensures { option_copied result ≡ complete_of table.now.list number }
 {

@@ -1,4 +1,4 @@
--- The tokens of parameters and files beside their roles. For the contract of `is_after_member`.
+-- The tokens of parameters and files with their roles. For the contract of `is_after_member`.
 use Rattle.std.proofs.Common.{◌≡◌, ◌≢◌, ℕ, true, IsTrue, IsSome, List, [], ◌∷◌, ◌++◌, Option, Some, None, length, slice_get, refl, sym}
 use Rattle.std.proofs.Common.{ap, ◌∙◌, subst}
 use Rattle.std.proofs.lemmas.Bool.{false≢true}

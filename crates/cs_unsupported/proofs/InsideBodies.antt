@@ -1,4 +1,4 @@
--- The tokens of a function's body beside their roles: each is inside the body. For the contract of `is_inside`.
+-- The tokens of a function's body with their roles: each is inside the body. For the contract of `is_inside`.
 use Rattle.std.proofs.Common.{ℕ, inl, Bool, true, false, List, [], ◌∷◌, Option, Some, None, MatchOption, IsTrue, refl}
 use Rattle.std.specs.Option.{option_map}
 use Rattle.cs_ast.specs.declared.token.TokenKind.TheVariants as token

@@ -1,4 +1,4 @@
--- The tokens of declarations beside their roles, from one site to another. For the contract of `is_inside`.
+-- The tokens of declarations with their roles, from one site to another. For the contract of `is_inside`.
 use Rattle.std.proofs.Common.{◌≡◌, ◌≢◌, ℕ, inl, inr, Bool, true, false, IsTrue, List, [], ◌∷◌, Option, Some, None, MatchOption, refl, sym}
 use Rattle.std.proofs.Common.{ap, subst, arith}
 use Rattle.cs_ast.specs.declared.token.TokenKind.{TokenKind}

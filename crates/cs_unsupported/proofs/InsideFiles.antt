@@ -1,4 +1,4 @@
--- The tokens of files beside their roles, and which stand inside a block or an expression. For the contract of `is_inside`.
+-- The tokens of files with their roles, and which are inside a block or an expression. For the contract of `is_inside`.
 use Rattle.std.proofs.Common.{◌≡◌, ◌⊎◌, inl, inr, Bool, true, false, List, [], ◌∷◌, ◌++◌, Some, length, slice_get, arith, refl, sym, ap}
 use Rattle.std.proofs.Common.{◌∙◌, subst, append-nil}
 use Rattle.std.proofs.lemmas.Bool.{false≢true}

@@ -1,4 +1,4 @@
--- The tokens of expressions beside their roles, from one site to another. For the contract of `is_inside`.
+-- The tokens of expressions with their roles, from one site to another. For the contract of `is_inside`.
 use Rattle.std.proofs.Common.{◌≡◌, ℕ, ◌≤◌, ◌⊎◌, inl, inr, Bool, true, false, List, [], ◌∷◌, refl, arith}
 use Rattle.std.proofs.lemmas.Bool.{false≢true}
 use Rattle.cs_ast.specs.declared.token.TokenKind.{TokenKind}

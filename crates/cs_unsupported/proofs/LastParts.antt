@@ -1,4 +1,4 @@
--- The last token of some tokens of a file, in the part that they end in: for the contract of `is_after_type`.
+-- The last of some tokens of a file, in the external declaration that they end in: for the contract of `is_after_type`.
 use Rattle.std.proofs.Common.{◌≡◌, ℕ, zero, suc, ◌+◌, ◌-◌, ◌≤◌, ◌↔◌, Bool, false, IsTrue, inl, inr, List, [], ◌∷◌, ◌++◌}
 use Rattle.std.proofs.Common.{Some, None, length, drop, slice_get, refl, sym, ap, ◌∙◌, subst, arith, append-nil, length-append, length-drop, take}
 use Rattle.std.proofs.lemmas.List.{length-map, drop-map, take_all}

@@ -1,4 +1,4 @@
--- The tokens of statements and files beside their roles: where a brace opens a list of initial values. For the contract of
+-- The tokens of statements and files with their roles: where a brace opens an initializer list. For the contract of
 -- `awaits_list`.
 use Rattle.std.proofs.Common.{◌≡◌, ℕ, Bool, true, false, List, [], ◌∷◌, ◌++◌, Option, Some, None, length, slice_get, refl, sym, ap, ◌∙◌}
 use Rattle.std.proofs.Common.{subst, append_assoc}

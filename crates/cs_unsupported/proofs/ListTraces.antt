@@ -1,4 +1,4 @@
--- The tokens of a file beside their roles: a brace opens a list of initial values exactly where a value is awaited. For the
+-- The tokens of a file with their roles: a brace opens an initializer list exactly where an initializer is expected. For the
 -- contract of `awaits_list`.
 use Rattle.std.proofs.Common.{◌≡◌, ℕ, Bool, true, false, List, [], ◌∷◌, Option, Some, None, refl}
 use Rattle.cs_ast.specs.declared.token.TokenKind.{TokenKind}

@@ -1,4 +1,4 @@
--- An expression may continue with an operator and one operand more. For the contract of `is_inside`.
+-- An expression may continue with an operator and one more operand. For the contract of `is_inside`.
 use Rattle.std.proofs.Common.{◌≡◌, ℕ, ◌≤◌, ◌∷◌, refl, ap, arith}
 use Rattle.cs_ast.specs.declared.token.TokenKind.TheVariants as token
 use Rattle.cs_ast.specs.declared.token.Punctuator.TheVariants as punctuator

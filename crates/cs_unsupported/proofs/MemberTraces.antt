@@ -1,5 +1,5 @@
--- The tokens of structures' members beside their roles: where a declarator of one stands last, a semicolon may follow. For the
--- contract of `is_after_member`.
+-- The tokens of structures' members with their roles: after a member's declarator a semicolon may follow. For the contract of
+-- `is_after_member`.
 use Rattle.std.proofs.Common.{◌≡◌, ℕ, Bool, true, false, ◌&&◌, IsTrue, List, [], ◌∷◌, Option, Some, None, refl, sym, ap, subst}
 use Rattle.std.specs.List.{list_all}
 use Rattle.std.proofs.lemmas.Bool.{false≢true}

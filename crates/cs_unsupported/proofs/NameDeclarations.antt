@@ -1,4 +1,4 @@
--- The tokens of declarations beside their roles: where a declarator's name stands, pointers and another name might. For the contract
+-- The tokens of declarations with their roles: where a declarator's name is, pointers and another name might be. For the contract
 -- of `token_for_name`.
 use Rattle.std.proofs.Common.{◌≡◌, ◌≢◌, ℕ, ◌⊎◌, inl, inr, Bool, true, false, IsTrue, List, [], ◌∷◌, Option, Some, None, MatchOption}
 use Rattle.std.proofs.Common.{refl, sym, ap, subst}

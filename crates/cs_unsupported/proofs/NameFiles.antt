@@ -1,5 +1,4 @@
--- The tokens of files beside their roles: where a declarator's name may stand after some of them. For the contract of
--- `token_for_name`.
+-- The tokens of files with their roles: where a declarator's name may follow some of them. For the contract of `token_for_name`.
 use Rattle.std.proofs.Common.{◌≡◌, ℕ, ◌+◌, ◌⊎◌, inl, inr, Bool, true, false, if◌then◌else◌, nat_eq, IsTrue, List, [], ◌∷◌}
 use Rattle.std.proofs.Common.{◌++◌, Option, Some, None, length, drop, slice_get, refl, sym, ap, ◌∙◌, subst, arith, append_assoc, append-nil}
 use Rattle.std.proofs.Common.{length-append}

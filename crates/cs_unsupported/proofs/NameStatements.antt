@@ -1,4 +1,4 @@
--- The tokens of statements beside their roles: where a declarator's name stands, and where a new one might. For the contract of
+-- The tokens of statements with their roles: where a declarator's name is, and where a new one might be. For the contract of
 -- `token_for_name`.
 use Rattle.std.proofs.Common.{ℕ, IsTrue, List, [], ◌∷◌, Option, Some, None, MatchOption, refl, arith}
 use Rattle.std.proofs.lemmas.Bool.{false≢true}

@@ -1,5 +1,5 @@
--- The tokens of expressions beside their roles: none is a declarator's name, and where a new name might stand, an opening parenthesis
--- might too. For the contract of `token_for_name`.
+-- The tokens of expressions with their roles: none is a declarator's name, and where a new name might be, an opening parenthesis
+-- might be, too. For the contract of `token_for_name`.
 use Rattle.std.proofs.Common.{◌≡◌, ℕ, suc, ◌≤◌, ◌⊎◌, inl, inr, Bool, true, false, IsTrue, List, [], ◌∷◌, refl, sym, ap, ◌∙◌}
 use Rattle.std.proofs.Common.{arith}
 use Rattle.std.specs.List.{list_all}

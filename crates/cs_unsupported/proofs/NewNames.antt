@@ -1,4 +1,4 @@
--- A name that is none of some tokens, and what the last token says: for the contracts of `last_joint` and `new_name`.
+-- A name that is none of some tokens, and what the last token implies: for the contracts of `last_joint` and `new_name`.
 use Rattle.std.proofs.Common.{◌≡◌, ◌∙◌, sym, ℕ, suc, ◌+◌, ◌-◌, ◌<◌, ◌≤◌, max, List, [], ◌∷◌, Some, length, replicate}
 use Rattle.std.proofs.Common.{slice_get, get_or, drop, drop-cons, add-one, ap, subst, arith}
 use Rattle.std.proofs.lemmas.List.{length-replicate}

@@ -1,4 +1,4 @@
--- The tokens of statements beside their roles: none stands after a member's declarator. For the contract of `is_after_member`.
+-- The tokens of statements with their roles: none follows a member's declarator. For the contract of `is_after_member`.
 use Rattle.std.proofs.Common.{List, ◌∷◌, Option, Some, None, MatchOption, IsTrue, refl}
 use Rattle.std.specs.Option.{option_map}
 use Rattle.cs_ast.specs.declared.token.TokenKind.TheVariants as token

@@ -1,4 +1,4 @@
--- The tokens of a file beside their roles, from one spot to another: what is outside of members. For the contract of
+-- The tokens of a file with their roles, from one spot to another: what is outside of members. For the contract of
 -- `is_after_member`.
 use Rattle.std.proofs.Common.{◌≡◌, Bool, true, false, List, [], ◌∷◌, Option, Some, None, refl}
 use Rattle.std.proofs.lemmas.Bool.{false≢true}

@@ -1,5 +1,5 @@
--- The tokens of declarations, statements and parts of files beside their roles: where a parenthesis closes a type. For the contract
--- of `closes_type`.
+-- The tokens of declarations, statements and external declarations with their roles: where a parenthesis closes a type. For the
+-- contract of `is_after_type`.
 use Rattle.std.proofs.Common.{◌≡◌, ℕ, zero, suc, ◌↔◌, Bool, true, false, IsTrue, List, [], ◌∷◌, ◌++◌, Option, Some, None, MatchOption}
 use Rattle.std.proofs.Common.{length, drop, slice_get, refl, sym, ap, ◌∙◌, subst, arith}
 use Rattle.std.proofs.lemmas.Bool.{false≢true}

@@ -1,5 +1,5 @@
--- The tokens of expressions and declarations beside their roles: where a parenthesis closes a type. For the contract of
--- `closes_type`.
+-- The tokens of expressions and declarations with their roles: where a parenthesis closes a type. For the contract of
+-- `is_after_type`.
 use Rattle.std.proofs.Common.{◌≡◌, ℕ, Bool, true, false, IsTrue, List, [], ◌∷◌, refl, sym, subst}
 use Rattle.std.proofs.lemmas.Bool.{false≢true}
 use Rattle.cs_ast.specs.declared.token.TokenKind.{TokenKind}

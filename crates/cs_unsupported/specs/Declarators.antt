@@ -1,4 +1,5 @@
--- What the last token of a file's beginning says of a declarator's name after it, and by which token one asks whether one may stand there.
+-- What the last token of a file's beginning implies for a declarator's name after it, and which token decides whether a name may
+-- follow.
 use Rattle.std.specs.Prelude.{◌≡◌, ◌≤◌, ◌↔◌, ℕ, List, [], ◌∷◌, ◌++◌, length, Option, Some, None}
 use Rattle.cs_ast.specs.declared.token.TokenKind.{TokenKind}
 use Rattle.cs_ast.specs.declared.token.TokenKind.TheVariants as token
@@ -32,17 +33,18 @@ abbrev pub IsNew : List ℕ → Kinds → Type 0
 IsNew name [] = Unit {0}
 IsNew name (kind ∷ kinds) = (kind ≡ token.Name name → ⊥) × IsNew name kinds
 
--- the token is no longer name
+-- the token isn't a longer name
 abbrev pub IsNameWithin : ℕ → TokenKind → Type 0
 IsNameWithin most (token.Name name) = length name ≤ most
 IsNameWithin most other = Unit {0}
 
--- the names among the tokens are no longer
+-- no name among the tokens is longer
 abbrev pub AreNamesWithin : ℕ → Kinds → Type 0
 AreNamesWithin most [] = Unit {0}
 AreNamesWithin most (kind ∷ kinds) = IsNameWithin most kind × AreNamesWithin most kinds
 
--- a declarator's name may stand after the tokens exactly where a file continues with the one that is asked for; none may where none is
+-- a declarator's name may follow the tokens exactly if a file continues with the given token; without a given token, none may
+-- follow
 abbrev pub IsAskedFor : Kinds → Option TokenKind → Type 0
 IsAskedFor front None = MayHave front declared_name → ⊥
 IsAskedFor front (Some next) = MayHave front declared_name ↔ BeginsFile (front ++ next ∷ [])

@@ -1,4 +1,4 @@
--- What the tokens of a part of a file have come to, as far as it matters for types between parentheses.
+-- The state after the tokens of an external declaration, as far as it matters for types between parentheses.
 use Rattle.std.specs.Prelude.{Bool, true, false, List, [], ◌∷◌}
 use Rattle.cs_ast.specs.declared.token.TokenKind.{TokenKind}
 use Rattle.cs_ast.specs.declared.token.TokenKind.TheVariants as token
@@ -12,7 +12,7 @@ use Rattle.cs_grammar.specs.Text.{Kinds}
 use Rattle.cs_unsupported.specs.declared.types.Following.{Following}
 use Rattle.cs_unsupported.specs.declared.types.Following.TheVariants.{Opening, Name, For, Other}
 
--- what stands last, whether the innermost open parenthesis holds a type, and whether those around it do, the innermost first
+-- the last token, whether the innermost open parenthesis holds a type, and whether those around it do, the innermost first
 pub record Parens : Type 0 where
   pub following : Following
   pub holds : Bool
@@ -22,13 +22,13 @@ pub record Parens : Type 0 where
 abbrev pub the_outside : Parens
 the_outside = record { following = Other; holds = false; around = [] }
 
--- after an opening parenthesis: none that stands after a name or `for` holds a type
+-- after an opening parenthesis: one after a name or `for` doesn't hold a type
 abbrev pub opening : Following → Following
 opening Name = Other
 opening For = Other
 opening _ = Opening
 
--- after a word, of which it is known whether it begins a type
+-- after a word, from whether it begins a type
 abbrev pub begun : Following → Bool → Bool → Bool
 begun Opening true holds = true
 begun following begins holds = holds
@@ -46,7 +46,7 @@ punctuator_step punctuator.OpenParenthesis s = record { following = opening s.fo
 punctuator_step punctuator.CloseParenthesis s = closed s.around
 punctuator_step other s = record { following = Other; holds = s.holds; around = s.around }
 
--- with one more token
+-- after one more token
 abbrev pub step : Names → TokenKind → Parens → Parens
 step names (token.Name name) s = record { following = Name; holds = begun s.following (is_among names name) s.holds; around = s.around }
 step names (token.Keyword word) s = record { following = word_after word; holds = begun s.following (keyword_begins_type word) s.holds; around = s.around }
@@ -58,7 +58,7 @@ abbrev pub closes : TokenKind → Bool → Bool
 closes (token.Punctuator punctuator.CloseParenthesis) holds = holds
 closes other holds = false
 
--- the last of some more tokens does, if there are some
+-- the last of some more tokens closes a type, if there are some
 abbrev pub run : Names → Kinds → Parens → Bool → Bool
 run names [] s last = last
 run names (kind ∷ kinds) s last = run names kinds (step names kind s) (closes kind s.holds)

@@ -1,4 +1,4 @@
--- What the parts that read tokens keep.
+-- The states of the scans, as plain data.
 use Rattle.std.specs.Prelude.{List, map, reverse}
 use Rattle.cs_ast.specs.declared.token.Token.{Token}
 use Rattle.cs_grammar.specs.Text.{Kinds}
@@ -13,14 +13,14 @@ use Rattle.cs_unsupported.specs.Parentheses.{Parens}
 abbrev pub kinds : List Token → Kinds
 kinds tokens = map (λ (token : Token). token.kind) tokens
 
--- what some tokens have come to
+-- the state for members, after some tokens
 abbrev pub spot_of : Reading → Spot
 spot_of reading = record { phase = reading.phase; following = reading.following; around = reverse reading.around.items }
 
--- the same of what stands inside
+-- the same for blocks and expressions
 abbrev pub site_of : InsideReading → Site
 site_of reading = record { within = reading.within; following = reading.following; around = reverse reading.around.items }
 
--- the same of types between parentheses
+-- the same for types between parentheses
 abbrev pub parens_of : TypeReading → Parens
 parens_of reading = record { following = reading.following; holds = reading.holds; around = reverse reading.around.items }

@@ -1,4 +1,4 @@
--- What the tokens of a file have come to, as far as it matters for what stands inside a block or an expression.
+-- The state after the tokens of a file, as far as it matters for what is inside a block or an expression.
 use Rattle.std.specs.Prelude.{Bool, true, false, List, [], ◌∷◌}
 use Rattle.cs_ast.specs.declared.token.TokenKind.{TokenKind}
 use Rattle.cs_ast.specs.declared.token.TokenKind.TheVariants as token
@@ -14,8 +14,8 @@ use Rattle.cs_unsupported.specs.declared.inside.Where.TheVariants.{Declaration, 
 use Rattle.cs_unsupported.specs.declared.inside.Tagging.{Tagging}
 use Rattle.cs_unsupported.specs.declared.inside.Tagging.TheVariants as tagging
 
--- what the tokens after the innermost opening bracket have come to, what the last ones are, and what those around the bracket had
--- come to, the innermost first
+-- the state since the innermost opening bracket, what the last tokens are, and the states around the open brackets, the innermost
+-- first
 pub record Site : Type 0 where
   pub within : Where
   pub following : Tagging
@@ -37,13 +37,13 @@ tagging_after keyword.Struct = tagging.Struct
 tagging_after keyword.Enum = tagging.Enum
 tagging_after other = tagging.Nothing
 
--- after a bracket or a parenthesis in such a place
+-- after a bracket or a parenthesis at such a position
 abbrev pub deeper : Part → Part
 deeper part.Body = part.Body
 deeper part.BodyChoice = part.Body
 deeper other = part.Nested
 
--- after `?` in such a place
+-- after `?` at such a position
 abbrev pub chosen : Part → Part
 chosen part.Body = part.BodyChoice
 chosen part.BodyChoice = part.BodyChoice
@@ -57,7 +57,7 @@ abbrev pub in_bracket : Where → Where
 in_bracket (Inside place) = Inside (deeper place)
 in_bracket within = Inside part.Nested
 
--- after a brace: a type's members or constants, the body of a function, or a list of values
+-- after a brace: the members or constants of a type, the body of a function, or an initializer list
 abbrev pub in_brace : Where → Tagging → Where
 in_brace Declaration tagging.Struct = Declaration
 in_brace Declaration tagging.StructTag = Declaration
@@ -68,7 +68,7 @@ in_brace (Inside part.Body) following = Inside part.Body
 in_brace (Inside part.BodyChoice) following = Inside part.Body
 in_brace within following = Inside part.Item
 
--- what stands around the brace, after the closing one
+-- the state around a brace, after the closing one
 abbrev pub around_brace : Where → Where
 around_brace (Inside part.Value) = ListedValue
 around_brace (Inside part.Item) = ListedItem
@@ -133,14 +133,14 @@ punctuator_step punctuator.Question s = with_question s.within s
 punctuator_step punctuator.Colon s = with_colon s.within s
 punctuator_step other s = settled (after_punctuator other s.within) s
 
--- with one more token
+-- after one more token
 abbrev pub step : TokenKind → Site → Site
 step (token.Name name) s = record { within = s.within; following = tag_after s.following; around = s.around }
 step (token.Keyword word) s = record { within = s.within; following = tagging_after word; around = s.around }
 step (token.Punctuator punctuator) s = punctuator_step punctuator s
 step other s = settled s.within s
 
--- with some more tokens
+-- after some more tokens
 abbrev pub run : Kinds → Site → Site
 run [] s = s
 run (kind ∷ kinds) s = run kinds (step kind s)

@@ -1,4 +1,4 @@
--- What the tokens of a file have come to, as far as it matters for the members of structures.
+-- The state after the tokens of a file, as far as it matters for the members of structures.
 use Rattle.std.specs.Prelude.{Bool, true, false, List, [], ◌∷◌}
 use Rattle.cs_ast.specs.declared.token.TokenKind.{TokenKind}
 use Rattle.cs_ast.specs.declared.token.TokenKind.TheVariants as token
@@ -12,8 +12,8 @@ use Rattle.cs_unsupported.specs.declared.members.Phase.TheVariants.{Outside, Typ
 use Rattle.cs_unsupported.specs.declared.members.Last.{Last}
 use Rattle.cs_unsupported.specs.declared.members.Last.TheVariants as last
 
--- what the tokens after the innermost opening bracket have come to, what the last ones are, and what those around the bracket had
--- come to, the innermost first
+-- the state since the innermost opening bracket, what the last tokens are, and the states around the open brackets, the innermost
+-- first
 pub record Spot : Type 0 where
   pub phase : Phase
   pub following : Last
@@ -28,7 +28,7 @@ abbrev pub with_type : Phase → Phase
 with_type Typing = Typed
 with_type phase = phase
 
--- a name, which is a type's or a declarator's but after `struct` or `enum`
+-- a name, which is that of a type or of a declarator, except after `struct` or `enum`
 abbrev pub with_name : Phase → Last → Phase
 with_name Outside following = Outside
 with_name Typing following = Typed
@@ -37,7 +37,7 @@ with_name Typed last.Struct = Typed
 with_name Typed last.Enum = Typed
 with_name Typed following = Declared
 
--- the last token is a name after these
+-- after a name, in this state of the last tokens
 abbrev pub name_after : Last → Last
 name_after last.Struct = last.StructTag
 name_after following = last.Other
@@ -96,19 +96,19 @@ punctuator_step punctuator.Semicolon s = record { phase = begun_anew s.phase; fo
 punctuator_step punctuator.Comma s = record { phase = going_on s.phase; following = last.Other; around = s.around }
 punctuator_step other s = record { phase = s.phase; following = last.Other; around = s.around }
 
--- with one more token
+-- after one more token
 abbrev pub step : TokenKind → Spot → Spot
 step (token.Name name) s = record { phase = with_name s.phase s.following; following = name_after s.following; around = s.around }
 step (token.Keyword word) s = record { phase = with_word word s.phase; following = word_after word; around = s.around }
 step (token.Punctuator punctuator) s = punctuator_step punctuator s
 step other s = record { phase = s.phase; following = last.Other; around = s.around }
 
--- with some more tokens
+-- after some more tokens
 abbrev pub run : Kinds → Spot → Spot
 run [] s = s
 run (kind ∷ kinds) s = run kinds (step kind s)
 
--- a member's declarator stands last
+-- a member's declarator is last
 abbrev pub is_declared : Phase → Bool
 is_declared Declared = true
 is_declared phase = false

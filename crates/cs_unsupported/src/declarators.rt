@@ -1,4 +1,4 @@
-//! Where the names of declarators may stand among the tokens of a file (C11 6.7.6).
+//! Where the names of declarators may be among the tokens of a file (C11 6.7.6).
 ghost use Rattle.std.specs.Prelude.{◌≡◌, ◌<◌, ◌^◌, [], ◌∷◌, ◌++◌, IfOk};
 ghost use Rattle.cs_ast.specs.declared.token.TokenKind.TheVariants as token;
 ghost use Rattle.cs_ast.specs.declared.token.Punctuator.TheVariants as punctuator;
@@ -11,10 +11,10 @@ use cs_ast::{Keyword, Punctuator, Token, TokenKind};
 use cs_names::Name;
 use std::alloc::{AllocError, Global};
 
-/// What the last of some tokens says of a declarator after it.
+/// What the last token implies for a declarator after it.
 #[derive(Clone, Copy)]
 pub enum Joint {
-    /// After a dot, an arrow, `goto`, `struct`, `enum` and an opening brace none begins.
+    /// No declarator begins after a dot, an arrow, `goto`, `struct`, `enum` and an opening brace.
     Barred,
     /// After a comma one may begin, and so may an enumeration constant, which has no pointers.
     Listed,
@@ -33,7 +33,7 @@ fn joint_after(kind: &TokenKind) -> Joint
     }
 }
 
-/// What the last of these tokens says, if there is one.
+/// Returns what the last of these tokens implies, if there is one.
 fn last_joint(tokens: &[Token]) -> Joint
     ensures { result ≡ ending (kinds tokens.now) joints.Open }
 {
@@ -43,7 +43,7 @@ fn last_joint(tokens: &[Token]) -> Joint
     }
 }
 
-/// The length of the longest name among these tokens, 0 where there is none.
+/// Returns the length of the longest name among these tokens, 0 if there is none.
 fn longest_name(tokens: &[Token]) -> usize
     ensures within { AreNamesWithin result (kinds tokens.now) }
     ensures small { result < 2 ^ 63 }
@@ -55,7 +55,7 @@ fn longest_name(tokens: &[Token]) -> usize
     longest
 }
 
-/// The length of a token that is a name, 0 for another one.
+/// Returns the length of a token that is a name, 0 for any other token.
 fn name_length(kind: &TokenKind) -> usize
     ensures within { IsNameWithin result kind.now }
     ensures small { result < 2 ^ 63 }
@@ -66,7 +66,7 @@ fn name_length(kind: &TokenKind) -> usize
     }
 }
 
-/// A name that is none of these tokens: a longer one than each.
+/// Returns a name that is none of these tokens: one that is longer than each.
 fn new_name(alloc: Global, tokens: &[Token]) -> Result<Name, AllocError>
     ensures { IfOk result (λ name. IsNew name (kinds tokens.now)) }
 {
@@ -74,12 +74,14 @@ fn new_name(alloc: Global, tokens: &[Token]) -> Result<Name, AllocError>
     Ok(Name::from_vec(bytes))
 }
 
-/// The token by which one asks whether a declarator's name may stand after these, where no file continues with an opening parenthesis:
-/// one may exactly where a file continues with that token, and none may where there is none.
+/// Returns the token that decides whether a declarator's name may follow these tokens, if no file continues them with
+/// an opening parenthesis: a name may follow exactly if a file continues with that token. If there is no such token, no
+/// name may follow.
 ///
-/// A name that is new is no typedef name, and where it stands for an expression or as a label, a parenthesis might stand too. So it is
-/// a declarator's, unless it is a tag, a member or a label after `goto`, or an enumeration constant, as the token before says but for
-/// a comma. After a comma a constant has no pointers, and a star that begins an expression might be a parenthesis.
+/// A new name is no typedef name, and if it is an expression or a label, a parenthesis might be in its place. So it is
+/// that of a declarator, unless it is a tag, a member, a label after `goto`, or an enumeration constant. The token
+/// before determines which, except for a comma. After a comma, a constant has no pointers, and a star that begins an
+/// expression might be a parenthesis.
 pub fn token_for_name(alloc: Global, before: &[Token]) -> Result<Option<TokenKind>, AllocError>
     ensures { IfOk result (λ asked.
         (BeginsFile (kinds before.now ++ token.Punctuator punctuator.OpenParenthesis ∷ [])

@@ -1,4 +1,4 @@
-//! Where the tokens of a file stand inside a block or an expression.
+//! Which tokens of a file are inside a block or an expression.
 ghost use Rattle.std.specs.Prelude.{◌≡◌, ◌∷◌, ◌↔◌, IsTrue, IfOk, OnOk};
 ghost use Rattle.cs_grammar.specs.FilePhrases.{BeginsFile};
 ghost use Rattle.cs_grammar.specs.FileRefusals.{IsInside};
@@ -10,16 +10,16 @@ ghost use Rattle.cs_unsupported.specs.Readings.{kinds, site_of};
 use cs_ast::{Keyword, Punctuator, Token, TokenKind};
 use std::alloc::{AllocError, Global};
 
-/// A place inside a block or an expression.
+/// A kind of position inside a block or an expression.
 #[derive(Clone, Copy)]
 pub enum Part {
     /// The value of an object.
     Value,
     /// The value of an enumeration constant.
     Constant,
-    /// An item of a list of values.
+    /// An item of an initializer list.
     Item,
-    /// Between the brackets of an array's bound, or between brackets of an expression.
+    /// Between the brackets of an array bound, or between brackets of an expression.
     Nested,
     /// Between `?` and `:`.
     Choice,
@@ -29,21 +29,21 @@ pub enum Part {
     BodyChoice,
 }
 
-/// What the tokens after the innermost opening bracket have come to.
+/// The state after the tokens since the innermost opening bracket.
 #[derive(Clone, Copy)]
 pub enum Where {
     /// A declaration, outside of expressions.
     Declaration,
-    /// A list that is an object's value.
+    /// A list that is the initializer of an object.
     ListedValue,
     /// The constants of an enumeration, outside of expressions.
     Constants,
-    /// A list that is an item of a list of values.
+    /// A list that is an item of an initializer list.
     ListedItem,
     Inside(Part),
 }
 
-/// What the last tokens are.
+/// What the last tokens are, if they are a keyword with or without a tag.
 #[derive(Clone, Copy)]
 pub enum Tagging {
     Struct,
@@ -53,17 +53,17 @@ pub enum Tagging {
     Nothing,
 }
 
-/// What some tokens have come to.
+/// The state after some tokens.
 #[derive(Drop)]
 pub struct Reading {
     within: Where,
     following: Tagging,
-    /// What the tokens around each opening bracket had come to, the innermost last.
+    /// The states around each opening bracket, the innermost last.
     around: Vec<Where>,
 }
 
 impl Part {
-    /// After an opening bracket or parenthesis.
+    /// Returns the position after an opening bracket or parenthesis.
     fn deeper(self) -> Part
         ensures { result ≡ deep self }
     {
@@ -73,7 +73,7 @@ impl Part {
         }
     }
 
-    /// After `?`.
+    /// Returns the position after `?`.
     fn chosen(self) -> Part
         ensures { result ≡ choice self }
     {
@@ -103,7 +103,7 @@ impl Where {
         }
     }
 
-    /// After an opening brace: members, constants, the body of a function, or a list of values.
+    /// Returns the state after an opening brace: members, constants, the body of a function, or an initializer list.
     fn in_brace(self, following: Tagging) -> Where
         ensures { result ≡ braced self following }
     {
@@ -114,7 +114,7 @@ impl Where {
         }
     }
 
-    /// Around braces, after the closing one.
+    /// Returns the state around braces, after the closing one.
     fn around_brace(self) -> Where
         ensures { result ≡ outside self }
     {
@@ -190,7 +190,7 @@ impl Tagging {
         !matches!(self, Tagging::Nothing)
     }
 
-    /// After an opening brace in a declaration.
+    /// Returns the state after an opening brace in a declaration.
     fn body(self) -> Where
         ensures { result ≡ braced wheres.Declaration self }
     {
@@ -203,7 +203,7 @@ impl Tagging {
 }
 
 impl Reading {
-    /// Reads one more token.
+    /// Takes one more token.
     fn step(&mut self, kind: &TokenKind) -> Result<(), AllocError>
         ensures { OnOk result (site_of self.new ≡ one_more kind.now (site_of self.old)) }
     {
@@ -251,7 +251,7 @@ impl Reading {
         }
     }
 
-    /// After `?`.
+    /// Takes a `?`.
     fn choose(&mut self) -> Result<(), AllocError>
         ensures { OnOk result (site_of self.new
             ≡ question (site_of self.old).within (site_of self.old)) }
@@ -265,7 +265,7 @@ impl Reading {
         }
     }
 
-    /// After a colon.
+    /// Takes a colon.
     fn end_choice(&mut self)
         ensures { site_of self.new ≡ colon (site_of self.old).within (site_of self.old) }
     {
@@ -299,7 +299,7 @@ impl Reading {
     }
 }
 
-/// Where tokens are after a punctuator that is no bracket and belongs to no choice.
+/// Returns the state after a punctuator that is no bracket and not part of a conditional.
 fn after_plain(punctuator: Punctuator, within: Where) -> Where
     ensures { result ≡ after_punctuator punctuator within }
 {
@@ -311,7 +311,7 @@ fn after_plain(punctuator: Punctuator, within: Where) -> Where
     }
 }
 
-/// What these tokens have come to.
+/// Returns the state after these tokens.
 fn read(alloc: Global, before: &[Token]) -> Result<Reading, AllocError>
     ensures { IfOk result (λ reading. site_of reading ≡ run (kinds before.now) the_first) }
 {
@@ -326,7 +326,7 @@ fn read(alloc: Global, before: &[Token]) -> Result<Reading, AllocError>
     Ok(reading)
 }
 
-/// Whether a token after these would stand inside a block or an expression, where a file begins with them.
+/// Whether a token after these would be inside a block or an expression, if a file begins with them.
 pub fn is_inside(alloc: Global, before: &[Token]) -> Result<bool, AllocError>
     ensures { IfOk result (λ here.
         BeginsFile (kinds before.now) → (IsTrue here ↔ IsInside (kinds before.now))) }
@@ -334,8 +334,8 @@ pub fn is_inside(alloc: Global, before: &[Token]) -> Result<bool, AllocError>
     Ok(read(alloc, before)?.within.is_inside())
 }
 
-/// Whether a token after these would stand after `struct` or `enum` or its tag inside a block or an expression, where a file begins
-/// with them.
+/// Whether a token after these would be inside a block or an expression and directly after `struct` or `enum` or its
+/// tag, if a file begins with them.
 pub fn is_tag_inside(alloc: Global, before: &[Token]) -> Result<bool, AllocError>
     ensures { IfOk result (λ here.
         BeginsFile (kinds before.now)

@@ -1,4 +1,4 @@
-//! Which punctuators are unsupported where they stand in a file, by the tokens before them.
+//! Decides which punctuators and keywords are unsupported because of the tokens before them.
 #![tactic(auto)]
 
 mod declarators;

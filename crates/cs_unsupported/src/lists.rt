@@ -1,4 +1,4 @@
-//! Where lists of initial values may begin among the tokens of a file (C11 6.7.9).
+//! Where initializer lists may begin among the tokens of a file (C11 6.7.9).
 ghost use Rattle.std.specs.Prelude.{◌≡◌, [], ◌∷◌, ◌++◌, ◌↔◌, IsTrue};
 ghost use Rattle.cs_ast.specs.declared.token.TokenKind.TheVariants as token;
 ghost use Rattle.cs_ast.specs.declared.token.Punctuator.TheVariants as punctuator;
@@ -10,9 +10,10 @@ ghost use Rattle.cs_unsupported.specs.Readings.{kinds};
 
 use cs_ast::{Punctuator, Token, TokenKind};
 
-/// Whether a value is awaited after one more token.
+/// Whether an initializer is expected after one more token.
 ///
-/// No block, body or type stands directly after `=` or a comma, so a brace there opens a list, and one after it a list in that list.
+/// No block, body or type directly follows `=` or a comma, so a brace there opens a list, and a brace after that one
+/// opens a list in that list.
 fn following(kind: &TokenKind, awaits: bool) -> bool
     ensures { result ≡ one_more kind.now awaits }
 {
@@ -23,7 +24,7 @@ fn following(kind: &TokenKind, awaits: bool) -> bool
     }
 }
 
-/// Whether a brace after these tokens would open a list of initial values, where a file continues with one.
+/// Whether a brace after these tokens would open an initializer list, if a file continues with one.
 pub fn awaits_list(before: &[Token]) -> bool
     ensures { MayHave (kinds before.now) opens_list
         ↔ (IsTrue result

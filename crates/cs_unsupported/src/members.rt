@@ -1,4 +1,4 @@
-//! Where the members of structures stand among the tokens of a file (C11 6.7.2.1).
+//! Where the members of structures are among the tokens of a file (C11 6.7.2.1).
 ghost use Rattle.std.specs.Prelude.{◌≡◌, ◌∷◌, ◌↔◌, IsTrue, IfOk, OnOk};
 ghost use Rattle.cs_grammar.specs.FilePhrases.{BeginsFile};
 ghost use Rattle.cs_grammar.specs.FileRefusals.{MayHave};
@@ -9,20 +9,20 @@ ghost use Rattle.cs_unsupported.specs.Readings.{kinds, spot_of};
 use cs_ast::{Keyword, Punctuator, Token, TokenKind};
 use std::alloc::{AllocError, Global};
 
-/// What the tokens after the innermost opening bracket have come to.
+/// The state after the tokens since the innermost opening bracket.
 #[derive(Clone, Copy)]
 pub enum Phase {
-    /// They are no members of a structure.
+    /// They aren't members of a structure.
     Outside,
-    /// Words before the declarators of members, which name no type so far.
+    /// Specifiers of members, which name no type so far.
     Typing,
-    /// A type of members, after which a declarator's name is to come.
+    /// A type of members, before a declarator's name.
     Typed,
     /// A member's declarator.
     Declared,
 }
 
-/// What the last tokens are.
+/// What the last tokens are, if they are a keyword with or without a tag.
 #[derive(Clone, Copy)]
 pub enum Last {
     Struct,
@@ -31,12 +31,12 @@ pub enum Last {
     Other,
 }
 
-/// What some tokens have come to.
+/// The state after some tokens.
 #[derive(Drop)]
 pub struct Reading {
     phase: Phase,
     following: Last,
-    /// What the tokens around each opening bracket had come to, the innermost last.
+    /// The states around each opening bracket, the innermost last.
     around: Vec<Phase>,
 }
 
@@ -127,7 +127,7 @@ impl Last {
 }
 
 impl Reading {
-    /// Reads one more token.
+    /// Takes one more token.
     fn step(&mut self, kind: &TokenKind) -> Result<(), AllocError>
         ensures { OnOk result (spot_of self.new ≡ one_more kind.now (spot_of self.old)) }
     {
@@ -194,7 +194,7 @@ impl Reading {
     }
 }
 
-/// Whether a token after these would stand directly after a member's declarator, where a file begins with them.
+/// Whether a token after these would directly follow a member's declarator, if a file begins with them.
 pub fn is_after_member(alloc: Global, before: &[Token]) -> Result<bool, AllocError>
     ensures { IfOk result (λ following.
         BeginsFile (kinds before.now)

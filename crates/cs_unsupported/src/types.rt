@@ -1,4 +1,4 @@
-//! Where types stand between parentheses among the tokens of a file (C11 6.5.3.4, 6.5.4).
+//! Where types between parentheses are among the tokens of a file (C11 6.5.3.4, 6.5.4).
 ghost use Rattle.std.specs.Prelude.{◌≡◌, ◌≤◌, ◌↔◌, false, length, IsTrue, IfOk, OnOk};
 ghost use Rattle.cs_grammar.specs.FilePhrases.{BeginsFile};
 ghost use Rattle.cs_grammar.specs.FileRefusals.{IsAfterType};
@@ -11,7 +11,7 @@ use cs_ast::{Keyword, Punctuator, Token, TokenKind};
 use cs_grammar::TypedefNames;
 use std::alloc::{AllocError, Global};
 
-/// What stands last.
+/// What the last token is.
 #[derive(Clone, Copy)]
 pub enum Following {
     /// An opening parenthesis that a type may follow.
@@ -21,7 +21,7 @@ pub enum Following {
     Other,
 }
 
-/// What some tokens have come to.
+/// The state after some tokens.
 #[derive(Drop)]
 pub struct Reading {
     following: Following,
@@ -34,7 +34,7 @@ pub struct Reading {
 }
 
 impl Following {
-    /// After an opening parenthesis. One that stands after a name or `for` holds no type of an expression.
+    /// Returns the state after an opening parenthesis. One after a name or `for` isn't that of a type in an expression.
     fn opening(self) -> Following
         ensures { result ≡ after_opening self }
     {
@@ -53,7 +53,7 @@ impl Following {
         }
     }
 
-    /// Whether the parenthesis holds a type after one more word, where it did or didn't before.
+    /// Whether the parenthesis holds a type after one more word, if it did or didn't before.
     fn holds(self, begins: bool, holds: bool) -> bool
         ensures { result ≡ begun self begins holds }
     {
@@ -65,7 +65,7 @@ impl Following {
 }
 
 impl Reading {
-    /// Reads one more token.
+    /// Takes one more token.
     fn step(&mut self, names: &TypedefNames, kind: &TokenKind) -> Result<(), AllocError>
         ensures state { OnOk result
             (parens_of self.new ≡ one_more names.now kind.now (parens_of self.old)) }
@@ -112,7 +112,7 @@ impl Reading {
     }
 }
 
-/// Whether a token closes a type, where the innermost open parenthesis holds one or not.
+/// Whether a token closes a type, if the innermost open parenthesis holds one or not.
 fn closes(kind: &TokenKind, holds: bool) -> bool
     ensures { result ≡ is_closing kind.now holds }
 {
@@ -150,8 +150,8 @@ fn closes_last(alloc: Global, names: &TypedefNames, part: &[Token]) -> Result<bo
     Ok(reading.closes)
 }
 
-/// Whether the last of these tokens closes a type between parentheses, where a file begins with them, and the part of it that they
-/// end in begins with the token of a number and has these typedef names.
+/// Whether the last of these tokens closes a type between parentheses, if a file begins with them, and the external
+/// declaration that they end in begins with the token at `from` and has these typedef names.
 pub fn is_after_type(
     alloc: Global,
     names: &TypedefNames,

@@ -6,12 +6,12 @@ use crate::raw::name::RawName;
 use crate::raw::written_type::{PointerWord, TypeWord};
 use cs_names::Name;
 
-/// What stands before the declarators: the words of a type, which may have a body.
+/// Declaration specifiers: the words before the declarators, of which one may be a type with its body.
 #[cycle(raw_specs)]
 #[derive(Drop)]
 pub struct RawSpecs {
     pub words: Vec<SpecWord>,
-    /// The place of the tag, where one names the type.
+    /// The position of the tag, if the type has one.
     pub tag: Option<Place>,
 }
 
@@ -21,15 +21,15 @@ pub struct RawSpecs {
 pub enum SpecWord {
     /// `static`
     Static,
-    /// A word that names no body.
+    /// A word of a type without a body.
     Plain(TypeWord),
     /// `struct`, a tag, and the members between braces (C11 6.7.2.1).
     Struct(Option<Name>, Vec<RawMember>),
-    /// `enum`, a tag, and the constants between braces (C11 6.7.2.2); the flag says whether a comma ends the list.
+    /// `enum`, a tag, and the constants between braces (C11 6.7.2.2); the flag is whether a comma ends the list.
     Enum(Option<Name>, Vec<RawEnumerator>, bool),
 }
 
-/// Members of one type.
+/// Members that are declared with one list of specifiers.
 #[cycle(raw_specs)]
 #[derive(Drop)]
 pub struct RawMember {
@@ -40,72 +40,73 @@ pub struct RawMember {
 /// An enumeration constant, and the expression after its `=`.
 #[derive(Drop)]
 pub struct RawEnumerator {
-    /// The place of the name.
+    /// The position of the name.
     pub place: Place,
     pub name: Name,
     pub value: Option<RawExpr>,
 }
 
-/// A declared name with the pointers before it and the bounds after it, of which the first may be empty in C, and any may be here.
+/// A declarator: a name with the pointers before it and the array bounds after it. In C only the first bound may be
+/// empty; here any may be.
 #[derive(Drop)]
 pub struct RawDeclarator {
     pub pointers: Vec<PointerWord>,
-    /// The place of the name.
+    /// The position of the name.
     pub place: Place,
     pub name: Name,
     pub bounds: Vec<Option<RawExpr>>,
 }
 
-/// A declared name of an object, with what it holds at first.
+/// A declarator of an object, with its initializer.
 #[derive(Drop)]
 pub struct RawInit {
     pub declarator: RawDeclarator,
     pub initial: Option<RawFirstValue>,
 }
 
-/// What stands after an `=` of a declaration.
+/// An initializer of a declaration, with its `=`.
 #[derive(Drop)]
 pub struct RawFirstValue {
-    /// The place of the `=`.
+    /// The position of the `=`.
     pub place: Place,
     pub initial: RawInitial,
 }
 
-/// What an object holds at first (C11 6.7.9).
+/// An initializer (C11 6.7.9).
 #[cycle(raw_initial)]
 #[derive(Drop)]
 pub enum RawInitial {
-    /// An expression without a comma.
+    /// An assignment expression: one without a comma.
     Value(RawExpr),
-    /// Items between braces; the flag says whether a comma ends the list.
+    /// A list between braces; the flag is whether a comma ends it.
     List(Vec<RawInitial>, bool),
 }
 
-/// A function's declared name, with its parameters (C11 6.7.6.3).
+/// The declarator of a function: its name and its parameters (C11 6.7.6.3).
 #[derive(Drop)]
 pub struct RawFunction {
     pub pointers: Vec<PointerWord>,
-    /// The place of the name.
+    /// The position of the name.
     pub place: Place,
     pub name: Name,
     pub parameters: RawParameters,
 }
 
-/// What stands between a function's parentheses.
+/// The parameters between a function's parentheses.
 #[derive(Drop)]
 pub enum RawParameters {
     /// Nothing.
     Empty,
-    /// `void` alone.
+    /// Only `void`.
     Void,
-    /// Parameters, one at least.
+    /// At least one parameter.
     List(Vec<RawParameter>),
 }
 
 /// A parameter, whose name may be absent in a declaration.
 #[derive(Drop)]
 pub struct RawParameter {
-    /// The place of its first token.
+    /// The position of its first token.
     pub place: Place,
     pub specs: RawSpecs,
     pub pointers: Vec<PointerWord>,

@@ -1,4 +1,4 @@
-//! The height of written declarations: what stands before declarators is no node and is as high as its type.
+//! The height of written declarations: specifiers are no node, so that they are as high as their highest word.
 ghost use Rattle.std.specs.Prelude.{◌≡◌, ◌+◌, ◌<◌, ◌^◌, max, map};
 ghost use Rattle.std.specs.Option.{option_map};
 ghost use Rattle.cs_ast.specs.RawDeclarationView.{declarator, constant, spec, specs, specs_list, members_list, initial, initials_list, declared, parameter, parameters, head};
@@ -11,7 +11,7 @@ use crate::raw::declaration::{
 use crate::raw::height::{height_of_some, highest_bound};
 
 impl RawDeclarator {
-    /// The height of the declarator: 1 without bounds.
+    /// Returns the height of the declarator: 1 without bounds.
     pub fn height(&self) -> u32
         requires { file.declarator_height (declarator self.now) < 2 ^ 32 }
         ensures { result ≡ file.declarator_height (declarator self.now) }
@@ -20,7 +20,7 @@ impl RawDeclarator {
     }
 }
 
-/// The height of the highest of some declarators, 0 where there is none.
+/// Returns the height of the highest of some declarators, 0 if there is none.
 pub fn highest_declarator(declarators: &[RawDeclarator]) -> u32
     requires { file.highest_by file.declarator_height (map declarator declarators.now) < 2 ^ 32 }
     ensures { result ≡ file.highest_by file.declarator_height (map declarator declarators.now) }
@@ -33,7 +33,7 @@ pub fn highest_declarator(declarators: &[RawDeclarator]) -> u32
 }
 
 impl RawEnumerator {
-    /// The height of the constant: 1 without an expression.
+    /// Returns the height of the constant: 1 without an expression.
     pub fn height(&self) -> u32
         requires { file.constant_height (constant self.now) < 2 ^ 32 }
         ensures { result ≡ file.constant_height (constant self.now) }
@@ -42,7 +42,7 @@ impl RawEnumerator {
     }
 }
 
-/// The height of the highest of some constants, 0 where there is none.
+/// Returns the height of the highest of some constants, 0 if there is none.
 fn highest_constant(constants: &[RawEnumerator]) -> u32
     requires { file.highest_by file.constant_height (map constant constants.now) < 2 ^ 32 }
     ensures { result ≡ file.highest_by file.constant_height (map constant constants.now) }
@@ -55,7 +55,7 @@ fn highest_constant(constants: &[RawEnumerator]) -> u32
 }
 
 impl RawSpecs {
-    /// The height of what stands before declarators: that of its highest word.
+    /// Returns the height of the specifiers: that of the highest word.
     #[cycle(specs_height)]
     pub fn height(&self) -> u32
         requires { file.specs_height (specs self.now) < 2 ^ 32 }
@@ -65,7 +65,7 @@ impl RawSpecs {
     }
 }
 
-/// The height of the highest of some words, 0 where there is none.
+/// Returns the height of the highest of some words, 0 if there is none.
 #[cycle(specs_height)]
 fn highest_word(words: &[SpecWord]) -> u32
     requires { file.specs_height (specs_list words.now) < 2 ^ 32 }
@@ -79,7 +79,7 @@ fn highest_word(words: &[SpecWord]) -> u32
 }
 
 impl SpecWord {
-    /// The height of the word: 1 without a body.
+    /// Returns the height of the word: 1 without a body.
     #[cycle(specs_height)]
     pub fn height(&self) -> u32
         requires { file.spec_height (spec self.now) < 2 ^ 32 }
@@ -93,7 +93,7 @@ impl SpecWord {
     }
 }
 
-/// The height of the highest of some members, 0 where there is none.
+/// Returns the height of the highest of some members, 0 if there is none.
 #[cycle(specs_height)]
 fn highest_member(members: &[RawMember]) -> u32
     requires { file.members_height (members_list members.now) < 2 ^ 32 }
@@ -112,7 +112,7 @@ fn highest_member(members: &[RawMember]) -> u32
 }
 
 impl RawInitial {
-    /// The height of what an object holds at first: a list between braces is a node.
+    /// Returns the height of the initializer: a list between braces is a node.
     #[cycle(initial_height)]
     pub fn height(&self) -> u32
         requires { file.initial_height (initial self.now) < 2 ^ 32 }
@@ -125,7 +125,7 @@ impl RawInitial {
     }
 }
 
-/// The height of the highest of some items between braces, 0 where there is none.
+/// Returns the height of the highest of some items between braces, 0 if there is none.
 #[cycle(initial_height)]
 fn highest_initial(items: &[RawInitial]) -> u32
     requires { file.initials_height (initials_list items.now) < 2 ^ 32 }
@@ -139,7 +139,7 @@ fn highest_initial(items: &[RawInitial]) -> u32
 }
 
 impl RawInit {
-    /// The height of the declared object: without an `=` it is that of its declarator.
+    /// Returns the height of the declared object: without an `=` it is that of its declarator.
     pub fn height(&self) -> u32
         requires { file.declared_height (declared self.now) < 2 ^ 32 }
         ensures { result ≡ file.declared_height (declared self.now) }
@@ -151,7 +151,7 @@ impl RawInit {
     }
 }
 
-/// The height of the highest of some declared objects, 0 where there is none.
+/// Returns the height of the highest of some declared objects, 0 if there is none.
 fn highest_object(objects: &[RawInit]) -> u32
     requires { file.highest_by file.declared_height (map declared objects.now) < 2 ^ 32 }
     ensures { result ≡ file.highest_by file.declared_height (map declared objects.now) }
@@ -163,7 +163,7 @@ fn highest_object(objects: &[RawInit]) -> u32
     best
 }
 
-/// The height of a declaration of objects.
+/// Returns the height of a declaration of objects.
 pub fn declaration_height(words: &RawSpecs, objects: &[RawInit]) -> u32
     requires { file.declaration_height (specs words.now) (map declared objects.now) < 2 ^ 32 }
     ensures { result ≡ file.declaration_height (specs words.now) (map declared objects.now) }
@@ -172,7 +172,7 @@ pub fn declaration_height(words: &RawSpecs, objects: &[RawInit]) -> u32
 }
 
 impl RawParameter {
-    /// The height of the parameter.
+    /// Returns the height of the parameter.
     pub fn height(&self) -> u32
         requires { file.parameter_height (parameter self.now) < 2 ^ 32 }
         ensures { result ≡ file.parameter_height (parameter self.now) }
@@ -181,7 +181,7 @@ impl RawParameter {
     }
 }
 
-/// The height of the highest of some parameters, 0 where there is none.
+/// Returns the height of the highest of some parameters, 0 if there is none.
 fn highest_parameter(parameters: &[RawParameter]) -> u32
     requires { file.highest_by file.parameter_height (map parameter parameters.now) < 2 ^ 32 }
     ensures { result ≡ file.highest_by file.parameter_height (map parameter parameters.now) }
@@ -194,7 +194,7 @@ fn highest_parameter(parameters: &[RawParameter]) -> u32
 }
 
 impl RawParameters {
-    /// The height of what stands between a function's parentheses: a node of its own, also where nothing stands there.
+    /// Returns the height of a parameter list, which is a node of its own even if it is empty.
     pub fn height(&self) -> u32
         requires { file.parameters_height (parameters self.now) < 2 ^ 32 }
         ensures { result ≡ file.parameters_height (parameters self.now) }
@@ -207,7 +207,7 @@ impl RawParameters {
 }
 
 impl RawFunction {
-    /// The height of a function's declared name with its parameters.
+    /// Returns the height of a function's declarator: its name with its parameters.
     pub fn height(&self) -> u32
         requires { file.head_height (head self.now) < 2 ^ 32 }
         ensures { result ≡ file.head_height (head self.now) }

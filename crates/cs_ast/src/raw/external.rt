@@ -1,24 +1,24 @@
-//! What a written file has (C11 6.9).
+//! External declarations and files (C11 6.9).
 
 use crate::place::Place;
 use crate::raw::declaration::{RawDeclarator, RawFunction, RawInit, RawSpecs};
 use crate::raw::statement::RawItem;
 
-/// A declaration or a function of a file, at the place of its first token.
+/// An external declaration, at the position of its first token.
 #[derive(Drop)]
 pub struct RawExternal {
     pub place: Place,
     pub kind: RawExternalKind,
 }
 
-/// What a part of a file is.
+/// The form of an external declaration.
 #[derive(Drop)]
 pub enum RawExternalKind {
-    /// A type alone, with `;` after it.
+    /// Only a type, followed by `;`.
     Type(RawSpecs),
-    /// `typedef` and the names that it declares, one at least (C11 6.7.8).
+    /// `typedef` and at least one name that it declares (C11 6.7.8).
     Typedef(RawSpecs, Vec<RawDeclarator>),
-    /// Objects, one at least, each with what it holds at first.
+    /// At least one object, each with its initializer.
     Objects(RawSpecs, Vec<RawInit>),
     /// A function without a body.
     Function(RawSpecs, RawFunction),
@@ -26,7 +26,7 @@ pub enum RawExternalKind {
     Definition(RawSpecs, RawFunction, RawBody),
 }
 
-/// The body of a function, with the places of its braces.
+/// The body of a function, with the positions of its braces.
 #[derive(Drop)]
 pub struct RawBody {
     pub opening: Place,
@@ -34,7 +34,7 @@ pub struct RawBody {
     pub closing: Place,
 }
 
-/// A file.
+/// A translation unit.
 #[derive(Drop)]
 pub struct Tree {
     pub externals: Vec<RawExternal>,

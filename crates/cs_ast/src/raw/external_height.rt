@@ -1,4 +1,4 @@
-//! The height of a part of a file.
+//! The height of an external declaration.
 ghost use Rattle.std.specs.Prelude.{◌≡◌, ◌<◌, ◌^◌};
 ghost use Rattle.cs_ast.specs.RawStatementView.{external};
 ghost use Rattle.cs_ast.specs.RawFileHeight as file;
@@ -8,8 +8,8 @@ use crate::raw::external::{RawExternal, RawExternalKind};
 use crate::raw::statement_height::highest_item;
 
 impl RawExternal {
-    /// The height of the tree of a part of a file: a leaf has height 1, and any other node one more than its highest part. It
-    /// takes no memory, and goes as deep as the tree is high.
+    /// Returns the height of the tree of an external declaration: a leaf has height 1, and any other node one more than
+    /// its highest child. The call allocates nothing; its recursion is as deep as the tree is high.
     pub fn height(&self) -> u32
         requires { file.external_height (external self.now) < 2 ^ 32 }
         ensures { result ≡ file.external_height (external self.now) }

@@ -1,4 +1,4 @@
-//! The height of written expressions: a leaf has height 1, any other node one more than its highest part.
+//! The height of written expressions: a leaf has height 1, any other node one more than its highest child.
 ghost use Rattle.std.specs.Prelude.{◌≡◌, ◌<◌, ◌^◌};
 ghost use Rattle.cs_ast.specs.RawView.{written, written_kind, written_list};
 ghost use Rattle.cs_ast.specs.RawDeclarationView.{bounds_of};
@@ -9,7 +9,7 @@ ghost use Rattle.std.specs.Option.{option_map};
 use crate::raw::expression::{RawExpr, RawExprKind};
 
 impl RawExpr {
-    /// The height of the expression.
+    /// Returns the height of the expression.
     #[cycle(raw_height)]
     pub fn height(&self) -> u32
         requires { tree.height (written self.now) < 2 ^ 32 }
@@ -41,7 +41,7 @@ impl RawExpr {
     }
 }
 
-/// The height of the highest of some expressions, 0 where there is none.
+/// Returns the height of the highest of some expressions, 0 if there is none.
 #[cycle(raw_height)]
 pub fn highest(list: &[RawExpr]) -> u32
     requires { tree.highest (written_list list.now) < 2 ^ 32 }
@@ -54,7 +54,7 @@ pub fn highest(list: &[RawExpr]) -> u32
     best
 }
 
-/// The height of an optional expression, 0 where it is.
+/// Returns the height of an optional expression, 0 if it is absent.
 pub fn height_of_some(expression: &Option<RawExpr>) -> u32
     requires { file.height_of_some (option_map written expression.now) < 2 ^ 32 }
     ensures { result ≡ file.height_of_some (option_map written expression.now) }
@@ -65,7 +65,7 @@ pub fn height_of_some(expression: &Option<RawExpr>) -> u32
     }
 }
 
-/// The height of the highest bound of an array, 0 where there is none.
+/// Returns the height of the highest bound of an array, 0 if there is none.
 pub fn highest_bound(bounds: &[Option<RawExpr>]) -> u32
     requires { file.highest_by file.height_of_some (bounds_of bounds.now) < 2 ^ 32 }
     ensures { result ≡ file.highest_by file.height_of_some (bounds_of bounds.now) }

@@ -1,9 +1,9 @@
-//! Names at their places.
+//! Names with their positions.
 
 use crate::place::Place;
 use cs_names::Name;
 
-/// A name at its place.
+/// A name with its position.
 #[derive(Drop)]
 pub struct RawName {
     pub place: Place,

@@ -9,7 +9,7 @@ pub enum Step {
     Down,
 }
 
-/// The operators before one operand (C11 6.5.3).
+/// The prefix operators (C11 6.5.3).
 #[derive(Clone, Copy)]
 pub enum PrefixOp {
     /// `&`
@@ -26,7 +26,7 @@ pub enum PrefixOp {
     Not,
 }
 
-/// The operators between two operands that group from the left (C11 6.5.5 to 6.5.14).
+/// The left-associative infix operators (C11 6.5.5 to 6.5.14).
 #[derive(Clone, Copy)]
 pub enum InfixOp {
     /// `||`
@@ -67,7 +67,7 @@ pub enum InfixOp {
     Remainder,
 }
 
-/// The operators that store (C11 6.5.16).
+/// The assignment operators (C11 6.5.16).
 #[derive(Clone, Copy)]
 pub enum AssignOp {
     /// `=`

@@ -5,7 +5,7 @@ use crate::raw::declaration::{RawInit, RawSpecs};
 use crate::raw::expression::RawExpr;
 use cs_names::Name;
 
-/// A statement at the place of its first token.
+/// A statement, at the position of its first token.
 #[cycle(raw_statement)]
 #[derive(Drop)]
 pub struct RawStmt {
@@ -13,13 +13,13 @@ pub struct RawStmt {
     pub kind: Box<RawStmtKind>,
 }
 
-/// What a written statement is.
+/// The form of a written statement.
 #[cycle(raw_statement)]
 #[derive(Drop)]
 pub enum RawStmtKind {
     /// `{ .. }` (C11 6.8.2).
     Block(Vec<RawItem>),
-    /// `;` alone.
+    /// Only `;`.
     Empty,
     /// `a ;` (C11 6.8.3).
     Run(RawExpr),
@@ -47,25 +47,25 @@ pub enum RawStmtKind {
     Label(Name, RawStmt),
 }
 
-/// What stands in a block: a declaration or a statement.
+/// An item of a block: a declaration or a statement.
 #[cycle(raw_statement)]
 #[derive(Drop)]
 pub enum RawItem {
-    /// Names of objects, one at least, each with what it holds at first.
+    /// A declaration of at least one object, each with its initializer.
     Declare(RawSpecs, Vec<RawInit>),
     /// A statement.
     Run(RawStmt),
 }
 
-/// What stands between the braces of a `switch`.
+/// An item between the braces of a `switch`.
 #[cycle(raw_statement)]
 #[derive(Drop)]
 pub enum RawSwitchItem {
-    /// `case a :`, at the word.
+    /// `case a :`, at the keyword.
     Case(Place, RawExpr),
-    /// `default :`, at the word.
+    /// `default :`, at the keyword.
     Default(Place),
-    /// What any block may have.
+    /// An item that any block may have.
     Item(RawItem),
 }
 

@@ -1,5 +1,5 @@
-//! The height of written statements: a statement of one token is a leaf, and what stands between the braces of a `switch` is
-//! a node of its own.
+//! The height of written statements: a statement of one token is a leaf, and the items between the braces of a `switch`
+//! form a node of their own.
 ghost use Rattle.std.specs.Prelude.{◌≡◌, ◌<◌, ◌^◌};
 ghost use Rattle.cs_ast.specs.RawStatementView.{first_of, statement_of, item, items_list, switch_item, switch_list};
 ghost use Rattle.cs_ast.specs.RawFileHeight as file;
@@ -9,7 +9,7 @@ use crate::raw::height::height_of_some;
 use crate::raw::statement::{RawFirst, RawItem, RawStmt, RawStmtKind, RawSwitchItem};
 
 impl RawFirst {
-    /// The height of the first part of a `for`, 0 where it is absent.
+    /// Returns the height of the first part of a `for`, 0 if it is absent.
     pub fn height(&self) -> u32
         requires { file.first_height (first_of self.now) < 2 ^ 32 }
         ensures { result ≡ file.first_height (first_of self.now) }
@@ -23,7 +23,7 @@ impl RawFirst {
 }
 
 impl RawStmt {
-    /// The height of the statement.
+    /// Returns the height of the statement.
     #[cycle(statement_height)]
     pub fn height(&self) -> u32
         requires { file.sentence_height (statement_of self.now) < 2 ^ 32 }
@@ -54,7 +54,7 @@ impl RawStmt {
 }
 
 impl RawItem {
-    /// The height of what stands in a block.
+    /// Returns the height of the item of a block.
     #[cycle(statement_height)]
     pub fn height(&self) -> u32
         requires { file.item_height (item self.now) < 2 ^ 32 }
@@ -67,7 +67,7 @@ impl RawItem {
     }
 }
 
-/// The height of the highest of what stands in a block, 0 where nothing does.
+/// Returns the height of the highest item of a block, 0 if there is none.
 #[cycle(statement_height)]
 pub fn highest_item(items: &[RawItem]) -> u32
     requires { file.items_height (items_list items.now) < 2 ^ 32 }
@@ -81,7 +81,7 @@ pub fn highest_item(items: &[RawItem]) -> u32
 }
 
 impl RawSwitchItem {
-    /// The height of what stands in a `switch`: the word `default` has none.
+    /// Returns the height of the item of a `switch`: `default` has height 0.
     #[cycle(statement_height)]
     pub fn height(&self) -> u32
         requires { file.switch_item_height (switch_item self.now) < 2 ^ 32 }
@@ -95,7 +95,7 @@ impl RawSwitchItem {
     }
 }
 
-/// The height of the highest of what stands in a `switch`, 0 where nothing does.
+/// Returns the height of the highest item of a `switch`, 0 if there is none.
 #[cycle(statement_height)]
 fn highest_switch_item(items: &[RawSwitchItem]) -> u32
     requires { file.switch_height (switch_list items.now) < 2 ^ 32 }

@@ -3,7 +3,7 @@
 use crate::place::Place;
 use cs_names::Name;
 
-/// A word of a type that names no body: `const`, a word of an integer type, or what stands for a whole type.
+/// A word of a type without a body: `const`, a word of an integer type, or a word that is a whole type.
 #[derive(Drop)]
 pub enum TypeWord {
     /// `const`
@@ -44,7 +44,7 @@ pub enum PointerWord {
 #[derive(Drop)]
 pub struct WrittenType {
     pub words: Vec<TypeWord>,
-    /// The place of the tag, where `struct` or `enum` and a tag name the type.
+    /// The position of the tag, if the type is named by `struct` or `enum` and a tag.
     pub tag: Option<Place>,
     pub pointers: Vec<PointerWord>,
 }

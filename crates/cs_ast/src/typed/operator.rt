@@ -1,6 +1,6 @@
 //! The operators of typed expressions, and the choices that some of them carry.
 
-/// The arithmetic operators of two integers (C11 6.5.5 to 6.5.7, 6.5.10 to 6.5.12).
+/// The arithmetic operators on two integers (C11 6.5.5 to 6.5.7, 6.5.10 to 6.5.12).
 #[derive(Clone, Copy, Debug, PartialEq, Eq)]
 pub enum BinOp {
     Add,
@@ -15,7 +15,7 @@ pub enum BinOp {
     Or,
 }
 
-/// The arithmetic operators of one integer (C11 6.5.3.3).
+/// The arithmetic operators on one integer (C11 6.5.3.3).
 #[derive(Clone, Copy, Debug, PartialEq, Eq)]
 pub enum UnOp {
     /// `-`
@@ -35,30 +35,30 @@ pub enum CmpOp {
     Differs,
 }
 
-/// Which way a pointer moves.
+/// The direction in which a pointer moves.
 #[derive(Clone, Copy, Debug, PartialEq, Eq)]
 pub enum Direction {
     Forward,
     Back,
 }
 
-/// Which of its two values an update gives (C11 6.5.2.4, 6.5.16).
+/// Which of two values is the result of an update (C11 6.5.2.4, 6.5.16).
 #[derive(Clone, Copy, Debug, PartialEq, Eq)]
 pub enum Gives {
-    /// The value before it.
+    /// The value before the update.
     Old,
-    /// The value after it.
+    /// The value after the update.
     New,
 }
 
-/// Which of a pointer and its amount stands first in the file, and is evaluated first.
+/// Which of a pointer and its amount comes first in the file, and is evaluated first.
 #[derive(Clone, Copy, Debug, PartialEq, Eq)]
 pub enum Order {
     PointerFirst,
     AmountFirst,
 }
 
-/// Which function allocates (C11 7.22.3).
+/// The function that allocates (C11 7.22.3).
 #[derive(Clone, Copy, Debug, PartialEq, Eq)]
 pub enum Allocator {
     Malloc,

@@ -9,15 +9,15 @@ use cs_types::{CType, DataModel, StructTable};
 #[derive(Drop)]
 pub struct Program {
     pub model: DataModel,
-    /// The names of the files that places speak of.
+    /// The names of the files that positions refer to.
     pub files: Vec<Name>,
     pub table: StructTable,
     pub globals: Vec<Global>,
-    /// The bytes of each string literal, without its zero byte.
+    /// The bytes of each string literal, without the terminating zero byte.
     pub literals: Vec<Bytes>,
-    /// In the order in which their names stand in the file; `malloc`, `calloc` and `free` aren't among them.
+    /// In the order in which their names occur in the file; without `malloc`, `calloc` and `free`.
     pub functions: Vec<Function>,
-    /// The different values of the file's integer constants, in order of first appearance.
+    /// The distinct values of the file's integer constants, in order of first occurrence.
     pub constants: Vec<i128>,
 }
 
@@ -25,7 +25,7 @@ pub struct Program {
 #[derive(Drop)]
 pub struct Global {
     pub name: Name,
-    /// The place of its name in its first declaration.
+    /// The position of its name in its first declaration.
     pub place: Place,
     pub ty: CType,
     /// Whether it may not be stored to.
@@ -37,14 +37,14 @@ pub struct Global {
 #[derive(Drop)]
 pub struct Function {
     pub name: Name,
-    /// The place of its name, in its definition where there is one, else in its first declaration.
+    /// The position of its name, in its definition if there is one, else in its first declaration.
     pub place: Place,
     pub result: CType,
     /// How many of the locals are parameters: the first ones, in order.
     pub parameters: u32,
     pub locals: Vec<Local>,
     pub body: Option<Stmt>,
-    /// The place of the body's closing brace, or `place` where there is no body.
+    /// The position of the body's closing brace, or `place` if there is no body.
     pub end: Place,
     /// For each parameter, whether a function without a body may write through it.
     pub written: Vec<bool>,
@@ -55,6 +55,6 @@ pub struct Function {
 pub struct Local {
     pub name: Name,
     pub ty: CType,
-    /// For a parameter that was written with a bound, how many elements the block after it has.
+    /// For a parameter that is declared with an array bound, the number of elements of the block that it points to.
     pub block: Option<u64>,
 }

@@ -4,7 +4,7 @@ use crate::place::Place;
 use crate::typed::expression::Expr;
 use cs_names::Bytes;
 
-/// A statement at the place of its first token; a declaration at its `=`, or at its name where it has none.
+/// A statement, at the position of its first token; a declaration is at its `=`, or at its name if it has none.
 #[cycle(typed_statement)]
 #[derive(Drop)]
 pub struct Stmt {
@@ -12,15 +12,15 @@ pub struct Stmt {
     pub kind: Box<StmtKind>,
 }
 
-/// What a statement is.
+/// The form of a statement.
 #[cycle(typed_statement)]
 #[derive(Drop)]
 pub enum StmtKind {
     /// Statements one after another (C11 6.8.2).
     Block(Vec<Stmt>),
-    /// A declaration of an object, by its number in the function, with what it holds at first (C11 6.7.9).
+    /// A declaration of an object, by the object's number in the function, with its initializer (C11 6.7.9).
     Declare(u32, Option<Initial>),
-    /// An expression whose value is dropped (C11 6.8.3).
+    /// An expression whose value is discarded (C11 6.8.3).
     Run(Expr),
     /// `if` without `else` (C11 6.8.4.1).
     If(Expr, Stmt),
@@ -49,13 +49,13 @@ pub enum StmtKind {
 /// A label of a `switch`.
 #[derive(Clone, Copy, Debug, PartialEq, Eq)]
 pub struct Case {
-    /// The number that it stands for; none for `default`.
+    /// The number of the `case`; none for `default`.
     pub value: Option<i128>,
-    /// The number of the first statement after it, from 0, or how many there are where none is after it.
+    /// The index, from 0, of the first statement after the label, or the number of statements if none is after it.
     pub item: u32,
 }
 
-/// What an object holds at first (C11 6.7.9).
+/// An initializer (C11 6.7.9).
 #[cycle(initial)]
 #[derive(Drop)]
 pub enum Initial {
